@@ -58,7 +58,7 @@ pub(crate) fn advance<D: Disk, L: Link>(
     let found = desks.find(addr);
     let due = desks.due_there(addr, found);
     put(journal, &due)?;
-    go_on(desks, ledger, addr, found, link, report);
+    go_on(desks, ledger, addr, found, &due, link, report);
     enter(ledger, &due);
     Ok(())
 }
@@ -91,11 +91,13 @@ fn go_on<L: Link>(
     ledger: &mut Ledger<'_>,
     addr: u8,
     found: Option<usize>,
+    due: &Option<Record>,
     link: &mut L,
     report: &mut ArrayVec<Entry, 8>,
 )
     requires room { array_vec_len report.old ≤ 6 }
     requires found { all_desks.FindsDesk desks.old addr found }
+    requires due { due.now ≡ all_desks.due_on desks.old addr }
     requires reserved { ledgers.reserved_of ledger.old ≡ all_desks.reserved_of desks.old }
     ensures together { GoOnTogether desks.old desks.new ledger.old ledger.new }
     ensures left { all_desks.puts_of desks.new + length (put_by (all_desks.due_on desks.old addr))
@@ -107,7 +109,7 @@ fn go_on<L: Link>(
         ≡ reserved_at_work (all_desks.setup_of desks.old) past - freed_by (all_desks.setup_of desks.old) r) }
 {
     let reserved = desks.reserved_there(addr, found);
-    desks.next_there(addr, found, link, report);
+    desks.next_there(addr, found, due, link, report);
     if reserved > 0 {
         ledger.release(reserved - desks.reserved_there(addr, found));
     }

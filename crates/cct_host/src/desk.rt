@@ -9,7 +9,7 @@ ghost use Rattle.cct_model.specs.Exchange.{device_at};
 ghost use Rattle.cct_model.specs.Job.{address_of, works};
 ghost use Rattle.cct_model.specs.Refusal.{running_id};
 ghost use Rattle.cct_jobs.specs.Jobs.{is_of_device, order_of, owed_after};
-ghost use Rattle.cct_host.specs.Held.{FitsIn, FitsIn-prop, price_by, sells_only};
+ghost use Rattle.cct_host.specs.Held.{FitsIn, FitsIn-prop, due_by, price_by, sells_only};
 ghost use Rattle.cct_host.specs.Place as places;
 ghost use Rattle.cct_host.specs.Running.{id_left, is_halt, is_running};
 
@@ -18,7 +18,7 @@ use crate::orders::OrderState;
 use crate::recorded::{epoch_by, id_of};
 use arrayvec::ArrayVec;
 use cct_jobs::{Job, Owed};
-use cct_model::{Command, CommandNo, DeviceSetup, Entry, EpochState, OpenOrder, Setup};
+use cct_model::{Command, CommandNo, DeviceSetup, Entry, EpochState, OpenOrder, Record, Setup};
 use cct_wire::Link;
 
 /// The job at a place, and the epoch or the open order that is recorded of a device there.
@@ -173,14 +173,16 @@ impl JobDesk {
         }
     }
 
-    /// The job makes one attempt of one row over a link; with no job the address is idle. It gives the id that
-    /// its put used, or 0.
+    /// The job makes one attempt of one row over a link, with the record that it is about to put, if there is one; with
+    /// no job the address is idle. It gives the id that its put used, or 0.
     pub(crate) fn next<L: Link>(
         &mut self,
         addr: u8,
+        due: &Option<Record>,
         link: &mut L,
         report: &mut ArrayVec<Entry, 8>,
     ) -> u32
+        requires due { due.now ≡ due_by self.old.job }
         requires room { array_vec_len report.old ≤ 6 }
         ensures attempts { Attempts L.gives link.old link.new addr self.old.job self.old.epoch self.old.orders
             self.new result report.old.items report.new.items }
@@ -191,27 +193,34 @@ impl JobDesk {
                 report.push(Entry::Idle { addr });
                 0
             }
-            Some(_) => self.attempt(addr, link, report),
+            Some(_) => self.attempt(addr, due, link, report),
         }
     }
 
-    /// The job makes one attempt of its row, and gives the id that its put used, or 0.
-    fn attempt<L: Link>(&mut self, addr: u8, link: &mut L, report: &mut ArrayVec<Entry, 8>) -> u32
+    /// The job makes one attempt of its row, a put if a record is due, and gives the id that its put used, or 0.
+    fn attempt<L: Link>(
+        &mut self,
+        addr: u8,
+        due: &Option<Record>,
+        link: &mut L,
+        report: &mut ArrayVec<Entry, 8>,
+    ) -> u32
         requires there { is_some self.old.job ≡ true }
+        requires due { due.now ≡ due_by self.old.job }
         requires room { array_vec_len report.old ≤ 6 }
         ensures attempts { Attempts L.gives link.old link.new addr self.old.job self.old.epoch self.old.orders
             self.new result report.old.items report.new.items }
         ensures frees { Frees self.old.job self.new }
     {
-        match self.due() {
+        match due {
             None => {
                 exchange(&mut self.job, addr, link, report);
                 self.orders.id = self.id_left();
                 0
             }
             Some(entry) => {
-                let id = id_of(&entry);
-                self.epoch = epoch_by(&entry, self.epoch);
+                let id = id_of(entry);
+                self.epoch = epoch_by(entry, self.epoch);
                 self.orders.order = self.order_after();
                 put(&mut self.job, entry, addr, report);
                 self.orders.id = self.id_left();

@@ -375,45 +375,55 @@ impl<'s> Desks<'s> {
         ensures nexts { Nexts L.gives link.old link.new addr self.old self.new report.old.items report.new.items }
     {
         let found = self.find(addr);
-        self.next_there(addr, found, link, report);
+        let due = self.due_there(addr, found);
+        self.next_there(addr, found, &due, link, report);
     }
 
-    /// The same, where the desk at the address is found.
+    /// The same, where the desk at the address is found, with the record that the job there is about to put.
     pub(crate) fn next_there<L: Link>(
         &mut self,
         addr: u8,
         found: Option<usize>,
+        due: &Option<Record>,
         link: &mut L,
         report: &mut ArrayVec<Entry, 8>,
     )
         requires room { array_vec_len report.old ≤ 6 }
         requires found { FindsDesk self.old addr found }
+        requires due { due.now ≡ due_on self.old addr }
         ensures found { FindsDesk self.new addr found }
         ensures frees { FreesIn addr self.old self.new }
         ensures nexts { Nexts L.gives link.old link.new addr self.old self.new report.old.items report.new.items }
     {
         match found {
             Some(index) => {
-                let used = self.devices[index].next(addr, link, report);
+                let used = self.devices[index].next(addr, due, link, report);
                 self.last = greater(used, self.last);
             }
-            None => self.bare_next(addr, link, report),
+            None => self.bare_next(addr, due, link, report),
         }
     }
 
     /// An address without a device is idle, but for a scan at the address of all devices, and a sale at the host's own.
-    fn bare_next<L: Link>(&mut self, addr: u8, link: &mut L, report: &mut ArrayVec<Entry, 8>)
+    fn bare_next<L: Link>(
+        &mut self,
+        addr: u8,
+        due: &Option<Record>,
+        link: &mut L,
+        report: &mut ArrayVec<Entry, 8>,
+    )
         requires bare { device_at (setup_of self.old).devices addr ≡ None }
         requires nobody { desk_there self.old addr ≡ None }
+        requires due { due.now ≡ due_on self.old addr }
         requires room { array_vec_len report.old ≤ 6 }
         ensures frees { FreesIn addr self.old self.new }
         ensures nexts { Nexts L.gives link.old link.new addr self.old self.new report.old.items report.new.items }
     {
         if addr == BROADCAST {
-            let used = self.scan.next(addr, link, report);
+            let used = self.scan.next(addr, due, link, report);
             self.last = greater(used, self.last);
         } else if addr == HOST {
-            let used = self.sale.next(addr, link, report);
+            let used = self.sale.next(addr, due, link, report);
             self.last = greater(used, self.last);
         } else {
             report.push(Entry::Idle { addr });

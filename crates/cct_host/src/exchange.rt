@@ -15,6 +15,7 @@ use cct_jobs::Job;
 use cct_model::{Entry, Piece, Record, Sent};
 use cct_msg::encode_request;
 use cct_wire::Link;
+use std::alloc::AllocError;
 
 /// A job sends its request over a link, and hears what follows. The exchange is a further entry.
 pub(crate) fn converse<L: Link>(
@@ -104,18 +105,19 @@ pub(crate) fn exchange<L: Link>(
 /// the desk, and the report has its end.
 pub(crate) fn put(
     at_desk: &mut Option<Job>,
-    entry: Record,
+    entry: &Record,
     addr: u8,
     report: &mut ArrayVec<Entry, 8>,
 )
     requires there { is_some at_desk.old ≡ true }
-    requires due { due_by at_desk.old ≡ Some entry }
+    requires due { due_by at_desk.old ≡ Some entry.now }
     requires room { array_vec_len report.old ≤ 6 }
     ensures running { is_running at_desk.new ≡ true }
     ensures fits { FitsIn at_desk.new }
-    ensures puts { IfSome at_desk.old (λ job. Puts addr job entry at_desk.new report.old.items report.new.items) }
+    ensures puts { IfSome at_desk.old (λ job. Puts addr job entry.now at_desk.new report.old.items report.new.items) }
 {
-    report.push(Entry::Put(entry));
+    let copy: Result<Record, AllocError> = entry.clone();
+    report.push(Entry::Put(copy.unwrap()));
     let is_done = match at_desk {
         Some(job) => {
             job.go_on_after_put();

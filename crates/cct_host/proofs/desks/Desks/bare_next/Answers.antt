@@ -7,6 +7,16 @@ use Rattle.cct_host.proofs.Standing.{of_sale, of_scan}
 use Rattle.cct_host.proofs.Turning.{none_due, sale_due, scan_due}
 use Rattle.cct_host.proofs.desks.Desks.bare_next.Goals as goal
 
+pub next-used-requires-clause-due : goal.next-used-requires-clause-due
+next-used-requires-clause-due g c =
+    let scan = c.args.self.now.scan in
+    c.requires.due ∙ scan_due c.args.self.now.sale c.args.addr _ c.requires.nobody c.if-addr-eq-BROADCAST.true
+    ∙ sym (none_due scan.job c.args.self.now.scans)
+
+pub next-used-requires-then-addr-eq-HOST-clause-due : goal.next-used-requires-then-addr-eq-HOST-clause-due
+next-used-requires-then-addr-eq-HOST-clause-due g c =
+    c.requires.due ∙ sale_due c.args.self.now.sale c.args.addr _ c.requires.nobody c.if-addr-eq-HOST.true
+
 pub returns-then-addr-eq-BROADCAST-clause-nexts : goal.returns-then-addr-eq-BROADCAST-clause-nexts
 returns-then-addr-eq-BROADCAST-clause-nexts g c =
     let setup = c.args.self.now.setup.now in

@@ -17,6 +17,19 @@ bare_next-requires-clause-bare g c = (none_at c.args.self.now c.args.addr _ c.re
 pub bare_next-requires-clause-nobody : goal.bare_next-requires-clause-nobody
 bare_next-requires-clause-nobody g c = (none_at c.args.self.now c.args.addr _ c.requires.found c.in-None.is).1
 
+pub next-used-requires-clause-due : goal.next-used-requires-clause-due
+next-used-requires-clause-due g c =
+    let setup = c.args.self.now.setup.now in
+    let ks = c.args.self.now.devices.items in
+    let i = c.in-Some.index in
+    let y = c.index-deref_mut-index.result in
+    let kept = c.deref_mut.ensures.value in
+    let at = found_at c.args.self.now c.args.addr i _ c.requires.found c.in-Some.is in
+    let here = desk_lent ks _ i y kept c.index-deref_mut-index.is in
+    c.requires.due
+    ∙ ap (due_at_desk c.args.self.now.sale c.args.addr)
+    (desk_found setup.devices ks ks c.args.addr i _ refl here c.args.self.now.many at.within at.index)
+
 pub returns-in-None-clause-found : goal.returns-in-None-clause-found
 returns-in-None-clause-found g c =
     still_found c.args.self.now _ c.args.addr c.args.found c.bare_next.ensures.frees.setup c.requires.found
