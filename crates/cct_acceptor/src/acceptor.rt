@@ -142,6 +142,10 @@ impl<'s> Acceptor<'s> {
         ensures gap { IsAtGap self.new }
     {
         out.clear();
+        if self.listener.passes_by() {
+            self.listener.gap();
+            return false;
+        }
         let asked = self.listener.asked(self.setup);
         self.listener.gap();
         match asked {

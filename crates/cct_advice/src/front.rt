@@ -27,6 +27,7 @@ impl Front {
     }
 
     /// Keeps the front of these bytes in place of the ones before.
+    #[inline(never)]
     fn keep(&mut self, bytes: &[u8]) {
         let len = bytes.len().min(ROOM);
         self.bytes[..len].copy_from_slice(&bytes[..len]);

@@ -1,8 +1,9 @@
 //! What the bytes that a device hears ask of it.
-ghost use Rattle.std.specs.Prelude.{◌≡◌, false, ℕ, List, [], ◌∷◌, ◌++◌, None, Some, MatchOption};
+ghost use Rattle.std.specs.Prelude.{◌≡◌, true, false, ℕ, List, [], ◌∷◌, ◌++◌, None, Some, MatchOption};
 ghost use Rattle.cct_frame.specs.Frame.{message_of};
 ghost use Rattle.cct_wire.specs.Framer.{Since};
 ghost use Rattle.cct_device.specs.Listening.{is_for};
+ghost use Rattle.cct_terms.specs.declared.device.DeviceSetup.{DeviceSetup};
 ghost use Rattle.cct_terms.specs.Exchange.{asked_of, asker, asks_of, to_all, to_one};
 
 use cct_frame::FrameView;
@@ -82,10 +83,19 @@ impl Listener {
         self.elsewhere = false;
     }
 
+    /// Whether the bytes since the gap are of a message for another device. They ask nothing of this one.
+    #[inline]
+    #[tactic(auto, using(crate::proofs::Listening::asks_nothing))]
+    pub fn passes_by(&self) -> bool
+        ensures { result ≡ true → (d : DeviceSetup) (bytes : List ℕ) → HeardSince self.now d.addr bytes
+            → asks_of d bytes ≡ None }
+    {
+        self.elsewhere
+    }
+
     /// What the bytes since the gap ask of the device of a setup, or nothing where they are no message under its check,
     /// or none that asks something of it.
-    // Inlined, so that a device that a message passes by makes no call for it.
-    #[inline(always)]
+    #[inline]
     #[tactic(auto, using(crate::proofs::Listening::asks_nothing))]
     pub fn asked(&self, setup: &DeviceSetup) -> Option<Asked>
         requires { kind_of self.now ≡ setup.now.kind }

@@ -127,6 +127,10 @@ impl<'s> Hopper<'s> {
         ensures gap { IsAtGap self.new }
     {
         out.clear();
+        if self.device().listener.passes_by() {
+            self.forget_bytes();
+            return false;
+        }
         let setup = self.device().setup;
         let asked = self.device().listener.asked(setup);
         self.forget_bytes();

@@ -2,4 +2,4 @@ use Rattle.std.proofs.Common.{[]}
 use Rattle.cct_hopper.proofs.hopper.Hopper.gap.Goals as goal
 
 pub returns-in-Some-clause-gap : goal.returns-in-Some-clause-gap
-returns-in-Some-clause-gap c = c.act-reply.ensures.heard [] c.forget_bytes.ensures.gap
+returns-in-Some-clause-gap c = c.act-reply.ensures.heard [] c.forget_bytes-2.ensures.gap
