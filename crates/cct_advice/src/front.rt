@@ -40,18 +40,12 @@ impl Front {
     }
 }
 
-/// Whether a line may be the last one of a run that went wrong: it has the first two letters of one. Few lines of steps
-/// have, so that few are kept.
+/// Whether a line may be the last one of a run that went wrong, by its first letters. Few lines of steps may be, so that
+/// few are kept.
 fn may_be_last(line: &[u8]) -> bool {
-    let (Some(first), Some(second)) = (line.first(), line.get(1)) else {
-        return false;
-    };
-    match (*first, *second) {
-        (b'd', b'i') => true,
-        (b'j', b'o') => true,
-        (b'n', b'o') => true,
-        (b'r', b'e') => true,
-        (b'w', b'o') => true,
-        _ => false,
+    match line.first() {
+        Some(b'w') => line.get(1) == Some(&b'o'),
+        Some(first) => matches!(*first, b'd' | b'j' | b'n' | b'r'),
+        None => false,
     }
 }

@@ -50,6 +50,7 @@ impl<D: Disk> Machine<'_, D> {
         }
     }
 
+    #[inline(always)]
     pub fn step(&mut self, step: &Step, report: &mut ArrayVec<Entry, 8>) -> Result<(), WorldNo>
         requires known { IsTrue (is_known (setup_of self.old) step.now) }
         requires in_range { IsInRange step.now }

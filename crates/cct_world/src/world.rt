@@ -77,6 +77,8 @@ impl<'s, D: Disk> World<'s, D> {
     /// Fails only if a call of the disk failed, in a `next` whose job had a record to put or in a power cut, or if a power
     /// cut left another journal than was there. Then the report is empty, the world is gone, and the disk is given back:
     /// whether the record stands there is open.
+    // Inlined: its frame has room for several wide entries, and to lay it out at each step costs more than a step needs.
+    #[inline(always)]
     pub fn step(
         self,
         step: &Step,
