@@ -17,3 +17,4 @@ pub mod Text
 pub mod Grammar
 pub mod Script
 pub mod Sums
+pub mod Carried

@@ -3,12 +3,14 @@
 //! a sum.
 #![tactic(auto)]
 
+mod carry;
 mod command;
 mod device_set;
 mod entry;
 mod record;
 mod setup;
 
+pub use carry::{Carry, CarryEpoch, CarryEpochs, CarryOrder, CarryOrders};
 pub use cct_terms::{
     BROADCAST, Bytes, COIN_PLACES, CheckKind, Coin, Coins, Credits, DEVICES, DeviceBody,
     DeviceSetup, Devices, ENABLE_CODE, EVENTS, Family, HOST, Happening, MOST_HEARD, MOST_NAME,

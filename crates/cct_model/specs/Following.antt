@@ -27,24 +27,47 @@ abbrev pub count_of : Option OpenOrder → ℕ
 count_of None = 0
 count_of (Some o) = o.count
 
--- A record may follow those before it. An epoch begins at an acceptor with no running epoch, and each place of its mask,
+-- What is known before a record: the epoch and the open order at an address, which orders are open by their ids, the order
+-- of an id that is open, and what is available.
+pub record Known : Type 0 where
+  pub epoch_at : ℕ → EpochState
+  pub order_at : ℕ → Option OpenOrder
+  pub is_open : ℕ → Bool
+  pub named : ℕ → Option OpenOrder
+  pub available : ℕ
+
+-- A record may follow what is known. An epoch begins at an acceptor with no running epoch, and each place of its mask,
 -- which isn't 0, has a value. A reading, a break and an epoch's end follow where an epoch runs. An order is opened at a
 -- hopper with no open order, with an id that isn't 0 and with which none is open; its coins, at least one, are available.
 -- It is closed where it is open, and its coins are then paid or unpaid. A sale has an id and a price that aren't 0, and its
 -- price is available.
-abbrev pub follows : Setup → List Record → Record → Bool
-follows setup before (record_of.Epoch addr mask) =
-    acceptor_there (device_at setup.devices addr) && not (is_running (epoch_in addr before)) && not (mask == 0)
+abbrev pub follows_known : Setup → Known → Record → Bool
+follows_known setup k (record_of.Epoch addr mask) =
+    acceptor_there (device_at setup.devices addr) && not (is_running (k.epoch_at addr)) && not (mask == 0)
     && has_values (device_at setup.devices addr) mask
-follows setup before (record_of.Reading addr counter lost posted) = is_running (epoch_in addr before)
-follows setup before (record_of.Broken addr seen counter posted) = is_running (epoch_in addr before)
-follows setup before (record_of.EpochEnd addr) = is_running (epoch_in addr before)
-follows setup before (record_of.Opened id addr count life) =
-    hopper_there (device_at setup.devices addr) && is_none (order_in addr before) && not (id == 0) && not (is_open id before)
-    && not (count == 0) && nat_le (coins_of setup addr count) (available_in setup before)
-follows setup before (record_of.Closed id paid unpaid) = is_open id before && (paid + unpaid == count_of (order_named id before))
-follows setup before (record_of.Odd id life_before life_after) = is_open id before
-follows setup before (record_of.Sold id price) = not (id == 0) && not (price == 0) && nat_le price (available_in setup before)
+follows_known setup k (record_of.Reading addr counter lost posted) = is_running (k.epoch_at addr)
+follows_known setup k (record_of.Broken addr seen counter posted) = is_running (k.epoch_at addr)
+follows_known setup k (record_of.EpochEnd addr) = is_running (k.epoch_at addr)
+follows_known setup k (record_of.Opened id addr count life) =
+    hopper_there (device_at setup.devices addr) && is_none (k.order_at addr) && not (id == 0) && not (k.is_open id)
+    && not (count == 0) && nat_le (coins_of setup addr count) k.available
+follows_known setup k (record_of.Closed id paid unpaid) = k.is_open id && (paid + unpaid == count_of (k.named id))
+follows_known setup k (record_of.Odd id life_before life_after) = k.is_open id
+follows_known setup k (record_of.Sold id price) = not (id == 0) && not (price == 0) && nat_le price k.available
+
+-- What records tell before another one.
+abbrev pub known_in : Setup → List Record → Known
+known_in setup before = record {
+  epoch_at = λ addr. epoch_in addr before;
+  order_at = λ addr. order_in addr before;
+  is_open = λ id. is_open id before;
+  named = λ id. order_named id before;
+  available = available_in setup before;
+}
+
+-- A record may follow those before it.
+abbrev pub follows : Setup → List Record → Record → Bool
+follows setup before r = follows_known setup (known_in setup before) r
 
 -- Each of these records may follow those before it.
 abbrev pub all_follow : Setup → List Record → Bool

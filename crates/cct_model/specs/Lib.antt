@@ -18,6 +18,7 @@ pub use Rattle.cct_lines.specs.Text
 pub use Rattle.cct_lines.specs.Grammar
 pub use Rattle.cct_lines.specs.Script
 pub use Rattle.cct_lines.specs.Sums
+pub use Rattle.cct_lines.specs.Carried
 pub mod Reading
 pub mod Line
 pub mod Order
@@ -29,6 +30,7 @@ pub mod Transcript
 pub mod Money
 pub mod Refusal
 pub mod Following
+pub mod Carry
 pub mod Honest
 pub mod Legal
 pub mod Claims

@@ -6,10 +6,11 @@
 mod judging;
 
 pub use cct_lines::{
-    BROADCAST, Bytes, COIN_PLACES, CheckKind, Coin, Coins, Command, CommandNo, CrashAt, Credits,
-    DEVICES, DeviceBody, DeviceSet, DeviceSetup, Devices, ENABLE_CODE, EVENTS, End, Entry, Family,
-    HOST, Happening, LineKind, Listed, MOST_HEARD, MOST_LINE, MOST_LINES, MOST_NAME, MOST_SENT,
-    MOST_TEXT, Name, PATHS, Pair, Piece, Record, Reply, ReplyForm, Request, Sent, Setup, SetupLine,
-    Step, SumOf, Texts, Totals, WireFault, has_place,
+    BROADCAST, Bytes, COIN_PLACES, Carry, CarryEpoch, CarryEpochs, CarryOrder, CarryOrders,
+    CheckKind, Coin, Coins, Command, CommandNo, CrashAt, Credits, DEVICES, DeviceBody, DeviceSet,
+    DeviceSetup, Devices, ENABLE_CODE, EVENTS, End, Entry, Family, HOST, Happening, LineKind,
+    Listed, MOST_HEARD, MOST_LINE, MOST_LINES, MOST_NAME, MOST_SENT, MOST_TEXT, Name, PATHS, Pair,
+    Piece, Record, Reply, ReplyForm, Request, Sent, Setup, SetupLine, Step, SumOf, Texts, Totals,
+    WireFault, has_place,
 };
 pub use judging::{EpochState, Judged, OpenOrder};
