@@ -1,5 +1,4 @@
 pub mod CoinPlaces
-pub mod Sound
 pub mod Place
 pub mod Attempt
 pub mod Exchange

@@ -20,7 +20,7 @@ ghost use Rattle.cct_jobs.specs.Jobs.{is_of_device, order_of};
 ghost use Rattle.cct_host.specs.Desk.{IsFree, puts_at};
 ghost use Rattle.cct_host.specs.Held.{sells_only};
 ghost use Rattle.cct_host.specs.Running.{begins_id};
-ghost use Rattle.cct_host.specs.Sound.{IsSoundSetup-prop};
+ghost use Rattle.cct_carry.specs.Sound.{IsSoundSetup-prop};
 
 use crate::desk::JobDesk;
 use crate::recorded::id_of;

@@ -1,4 +1,4 @@
--- That a setup is sound has one proof at most, so that a part of a host can keep it.
+-- That a setup is sound has one proof at most, so that a value can keep it.
 use Rattle.std.specs.Prelude.{List, [], ◌∷◌}
 use Rattle.std.proofs.Props.{props}
 use Rattle.cct_model.specs.terms.device.DeviceBody.{DeviceBody}
