@@ -1,7 +1,7 @@
 -- What two writes leave, of which the second opens the gate before what the first wrote.
 use Rattle.std.specs.Prelude.{◌⊎◌, ℕ, ◌+◌, List, [], ◌∷◌, length}
 use Rattle.cct_disk.specs.Disk.{put_at, SameOutside}
-use Rattle.cct_journal.specs.Image.{open_gate}
+use Rattle.cct_journal.specs.Half.{open_gate}
 
 -- An image on which bytes are written after a gate.
 abbrev pub behind_gate : ℕ → List ℕ → List ℕ → List ℕ

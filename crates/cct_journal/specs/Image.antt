@@ -1,86 +1,109 @@
 -- What the bytes of a disk stand for as a journal.
-use Rattle.std.specs.Prelude.{◌≡◌, ◌≢◌, ◌⊎◌, ℕ, suc, ◌+◌, ◌-◌, ◌*◌, ◌/◌, ◌<◌, ◌≤◌, ◌==◌, min, if◌then◌else◌, List, []}
-use Rattle.std.specs.Prelude.{◌∷◌, ◌++◌, length, take, drop, map, All, replicate, codes, slice_index}
+use Rattle.std.specs.Prelude.{◌≡◌, ◌≢◌, ◌⊎◌, ℕ, suc, ◌+◌, ◌-◌, ◌*◌, ◌<◌, ◌≤◌, ◌==◌, min, Bool, if◌then◌else◌, List, [], ⊥}
+use Rattle.std.specs.Prelude.{◌∷◌, ◌++◌, length, take, drop, map, All, slice_index}
+use Rattle.cct_lines.specs.declared.carry.Carry.{Carry}
 use Rattle.cct_lines.specs.declared.record.Record.{Record}
 use Rattle.cct_record.specs.Body.{InRange, IsRefused, body_of}
-use Rattle.cct_journal.specs.declared.format.TheConstants.{MOST_RECORDS}
+use Rattle.cct_journal.specs.Half.{IsCurrent, half, open_gate, slots_in}
+use Rattle.cct_journal.specs.Start.{Begins}
+use Rattle.cct_journal.specs.declared.format.TheConstants.{FIRST_SLOT, MOST_RECORDS, START}
 
--- The gate of a slot that counts. Any other gate is shut.
-abbrev pub open_gate : ℕ
-open_gate = 165
-
--- The header: an open gate, the title, the version 1, and 16 bytes 0.
-abbrev pub header : List ℕ
-header = open_gate ∷ codes "CCTALK JOURNAL" ++ 1 ∷ replicate 16 0
-
--- The least number of bytes on which a journal stands: its header and one slot.
+-- The least number of bytes on which a journal stands: two halves with one record each.
 abbrev pub least_size : ℕ
-least_size = 64
+least_size = 2368
 
--- How many records a journal on so many bytes takes.
-abbrev pub capacity_of : ℕ → ℕ
-capacity_of size = min (size / 32 - 1) MOST_RECORDS
+-- How many records a half takes on so many bytes, after so many before it.
+abbrev pub room_of : ℕ → ℕ → ℕ
+room_of size base = min (slots_in size - FIRST_SLOT) (MOST_RECORDS - base)
 
 -- The bodies of the slots that these bytes are, up to the first shut gate, and so many at most.
 abbrev pub bodies : ℕ → List ℕ → List (List ℕ)
 bodies (suc most) (gate ∷ rest) = if gate == open_gate then take 31 rest ∷ bodies most (drop 31 rest) else []
 bodies most bytes = []
 
--- The bodies of the records of an image.
-abbrev pub bodies_in : List ℕ → List (List ℕ)
-bodies_in image = bodies (capacity_of (length image)) (drop 32 image)
+-- The bodies of the records of a half, after so many before it.
+abbrev pub bodies_in : List ℕ → Bool → ℕ → List (List ℕ)
+bodies_in image second base = bodies (room_of (length image) base) (drop START (half image second))
 
--- An image stands for records: it has the header, and after it just the bodies of these records.
-pub record StandsFor (image : List ℕ) (records : List Record) : Type 0 where
+-- The current half of an image begins with this generation, this base and this carry.
+pub record IsHeaded (image : List ℕ) (second : Bool) (generation base : ℕ) (carry : Carry) : Type 0 where
   pub long : least_size ≤ length image
-  pub header_is : take 32 image ≡ header
-  pub records_are : bodies_in image ≡ map body_of records
-  pub in_range : All InRange records
+  pub current : IsCurrent second image
+  pub begins : Begins second generation base carry (half image second)
 
--- An image stands for so many records.
-abbrev pub HasRecords : List ℕ → ℕ → Type 0
-HasRecords image many = (records : List Record) × StandsFor image records × (length records ≡ many)
+-- The current half of an image begins so, and has just the bodies of these records.
+pub record HasHalf (image : List ℕ) (second : Bool) (generation base : ℕ) (carry : Carry) (rest : List Record)
+    : Type 0 where
+  pub headed : IsHeaded image second generation base carry
+  pub records_are : bodies_in image second base ≡ map body_of rest
+  pub in_range : All InRange rest
 
--- An image has no header of a journal, or is too short for one.
-abbrev pub IsAlien : List ℕ → Type 0
-IsAlien image = (length image < least_size) ⊎ (take 32 image ≢ header)
+-- An image has so many records, of which this is the carry, and just these after them.
+pub record HasFrom (image : List ℕ) (base : ℕ) (carry : Carry) (rest : List Record) : Type 0 where
+  pub second : Bool
+  pub generation : ℕ
+  pub current : HasHalf image second generation base carry rest
 
--- After so many records of an image stands a body that spells none.
-pub record IsRefusedAt (image : List ℕ) (index : ℕ) : Type 0 where
-  pub before : List Record
-  pub body : List ℕ
-  pub rest : List (List ℕ)
-  pub bodies_are : bodies_in image ≡ map body_of before ++ body ∷ rest
-  pub in_range : All InRange before
-  pub count : index ≡ length before
-  pub refused : IsRefused body
+-- This is the carry of the first ones of these records, so many, and the rest of them.
+pub record Continues (carry_of : List Record → Carry) (base : ℕ) (carry : Carry) (rest records : List Record) : Type 0 where
+  pub first : List Record
+  pub all : records ≡ first ++ rest
+  pub many : base ≡ length first
+  pub carry_is : carry ≡ carry_of first
 
--- An image has the header, and after so many records a body that spells none.
-pub record IsBadAt (image : List ℕ) (index : ℕ) : Type 0 where
-  pub long : least_size ≤ length image
-  pub header_is : take 32 image ≡ header
-  pub refused : IsRefusedAt image index
-
--- The gate of the slot of a record, by its index.
-abbrev pub gate_at : ℕ → List ℕ → ℕ
-gate_at index image = slice_index image (32 * (index + 1))
-
--- The body in the slot of a record, by its index.
-abbrev pub body_at : ℕ → List ℕ → List ℕ
-body_at index image = take 31 (drop (32 * (index + 1) + 1) image)
-
--- Each gate from that of the slot of this index on is shut.
-abbrev pub ShutFrom : ℕ → List ℕ → Type 0
-ShutFrom count image = (i : ℕ) → count ≤ i → i < capacity_of (length image) → gate_at i image ≢ open_gate
-
--- An image stands for records, and no slot after them has an open gate.
-pub record Keeps (image : List ℕ) (records : List Record) : Type 0 where
-  pub stands : StandsFor image records
-  pub shut : ShutFrom (length records) image
+-- An image stands for records, where the carry of records is this one: it has the carry of the first ones, and just the
+-- others after it.
+pub record StandsFor (carry_of : List Record → Carry) (image : List ℕ) (records : List Record) : Type 0 where
+  pub base : ℕ
+  pub carry : Carry
+  pub rest : List Record
+  pub has : HasFrom image base carry rest
+  pub continues : Continues carry_of base carry rest records
 
 -- An image stands for records, or for these and one more.
-abbrev pub KeepsOneOf : List Record → Record → List ℕ → Type 0
-KeepsOneOf records entry image = Keeps image records ⊎ Keeps image (records ++ entry ∷ [])
+abbrev pub StandsForOneOf : (List Record → Carry) → List Record → Record → List ℕ → Type 0
+StandsForOneOf carry_of records entry image =
+    StandsFor carry_of image records ⊎ StandsFor carry_of image (records ++ entry ∷ [])
+
+-- An image has so many records.
+pub record HasMany (image : List ℕ) (many : ℕ) : Type 0 where
+  pub base : ℕ
+  pub carry : Carry
+  pub rest : List Record
+  pub has : HasFrom image base carry rest
+  pub count : many ≡ base + length rest
+
+-- An image is that of no journal: no half of it is open, or the current one begins with no header and carry, or it is too
+-- short for two halves.
+abbrev pub IsAlien : List ℕ → Type 0
+IsAlien image = (second : Bool) (generation base : ℕ) (carry : Carry) → IsHeaded image second generation base carry → ⊥
+
+-- After so many records of a half stands a body that spells none.
+pub record IsRefusedIn (image : List ℕ) (second : Bool) (base index : ℕ) : Type 0 where
+  pub before : List Record
+  pub body : List ℕ
+  pub later : List (List ℕ)
+  pub bodies_are : bodies_in image second base ≡ map body_of before ++ body ∷ later
+  pub in_range : All InRange before
+  pub count : index ≡ base + length before
+  pub refused : IsRefused body
+
+-- An image has a current half, and after so many records, with those before it, a body that spells none.
+pub record IsBadAt (image : List ℕ) (index : ℕ) : Type 0 where
+  pub second : Bool
+  pub generation : ℕ
+  pub base : ℕ
+  pub carry : Carry
+  pub headed : IsHeaded image second generation base carry
+  pub refused : IsRefusedIn image second base index
+
+-- The gate in a slot of a half.
+abbrev pub gate_at : List ℕ → ℕ → ℕ
+gate_at bytes slot = slice_index bytes (32 * slot)
+
+-- The body in a slot of a half.
+abbrev pub body_at : List ℕ → ℕ → List ℕ
+body_at bytes slot = take 31 (drop (32 * slot + 1) bytes)
 
 -- Every byte from one place up to another is 0.
 abbrev pub IsBlankBetween : ℕ → ℕ → List ℕ → Type 0

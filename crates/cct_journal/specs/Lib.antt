@@ -1,3 +1,5 @@
+pub mod Half
+pub mod Start
 pub mod Image
 pub mod Gated
 pub mod Stands

@@ -1,7 +1,8 @@
 -- What a journal has after a power cut that came in the midst of a put, or in none.
 use Rattle.std.specs.Prelude.{◌≡◌, ◌⊎◌, ℕ, ◌<◌, Bool, true, Option, None, Some, is_some, List, [], ◌∷◌, ◌++◌}
+use Rattle.cct_lines.specs.declared.carry.Carry.{Carry}
 use Rattle.cct_lines.specs.declared.record.Record.{Record}
-use Rattle.cct_journal.specs.Image.{Keeps, KeepsOneOf}
+use Rattle.cct_journal.specs.Image.{StandsFor, StandsForOneOf}
 use Rattle.cct_journal.specs.Stands.{Leaves, LeavesOneOf}
 
 -- The records that are left after a power cut: those that stood before, or these and the one of the put that it
@@ -11,21 +12,24 @@ LeftBy calls None records left = left ≡ records
 LeftBy calls (Some r) records left = ((calls < 4) × (left ≡ records)) ⊎ ((2 < calls) × (left ≡ records ++ r ∷ []))
 
 -- An image stands for records, or, where one is being put, for these and that one.
-abbrev pub KeepsWith : Option Record → List Record → List ℕ → Type 0
-KeepsWith None records image = Keeps image records
-KeepsWith (Some r) records image = KeepsOneOf records r image
+abbrev pub StandsForWith : (List Record → Carry) → Option Record → List Record → List ℕ → Type 0
+StandsForWith carry_of None records image = StandsFor carry_of image records
+StandsForWith carry_of (Some r) records image = StandsForOneOf carry_of records r image
 
 -- Each image that a power cut may leave on this honest disk stands for records, or, where one is being put, for
 -- these and that one.
-abbrev pub LeavesWith : {D : Type 0} → (D → Bool) → (D → Option (List ℕ)) → (D → List ℕ → Type 0) → D → Option Record
-    → List Record → Type 0
-LeavesWith honest seen may_leave disk None records = Leaves honest seen may_leave disk records
-LeavesWith honest seen may_leave disk (Some r) records = LeavesOneOf honest seen may_leave disk records r
+abbrev pub LeavesWith : (List Record → Carry) → {D : Type 0} → (D → Bool) → (D → Option (List ℕ)) → (D → List ℕ → Type 0)
+    → D → Option Record → List Record → Type 0
+LeavesWith carry_of honest seen may_leave disk None records = Leaves carry_of honest seen may_leave disk records
+LeavesWith carry_of honest seen may_leave disk (Some r) records =
+    LeavesOneOf carry_of honest seen may_leave disk records r
 
 -- Each image that a power cut may leave on this honest disk stands for what is left after so many calls of a put,
 -- or of none.
-pub record LeavesBy {D : Type 0} (honest : D → Bool) (seen : D → Option (List ℕ)) (may_leave : D → List ℕ → Type 0)
-    (disk : D) (calls : ℕ) (put : Option Record) (records : List Record) : Type 0 where
+pub record LeavesBy (carry_of : List Record → Carry) {D : Type 0} (honest : D → Bool) (seen : D → Option (List ℕ))
+    (may_leave : D → List ℕ → Type 0) (disk : D) (calls : ℕ) (put : Option Record) (records : List Record)
+    : Type 0 where
   pub keeps_synced : honest disk ≡ true
   pub tells : is_some (seen disk) ≡ true
-  pub each : (c : List ℕ) → may_leave disk c → (left : List Record) × LeftBy calls put records left × Keeps c left
+  pub each : (c : List ℕ) → may_leave disk c
+      → (left : List Record) × LeftBy calls put records left × StandsFor carry_of c left

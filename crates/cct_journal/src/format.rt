@@ -6,17 +6,25 @@ pub(crate) const SLOT: u64 = 32;
 /// The gate of a slot that counts.
 pub(crate) const OPEN: u8 = 0xa5;
 
-/// The header, which is the first slot.
-pub(crate) const HEADER: [u8; 32] = [
-    OPEN, b'C', b'C', b'T', b'A', b'L', b'K', b' ', b'J', b'O', b'U', b'R', b'N', b'A', b'L', 1, 0,
-    0, 0, 0, 0, 0, 0, 0, 0, 0, 0, 0, 0, 0, 0, 0,
+/// The first bytes of an open half: its gate, the title and the version.
+pub(crate) const TITLE: [u8; 16] = [
+    OPEN, b'C', b'C', b'T', b'A', b'L', b'K', b' ', b'J', b'O', b'U', b'R', b'N', b'A', b'L', 2,
 ];
 
-/// The least number of bytes on which a journal stands.
-pub(crate) const LEAST: u64 = 64;
+/// The bodies of a carry at most: three of sums, and one each of 32 epochs and orders.
+pub(crate) const CARRY_BODIES: usize = 35;
+
+/// The slots of a half before its records: its header, and those of the carry.
+pub(crate) const FIRST_SLOT: u64 = 36;
+
+/// The bytes of a half before its records.
+pub(crate) const START: usize = 1152;
+
+/// The least number of bytes on which a journal stands: two halves with one record each.
+pub(crate) const LEAST: u64 = 2368;
 
 /// The most records of a journal.
-pub const MOST_RECORDS: u64 = 65_535;
+pub const MOST_RECORDS: u64 = 4_294_967_295;
 
 /// The bytes that are read at once where all are read.
 pub(crate) const BLOCK: usize = 4096;

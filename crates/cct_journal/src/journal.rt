@@ -2,27 +2,30 @@
 ghost use Rattle.std.specs.Prelude.{◌≡◌, ◌≢◌, ◌⊎◌, ◌↔◌, ◌<◌, ◌≤◌, ◌+◌, ℕ, true, false, Err, Some, List, []};
 ghost use Rattle.std.specs.Prelude.{◌∷◌, ◌++◌, IfErr, IfOk, IfSome, IsErrAnd, MatchResult, OnErr, OnOk};
 ghost use Rattle.cct_edge.specs.Faults.{Caused, HasCause};
+ghost use Rattle.cct_lines.specs.Carried.{IsRightly};
+ghost use Rattle.cct_lines.specs.declared.carry.Carry.{Carry};
 ghost use Rattle.cct_lines.specs.declared.record.Record.{Record};
 ghost use Rattle.cct_record.specs.Body.{Encodable};
-ghost use Rattle.cct_disk.specs.Disk.{CountsCut, Holds, IsCutBy, IsWithin, LeavesOnly, OnlyReads};
-ghost use Rattle.cct_journal.specs.Image.{KeepsOneOf, StandsFor, capacity_of, least_size};
+ghost use Rattle.cct_disk.specs.Disk.{CountsCut, GoesOn, Holds, IsCutBy, IsWithin, LeavesOnly, OnlyReads, Outlasts};
+ghost use Rattle.cct_journal.specs.Image.{StandsFor, StandsForOneOf, least_size};
 ghost use Rattle.cct_journal.specs.Creating.{Creates, IsCreated, RefusesCreate};
-ghost use Rattle.cct_journal.specs.PowerCuts.{KeepsWith, LeavesWith, LeftBy};
+ghost use Rattle.cct_journal.specs.PowerCuts.{LeavesWith, LeftBy, StandsForWith};
 ghost use Rattle.cct_journal.specs.Opening.{Finds, GivesRecord, RefusesOpen, RefusesRecord, ReplaysAll};
-ghost use Rattle.cct_journal.specs.Stands.{CutOnce, GoesOn, IsPlaced, Leaves, LeavesOneOf, Outlasts, Puts, Settled};
+ghost use Rattle.cct_journal.specs.Stands.{CutOnce, IsPlaced, IsPlaced-prop, Leaves, LeavesOneOf, Puts, Settled};
 
 use crate::creating::lay_header;
 use crate::cutting::cut_power;
+use crate::format::MOST_RECORDS;
 use crate::opening::find_place;
 use crate::place::Place;
+use crate::putting::put_record;
 use crate::range::GATED_CALLS;
-use crate::reading::{capacity_in, read_record};
+use crate::reading::read_record;
 use crate::replay::OnlyCounted;
-use crate::slot::put_slot;
 use crate::{CreateNo, JournalNo, OpenNo, ReadNo, Replay};
 use cct_disk::Disk;
 use cct_edge::Failed;
-use cct_lines::Record;
+use cct_lines::{Carry, Record};
 
 /// A journal of records on a disk (`docs/JOURNAL.md`).
 ///
@@ -34,16 +37,17 @@ pub struct Journal<D: Disk> {
     place: Place,
     /// Whether a put failed, after which nothing more may be put.
     failed: bool,
-    ghost placed: { IsPlaced (D.size disk) place },
+    ghost placed: { IsPlaced (D.size disk) place } by { IsPlaced-prop (D.size disk) place },
 }
 
 impl<D: Disk> Journal<D> {
-    ghost use Rattle.cct_journal.specs.Journal.{JournalReads, JournalStands, disk_back, disk_of, has_failed, place_of, used_of};
+    ghost use Rattle.cct_journal.specs.Journal.{JournalReadsFrom, JournalStands, JournalStandsBefore, JournalStandsWith};
+    ghost use Rattle.cct_journal.specs.Journal.{base_of, carry_before, disk_back, disk_of, has_failed, place_of, used_of};
 
     /// Creates a journal without records on a blank disk.
     ///
-    /// The refusals come in the order of [`CreateNo`]. [`CreateNo::Small`] comes where the disk has fewer than 64 bytes
-    /// and [`CreateNo::NotBlank`] where a byte isn't 0; then nothing is written. After [`CreateNo::Disk`] the disk is
+    /// The refusals come in the order of [`CreateNo`]. [`CreateNo::Small`] comes where the disk has fewer than
+    /// 2,368 bytes and [`CreateNo::NotBlank`] where a byte isn't 0; then nothing is written. After [`CreateNo::Disk`] the disk is
     /// as it was, or has no journal, or one without records.
     pub fn create(disk: D) -> Result<Journal<D>, (D, CreateNo)>
         ensures created { IfOk result (λ journal. Creates D.size D.honest D.seen D.may_leave disk (disk_of journal)
@@ -79,22 +83,22 @@ impl<D: Disk> Journal<D> {
 
     /// Opens the journal that stands on a disk, and tells how many records it has. The disk is only read.
     ///
-    /// [`OpenNo::Alien`] comes where the disk has fewer than 64 bytes or doesn't begin with the header, and
-    /// [`OpenNo::BadRecord`] at the first body after an open gate that spells no record, where no shut gate stands
-    /// before it.
+    /// [`OpenNo::Alien`] comes where the disk has fewer than 2,368 bytes, no half of it is open, or the current one begins
+    /// with no header and carry, and [`OpenNo::BadRecord`] at the first body after an open gate of it that spells no
+    /// record, where no shut gate stands before it.
     pub fn reopen(disk: D) -> Result<(Journal<D>, u32), (D, OpenNo)>
         ensures finds { IfOk result (λ opened. Finds D.seen disk (disk_of opened.0) (place_of opened.0)) }
         // If the disk keeps exactly one image, the journal stands for it.
-        ensures stands { IfOk result (λ opened. (records : List Record)
-            → Settled D.honest D.seen D.may_leave disk records → JournalStands opened.0 records) }
+        ensures stands { IfOk result (λ opened. (carry_of : List Record → Carry) (records : List Record)
+            → Settled carry_of D.honest D.seen D.may_leave disk records → JournalStands carry_of opened.0 records) }
         ensures counted { IfOk result (λ opened. opened.1 ≡ used_of opened.0) }
         ensures unbroken { IfOk result (λ opened. has_failed opened.0 ≡ false) }
 
         // why it is refused
         ensures refused { IfErr result (λ e. (image : List ℕ) → D.seen disk ≡ Some image → RefusesOpen e.1 image) }
         // A disk that stands for records is refused only if it failed.
-        ensures never { IfErr result (λ e. (image : List ℕ) (records : List Record) → D.seen disk ≡ Some image
-            → StandsFor image records → e.1 ≡ OpenNo.Disk) }
+        ensures never { IfErr result (λ e. (carry_of : List Record → Carry) (image : List ℕ) (records : List Record)
+            → D.seen disk ≡ Some image → StandsFor carry_of image records → e.1 ≡ OpenNo.Disk) }
         ensures short { D.size disk < least_size → IsErrAnd result (λ e. e.1 ≡ OpenNo.Alien) }
 
         // the disk
@@ -108,30 +112,50 @@ impl<D: Disk> Journal<D> {
         let mut disk = disk;
         match find_place(&mut disk, &mut OnlyCounted) {
             Ok(place) => {
+                let used = place.used;
                 let journal = Journal {
                     disk,
                     place,
                     failed: false,
                 };
-                Ok((journal, place.used))
+                Ok((journal, used))
             }
             Err(why) => Err((disk, why)),
         }
     }
 
-    /// How many records the journal has.
+    /// How many records the journal has, with those before its current half.
     pub fn used(&self) -> u32
         ensures value { result ≡ used_of self.now }
-        ensures fits { result ≤ capacity_of (D.size (disk_of self.now)) }
+        ensures fits { result ≤ MOST_RECORDS }
+        ensures later { base_of self.now ≤ result }
     {
         self.place.used
     }
 
-    /// How many records the journal takes at most.
+    /// How many records the journal takes at most, on whatever disk: 4,294,967,295.
     pub fn capacity(&self) -> u32
-        ensures { result ≡ capacity_of (D.size (disk_of self.now)) }
+        ensures { result ≡ MOST_RECORDS }
     {
-        capacity_in(self.disk.len())
+        MOST_RECORDS as u32
+    }
+
+    /// How many records stood before the current half. They can't be read any more; [`Journal::carry`] is what is kept of
+    /// them.
+    pub fn base(&self) -> u32
+        ensures value { result ≡ base_of self.now }
+        ensures fits { result < MOST_RECORDS }
+        ensures later { result ≤ used_of self.now }
+    {
+        self.place.base
+    }
+
+    /// The carry of the records before the current half.
+    pub fn carry(&self) -> &Carry
+        ensures value { result.now ≡ carry_before self.now }
+        ensures rightly { IsRightly (base_of self.now) result.now }
+    {
+        &self.place.carry
     }
 
     /// The disk.
@@ -148,16 +172,19 @@ impl<D: Disk> Journal<D> {
 
     /// Reads the record of an index, the first at 0. The disk is only read.
     ///
-    /// [`ReadNo::BadRecord`] comes where the body of that record spells none, which never happens on a disk whose reads
+    /// It has to be one of the current half, from [`Journal::base`] on. [`ReadNo::BadRecord`] comes where the body of that
+    /// record spells none, which never happens on a disk whose reads
     /// give what the journal was opened on.
     pub fn read_at(&mut self, index: u32) -> Result<Record, ReadNo>
-        requires { index < used_of self.old }
+        requires from { base_of self.old ≤ index }
+        requires within { index < used_of self.old }
         ensures gives { IfOk result (GivesRecord D.seen (disk_of self.old) (place_of self.old) index) }
         ensures refused { IfErr result (RefusesRecord D.seen (disk_of self.old) (place_of self.old) index) }
 
         // the journal stays as it is
-        ensures stands { (records : List Record) → JournalStands self.old records → JournalStands self.new records }
-        ensures told { (records : List Record) → JournalReads self.old records → JournalReads self.new records }
+        ensures stands { (carry_of : List Record → Carry) (records : List Record)
+            → JournalStands carry_of self.old records → JournalStands carry_of self.new records }
+        ensures told { (rest : List Record) → JournalReadsFrom self.old rest → JournalReadsFrom self.new rest }
         ensures place { place_of self.new ≡ place_of self.old }
         ensures unbroken { has_failed self.new ≡ has_failed self.old }
         ensures reads { OnlyReads D.size D.honest D.seen D.may_leave D.moment D.left_since D.cuts (disk_of self.old)
@@ -165,31 +192,37 @@ impl<D: Disk> Journal<D> {
         ensures cause { Caused (D.faults (disk_of self.old)) (D.faults (disk_of self.new))
             (result ≡ Err ReadNo.Disk) }
     {
-        read_record(&mut self.disk, self.place, index)
+        read_record(&mut self.disk, &self.place, index)
     }
 
-    /// Puts a record after the others, by four disk calls. At `Ok` every power cut leaves it.
+    /// Puts a record after the others, by four disk calls. At `Ok` every power cut leaves it. Where the current half is
+    /// full, the other one is begun first, by six calls, with the carry of all records so far (`docs/JOURNAL.md`, "A turn").
     ///
-    /// No earlier put on this value may have failed. [`JournalNo::Full`] comes where the journal has as many records as
+    /// `carry` is that of the records before. No earlier put on this value may have failed. [`JournalNo::Full`] comes where the journal has as many records as
     /// it takes, and changes nothing. After [`JournalNo::Disk`] it is open whether the record stands, and the disk has
     /// to be opened again.
-    pub fn put(&mut self, entry: &Record) -> Result<(), JournalNo>
+    pub fn put(&mut self, entry: &Record, carry: &Carry) -> Result<(), JournalNo>
         requires whole { has_failed self.old ≡ false }
         requires encodable { Encodable entry.now }
+        requires rightly { IsRightly (used_of self.old) carry.now }
 
         // each image that a power cut at a moment of the call may leave:
-        // Within a call of the disk or between two, whether calls fail or not, each image that a power cut may leave
-        // stands for the records before, or for these and the new one.
-        ensures moments { (records : List Record) → JournalStands self.old records
-            → LeavesOnly D.moment D.left_since (disk_of self.old) (disk_of self.new) (KeepsOneOf records entry.now) }
+        // Within a call of the disk or between two, of the turn too, whether calls fail or not, each image that a power cut
+        // may leave stands for the records before, or for these and the new one.
+        ensures moments { (carry_of : List Record → Carry) (records : List Record)
+            → JournalStandsWith carry_of self.old carry.now records
+            → LeavesOnly D.moment D.left_since (disk_of self.old) (disk_of self.new)
+            (StandsForOneOf carry_of records entry.now) }
 
         // at the end:
         // At Ok each image stands for these and the new one.
-        ensures done { OnOk result ((records : List Record) → JournalStands self.old records
-            → JournalStands self.new (records ++ entry.now ∷ [])) }
+        ensures done { OnOk result ((carry_of : List Record → Carry) (records : List Record)
+            → JournalStandsWith carry_of self.old carry.now records
+            → JournalStands carry_of self.new (records ++ entry.now ∷ [])) }
         // After a failure each image is one of the two.
-        ensures left { OnErr result ((records : List Record) → JournalStands self.old records
-            → LeavesOneOf D.honest D.seen D.may_leave (disk_of self.new) records entry.now) }
+        ensures left { OnErr result ((carry_of : List Record → Carry) (records : List Record)
+            → JournalStandsWith carry_of self.old carry.now records
+            → LeavesOneOf carry_of D.honest D.seen D.may_leave (disk_of self.new) records entry.now) }
         ensures counted { OnOk result (used_of self.new ≡ used_of self.old + 1) }
         ensures still { OnErr result (place_of self.new ≡ place_of self.old) }
         ensures unbroken { OnOk result (has_failed self.new ≡ false) }
@@ -198,7 +231,7 @@ impl<D: Disk> Journal<D> {
 
         // why it is refused
         ensures full { (result ≡ Err (JournalNo.Full (used_of self.old)))
-            ↔ (used_of self.old ≡ capacity_of (D.size (disk_of self.old))) }
+            ↔ (used_of self.old ≡ MOST_RECORDS) }
         ensures why { IfErr result (λ why. (why ≡ JournalNo.Disk) ⊎ (why ≡ JournalNo.Full (used_of self.old))) }
         ensures unchanged { result ≡ Err (JournalNo.Full (used_of self.old)) → self.new ≡ self.old }
 
@@ -211,12 +244,15 @@ impl<D: Disk> Journal<D> {
         if used == self.capacity() {
             return Err(JournalNo::Full { used });
         }
-        match put_slot(&mut self.disk, self.place, entry, GATED_CALLS) {
-            Ok(()) => {
+        match put_record(&mut self.disk, &self.place, carry, entry, GATED_CALLS) {
+            Ok(turned) => {
+                if let Some(place) = turned {
+                    self.place = place;
+                }
                 self.place.used += 1;
                 Ok(())
             }
-            Err(_) => {
+            Err(Failed) => {
                 self.failed = true;
                 Err(JournalNo::Disk)
             }
@@ -224,24 +260,28 @@ impl<D: Disk> Journal<D> {
     }
 
     /// Makes the first `calls` of the four disk calls of a put and gives the disk back, for a crash in the midst of a
-    /// put.
-    pub fn put_calls(self, entry: &Record, calls: u8) -> Result<D, (D, Failed)>
+    /// put. A turn that is due is made whole before them, also where `calls` is 0.
+    pub fn put_calls(self, entry: &Record, carry: &Carry, calls: u8) -> Result<D, (D, Failed)>
         requires few { calls ≤ 4 }
-        requires room { used_of self < capacity_of (D.size (disk_of self)) }
+        requires room { used_of self < MOST_RECORDS }
         requires encodable { Encodable entry.now }
+        requires rightly { IsRightly (used_of self) carry.now }
 
         // each image that a power cut at a moment of the call may leave
-        ensures moments { Puts D.honest D.seen D.may_leave D.moment D.left_since (place_of self) entry.now calls
-            (disk_of self) (disk_back result) }
+        ensures moments { Puts D.honest D.seen D.may_leave D.moment D.left_since (place_of self) carry.now entry.now
+            calls (disk_of self) (disk_back result) }
 
         // and at the end:
         // After four calls that were Ok the new one too.
-        ensures done { OnOk result (calls ≡ 4 → (records : List Record) → JournalStands self records
-            → Settled D.honest D.seen D.may_leave (disk_back result) (records ++ entry.now ∷ [])) }
-        ensures left { (records : List Record) → JournalStands self records
-            → LeavesOneOf D.honest D.seen D.may_leave (disk_back result) records entry.now }
-        ensures left_early { calls ≤ 2 → (records : List Record) → JournalStands self records
-            → Leaves D.honest D.seen D.may_leave (disk_back result) records }
+        ensures done { OnOk result (calls ≡ 4 → (carry_of : List Record → Carry) (records : List Record)
+            → JournalStandsWith carry_of self carry.now records
+            → Settled carry_of D.honest D.seen D.may_leave (disk_back result) (records ++ entry.now ∷ [])) }
+        ensures left { (carry_of : List Record → Carry) (records : List Record)
+            → JournalStandsWith carry_of self carry.now records
+            → LeavesOneOf carry_of D.honest D.seen D.may_leave (disk_back result) records entry.now }
+        ensures left_early { calls ≤ 2 → (carry_of : List Record → Carry) (records : List Record)
+            → JournalStandsWith carry_of self carry.now records
+            → Leaves carry_of D.honest D.seen D.may_leave (disk_back result) records }
 
         // the disk
         ensures goes_on { GoesOn D.size D.honest D.seen D.cuts (disk_of self) (disk_back result) }
@@ -252,8 +292,8 @@ impl<D: Disk> Journal<D> {
             place,
             failed: _,
         } = self;
-        match put_slot(&mut disk, place, entry, calls) {
-            Ok(()) => Ok(disk),
+        match put_record(&mut disk, &place, carry, entry, calls) {
+            Ok(_) => Ok(disk),
             Err(failed) => Err((disk, failed)),
         }
     }
@@ -261,13 +301,13 @@ impl<D: Disk> Journal<D> {
     /// Cuts the power and gives the disk back, which then keeps one of the images that this might leave, which one by
     /// `choice`.
     pub fn power_cut(self, choice: u64) -> Result<D, (D, Failed)>
-        ensures stands { OnOk result ((records : List Record)
-            → Leaves D.honest D.seen D.may_leave (disk_of self) records
-            → Settled D.honest D.seen D.may_leave (disk_back result) records) }
-        ensures one_of { OnOk result ((records : List Record) (entry : Record)
-            → LeavesOneOf D.honest D.seen D.may_leave (disk_of self) records entry
-            → Settled D.honest D.seen D.may_leave (disk_back result) records
-            ⊎ Settled D.honest D.seen D.may_leave (disk_back result) (records ++ entry ∷ [])) }
+        ensures stands { OnOk result ((carry_of : List Record → Carry) (records : List Record)
+            → Leaves carry_of D.honest D.seen D.may_leave (disk_of self) records
+            → Settled carry_of D.honest D.seen D.may_leave (disk_back result) records) }
+        ensures one_of { OnOk result ((carry_of : List Record → Carry) (records : List Record) (entry : Record)
+            → LeavesOneOf carry_of D.honest D.seen D.may_leave (disk_of self) records entry
+            → Settled carry_of D.honest D.seen D.may_leave (disk_back result) records
+            ⊎ Settled carry_of D.honest D.seen D.may_leave (disk_back result) (records ++ entry ∷ [])) }
         ensures cut { OnOk result (IsCutBy D.honest D.seen D.may_leave D.cut_to choice (disk_of self)
             (disk_back result)) }
 
@@ -298,33 +338,37 @@ impl<D: Disk> Journal<D> {
     /// Cuts the power in the midst of a put or in none, opens what is left in place, and tells how many records it
     /// has. Each is replayed as it is found, so each slot is read once.
     ///
-    /// `put` is the record of the put that is interrupted, after the first `calls` of its four disk calls, 0 to 4, and
-    /// `choice` is that of [`Disk::power_cut`]. No earlier put on this value may have failed. [`OpenNo::Disk`] comes
+    /// `put` is the record of the put that is interrupted, after the first `calls` of its four disk calls, 0 to 4, where a
+    /// turn that is due is made whole before them; `carry` is that of the records before, and `choice` is that of [`Disk::power_cut`]. No earlier put on this value may have failed. [`OpenNo::Disk`] comes
     /// where a disk call fails, and the others as from [`Journal::reopen`]. After any of them nothing more may be put,
     /// and some of the records may have been replayed.
     pub fn restart<R: Replay>(
         &mut self,
         put: &Option<Record>,
+        carry: &Carry,
         calls: u8,
         choice: u64,
         replay: &mut R,
     ) -> Result<u32, OpenNo>
         requires whole { has_failed self.old ≡ false }
         requires few { calls ≤ 4 }
-        requires room { IfSome put.now (λ _. used_of self.old < capacity_of (D.size (disk_of self.old))) }
+        requires room { IfSome put.now (λ _. used_of self.old < MOST_RECORDS) }
         requires encodable { IfSome put.now Encodable }
-        requires starts { R.replayed 0 replay.old [] replay.old }
+        requires rightly { IfSome put.now (λ _. IsRightly (used_of self.old) carry.now) }
 
         // each image that a power cut at a moment of the call may leave
-        ensures moments { (records : List Record) → JournalStands self.old records
-            → LeavesOnly D.moment D.left_since (disk_of self.old) (disk_of self.new) (KeepsWith put.now records) }
+        ensures moments { (carry_of : List Record → Carry) (records : List Record)
+            → JournalStandsBefore carry_of self.old carry.now put.now records
+            → LeavesOnly D.moment D.left_since (disk_of self.old) (disk_of self.new)
+            (StandsForWith carry_of put.now records) }
 
         // what is opened:
         // The records before, or these and the one of the put that was cut short: up to two calls the records alone,
         // after four the new one too.
-        ensures stands { OnOk result ((records : List Record) → JournalStands self.old records
+        ensures stands { OnOk result ((carry_of : List Record → Carry) (records : List Record)
+            → JournalStandsBefore carry_of self.old carry.now put.now records
             → (left : List Record) × LeftBy calls put.now records left
-            × JournalStands self.new left) }
+            × JournalStands carry_of self.new left) }
         ensures finds { OnOk result (Finds D.seen (disk_of self.new) (disk_of self.new) (place_of self.new)) }
         ensures counted { IfOk result (λ used. used ≡ used_of self.new) }
         ensures unbroken { OnOk result (has_failed self.new ≡ false) }
@@ -335,10 +379,11 @@ impl<D: Disk> Journal<D> {
         // why nothing is opened, and what stands then
         ensures refused { IfErr result (λ why. (image : List ℕ) → D.seen (disk_of self.new) ≡ Some image
             → RefusesOpen why image) }
-        ensures never { IfErr result (λ why. (records : List Record) → JournalStands self.old records
-            → why ≡ OpenNo.Disk) }
-        ensures left { OnErr result ((records : List Record) → JournalStands self.old records
-            → LeavesWith D.honest D.seen D.may_leave (disk_of self.new) put.now records) }
+        ensures never { IfErr result (λ why. (carry_of : List Record → Carry) (records : List Record)
+            → JournalStandsBefore carry_of self.old carry.now put.now records → why ≡ OpenNo.Disk) }
+        ensures left { OnErr result ((carry_of : List Record → Carry) (records : List Record)
+            → JournalStandsBefore carry_of self.old carry.now put.now records
+            → LeavesWith carry_of D.honest D.seen D.may_leave (disk_of self.new) put.now records) }
         ensures still { OnErr result (place_of self.new ≡ place_of self.old) }
         ensures broken { OnErr result (has_failed self.new ≡ true) }
 
@@ -350,14 +395,15 @@ impl<D: Disk> Journal<D> {
         ensures cause { Caused (D.faults (disk_of self.old)) (D.faults (disk_of self.new)) (result ≡ Err OpenNo.Disk) }
     {
         self.failed = true;
-        let Ok(()) = cut_power(&mut self.disk, self.place, put, calls, choice) else {
+        let Ok(()) = cut_power(&mut self.disk, &self.place, carry, put, calls, choice) else {
             return Err(OpenNo::Disk);
         };
         match find_place(&mut self.disk, replay) {
             Ok(place) => {
+                let used = place.used;
                 self.place = place;
                 self.failed = false;
-                Ok(place.used)
+                Ok(used)
             }
             Err(why) => Err(why),
         }

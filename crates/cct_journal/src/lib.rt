@@ -7,11 +7,14 @@ mod format;
 mod journal;
 mod opening;
 mod place;
+mod putting;
 mod range;
 mod reading;
 mod refusal;
 mod replay;
 mod slot;
+mod start;
+mod turning;
 
 pub use format::MOST_RECORDS;
 pub use journal::Journal;

@@ -1,7 +1,19 @@
 //! Where a journal stands on its disk.
+use cct_lines::Carry;
 
-/// How many records stand there.
-#[derive(Clone, Copy, Debug)]
+/// Where a journal stands on its disk: in which half, and what that half begins with.
+#[derive(Clone, Debug, Drop)]
 pub(crate) struct Place {
+    /// How many records there are, with those before the half.
     pub(crate) used: u32,
+    /// Whether the current half is the second one.
+    pub(crate) second: bool,
+    /// The generation of the current half: how often the journal turned.
+    pub(crate) generation: u32,
+    /// How many records stood before the current half.
+    pub(crate) base: u32,
+    /// The carry of these.
+    pub(crate) carry: Carry,
+    /// Whether the gate of the other half is open.
+    pub(crate) other_open: bool,
 }

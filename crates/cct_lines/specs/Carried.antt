@@ -1,6 +1,7 @@
 -- What a carry is: what a host needs of all records before some of them.
 use Rattle.std.specs.Prelude.{◌≡◌, ℕ, ◌+◌, ◌*◌, ◌^◌, ◌<◌, ◌≤◌, nat_lt, ◌==◌, List, [], ◌∷◌, length, map, All, Option, Some, None}
 use Rattle.std.specs.Prelude.{if◌then◌else◌, ⊤}
+use Rattle.std.proofs.Props.{props}
 use Rattle.cct_lines.specs.terms.device.TheConstants.{DEVICES}
 use Rattle.cct_lines.specs.declared.carry.CarryEpoch.{CarryEpoch}
 use Rattle.cct_lines.specs.declared.carry.CarryOrder.{CarryOrder}
@@ -102,3 +103,25 @@ pub record IsRightly (many : ℕ) (c : Carry) : Type 0 where
   pub last : c.last_id < 2 ^ 32
   -- What else a carry of no record has is 0 by the two lines before these.
   pub none_used : many ≡ 0 → c.last_id ≡ 0
+
+-- That a carry may be that of so many records has one proof at most, so that a value can keep it.
+
+IsBelow-prop : (a : ℕ) (bs : List ℕ) → IsProp (IsBelow a bs)
+IsBelow-prop a [] = hlevel props
+IsBelow-prop a (b ∷ bs) = hlevel props
+
+Rise-prop : (xs : List ℕ) → IsProp (Rise xs)
+Rise-prop [] = hlevel props
+Rise-prop (a ∷ later) = hlevel (props, IsBelow-prop, Rise-prop later)
+
+AreSmall-prop : (many : ℕ) (c : Carry) → IsProp (AreSmall many c)
+AreSmall-prop many c = hlevel props
+
+EpochFits-prop : (e : CarryEpoch) → IsProp (EpochFits e)
+EpochFits-prop e = hlevel props
+
+OrderFits-prop : (o : CarryOrder) → IsProp (OrderFits o)
+OrderFits-prop o = hlevel props
+
+pub IsRightly-prop : (many : ℕ) (c : Carry) → IsProp (IsRightly many c)
+IsRightly-prop many c = hlevel (props, Rise-prop, AreSmall-prop, EpochFits-prop, OrderFits-prop)

@@ -1,0 +1,51 @@
+-- The two halves of a disk, and which of them counts.
+use Rattle.std.specs.Prelude.{◌≡◌, ℕ, suc, ◌+◌, ◌*◌, ◌/◌, ◌<◌, ◌≤◌, ◌==◌, Bool, true, false, not, if◌then◌else◌, List, [], ◌∷◌, ◌++◌, length}
+use Rattle.std.specs.Prelude.{take, drop, codes, slice_index}
+use Rattle.std.specs.Int.{w32, from_le_bytes}
+
+-- The gate of a slot or of a half that counts. Any other gate is shut.
+abbrev pub open_gate : ℕ
+open_gate = 165
+
+-- The first bytes of an open half: an open gate, the title, and the version 2.
+abbrev pub title : List ℕ
+title = open_gate ∷ codes "CCTALK JOURNAL" ++ 2 ∷ []
+
+-- How many slots of 32 bytes each half has, on so many bytes.
+abbrev pub slots_in : ℕ → ℕ
+slots_in size = size / 64
+
+-- Where a half begins, on so many bytes.
+abbrev pub start_at : ℕ → Bool → ℕ
+start_at size second = if second then 32 * slots_in size else 0
+
+-- So many bytes from a place on.
+abbrev pub window : ℕ → ℕ → List ℕ → List ℕ
+window at many bytes = take many (drop at bytes)
+
+-- The first or the second half of an image.
+abbrev pub half : List ℕ → Bool → List ℕ
+half image second = window (start_at (length image) second) (32 * slots_in (length image)) image
+
+-- The gate of a half is open.
+abbrev pub has_open_gate : List ℕ → Bool
+has_open_gate bytes = slice_index bytes 0 == open_gate
+
+-- A half is open: it begins with an open gate, the title and the version.
+abbrev pub IsOpen : List ℕ → Type 0
+IsOpen bytes = take 16 bytes ≡ title
+
+-- The generation in the header of a half.
+abbrev pub generation_in : List ℕ → ℕ
+generation_in bytes = from_le_bytes w32 (window 16 4 bytes)
+
+-- A half counts beside the other one, if both are open: its generation is greater, or it is the first half, and its
+-- generation isn't less.
+abbrev pub Wins : Bool → List ℕ → List ℕ → Type 0
+Wins false mine other = IsOpen other → generation_in other ≤ generation_in mine
+Wins true mine other = IsOpen other → generation_in other < generation_in mine
+
+-- A half of an image is the current one: it is open, and counts beside the other one.
+pub record IsCurrent (second : Bool) (image : List ℕ) : Type 0 where
+  pub is_open : IsOpen (half image second)
+  pub wins : Wins second (half image second) (half image (not second))
