@@ -3,3 +3,4 @@ pub mod Coins
 pub mod Sets
 pub mod Keeping
 pub mod Small
+pub mod Fitting

@@ -1,3 +1,4 @@
 pub mod CoinPlaces
+pub mod GoingOn
 pub mod Sound
 pub mod Tally
