@@ -14,7 +14,7 @@ use Rattle.cct_disk.specs.declared.disk.Disk.{Ghosts}
 use Rattle.cct_disk.specs.Disk.{IsTrusted}
 use Rattle.cct_edge.specs.declared.fault.Failed.{Failed}
 use Rattle.cct_journal.specs.Image.{capacity_of}
-use Rattle.cct_journal.specs.Stands.{GoesOn, Outlasts}
+use Rattle.cct_disk.specs.Disk.{GoesOn, Outlasts}
 use Rattle.cct_journal.specs.declared.place.Place.{Place}
 use Rattle.cct_journal.proofs.Calls.{settled_leaves, stands_settled}
 use Rattle.cct_host.specs.OnDisk.{KeepsRecords, LeavesRecords}

@@ -13,7 +13,7 @@ use Rattle.cct_model.specs.Script.{IsInRange}
 use Rattle.cct_model.specs.Transcript.{onto}
 use Rattle.cct_laws.proofs.text.Scripts.{legal_right}
 use Rattle.cct_journal.specs.Image.{IsBlank, capacity_of}
-use Rattle.cct_journal.specs.Stands.{GoesOn, Outlasts}
+use Rattle.cct_disk.specs.Disk.{GoesOn, Outlasts}
 use Rattle.cct_disk.specs.declared.disk.Disk.{Ghosts}
 use Rattle.cct_disk.specs.Disk.{IsTrusted}
 use Rattle.cct_text.specs.Writing.{Broke, Writes, Wrote}

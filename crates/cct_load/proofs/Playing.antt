@@ -12,7 +12,7 @@ use Rattle.cct_model.specs.Transcript.{onto}
 use Rattle.cct_disk.specs.declared.disk.Disk.{Ghosts}
 use Rattle.cct_disk.specs.Disk.{IsTrusted}
 use Rattle.cct_journal.specs.Image.{capacity_of}
-use Rattle.cct_journal.specs.Stands.{Outlasts}
+use Rattle.cct_disk.specs.Disk.{Outlasts}
 use Rattle.cct_host.specs.OnDisk.{LeavesRecords}
 use Rattle.cct_laws.specs.Restart.{due_in}
 use Rattle.cct_laws.proofs.Onto.{legal_more, transcript_on}

@@ -16,7 +16,8 @@ use Rattle.cct_disk.specs.Disk.{IsTrusted}
 use Rattle.cct_journal.specs.declared.journal.Journal.{Journal}
 use Rattle.cct_journal.specs.Image.{IsBadAt}
 use Rattle.cct_journal.specs.Journal as journals
-use Rattle.cct_journal.specs.Stands.{CutOnce, Outlasts}
+use Rattle.cct_disk.specs.Disk.{Outlasts}
+use Rattle.cct_journal.specs.Stands.{CutOnce}
 use Rattle.cct_laws.specs.Restart.{RestartSuits}
 use Rattle.cct_host.specs.declared.host.Host.{Host}
 use Rattle.cct_host.specs.declared.refusal.CrashNo.{CrashNo}
