@@ -1,0 +1,3 @@
+pub mod Devices
+pub mod Gathered
+pub mod Carried
