@@ -1,6 +1,6 @@
 -- What the carry of records that follow one another tells is what the records tell: epochs and open orders, at any address
 -- and by any id, and what is reserved and available.
-use Rattle.std.proofs.Common.{◌≡◌, ◌≢◌, ℕ, ◌+◌, ◌-◌, ◌==◌, ◌&&◌, not, Bool, true, false, cond, List, [], ◌∷◌, Option, Some, None, is_some, All, refl, ap, ap₂, sym, ◌∙◌, arith, true≢false, eq-eqb, ne_eqb, eqb-true, option_and_then, option_map, ◌⊎◌, inl, inr}
+use Rattle.std.proofs.Common.{◌≡◌, ◌≢◌, ℕ, ◌+◌, ◌-◌, Bool, true, false, cond, List, [], ◌∷◌, Option, Some, None, is_some, All, refl, ap, sym, ◌∙◌, arith, true≢false, ne_eqb, option_and_then, option_map, ◌⊎◌, inl, inr}
 use Rattle.std.proofs.lemmas.Bool.{and_parts, cases_eq}
 use Rattle.std.proofs.lemmas.List.Elements.{All-head, All-tail}
 use Rattle.cct_model.specs.terms.device.DeviceBody.{DeviceBody}
@@ -28,7 +28,7 @@ use Rattle.cct_laws.proofs.Rising.{devices_rise}
 use Rattle.cct_laws.proofs.Setups.{same_some}
 use Rattle.cct_laws.proofs.money.Replaying.{epoch_else, epoch_own}
 use Rattle.cct_laws.proofs.money.Sums.{all_found}
-use Rattle.cct_laws.proofs.orders.Orders.{Belongs, IsNamed, belongs_all, named_id}
+use Rattle.cct_laws.proofs.orders.Orders.{Belongs, belongs_all, named_id}
 use Rattle.cct_carry.proofs.Devices.{distinct_rising, found_by_address, sum_by_address}
 use Rattle.cct_carry.proofs.Gathered.{HasAddress, first_among, first_gathered, first_nowhere}
 

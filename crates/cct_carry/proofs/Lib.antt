@@ -1,3 +1,6 @@
 pub mod Devices
 pub mod Gathered
 pub mod Carried
+pub mod Follows
+pub mod Steps
+pub mod Over
