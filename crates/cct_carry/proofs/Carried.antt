@@ -15,12 +15,12 @@ use Rattle.cct_model.specs.declared.judging.EpochState.{EpochState}
 use Rattle.cct_model.specs.declared.judging.EpochState.TheVariants.{Idle, Running}
 use Rattle.cct_model.specs.declared.judging.OpenOrder.{OpenOrder}
 use Rattle.cct_model.specs.Carried.{addr_of_epoch, addr_of_order, first_with, id_of_order, with_some}
-use Rattle.cct_model.specs.Carry.{available_held, carry, epoch_at, epoch_entry, epoch_from, epoch_held, gathered, order_at, order_entry, order_from, order_held, order_with, owed_by}
+use Rattle.cct_model.specs.Carry.{available_held, carry, epoch_at, epoch_entry, epoch_from, epoch_held, gathered, order_at, order_entry, order_from, order_held, order_with, owed_by, reserved_held}
 use Rattle.cct_model.specs.Device.{is_acceptor, is_hopper}
 use Rattle.cct_model.specs.Exchange.{acceptor_there, by_address, device_at, hopper_there}
 use Rattle.cct_model.specs.Following.{all_follow, follows, is_running}
 use Rattle.cct_model.specs.Job.{epoch_by}
-use Rattle.cct_model.specs.Money.{amount, available_beside, owed_in, sum_over}
+use Rattle.cct_model.specs.Money.{amount, available_beside, odd_in, owed_in, reserved_in, sum_over}
 use Rattle.cct_model.specs.Records.{epoch_in, is_open, order_in, order_named, owner_in}
 use Rattle.cct_model.specs.Setup.{IsSoundSetup}
 use Rattle.cct_model.proofs.Addresses.{address_there}
@@ -271,6 +271,10 @@ module _ (setup : Setup) (before : List Record) (sound : IsSoundSetup setup) (fo
       (λ d there. ap (option_and_then (order_at before)) (sym (sym (found_by_address setup.devices d.addr) ∙ there))
       ∙ order_there setup before d.addr (belongs_all setup before follow)))
       ∙ sum_by_address (λ d. amount setup (order_in d.addr before)) setup.devices
+
+  -- what is reserved
+  pub reserved_carried : reserved_held setup (carry setup before) ≡ reserved_in setup before
+  reserved_carried = ap (λ owed. owed + odd_in setup before) owed_carried
 
   -- what is available, beside what else is reserved
   pub available_carried : (beside : ℕ) →

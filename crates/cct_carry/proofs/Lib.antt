@@ -4,3 +4,4 @@ pub mod Carried
 pub mod Follows
 pub mod Steps
 pub mod Over
+pub mod Resumed
