@@ -169,7 +169,8 @@ order_there setup before addr belongs = by_found (device_at setup.devices addr) 
     by_found (Some d) is = by_kind d (is_acceptor d.body) refl (address_there setup.devices addr d is) is
 
 -- records of a sound setup that follow one another
-module _ (setup : Setup) (before : List Record) (sound : IsSoundSetup setup) (follow : all_follow setup before ≡ true) where
+module _ (setup : Setup) (before : List Record) (sound : IsSoundSetup setup)
+    (follow : all_follow setup before ≡ true) where
   -- the epoch and the open order at any address
   pub epoch_carried : (addr : ℕ) → epoch_held addr (carry setup before) ≡ epoch_in addr before
   epoch_carried addr =
@@ -190,7 +191,7 @@ module _ (setup : Setup) (before : List Record) (sound : IsSoundSetup setup) (fo
       ∙ order_there setup before addr belongs)
       ∙ order_back (order_in addr before)
 
-  -- the open order with an id
+  -- what the carry has of the open order with an id
   named_by_entry : (id : ℕ) (o : OpenOrder) → order_named id before ≡ Some o → order_in o.addr before ≡ Some o →
       first_with id_of_order id (gathered (order_at before) (by_address setup.devices)) ≡ Some (order_entry o)
   named_by_entry id o named owed =
@@ -217,6 +218,8 @@ module _ (setup : Setup) (before : List Record) (sound : IsSoundSetup setup) (fo
           first_among id_of_order id (order_at before) d (order_entry o) (by_address setup.devices) stands
           (named_id id before o named) one
           (found_by_address setup.devices d.addr ∙ ap (device_at setup.devices) own ∙ is)
+
+  -- so it is the one that the records name, where they tell that it is open, and there is none elsewhere
 
   pub named_carried : (id : ℕ) → is_open id before ≡ true → order_with id (carry setup before) ≡ order_named id before
   named_carried id open_is =

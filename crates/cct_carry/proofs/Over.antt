@@ -50,6 +50,7 @@ stays_refused setup (r ∷ later) before refused =
     and_right (follows setup (later ++ before) r) (all_follow setup (later ++ before))
     (stays_refused setup later before refused)
 
+-- in a sound setup
 module _ (setup : Setup) (sound : IsSoundSetup setup) where
   -- the carry of records that follow one another, after more of them
   pub carry_after : (later before : List Record) → all_follow setup (reverse later ++ before) ≡ true →

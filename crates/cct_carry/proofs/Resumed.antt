@@ -69,7 +69,10 @@ module _ {X : Type 0} (test : X → Bool) (f : DeviceSetup → X) where
 abbrev has : ℕ → Option OpenOrder → Bool
 has id owed = option_map_or (λ (o : OpenOrder). o.id == id) owed false
 
-module _ (setup : Setup) (before : List Record) (sound : IsSoundSetup setup) (follow : all_follow setup before ≡ true) where
+-- records of a sound setup that follow one another
+module _ (setup : Setup) (before : List Record) (sound : IsSoundSetup setup)
+    (follow : all_follow setup before ≡ true) where
+  -- the open orders of all devices
   pub orders_looked_up : map (λ d. order_held d.addr (carry setup before)) setup.devices
       ≡ map (λ d. order_in d.addr before) setup.devices
   orders_looked_up =
@@ -111,6 +114,7 @@ module _ (setup : Setup) (before : List Record) (sound : IsSoundSetup setup) (fo
   opened_looked_up id =
       sym (ap (list_any (has id)) orders_looked_up ∙ opened_told id (is_open id before) refl)
 
+  -- which order an id names
   pub named_looked_up : (place : ℕ) (o : OpenOrder) →
       slice_get (map (λ d. order_held d.addr (carry setup before)) setup.devices) place ≡ Some (Some o) →
       order_named o.id before ≡ Some o
