@@ -1,2 +1,3 @@
+pub mod Scope
 pub mod Sound
 pub mod Tally
