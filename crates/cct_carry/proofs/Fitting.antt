@@ -1,14 +1,17 @@
 -- The carry of records that all follow is safe.
-use Rattle.std.proofs.Common.{◌≡◌, ℕ, ◌+◌, ◌≤◌, true, List, [], ◌∷◌, length, All, sym, ◌∙◌, subst, arith}
+use Rattle.std.proofs.Common.{◌≡◌, ℕ, ◌+◌, ◌*◌, ◌≤◌, true, List, [], ◌∷◌, length, All, sym, ◌∙◌, subst, arith}
 use Rattle.std.proofs.lemmas.Bool.{and_parts}
 use Rattle.std.proofs.lemmas.List.Elements.{All-head, All-tail}
 use Rattle.cct_model.specs.terms.device.Setup.{Setup}
 use Rattle.cct_model.specs.terms.device.TheConstants.{DEVICES}
 use Rattle.cct_model.specs.lines.record.Record.{Record}
-use Rattle.cct_model.specs.Carry.{IsSafe, carry}
+use Rattle.cct_model.specs.lines.carry.CarryOrder.{CarryOrder}
+use Rattle.cct_model.specs.Carried.{OrderFits}
+use Rattle.cct_model.specs.Carry.{IsSafe, carry, owed_by}
 use Rattle.cct_model.specs.Following.{all_follow}
 use Rattle.cct_model.specs.Setup.{IsSoundSetup}
 use Rattle.cct_record.specs.Body.{InRange}
+use Rattle.cct_carry.proofs.Coins.{worth_most}
 use Rattle.cct_carry.proofs.Follows.{follows_carried}
 use Rattle.cct_carry.proofs.Keeping.{in_reach, safe_empty, safe_next}
 use Rattle.cct_carry.proofs.Resumed.{carry_first}
@@ -27,3 +30,13 @@ carry_safe setup (r ∷ before) sound devices ok fits =
     let many : length before + 1 ≡ length (r ∷ before) = omega arith in
     subst (λ n. IsSafe setup n (carry setup (r ∷ before))) many
     (subst (λ c. IsSafe setup (length before + 1) c) (carry_next setup before sound r ok) next)
+
+-- what open orders are worth at most
+pub owed_most : (setup : Setup) (orders : List CarryOrder) → IsSoundSetup setup → All OrderFits orders
+    → owed_by setup orders ≤ 255000000 * length orders
+owed_most setup [] sound fit = omega arith
+owed_most setup (o ∷ orders) sound fit =
+    let count = (All-head OrderFits o orders fit).count in
+    let here = worth_most setup o.addr o.count 255 sound.devices (omega arith) in
+    let later = owed_most setup orders sound (All-tail OrderFits o orders fit) in
+    omega arith

@@ -23,7 +23,7 @@ use Rattle.cct_model.specs.Setup.{IsSoundSetup}
 use Rattle.cct_model.specs.Sums.{coins_paid, coins_posted, coins_unpaid, events_lost, posts_of, price_sold}
 use Rattle.cct_model.proofs.OpenOrders.{coins_both}
 use Rattle.cct_record.specs.Body.{InRange}
-use Rattle.cct_carry.specs.GoingOn.{CanGoOn, IsInReach}
+use Rattle.cct_carry.specs.GoingOn.{CanGoOn, IsCovered, IsInReach}
 use Rattle.cct_carry.proofs.Coins.{coins_most, values_most, worth_most}
 use Rattle.cct_carry.proofs.Sets.{all_set, by_order, few_in, first_above, first_by_both, first_here, first_holds, first_key, first_past, length_set, none_has, rise_set, set_before, set_found, set_here, set_past}
 
@@ -368,9 +368,6 @@ closes_many : (c : Carry) (id : ℕ) → (at : Closes c id) → count_of (order_
 closes_many c id at = ap (λ found. count_of (option_map order_from found)) at.named
 
 -- what is posted covers what is reserved, paid and sold
-abbrev IsCovered : Setup → Carry → Type 0
-IsCovered setup c = c.paid_value + c.odd_value + c.sold + owed_by setup c.orders ≤ c.value
-
 pub covered_next : (setup : Setup) (many : ℕ) (c : Carry) (r : Record) → IsSafe setup many c
     → follows_carry setup c r ≡ true → IsCovered setup (carry_with setup r c)
 covered_next setup many c (record_of.Opened id addr count life) safe ok =
