@@ -1,6 +1,5 @@
 -- What each kind of record changes in a carry.
-use Rattle.std.proofs.Common.{◌≡◌, ℕ, ◌+◌, ◌^◌, ◌<◌, ◌≤◌, max, List, [], length, Option, Some, None, refl, ap, arith}
-use Rattle.std.specs.Option.{option_map}
+use Rattle.std.proofs.Common.{◌≡◌, ℕ, ◌+◌, ◌^◌, ◌<◌, ◌≤◌, max, List, length, Some, None, refl, arith}
 use Rattle.cct_model.specs.terms.coin.Coin.{Coin}
 use Rattle.cct_model.specs.terms.coin.TheConstants.{EVENTS}
 use Rattle.cct_model.specs.terms.device.Setup.{Setup}
@@ -10,7 +9,7 @@ use Rattle.cct_model.specs.lines.carry.Carry.{Carry}
 use Rattle.cct_model.specs.lines.carry.CarryEpoch.{CarryEpoch}
 use Rattle.cct_model.specs.lines.carry.CarryOrder.{CarryOrder}
 use Rattle.cct_model.specs.Carried.{addr_of_epoch, addr_of_order, set_with}
-use Rattle.cct_model.specs.Carry.{carry_with, epoch_entry, epoch_held, odd_more, order_with, owner_by}
+use Rattle.cct_model.specs.Carry.{carry_with, epoch_entry, epoch_held, order_with, owner_by}
 use Rattle.cct_model.specs.Exchange.{device_at}
 use Rattle.cct_model.specs.Job.{counted}
 use Rattle.cct_model.specs.Money.{amount, coins_of, coins_value}

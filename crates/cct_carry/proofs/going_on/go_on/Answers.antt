@@ -1,11 +1,10 @@
-use Rattle.std.proofs.Common.{◌≡◌, ◌+◌, ◌≤◌, max, length, Option, Some, None, List, ap, sym, ◌∙◌, subst, arith}
+use Rattle.std.proofs.Common.{◌+◌, ◌≤◌, length, None, List, ap, sym, ◌∙◌, subst, arith}
 use Rattle.cct_model.specs.terms.coin.Coin.{Coin}
 use Rattle.cct_model.specs.terms.device.TheConstants.{DEVICES}
 use Rattle.cct_model.specs.lines.record.Record.{Record}
 use Rattle.cct_model.specs.lines.record.Record.TheVariants as record_of
 use Rattle.cct_model.specs.lines.carry.Carry.{Carry}
-use Rattle.cct_model.specs.lines.carry.CarryOrder.{CarryOrder}
-use Rattle.cct_model.specs.Carried.{addr_of_epoch, addr_of_order, set_with}
+use Rattle.cct_model.specs.Carried.{addr_of_epoch, set_with}
 use Rattle.cct_model.specs.Carry.{carry_with, epoch_entry, epoch_held}
 use Rattle.cct_model.specs.Exchange.{device_at}
 use Rattle.cct_model.specs.Job.{counted}
