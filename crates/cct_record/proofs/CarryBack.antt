@@ -1,15 +1,15 @@
 -- What stands at the places of the fields of bodies is the carry that they spell.
-use Rattle.std.proofs.Common.{◌≡◌, ℕ, ◌+◌, ◌*◌, ◌^◌, ◌<◌, ◌≤◌, List, [], ◌∷◌, ◌++◌, length, map, refl, sym, ◌∙◌, ap, subst, Some, None, arith}
+use Rattle.std.proofs.Common.{◌≡◌, ℕ, ◌*◌, ◌^◌, ◌<◌, ◌≤◌, List, [], ◌∷◌, ◌++◌, length, map, refl, sym, ◌∙◌, ap, subst, Some, arith}
 use Rattle.std.specs.Prelude.{All}
 use Rattle.std.proofs.lemmas.List.Elements.{All-head, All-tail}
 use Rattle.std.proofs.lemmas.Nat.{from_le_bytes-to_le_bytes_2, from_le_bytes-to_le_bytes_4, from_le_bytes-to_le_bytes_8}
-use Rattle.cct_lines.specs.Carried.{AreSmall, EpochFits, IsRightly, OrderFits}
+use Rattle.cct_lines.specs.Carried.{EpochFits, IsRightly, OrderFits}
 use Rattle.cct_lines.specs.terms.device.TheConstants.{DEVICES}
 use Rattle.cct_lines.specs.declared.carry.Carry.{Carry}
 use Rattle.cct_lines.specs.declared.carry.CarryEpoch.{CarryEpoch}
 use Rattle.cct_lines.specs.declared.carry.CarryOrder.{CarryOrder}
 use Rattle.cct_lines.proofs.Requests.{three_back}
-use Rattle.cct_record.specs.CarryBody.{SpellsCarry, SpellsNone, bodies_of, carry_read, eight_at, epoch_body, epoch_read, epochs_read}
+use Rattle.cct_record.specs.CarryBody.{SpellsCarry, SpellsNone, bodies_of, carry_read, epoch_body, epoch_read, epochs_read}
 use Rattle.cct_record.specs.CarryBody.{first_sums, order_body, order_read, orders_read, second_sums, third_sums}
 
 -- A sum of at most 2 ^ 32 for each of some records fits eight bytes.

@@ -54,7 +54,7 @@ fn is_rightly(base: u32, carry: &Carry) -> bool
         && orders_rise(carry.orders.as_slice())
         && are_few(base, carry)
         && are_small(base, carry)
-        && (base != 0 || carry.last_id == 0)
+        && may_have_used(base, carry.last_id)
 }
 
 /// Whether the addresses of epochs rise strictly.
@@ -95,6 +95,22 @@ fn orders_above(addr: u8, orders: &[CarryOrder]) -> bool
         [next, ..] => addr < next.addr,
         [] => true,
     }
+}
+
+/// Whether a carry has at most 32 epochs and orders together, and at most as many as there are records.
+fn are_few(base: u32, carry: &Carry) -> bool
+    ensures { IsTrue result ↔ ((length carry.now.epochs + length carry.now.orders ≤ 32)
+        × (length carry.now.epochs + length carry.now.orders ≤ base)) }
+{
+    let count = carry.epochs.as_slice().len() + carry.orders.as_slice().len();
+    count <= ENTRIES && count <= base as usize
+}
+
+/// Whether so many records may have used this last id: of none there is no id.
+fn may_have_used(base: u32, last_id: u32) -> bool
+    ensures { IsTrue result ↔ (base ≡ 0 → last_id ≡ 0) }
+{
+    base != 0 || last_id == 0
 }
 
 /// Whether no sum of a carry is above 2^32 times so many records.
@@ -246,13 +262,4 @@ fn eight_at(bytes: &[u8; BODY], at: usize) -> u64
         bytes[at + 6],
         bytes[at + 7],
     ])
-}
-
-/// Whether a carry has at most 32 epochs and orders together, and at most as many as there are records.
-fn are_few(base: u32, carry: &Carry) -> bool
-    ensures { IsTrue result ↔ ((length carry.now.epochs + length carry.now.orders ≤ 32)
-        × (length carry.now.epochs + length carry.now.orders ≤ base)) }
-{
-    let count = carry.epochs.as_slice().len() + carry.orders.as_slice().len();
-    count <= ENTRIES && count <= base as usize
 }
