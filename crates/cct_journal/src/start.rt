@@ -6,7 +6,7 @@ ghost use Rattle.cct_lines.specs.declared.carry.Carry.{Carry};
 ghost use Rattle.cct_record.specs.CarryBody.{SpellsNone};
 ghost use Rattle.cct_journal.specs.Half.{title, window};
 ghost use Rattle.cct_journal.specs.Start.{Begins, HasParity, MayBegin, carry_slot, start_of};
-ghost use Rattle.cct_journal.specs.StartReading.{Finds, base_in, bodies_in, count_in};
+ghost use Rattle.cct_journal.specs.StartReading.{TellsStart, base_in, bodies_in, count_in};
 
 use crate::format::{CARRY_BODIES, MOST_RECORDS, START, TITLE};
 use arrayvec::ArrayVec;
@@ -74,11 +74,19 @@ pub(crate) fn read_start(bytes: &[u8; START], second: bool) -> Option<Start>
         → Begins second generation base carry bytes.now → ⊥) }
 {
     let start = start_in(bytes)?;
-    if may_begin(&start, second) && is_spelt_by(&start, bytes) {
+    if begins(&start, bytes, second) {
         Some(start)
     } else {
         None
     }
+}
+
+/// Whether a half begins so, where the carry may be that of so many records.
+fn begins(start: &Start, bytes: &[u8; START], second: bool) -> bool
+    requires { IsRightly start.now.base start.now.carry }
+    ensures { IsTrue result ↔ Begins second start.now.generation start.now.base start.now.carry bytes.now }
+{
+    may_begin(start, second) && is_spelt_by(start, bytes)
 }
 
 /// Whether a half may begin so, where the carry may be that of so many records.
@@ -112,7 +120,7 @@ fn is_spelt_by(start: &Start, bytes: &[u8; START]) -> bool
 
 /// The numbers and the carry that stand in the first bytes of a half, or none where no carry stands there.
 fn start_in(bytes: &[u8; START]) -> Option<Start>
-    ensures stands { IfSome result (λ s. Finds s.generation s.base s.carry bytes.now) }
+    ensures stands { IfSome result (λ s. TellsStart s.generation s.base s.carry bytes.now) }
     ensures none { IfNone result (count_in bytes.now ≤ CARRY_BODIES
         → SpellsNone (base_in bytes.now) (bodies_in (count_in bytes.now) bytes.now)) }
 {
