@@ -8,3 +8,4 @@ mod Blanks
 mod Opens
 mod Gathered
 mod Cuts
+pub mod Heads

@@ -7,3 +7,4 @@ pub mod PowerCuts
 pub mod Opening
 pub mod Creating
 pub mod Journal
+pub mod StartReading
