@@ -1,6 +1,7 @@
 pub mod Half
 pub mod Start
 pub mod Image
+pub mod Fronts
 pub mod Gated
 pub mod Stands
 pub mod PowerCuts
