@@ -92,6 +92,14 @@ module _ (image : List ℕ) (second : Bool) (generation base : ℕ) (carry : Car
         (own_same staged second (gate_in (length image) second (length rest)) (gate_place (length rest)) place 1 c gated
         one)
 
+    -- The other half is the same.
+    other_gated : half c (not second) ≡ half image (not second)
+    other_gated =
+        other_same staged second (gate_in (length image) second (length rest)) (gate_place (length rest)) place 1 c
+        gated one
+        ∙ other_same image second (gate_in (length image) second (length rest) + 1) (gate_place (length rest) + 1)
+        (omega arith) (length bytes) staged staged_written.same within
+
     -- The image has what the bodies of the half say.
     gated_has : (later : List Record)
         → bodies (room_of (length image) base) (drop START (half c second)) ≡ map body_of later → All InRange later
@@ -102,10 +110,7 @@ module _ (image : List ℕ) (second : Bool) (generation base : ℕ) (carry : Car
         (omega arith)
         ∙ same_before (gate_place (length (map body_of rest)) + 1) (length bytes) (half image second)
         (half staged second) own_staged.same 0 START (omega arith))
-        (λ _. other_same staged second (gate_in (length image) second (length rest)) (gate_place (length rest)) place 1 c
-        gated one
-        ∙ other_same image second (gate_in (length image) second (length rest) + 1) (gate_place (length rest) + 1)
-        (omega arith) (length bytes) staged staged_written.same within) are in_range
+        (λ _. other_gated) are in_range
 
     -- The byte at the gate is one of the half.
     gate_byte : slice_index (half c second) (gate_place (length (map body_of rest)))
@@ -168,3 +173,12 @@ module _ (image : List ℕ) (second : Bool) (generation base : ℕ) (carry : Car
       let one_more : at + 1 ≤ length staged = omega (arith, staged_written.same.size, inside) in
       gate_open opened (put_outside at staged (open_gate ∷ []) one_more)
       (first_byte opened at open_gate _ (put_there at (open_gate ∷ []) staged one_more))
+
+  -- The other half is the same then.
+  pub written_other : half (behind_open_gate (gate_in (length image) second (length rest)) bytes image) (not second)
+      ≡ half image (not second)
+  unfolding staged
+  written_other =
+      let at = gate_in (length image) second (length rest) in
+      other_gated (behind_open_gate at bytes image)
+      (put_outside at staged (open_gate ∷ []) (omega (arith, staged_written.same.size, inside)))
