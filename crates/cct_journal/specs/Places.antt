@@ -1,6 +1,7 @@
--- The places to which a put and a turn lead.
-use Rattle.std.specs.Prelude.{◌+◌, Bool, true, false, not, Option, None, Some}
+-- The places to which a put and a turn lead, and the bytes that begin a half.
+use Rattle.std.specs.Prelude.{ℕ, ◌+◌, Bool, true, false, not, Option, None, Some, List, [], ◌∷◌, ◌++◌, drop}
 use Rattle.cct_lines.specs.declared.carry.Carry.{Carry}
+use Rattle.cct_journal.specs.Start.{start_of}
 use Rattle.cct_journal.specs.declared.place.Place.{Place}
 
 -- The place after one more record.
@@ -40,3 +41,7 @@ after_turn place carry = record {
 abbrev pub turned_or : Place → Option Place → Place
 turned_or place None = place
 turned_or place (Some turned) = turned
+
+-- What is written after the gate of a half that begins: the rest of its start, and a shut gate in its first slot.
+abbrev pub behind_start : ℕ → ℕ → Carry → List ℕ
+behind_start generation base carry = drop 1 (start_of generation base carry) ++ 0 ∷ []
