@@ -74,7 +74,8 @@ module _ {D : Type 0} (size : D → ℕ) (honest : D → Bool) (seen : D → Opt
     (room : place.used < place.base + room_of (size old) place.base) (in_range : InRange entry) (spelt : List ℕ)
     (long : length spelt ≡ 32) (spelt_is : spelt ≡ body_of entry ++ 0 ∷ []) (count : ℕ)
     (len : ℕ) (len_is : len ≡ size old) (index : ℕ) (index_is : index ≡ place.used - place.base) (start : ℕ)
-    (start_is : start ≡ start_at len place.second) (which : IsCount (slots_in len) (FIRST_SLOT + index) count) where
+    (start_is : start ≡ start_at len place.second) (slots : ℕ) (slots_is : slots ≡ slots_in len)
+    (which : IsCount slots (FIRST_SLOT + index) count) where
   whole : length (body_of entry) ≡ 31
   whole = omega (arith, long, ap length spelt_is, length-append (body_of entry) (0 ∷ []))
 
@@ -104,7 +105,8 @@ module _ {D : Type 0} (size : D → ℕ) (honest : D → Bool) (seen : D → Opt
     count_here : IsCount (slots_in (length stands.image)) (FIRST_SLOT + length stands.rest) count
     count_here =
         subst (λ n. IsCount (slots_in n) (FIRST_SLOT + length stands.rest) count) (len_is ∙ sym size_is)
-        (subst (λ k. IsCount (slots_in len) (FIRST_SLOT + k) count) (index_is ∙ many) which)
+        (subst (λ k. IsCount (slots_in len) (FIRST_SLOT + k) count) (index_is ∙ many)
+        (subst (λ n. IsCount n (FIRST_SLOT + index) count) slots_is which))
 
     bytes_are : PutBytes (room_of (length stands.image) place.base) (length stands.rest) (body_of entry)
         (take count spelt)

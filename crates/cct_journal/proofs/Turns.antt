@@ -29,6 +29,10 @@ use Rattle.cct_journal.proofs.Windows.{Written, put_written, written_there}
 pub gate_is_shut : (bytes : List ℕ) → has_open_gate bytes ≡ false → slice_index bytes 0 ≢ open_gate
 gate_is_shut bytes shut is_open = true≢false (sym (eq-eqb (slice_index bytes 0) open_gate is_open) ∙ shut)
 
+-- The first write of a turn goes to the gate, if that is open, and else to the place after it.
+abbrev pub ClosesAt : ℕ → Bool → ℕ → Type 0
+ClosesAt start was at = (was ≡ true → at ≡ start) × (was ≡ false → at ≡ start + 1)
+
 -- Bytes whose gate alone may have changed, and is what it was, are the same.
 same_gate : (old new : List ℕ) → 0 < length old → SameOutside 0 1 old new → slice_index new 0 ≡ slice_index old 0
     → new ≡ old
@@ -82,21 +86,26 @@ module _ (image : List ℕ) (second : Bool) (generation base : ℕ) (carry : Car
       (sym (outside 1 n (half image (not second)) (half c (not second)) 0 own (inl (omega arith)))
       ∙ open_gate_first (half c (not second)) is_open)))
 
-  -- The first write of a turn goes to the gate, if that is open, and else to the place after it.
-  abbrev pub ClosesAt : Bool → ℕ → Type 0
-  ClosesAt was at = (was ≡ true → at ≡ start_at (length image) (not second))
-      × (was ≡ false → at ≡ start_at (length image) (not second) + 1)
+  close_fits : (was : Bool) (at : ℕ) → ClosesAt (start_at (length image) (not second)) was at → at + 1 ≤ length image
+  close_fits true at places = omega (arith, places.0 refl, halves, start_fits (length image) (not second))
+  close_fits false at places = omega (arith, places.1 refl, halves, start_fits (length image) (not second))
 
   -- Whatever it leaves, the records are the same.
-  pub closing : (was : Bool) (at : ℕ) → has_open_gate (half image (not second)) ≡ was → ClosesAt was at → (c : List ℕ)
+  pub closing : (was : Bool) (at : ℕ) → has_open_gate (half image (not second)) ≡ was → ClosesAt (start_at (length image) (not second)) was at → (c : List ℕ)
       → SameOutside at 1 image c → HasHalf c second generation base carry rest
   closing true at was places c same =
       closing_gate c was (subst (λ k. SameOutside k 1 image c) (places.0 refl) same)
   closing false at was places c same =
       behind_shut c 1 was (subst (λ k. SameOutside k 1 image c) (places.1 refl) same) (omega (arith, halves))
 
+  pub closed_has : (was : Bool) (at : ℕ) → has_open_gate (half image (not second)) ≡ was
+      → ClosesAt (start_at (length image) (not second)) was at
+      → HasHalf (put_at image at (0 ∷ [])) second generation base carry rest
+  closed_has was at gate places =
+      closing was at gate places (put_at image at (0 ∷ [])) (put_outside at image (0 ∷ []) (close_fits was at places))
+
   -- And at the end the gate is shut.
-  pub closed_gate : (was : Bool) (at : ℕ) → has_open_gate (half image (not second)) ≡ was → ClosesAt was at
+  pub closed_gate : (was : Bool) (at : ℕ) → has_open_gate (half image (not second)) ≡ was → ClosesAt (start_at (length image) (not second)) was at
       → has_open_gate (half (put_at image at (0 ∷ [])) (not second)) ≡ false
   closed_gate true at was places =
       let c = put_at image at (0 ∷ []) in

@@ -5,7 +5,6 @@ ghost use Rattle.cct_lines.specs.declared.carry.Carry.{Carry};
 ghost use Rattle.cct_lines.specs.declared.record.Record.{Record};
 ghost use Rattle.cct_record.specs.Body.{Encodable, InRange, body_of};
 ghost use Rattle.cct_disk.specs.Disk.{GoesOn, LeavesOnly};
-ghost use Rattle.cct_journal.specs.Half.{start_at};
 ghost use Rattle.cct_journal.specs.Image.{StandsFor, StandsForOneOf, room_of};
 ghost use Rattle.cct_journal.specs.Places.{after_put};
 ghost use Rattle.cct_journal.specs.Stands.{IsPlaced, Stands};
@@ -13,17 +12,11 @@ ghost use Rattle.cct_journal.specs.Stands.{IsPlaced, Stands};
 use crate::format::{FIRST_SLOT, SLOT};
 use crate::place::Place;
 use crate::range::{GATED_CALLS, write_gated};
+use crate::reading::{slots_on, start_on};
 use cct_disk::Disk;
 use cct_edge::Failed;
 use cct_lines::Record;
 use cct_record::encode;
-
-/// Where a half begins, on so many bytes.
-pub(crate) fn half_start(len: u64, second: bool) -> u64
-    ensures { result ≡ start_at len second }
-{
-    if second { SLOT * (len / 64) } else { 0 }
-}
 
 /// The body of a record, and a shut gate after it.
 fn spell_slot(entry: &Record) -> [u8; 32]
@@ -69,8 +62,8 @@ pub(crate) fn put_slot<D: Disk>(
 {
     let len = disk.len();
     let slot = FIRST_SLOT + u64::from(place.used - place.base);
-    let gate = half_start(len, place.second) + SLOT * slot;
+    let gate = start_on(len, place.second) + SLOT * slot;
     let bytes = spell_slot(entry);
-    let count = bytes_behind(slot, len / 64);
+    let count = bytes_behind(slot, slots_on(len));
     write_gated(disk, gate, &bytes[..count], calls)
 }

@@ -11,7 +11,7 @@ returns-clause-moments g c carry_of records stands =
     c.args.disk.now c.args.place.now c.args.entry.now c.requires.placed c.requires.room
     c.spell_slot-bytes.ensures.in_range c.spell_slot-bytes.result whole c.spell_slot-bytes.ensures.spelt
     c.bytes_behind-count.result c.len-len.result c.len-len.ensures c.from-slot.result c.from-slot.ensures
-    c.half_start.result c.half_start.ensures c.bytes_behind-count.ensures carry_of records stands c.write_gated.new.disk
+    c.start_on.result c.start_on.ensures c.slots_on.result c.slots_on.ensures c.bytes_behind-count.ensures carry_of records stands c.write_gated.new.disk
     c.write_gated.ensures.moments
 
 pub returns-clause-early : goal.returns-clause-early
@@ -22,7 +22,7 @@ returns-clause-early g c few carry_of records stands =
     c.args.disk.now c.args.place.now c.args.entry.now c.requires.placed c.requires.room
     c.spell_slot-bytes.ensures.in_range c.spell_slot-bytes.result whole c.spell_slot-bytes.ensures.spelt
     c.bytes_behind-count.result c.len-len.result c.len-len.ensures c.from-slot.result c.from-slot.ensures
-    c.half_start.result c.half_start.ensures c.bytes_behind-count.ensures carry_of records stands c.write_gated.new.disk
+    c.start_on.result c.start_on.ensures c.slots_on.result c.slots_on.ensures c.bytes_behind-count.ensures carry_of records stands c.write_gated.new.disk
     (c.write_gated.ensures.early few)
 
 pub returns-clause-done : goal.returns-clause-done
@@ -34,5 +34,5 @@ returns-clause-done g c =
     c.args.disk.now c.args.place.now c.args.entry.now c.requires.placed c.requires.room
     c.spell_slot-bytes.ensures.in_range c.spell_slot-bytes.result whole c.spell_slot-bytes.ensures.spelt
     c.bytes_behind-count.result c.len-len.result c.len-len.ensures c.from-slot.result c.from-slot.ensures
-    c.half_start.result c.half_start.ensures c.bytes_behind-count.ensures carry_of records stands c.write_gated.new.disk
+    c.start_on.result c.start_on.ensures c.slots_on.result c.slots_on.ensures c.bytes_behind-count.ensures carry_of records stands c.write_gated.new.disk
     (λ image held. done all held.keeps_synced image held.tells)) c.write_gated.ensures.done
