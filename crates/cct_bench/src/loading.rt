@@ -3,7 +3,7 @@ ghost use Rattle.std.specs.Prelude.{◌≡◌, ◌≢◌, ◌≤◌};
 ghost use Rattle.cct_edge.specs.Bytes.{Serves};
 ghost use Rattle.cct_edge.specs.Faults.{Rose};
 ghost use Rattle.cct_journal.specs.Journal as journals;
-ghost use Rattle.cct_journal.specs.Stands.{GoesOn};
+ghost use Rattle.cct_disk.specs.Disk.{GoesOn};
 ghost use Rattle.cct_text.specs.Writing.{Broke, Wrote};
 ghost use Rattle.cct_world.specs.Serving.{DiskServes};
 ghost use Rattle.cct_bench.specs.Disks.{IsNewJournal, IsReady, disks};

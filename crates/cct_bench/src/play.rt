@@ -11,7 +11,7 @@ ghost use Rattle.cct_model.specs.Script.{no_devices, at_steps};
 ghost use Rattle.cct_script.specs.Giving.{none_given, standing_of};
 ghost use Rattle.cct_disk.specs.Disk.{IsTrusted};
 ghost use Rattle.cct_journal.specs.Journal as journals;
-ghost use Rattle.cct_journal.specs.Stands.{GoesOn, Outlasts};
+ghost use Rattle.cct_disk.specs.Disk.{GoesOn, Outlasts};
 ghost use Rattle.cct_host.specs.declared.refusal.CrashNo.{CrashNo};
 ghost use Rattle.cct_host.specs.declared.refusal.CrashNo.TheVariants as crash_no;
 ghost use Rattle.cct_world.specs.Holds.{WorldHolds};

@@ -1,0 +1,13 @@
+pub mod CoinPlaces
+pub mod Coins
+pub mod Sets
+pub mod Keeping
+pub mod Small
+pub mod Fitting
+pub mod Devices
+pub mod Gathered
+pub mod Carried
+pub mod Follows
+pub mod Steps
+pub mod Over
+pub mod Resumed

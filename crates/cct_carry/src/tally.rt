@@ -1,5 +1,5 @@
 //! What a host needs of all its records, kept as it goes on by them.
-ghost use Rattle.std.specs.Prelude.{◌≡◌, ◌+◌, ◌^◌, ◌-◌, ◌<◌, true, false, ⊥, IfSome, IfNone};
+ghost use Rattle.std.specs.Prelude.{◌≡◌, ◌+◌, ◌^◌, ◌-◌, ◌<◌, true, false, IfSome, IfNone};
 ghost use Rattle.cct_model.specs.Setup.{IsSoundSetup};
 ghost use Rattle.cct_model.specs.Carried.{IsRightly, empty_carry};
 ghost use Rattle.cct_model.specs.Carry.{Fits, IsSafe, carry_with, follows_carry};

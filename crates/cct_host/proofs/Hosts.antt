@@ -17,7 +17,7 @@ use Rattle.cct_journal.specs.declared.journal.Journal.{Journal}
 use Rattle.cct_journal.specs.declared.place.Place.{Place}
 use Rattle.cct_journal.specs.Image.{capacity_of}
 use Rattle.cct_journal.specs.Journal as journals
-use Rattle.cct_journal.specs.Stands.{GoesOn}
+use Rattle.cct_disk.specs.Disk.{GoesOn}
 use Rattle.cct_ledger.specs.declared.ledger.Ledger.{Ledger}
 use Rattle.cct_ledger.specs.Ledger as ledgers
 use Rattle.cct_host.specs.declared.desks.Desks.{Desks}

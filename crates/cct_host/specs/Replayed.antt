@@ -1,4 +1,4 @@
--- Desks of a host that starts over records, newest first: they have what these tell, and no job.
+-- Desks of a host that starts over a carry or over records, newest first: they have what these tell, and no job.
 use Rattle.std.specs.Prelude.{◌≡◌, ◌&&◌, ◌==◌, not, Bool, ℕ, List, [], ◌∷◌, None, is_none, ⊤}
 use Rattle.std.specs.List.{All}
 use Rattle.cct_model.specs.terms.device.DeviceSetup.{DeviceSetup}
@@ -25,28 +25,31 @@ pub record AreUnused (desks : Desks) : Type 0 where
   pub scan : IsFree desks.scan
   pub sale : IsFree desks.sale
 
--- The desk of a device has the epoch and the open order that records tell of its address, and no payment is running.
-pub record ReplaysAt (d : DeviceSetup) (desk : JobDesk) (before : List Record) : Type 0 where
-  pub epoch_is : desk.epoch ≡ epoch_in d.addr before
-  pub order_is : order_of desk.orders.order ≡ order_in d.addr before
+-- The desk of a device has the epoch and the open order that are known of its address, and no payment is running.
+pub record ReplaysAt (d : DeviceSetup) (desk : JobDesk) (k : Known) : Type 0 where
+  pub epoch_is : desk.epoch ≡ k.epoch_at d.addr
+  pub order_is : order_of desk.orders.order ≡ k.order_at d.addr
   pub id_is : desk.orders.id ≡ 0
 
 -- Each desk is so of the device at its index.
-abbrev pub AllReplay : List DeviceSetup → List JobDesk → List Record → Type 0
-AllReplay [] [] before = ⊤
-AllReplay (d ∷ ds) (desk ∷ desks) before = ReplaysAt d desk before × AllReplay ds desks before
-AllReplay [] (desk ∷ desks) before = ⊥
-AllReplay (d ∷ ds) [] before = ⊥
+abbrev pub AllReplay : List DeviceSetup → List JobDesk → Known → Type 0
+AllReplay [] [] k = ⊤
+AllReplay (d ∷ ds) (desk ∷ desks) k = ReplaysAt d desk k × AllReplay ds desks k
+AllReplay [] (desk ∷ desks) k = ⊥
+AllReplay (d ∷ ds) [] k = ⊥
 
--- Desks replayed records: the setup is sound, no job is at any address, each desk of a device has what they tell of it,
--- and their greatest id is known.
-pub record Replays (desks : Desks) (before : List Record) : Type 0 where
+-- Desks begin with what is known and with this greatest id: the setup is sound, no job is at any address, and each desk of
+-- a device has what is known of it.
+pub record BeginsWith (desks : Desks) (k : Known) (last : ℕ) : Type 0 where
   pub sound : IsSoundSetup (setup_of desks)
   pub unused : AreUnused desks
-  pub devices : AllReplay (setup_of desks).devices desks.devices.items before
-  pub last : desks.last ≡ greatest_id before
+  pub devices : AllReplay (setup_of desks).devices desks.devices.items k
+  pub last_is : desks.last ≡ last
 
--- An epoch with this mask may begin at a device whose epoch is this one.
-abbrev pub may_begin : DeviceSetup → EpochState → ℕ → Bool
-may_begin d state mask =
-    is_acceptor d.body && not (is_running state) && not (mask == 0) && is_none (valueless d.body mask)
+-- Desks begin with what records, newest first, tell.
+abbrev pub Replays : Desks → List Record → Type 0
+Replays desks before = BeginsWith desks (known_in (setup_of desks) before) (greatest_id before)
+
+-- Desks begin with what a carry tells.
+abbrev pub Resumes : Desks → Carry → Type 0
+Resumes desks c = BeginsWith desks (known_by (setup_of desks) c) c.last_id

@@ -1,28 +1,28 @@
 -- What a host replays of the records that are found after a power cut.
-use Rattle.std.specs.Prelude.{◌≡◌, ◌≤◌, ◌+◌, ℕ, Option, Some, None, List, length, reverse}
+use Rattle.std.specs.Prelude.{◌≡◌, ℕ, ◌+◌, true, Option, Some, None, List, length, reverse}
 use Rattle.cct_model.specs.terms.device.Setup.{Setup}
+use Rattle.cct_model.specs.lines.carry.Carry.{Carry}
 use Rattle.cct_model.specs.lines.record.Record.{Record}
-use Rattle.cct_ledger.specs.declared.ledger.Ledger.{Ledger}
-use Rattle.cct_ledger.specs.Ledger as ledgers
-use Rattle.cct_host.specs.declared.desks.Desks.{Desks}
+use Rattle.cct_model.specs.Carry.{Fits, all_follow_carry, carry_over}
+use Rattle.cct_carry.specs.declared.tally.Tally.{Tally}
+use Rattle.cct_carry.specs.Tally as tallies
 use Rattle.cct_host.specs.declared.replay.ReplayState.{ReplayState}
-use Rattle.cct_host.specs.Desks as all_desks
-use Rattle.cct_host.specs.Replayed.{AreUnused}
-use Rattle.cct_host.specs.Starting.{IsFirstBad, WentOver}
+use Rattle.cct_host.specs.OnDisk.{StopsAt}
 
--- Desks and a ledger went over records, newest first, of which the oldest has the index `from`, or there is a first that
--- doesn't follow those before it, with this index.
-abbrev pub GoesOver : ℕ → Option ℕ → Setup → Desks → Ledger → List Record → Type 0
-GoesOver from None setup desks ledger before = WentOver desks ledger before
-GoesOver from (Some index) setup desks ledger before =
-    (at : ℕ) × (index ≡ at + from) × IsFirstBad setup (reverse before) at
+-- A tally went over a carry that fits its setup, and over records after it, oldest first, each of which follows.
+pub record TalliesOver (setup : Setup) (c : Carry) (rest : List Record) (now : Carry) : Type 0 where
+  pub fits : Fits setup c
+  pub follow : all_follow_carry setup c rest ≡ true
+  pub carry_is : now ≡ carry_over setup c rest
 
--- What went over records, newest first, from an index on, from one value to another: it has no job, and the setup of the
--- first.
-pub record ReplaysTo (from : ℕ) (first : ReplayState) (before : List Record) (now : ReplayState) : Type 0 where
-  pub setup : all_desks.setup_of now.desks ≡ all_desks.setup_of first.desks
-  pub same : ledgers.setup_of now.ledger ≡ all_desks.setup_of now.desks
-  pub unused : AreUnused now.desks
-  pub reserved : ledgers.reserved_of now.ledger ≡ 0
-  pub counted : ledgers.applied now.ledger ≤ length before + from
-  pub over : GoesOver from now.bad (all_desks.setup_of now.desks) now.desks now.ledger before
+-- A tally went over a carry of so many records and over those after it, oldest first, or there is an index at which a host
+-- stops that starts over them.
+abbrev pub GoesOver : Option ℕ → Setup → ℕ → Carry → List Record → Carry → Type 0
+GoesOver None setup base c rest now = TalliesOver setup c rest now
+GoesOver (Some index) setup base c rest now = StopsAt setup base c rest index
+
+-- What went over a carry of so many records, and over records after it, newest first, from one value to another.
+pub record ReplaysTo (first : ReplayState) (base : ℕ) (c : Carry) (before : List Record) (now : ReplayState) : Type 0 where
+  pub setup : tallies.setup_of now.tally ≡ tallies.setup_of first.tally
+  pub counted : now.bad ≡ None → tallies.many_of now.tally ≡ base + length before
+  pub over : GoesOver now.bad (tallies.setup_of now.tally) base c (reverse before) (tallies.carry_in now.tally)

@@ -14,7 +14,8 @@ use Rattle.cct_disk.specs.Disk.{IsTrusted}
 use Rattle.cct_journal.specs.declared.journal.Journal.{Journal}
 use Rattle.cct_journal.specs.Image.{IsAlien, IsBadAt}
 use Rattle.cct_journal.specs.Journal as journals
-use Rattle.cct_journal.specs.Stands.{CutOnce, Outlasts}
+use Rattle.cct_disk.specs.Disk.{Outlasts}
+use Rattle.cct_journal.specs.Stands.{CutOnce}
 use Rattle.cct_laws.specs.Restart.{RestartSuits, due_in}
 use Rattle.cct_host.specs.declared.desks.Desks.{Desks}
 use Rattle.cct_host.specs.declared.host.Host.{Host}

@@ -2,20 +2,26 @@
 use Rattle.std.specs.Prelude.{◌≡◌, ◌≤◌, ◌+◌, ℕ, true, false, List, ◌∷◌, ◌++◌, length, reverse, ⊤}
 use Rattle.cct_model.specs.terms.device.Setup.{Setup}
 use Rattle.cct_model.specs.lines.record.Record.{Record}
+use Rattle.cct_model.specs.lines.carry.Carry.{Carry}
+use Rattle.cct_model.specs.Carry.{Fits, all_follow_carry, carry, carry_over}
 use Rattle.cct_model.specs.Following.{all_follow, follows}
+use Rattle.cct_journal.specs.declared.place.Place.{Place}
 use Rattle.cct_edge.specs.Faults.{Caused}
 use Rattle.cct_disk.specs.declared.disk.Disk.{Ghosts}
 use Rattle.cct_disk.specs.Disk.{OnlyReads}
 use Rattle.cct_journal.specs.declared.journal.Journal.{Journal}
 use Rattle.cct_journal.specs.Journal as journals
+use Rattle.cct_carry.specs.Tally as tallies
 use Rattle.cct_ledger.specs.declared.ledger.Ledger.{Ledger}
 use Rattle.cct_ledger.specs.Ledger as ledgers
+use Rattle.cct_ledger.specs.Resumed.{IsResumed}
 use Rattle.cct_host.specs.declared.desks.Desks.{Desks}
 use Rattle.cct_host.specs.declared.host.Host.{Host}
 use Rattle.cct_journal.specs.declared.refusal.ReadNo.{ReadNo}
 use Rattle.cct_journal.specs.declared.refusal.ReadNo.TheVariants.{Disk, BadRecord}
 use Rattle.cct_host.specs.Desks as all_desks
-use Rattle.cct_host.specs.Replayed.{AreUnused, Replays}
+use Rattle.cct_host.specs.OnDisk.{ReadsRecords, StopsAt}
+use Rattle.cct_host.specs.Replayed.{Replays, Resumes}
 
 -- Desks and a ledger went over records, newest first: they have what these tell, and each record follows those before
 -- it.
@@ -24,24 +30,13 @@ pub record WentOver (desks : Desks) (ledger : Ledger) (before : List Record) : T
   pub money : ledgers.StandsFor ledger before 0
   pub follow : all_follow (all_desks.setup_of desks) before ≡ true
 
--- Desks and a ledger without a job go over one more record, or none.
-pub record ReplaysOne (desks turned : Desks) (ledger posted : Ledger) : Type 0 where
-  pub setup : all_desks.setup_of turned ≡ all_desks.setup_of desks
-  pub same : ledgers.setup_of posted ≡ all_desks.setup_of turned
-  pub unused : AreUnused desks → AreUnused turned
-  pub reserved : ledgers.reserved_of posted ≡ ledgers.reserved_of ledger
-  pub counted : ledgers.applied posted ≤ ledgers.applied ledger + 1
+-- Desks and a ledger begin with a carry of so many records.
+pub record BeginFrom (desks : Desks) (ledger : Ledger) (many : ℕ) (c : Carry) : Type 0 where
+  pub resumes : Resumes desks c
+  pub money : IsResumed (all_desks.setup_of desks) many c ledger
 
--- They went over the first ones of records, oldest first.
-pub record WentOverFirst (desks : Desks) (ledger : Ledger) (records : List Record) (index : ℕ) : Type 0 where
-  pub before : List Record
-  pub later : List Record
-  pub all : records ≡ reverse before ++ later
-  pub many : index ≡ length before
-  pub over : WentOver desks ledger before
-
--- The record of this index doesn't follow those before it, and each of these follows.
-pub record IsFirstBad (setup : Setup) (records : List Record) (index : ℕ) : Type 0 where
+-- The record of this index is the first of records, oldest first, that doesn't follow those before it.
+pub record IsFirstUnfollowing (setup : Setup) (records : List Record) (index : ℕ) : Type 0 where
   pub before : List Record
   pub bad : Record
   pub later : List Record
@@ -53,7 +48,17 @@ pub record IsFirstBad (setup : Setup) (records : List Record) (index : ℕ) : Ty
 -- Why a host isn't started over records, oldest first.
 abbrev pub RefusesStart : ReadNo → Setup → List Record → Type 0
 RefusesStart Disk setup records = ⊤
-RefusesStart (BadRecord index) setup records = IsFirstBad setup records index
+RefusesStart (BadRecord index) setup records = IsFirstUnfollowing setup records index
+
+-- Why a host isn't started over a carry of so many records and the rest after them.
+abbrev pub RefusesResume : ReadNo → Setup → ℕ → Carry → List Record → Type 0
+RefusesResume Disk setup base carry rest = ⊤
+RefusesResume (BadRecord index) setup base carry rest = StopsAt setup base carry rest index
+
+-- The first ones of records, those before the current half of a journal, follow one another.
+abbrev pub FirstFollow : {D : Type 0} {seen : D → Option (List ℕ)} {disk : D} {place : Place} {records : List Record}
+    → (setup : Setup) → ReadsRecords setup seen disk place records → Type 0
+FirstFollow setup reads = all_follow setup (reverse reads.continues.first) ≡ true
 
 -- A journal stays as it is, and its disk was only read; a call of it failed, where one so failed.
 pub record OnlyReadIn {D : Type 0} {g : Ghosts D} (old new : Journal D g) (Fails : Type 0) : Type 0 where
@@ -64,7 +69,19 @@ pub record OnlyReadIn {D : Type 0} {g : Ghosts D} (old new : Journal D g) (Fails
   pub cause : Caused (g.faults (journals.disk_of old)) (g.faults (journals.disk_of new)) Fails
 
 -- A host stands over records, newest first, as one that has just started: its desks and its ledger have what they tell,
--- each follows those before it, and so many does its journal count.
+-- each follows those before it, its carry is theirs, and so many does its journal count.
 pub record HasReplayed {D : Type 0} {g : Ghosts D} (host : Host D g) (before : List Record) : Type 0 where
   pub over : WentOver host.desks host.ledger before
   pub used : journals.used_of host.journal ≡ length before
+  pub carry_is : tallies.carry_in host.tally ≡ carry (all_desks.setup_of host.desks) before
+
+-- A host stands over a carry of so many records and the rest after them, oldest first, as one that has just started: the
+-- carry fits its setup, each of the rest follows, and its desks, its ledger and its own carry begin with what these
+-- tell; so many does its journal count.
+pub record HasResumed {D : Type 0} {g : Ghosts D} (host : Host D g) (base : ℕ) (c : Carry) (rest : List Record) : Type 0
+  where
+    pub fits : Fits (all_desks.setup_of host.desks) c
+    pub follow : all_follow_carry (all_desks.setup_of host.desks) c rest ≡ true
+    pub carry_is : tallies.carry_in host.tally ≡ carry_over (all_desks.setup_of host.desks) c rest
+    pub from_carry : BeginFrom host.desks host.ledger (base + length rest) (tallies.carry_in host.tally)
+    pub used : journals.used_of host.journal ≡ base + length rest

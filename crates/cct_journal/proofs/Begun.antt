@@ -14,7 +14,8 @@ use Rattle.cct_journal.specs.Start.{Begins, MayBegin, start_of}
 use Rattle.cct_journal.specs.Places.{behind_start}
 use Rattle.cct_journal.specs.declared.format.TheConstants.{START}
 use Rattle.cct_journal.proofs.Bytes.{first_byte, put_there}
-use Rattle.cct_journal.proofs.Heads.{begins_open, start_gate}
+use Rattle.cct_journal.proofs.Beginnings.{begins_open}
+use Rattle.cct_journal.proofs.Heads.{start_gate}
 use Rattle.cct_journal.proofs.Rooms.{closed}
 use Rattle.cct_journal.proofs.Sides.{half_byte, half_long, other_same, own_same, own_written, start_fits}
 use Rattle.cct_journal.proofs.Windows.{Written, put_written, written_there}
@@ -86,7 +87,7 @@ module _ (image : List ℕ) (side : Bool) (generation base : ℕ) (carry : Carry
         (own.after
         ∙ written_there 1 (behind_start generation base carry) (half image side) (half staged side) own_staged
         ∙ append_assoc (drop 1 (start_of generation base carry)) (0 ∷ []) later)
-        ∙ ap (λ (l : List ℕ). l ++ (0 ∷ later)) (sym (start_gate generation base carry whole))
+        ∙ ap (λ (l : List ℕ). l ++ (0 ∷ later)) (sym (start_gate generation base carry))
 
     pub begun_begins : slice_index c (start_at (length image) side) ≡ open_gate
         → Begins side generation base carry (half c side)

@@ -1,5 +1,5 @@
 -- What the calls of a put make of a disk on which a journal stands.
-use Rattle.std.proofs.Common.{◌≡◌, ◌⊎◌, inl, inr, ⊎_elim, true, ℕ, suc, ◌+◌, ◌-◌, ◌*◌, ◌/◌, ◌<◌, ◌≤◌, min, Bool, not, Option, Some, List, [], ◌∷◌}
+use Rattle.std.proofs.Common.{◌≡◌, ◌⊎◌, inl, inr, ⊎_elim, true, ℕ, suc, ◌+◌, ◌-◌, ◌*◌, ◌/◌, ◌<◌, ◌≤◌, min, Bool, not, Option, Some, is_some, List, [], ◌∷◌}
 use Rattle.std.proofs.Common.{◌++◌, length, take, refl, sym, ◌∙◌, ap, subst, arith, append_assoc, length-append}
 use Rattle.std.proofs.lemmas.List.{append-nil, take_at, length-take-le}
 use Rattle.cct_lines.specs.declared.carry.Carry.{Carry}
@@ -12,7 +12,7 @@ use Rattle.cct_journal.specs.Half.{half, has_open_gate, slots_in, start_at}
 use Rattle.cct_journal.specs.Image.{Continues, HasHalf, StandsFor, StandsForOneOf, room_of}
 use Rattle.cct_journal.specs.Gated.{IsBegun, behind_open_gate}
 use Rattle.cct_journal.specs.Places.{after_put}
-use Rattle.cct_journal.specs.Stands.{IsPlaced, Stands}
+use Rattle.cct_journal.specs.Stands.{IsPlaced, Leaves, Settled, Stands}
 use Rattle.cct_journal.proofs.Moments.{weaker}
 use Rattle.cct_journal.proofs.Puts.{begun_has, body_torn, gate_in, written_has, written_other}
 use Rattle.cct_journal.proofs.Slotted.{PutBytes, gate_place}
@@ -173,3 +173,20 @@ module _ {D : Type 0} (size : D → ℕ) (honest : D → Bool) (seen : D → Opt
               stands.has few in_range (body_of entry) (take count spelt) refl bytes_are within)
               ∙ stands.other_gate);
         }
+
+-- A journal's disk keeps just one image, and a power cut leaves that.
+pub stands_settled : {D : Type 0} {honest : D → Bool} {seen : D → Option (List ℕ)} {may_leave : D → List ℕ → Type 0}
+    {disk : D} {place : Place} {carry_of : List Record → Carry} {records : List Record}
+    → Stands carry_of honest seen may_leave disk place records → Settled carry_of honest seen may_leave disk records
+stands_settled stands =
+    record { image = stands.image; held = stands.held; stands = stands_for stands.has stands.continues }
+
+pub settled_leaves : {D : Type 0} {honest : D → Bool} {seen : D → Option (List ℕ)} {may_leave : D → List ℕ → Type 0}
+    {disk : D} {carry_of : List Record → Carry} {records : List Record}
+    → Settled carry_of honest seen may_leave disk records → Leaves carry_of honest seen may_leave disk records
+settled_leaves {D} {honest} {seen} {may_leave} {disk} {carry_of} {records} settled = record {
+  keeps_synced = settled.held.keeps_synced;
+  tells = ap is_some settled.held.tells;
+  each = λ c left. subst (λ (image : List ℕ). StandsFor carry_of image records) (sym (settled.held.only c left))
+      settled.stands;
+}

@@ -9,13 +9,13 @@ use Rattle.cct_disk.specs.Disk.{Holds, LeavesOnly, SameOutside, put_at}
 use Rattle.cct_journal.specs.declared.format.TheConstants.{FIRST_SLOT, MOST_RECORDS, START}
 use Rattle.cct_journal.specs.declared.place.Place.{Place}
 use Rattle.cct_journal.specs.Half.{half, has_open_gate, slots_in, start_at}
-use Rattle.cct_journal.specs.Image.{Continues, HasHalf, StandsFor, room_of}
+use Rattle.cct_journal.specs.Image.{Continues, HasHalf, StandsFor, StandsForOneOf, room_of}
 use Rattle.cct_journal.specs.Gated.{IsBegun, behind_open_gate}
 use Rattle.cct_journal.specs.Places.{after_close, after_turn, behind_start}
-use Rattle.cct_journal.specs.Stands.{IsPlaced, Stands, StandsWith}
+use Rattle.cct_journal.specs.Stands.{IsPlaced, Puts, Stands, StandsWith}
 use Rattle.cct_journal.specs.Start.{HasParity, MayBegin, start_of}
 use Rattle.cct_journal.proofs.Calls.{stands_for}
-use Rattle.cct_journal.proofs.Moments.{started, weaker}
+use Rattle.cct_journal.proofs.Moments.{started, then, weaker}
 use Rattle.cct_journal.proofs.Turns.{ClosesAt, begun_either, closed_gate, closed_has, closing, turned_gate, turned_has}
 
 -- The next generation has the other half's parity.
@@ -150,3 +150,40 @@ same_moments {D} {honest} {seen} {may_leave} {moment} {left_since} {disk} {place
     started moment left_since disk (λ c. StandsFor carry_of c records) (may_leave disk) (only_now disk)
     (λ c left. subst (λ (image : List ℕ). StandsFor carry_of image records) (sym (stands.held.only c left))
     (stands_for stands.has stands.continues))
+
+-- A put after a turn, or after none.
+module _ {D : Type 0} {honest : D → Bool} {seen : D → Option (List ℕ)} {may_leave : D → List ℕ → Type 0}
+    (moment : D → ℕ) (left_since : D → ℕ → List ℕ → Type 0) (old mid : D) (place : Place) (carry : Carry)
+    (entry : Record) (calls : ℕ)
+    (turning : (carry_of : List Record → Carry) (records : List Record)
+    → StandsWith carry_of honest seen may_leave old place carry records
+    → LeavesOnly moment left_since old mid (λ c. StandsFor carry_of c records)) where
+  -- Where the put made no call.
+  pub turned_puts : Puts honest seen may_leave moment left_since place carry entry calls old mid
+  turned_puts = record {
+    each = λ carry_of records stands.
+        weaker moment left_since old mid (λ c. StandsFor carry_of c records) (StandsForOneOf carry_of records entry)
+        (λ c has. inl has) (turning carry_of records stands);
+    early = λ few carry_of records stands. turning carry_of records stands;
+  }
+
+  -- Where it made some.
+  pub puts_after : (new : D) (now : Place)
+      → ((carry_of : List Record → Carry) (records : List Record)
+      → StandsWith carry_of honest seen may_leave old place carry records
+      → Stands carry_of honest seen may_leave mid now records)
+      → ((carry_of : List Record → Carry) (records : List Record) → Stands carry_of honest seen may_leave mid now records
+      → LeavesOnly moment left_since mid new (StandsForOneOf carry_of records entry))
+      → (calls ≤ 2 → (carry_of : List Record → Carry) (records : List Record)
+      → Stands carry_of honest seen may_leave mid now records
+      → LeavesOnly moment left_since mid new (λ c. StandsFor carry_of c records))
+      → Puts honest seen may_leave moment left_since place carry entry calls old new
+  puts_after new now turned putting brief = record {
+    each = λ carry_of records stands.
+        then moment left_since old mid new (StandsForOneOf carry_of records entry)
+        (turned_puts.each carry_of records stands)
+        (putting carry_of records (turned carry_of records stands));
+    early = λ few carry_of records stands.
+        then moment left_since old mid new (λ c. StandsFor carry_of c records) (turning carry_of records stands)
+        (brief few carry_of records (turned carry_of records stands));
+  }

@@ -18,7 +18,7 @@ use Rattle.cct_journal.specs.Places.{behind_start}
 use Rattle.cct_journal.specs.Start.{HasParity, MayBegin, start_of}
 use Rattle.cct_journal.specs.declared.format.TheConstants.{FIRST_SLOT, MOST_RECORDS, START}
 use Rattle.cct_journal.proofs.Bytes.{first_byte, put_there}
-use Rattle.cct_journal.proofs.Heads.{begins_open, begins_tells}
+use Rattle.cct_journal.proofs.Beginnings.{begins_open, begins_tells}
 use Rattle.cct_journal.proofs.Rooms.{closed}
 use Rattle.cct_journal.proofs.Begun.{begun_begins, begun_has, gate_byte, many, other_stays, same_size, staged, staged_long}
 use Rattle.cct_journal.proofs.Sides.{half_byte, half_long, has_again, not_not, open_gate_first, other_same, own_same, own_written, start_fits}

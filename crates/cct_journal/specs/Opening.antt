@@ -1,5 +1,5 @@
 -- What an image is to a journal that is opened on it.
-use Rattle.std.specs.Prelude.{◌≡◌, ℕ, ◌+◌, ◌-◌, ◌*◌, ◌<◌, ◌≤◌, Bool, Option, Some, List, ◌++◌, length, drop, map, reverse, All, ⊤}
+use Rattle.std.specs.Prelude.{◌≡◌, ℕ, ◌+◌, ◌-◌, ◌*◌, Bool, Option, Some, List, ◌++◌, length, drop, map, reverse, All, ⊤}
 use Rattle.std.specs.Prelude.{slice_get}
 use Rattle.cct_lines.specs.declared.carry.Carry.{Carry}
 use Rattle.cct_lines.specs.declared.record.Record.{Record}

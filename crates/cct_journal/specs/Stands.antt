@@ -4,7 +4,7 @@ use Rattle.std.proofs.Props.{props}
 use Rattle.cct_edge.specs.Faults.{next_count}
 use Rattle.cct_lines.specs.declared.carry.Carry.{Carry}
 use Rattle.cct_lines.specs.declared.record.Record.{Record}
-use Rattle.cct_disk.specs.Disk.{GoesOn, Holds, LeavesOnly, Outlasts}
+use Rattle.cct_disk.specs.Disk.{GoesOn, Holds, LeavesOnly}
 use Rattle.cct_journal.specs.Half.{half, has_open_gate}
 use Rattle.cct_journal.specs.Start.{MayBegin, MayBegin-prop}
 use Rattle.cct_journal.specs.Image.{Continues, HasHalf, StandsFor, StandsForOneOf, body_at, least_size, room_of}

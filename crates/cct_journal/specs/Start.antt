@@ -1,5 +1,5 @@
 -- What a half begins with: its header and its carry.
-use Rattle.std.specs.Prelude.{◌≡◌, ℕ, ◌+◌, ◌-◌, ◌*◌, ◌%◌, ◌<◌, ◌≤◌, Bool, true, false, List, [], ◌∷◌, ◌++◌, length, take, flat_map, replicate}
+use Rattle.std.specs.Prelude.{◌≡◌, ℕ, ◌-◌, ◌*◌, ◌%◌, ◌<◌, ◌≤◌, Bool, true, false, List, ◌∷◌, ◌++◌, length, take, flat_map, replicate}
 use Rattle.std.specs.Int.{w32, to_le_bytes}
 use Rattle.std.proofs.Props.{props}
 use Rattle.cct_lines.specs.Carried.{IsRightly, IsRightly-prop}

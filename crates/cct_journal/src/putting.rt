@@ -18,6 +18,27 @@ use cct_disk::Disk;
 use cct_edge::Failed;
 use cct_lines::{Carry, Record};
 
+/// The place that a turn led to, or that before, where there was none.
+fn place_after<'a>(turned: &'a Option<Place>, place: &'a Place) -> &'a Place
+    ensures { result.now ≡ turned_or place.now turned.now }
+{
+    match turned {
+        Some(turned) => turned,
+        None => place,
+    }
+}
+
+/// Goes on to the place after a put, and after the turn before it.
+pub(crate) fn go_on(place: &mut Place, turned: Option<Place>)
+    requires { (turned_or place.old turned).used < MOST_RECORDS }
+    ensures { place.new ≡ after_put (turned_or place.old turned) }
+{
+    if let Some(turned) = turned {
+        *place = turned;
+    }
+    place.used += 1;
+}
+
 /// Makes the first `calls` of the four disk calls that put a record after the others, where there has to be room for it.
 /// Before them it makes a turn whole, if the current half is full, and then tells the new place, of the records before.
 pub(crate) fn put_record<D: Disk>(
@@ -44,6 +65,6 @@ pub(crate) fn put_record<D: Disk>(
     ensures cause { HasCause (D.faults disk.old) (D.faults disk.new) result }
 {
     let turned = turn_if_full(disk, place, carry)?;
-    put_slot(disk, turned.as_ref().unwrap_or(place), entry, calls)?;
+    put_slot(disk, place_after(&turned, place), entry, calls)?;
     Ok(turned)
 }

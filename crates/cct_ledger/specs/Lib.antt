@@ -1,3 +1,4 @@
 pub mod Told
 pub mod Ledger
 pub mod Orders
+pub mod Resumed

@@ -10,7 +10,7 @@ use Rattle.cct_model.specs.lines.entry.Entry.{Entry}
 use Rattle.cct_model.specs.Records.{records}
 use Rattle.cct_disk.specs.declared.disk.Disk.{Ghosts}
 use Rattle.cct_disk.specs.Disk.{IsTrusted}
-use Rattle.cct_journal.specs.Stands.{Outlasts}
+use Rattle.cct_disk.specs.Disk.{Outlasts}
 use Rattle.cct_laws.specs.Restart.{due_in}
 use Rattle.cct_host.specs.Host.{put_by}
 use Rattle.cct_world.specs.declared.machine.Machine.{Machine}

@@ -4,7 +4,7 @@ use Rattle.std.proofs.Math.Nat.{le_refl, le_trans}
 use Rattle.cct_model.specs.lines.command.Step.{Step}
 use Rattle.cct_model.specs.lines.command.Step.TheVariants as step
 use Rattle.cct_disk.specs.Disk.{IsTrusted}
-use Rattle.cct_journal.specs.Stands.{GoesOn, Outlasts}
+use Rattle.cct_disk.specs.Disk.{GoesOn, Outlasts}
 use Rattle.cct_world.specs.Step.{LastsIn, crashes_of}
 
 -- of a kind of disk of which is known what each tells

@@ -9,7 +9,7 @@ use Rattle.cct_model.specs.lines.entry.Entry.{Entry}
 use Rattle.cct_model.specs.lines.entry.Entry.TheVariants as entry
 use Rattle.cct_model.specs.Records.{records}
 use Rattle.cct_journal.specs.Image.{IsAlien, IsBadAt}
-use Rattle.cct_journal.specs.Stands.{Outlasts}
+use Rattle.cct_disk.specs.Disk.{Outlasts}
 use Rattle.cct_laws.specs.Restart.{due_in}
 use Rattle.cct_host.specs.OnDisk.{FindsBad, FindsMany, FindsWhole}
 use Rattle.cct_host.specs.Restarting.{HasAll, IsLost, told_by}

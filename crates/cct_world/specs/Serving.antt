@@ -1,7 +1,7 @@
 -- What is left of the disk that steps were played over.
 use Rattle.std.specs.Prelude.{ℕ, ◌≤◌, Bool, List, Option}
 use Rattle.cct_edge.specs.Faults.{Rose}
-use Rattle.cct_journal.specs.Stands.{Outlasts}
+use Rattle.cct_disk.specs.Disk.{Outlasts}
 
 -- A disk outlasts the steps that were played over it. Its count of faults never falls, and if a call of it failed so, that
 -- count rose; and if its journal was lost so, the count of its power cuts did. A count may also stand at its last value.

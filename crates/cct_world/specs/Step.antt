@@ -9,7 +9,8 @@ use Rattle.cct_model.specs.lines.entry.Entry.TheVariants as entry
 use Rattle.cct_bus.specs.declared.outcome.Outcome.{Outcome}
 use Rattle.cct_bus.specs.declared.outcome.Outcome.TheVariants as outcome
 use Rattle.cct_edge.specs.Faults.{next_count}
-use Rattle.cct_journal.specs.Stands.{CutOnce, GoesOn, Outlasts}
+use Rattle.cct_disk.specs.Disk.{GoesOn, Outlasts}
+use Rattle.cct_journal.specs.Stands.{CutOnce}
 
 -- The entry of what befell the device at an address, by what became of it.
 abbrev pub entry_told : ℕ → Happening → Outcome → Entry

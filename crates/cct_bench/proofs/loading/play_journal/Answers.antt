@@ -1,5 +1,5 @@
 use Rattle.std.proofs.Common.{ap, sym, ◌∙◌, subst}
-use Rattle.cct_journal.specs.Stands.{GoesOn}
+use Rattle.cct_disk.specs.Disk.{GoesOn}
 use Rattle.cct_text.specs.Writing.{Broke, Wrote}
 use Rattle.cct_text.proofs.Writing.{wrote_none}
 use Rattle.cct_bench.specs.Disks.{disks}

@@ -2,7 +2,7 @@ use Rattle.std.proofs.Common.{ap, sym, subst, ◌∙◌}
 use Rattle.cct_model.specs.Script.{at_steps}
 use Rattle.cct_disk.specs.Disk.{IsTrusted}
 use Rattle.cct_journal.specs.Journal as journals
-use Rattle.cct_journal.specs.Stands.{Outlasts}
+use Rattle.cct_disk.specs.Disk.{Outlasts}
 use Rattle.cct_world.specs.Holds.{WorldHolds}
 use Rattle.cct_world.specs.World.{StandsFor, disk_of, setup_of, used_of}
 use Rattle.cct_script.specs.Giving.{standing_of}

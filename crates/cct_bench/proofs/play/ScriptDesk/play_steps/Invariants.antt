@@ -1,7 +1,7 @@
 use Rattle.std.proofs.Common.{◌-◌}
 use Rattle.cct_model.specs.Script.{at_steps}
 use Rattle.cct_disk.specs.Disk.{IsTrusted}
-use Rattle.cct_journal.specs.Stands.{Outlasts}
+use Rattle.cct_disk.specs.Disk.{Outlasts}
 use Rattle.cct_edge.specs.Bytes.{Serves}
 use Rattle.cct_world.specs.Holds.{WorldHolds}
 use Rattle.cct_world.specs.Serving.{DiskServes}
