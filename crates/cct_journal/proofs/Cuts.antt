@@ -1,10 +1,12 @@
 -- What is left of the records when the power is cut, and of the disk.
-use Rattle.std.proofs.Common.{◌≡◌, inl, inr, ⊎_elim, ℕ, ◌≤◌, Bool, Option, Some, List, [], ◌∷◌, ◌++◌, refl, ap, ◌∙◌, is_some, arith}
+use Rattle.std.proofs.Common.{◌≡◌, inl, inr, ⊎_elim, ℕ, ◌≤◌, Bool, Option, Some, List, [], ◌∷◌, ◌++◌, refl, sym, ap, ◌∙◌, is_some, arith}
 use Rattle.std.proofs.lemmas.Bool.{cases_lt}
 use Rattle.cct_edge.specs.Faults.{next_count}
 use Rattle.cct_lines.specs.declared.carry.Carry.{Carry}
 use Rattle.cct_lines.specs.declared.record.Record.{Record}
 use Rattle.cct_disk.specs.Disk.{GoesOn, OnlyReads}
+use Rattle.cct_journal.specs.declared.place.Place.{Place}
+use Rattle.cct_journal.specs.Opening.{Finds}
 use Rattle.cct_journal.specs.PowerCuts.{LeavesBy}
 use Rattle.cct_journal.specs.Stands.{CutOnce, Leaves, LeavesOneOf}
 
@@ -61,4 +63,14 @@ cut_read size honest seen may_leave moment left_since cuts cut_to choice old mid
   };
   same_seen = reads.same_seen ∙ cut.same_seen;
   count = reads.same_cuts ∙ cut.count;
+}
+
+-- A place that was found on a disk which was only read is one of the disk after it.
+pub found_again : {D : Type 0} {size : D → ℕ} {honest : D → Bool} {seen : D → Option (List ℕ)}
+    {may_leave : D → List ℕ → Type 0} {moment : D → ℕ} {left_since : D → ℕ → List ℕ → Type 0} {cuts : D → ℕ}
+    {old new : D} {place : Place} → OnlyReads size honest seen may_leave moment left_since cuts old new
+    → Finds seen old new place → Finds seen new new place
+found_again reads finds = record {
+  found = λ image told. finds.found image (sym reads.same_seen ∙ told);
+  every = λ carry_of image records told stands. finds.every carry_of image records (sym reads.same_seen ∙ told) stands;
 }
