@@ -1,5 +1,5 @@
 //! A carry is written as bodies.
-ghost use Rattle.std.specs.Prelude.{◌≡◌, ℕ, ◌+◌, ◌<◌, ◌≤◌, ◌++◌, length, map};
+ghost use Rattle.std.specs.Prelude.{◌≡◌, ℕ, ◌+◌, ◌≤◌, ◌++◌, length, map};
 ghost use Rattle.arrayvec.specs.ArrayVec.{array_vec_len};
 ghost use Rattle.cct_lines.specs.Carried.{IsRightly};
 ghost use Rattle.cct_record.specs.CarryBody.{bodies_of, epoch_body, first_sums, order_body, second_sums, third_sums};

@@ -1,5 +1,5 @@
 //! Bodies are read as the carry that they spell.
-ghost use Rattle.std.specs.Prelude.{◌≡◌, ℕ, ◌+◌, ◌*◌, ◌^◌, ◌<◌, ◌≤◌, ◌↔◌, [], ◌∷◌, All, IfNone, IfSome, IsTrue, drop, length, map, take};
+ghost use Rattle.std.specs.Prelude.{◌≡◌, ℕ, ◌+◌, ◌≤◌, ◌↔◌, All, IfNone, IfSome, IsTrue, drop, length, map, take};
 ghost use Rattle.cct_lines.specs.Carried.{AreSmall, EpochFits, IsBelow, IsRightly, OrderFits, Rise, addr_of_epoch, addr_of_order};
 ghost use Rattle.cct_lines.specs.declared.carry.Carry.{Carry};
 ghost use Rattle.cct_record.specs.CarryBody.{SpellsCarry, SpellsNone, bodies_of, carry_read, eight_at, epoch_read, epochs_read, order_read, orders_read};
