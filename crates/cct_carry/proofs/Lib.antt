@@ -1,0 +1,5 @@
+pub mod CoinPlaces
+pub mod Coins
+pub mod Sets
+pub mod Keeping
+pub mod Small

@@ -1,2 +1,3 @@
+pub mod CoinPlaces
 pub mod Sound
 pub mod Tally

@@ -3,5 +3,9 @@
 #![tactic(auto)]
 
 mod tally;
+mod values;
+mod worth;
 
 pub use tally::Tally;
+pub use values::valueless;
+pub use worth::{coins_of, coins_value};
