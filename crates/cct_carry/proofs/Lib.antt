@@ -3,3 +3,9 @@ pub mod Coins
 pub mod Sets
 pub mod Keeping
 pub mod Small
+pub mod Devices
+pub mod Gathered
+pub mod Carried
+pub mod Follows
+pub mod Steps
+pub mod Over
