@@ -13,7 +13,6 @@ use Rattle.cct_model.specs.Script.{Stage, at_setup, no_devices, plays}
 use Rattle.cct_disk.specs.declared.disk.Disk.{Ghosts}
 use Rattle.cct_disk.specs.Disk.{IsTrusted}
 use Rattle.cct_edge.specs.declared.fault.Failed.{Failed}
-use Rattle.cct_journal.specs.Image.{capacity_of}
 use Rattle.cct_disk.specs.Disk.{GoesOn, Outlasts}
 use Rattle.cct_journal.specs.declared.place.Place.{Place}
 use Rattle.cct_journal.proofs.Calls.{settled_leaves, stands_settled}
@@ -161,7 +160,7 @@ module _ {D : Type 0} {g : Ghosts D} where
   books_play world next last s report sized played is same past stands suits survives =
       let goes = played past stands suits survives in
       let news = reverse report in (
-        subst (λ size. Entries (capacity_of size) (setup_of world) past s news) sized goes.0,
+        goes.0,
         subst (λ setup. Books setup g.honest g.seen g.may_leave last (news ++ past)) same
             (subst (λ disk. Books (setup_of next) g.honest g.seen g.may_leave disk (news ++ past)) (sym is)
             (world_books next (news ++ past) goes.1)),

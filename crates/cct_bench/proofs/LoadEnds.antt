@@ -12,7 +12,7 @@ use Rattle.cct_model.specs.Legal.{Legal}
 use Rattle.cct_model.specs.Script.{IsInRange}
 use Rattle.cct_model.specs.Transcript.{onto}
 use Rattle.cct_laws.proofs.text.Scripts.{legal_right}
-use Rattle.cct_journal.specs.Image.{IsBlank, capacity_of}
+use Rattle.cct_journal.specs.Image.{IsBlank}
 use Rattle.cct_disk.specs.Disk.{GoesOn, Outlasts}
 use Rattle.cct_disk.specs.declared.disk.Disk.{Ghosts}
 use Rattle.cct_disk.specs.Disk.{IsTrusted}
@@ -349,10 +349,8 @@ module _ {D : Type 0} {g : Ghosts D} (given left : D) (world : World D g)
         transcript = p.transcript;
         told = told.0;
         steps_are = p.steps_are;
-        legal = λ sure. subst (λ size. Legal (capacity_of size) load_setup p.played p.transcript)
-            (on.same_size ∙ ready.sized) (p.legal (relies past sure));
-        early = subst (λ size. LegalBeforeLoss (capacity_of size) load_setup p.played p.transcript)
-            (on.same_size ∙ ready.sized) p.early;
+        legal = λ sure. p.legal (relies past sure);
+        early = p.early;
         stops = told.1;
         book = λ trusted some. book_by how p.unplayed past (p.book (now_trusted trusted));
         keeps = λ trusted tells. keeps_by how p.unplayed past (p.book (now_trusted trusted)) tells;

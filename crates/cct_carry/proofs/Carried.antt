@@ -15,12 +15,12 @@ use Rattle.cct_model.specs.declared.judging.EpochState.{EpochState}
 use Rattle.cct_model.specs.declared.judging.EpochState.TheVariants.{Idle, Running}
 use Rattle.cct_model.specs.declared.judging.OpenOrder.{OpenOrder}
 use Rattle.cct_model.specs.Carried.{addr_of_epoch, addr_of_order, first_with, id_of_order, with_some}
-use Rattle.cct_model.specs.Carry.{available_held, carry, epoch_at, epoch_entry, epoch_from, epoch_held, gathered, order_at, order_entry, order_from, order_held, order_with, owed_by}
+use Rattle.cct_model.specs.Carry.{available_held, carry, epoch_at, epoch_entry, epoch_from, epoch_held, gathered, order_at, order_entry, order_from, order_held, order_with, owed_by, reserved_held}
 use Rattle.cct_model.specs.Device.{is_acceptor, is_hopper}
 use Rattle.cct_model.specs.Exchange.{acceptor_there, by_address, device_at, hopper_there}
 use Rattle.cct_model.specs.Following.{all_follow, follows, is_running}
 use Rattle.cct_model.specs.Job.{epoch_by}
-use Rattle.cct_model.specs.Money.{amount, available_beside, owed_in, sum_over}
+use Rattle.cct_model.specs.Money.{amount, available_beside, odd_in, owed_in, reserved_in, sum_over}
 use Rattle.cct_model.specs.Records.{epoch_in, is_open, order_in, order_named, owner_in}
 use Rattle.cct_model.specs.Setup.{IsSoundSetup}
 use Rattle.cct_model.proofs.Addresses.{address_there}
@@ -169,7 +169,8 @@ order_there setup before addr belongs = by_found (device_at setup.devices addr) 
     by_found (Some d) is = by_kind d (is_acceptor d.body) refl (address_there setup.devices addr d is) is
 
 -- records of a sound setup that follow one another
-module _ (setup : Setup) (before : List Record) (sound : IsSoundSetup setup) (follow : all_follow setup before ≡ true) where
+module _ (setup : Setup) (before : List Record) (sound : IsSoundSetup setup)
+    (follow : all_follow setup before ≡ true) where
   -- the epoch and the open order at any address
   pub epoch_carried : (addr : ℕ) → epoch_held addr (carry setup before) ≡ epoch_in addr before
   epoch_carried addr =
@@ -190,7 +191,7 @@ module _ (setup : Setup) (before : List Record) (sound : IsSoundSetup setup) (fo
       ∙ order_there setup before addr belongs)
       ∙ order_back (order_in addr before)
 
-  -- the open order with an id
+  -- what the carry has of the open order with an id
   named_by_entry : (id : ℕ) (o : OpenOrder) → order_named id before ≡ Some o → order_in o.addr before ≡ Some o →
       first_with id_of_order id (gathered (order_at before) (by_address setup.devices)) ≡ Some (order_entry o)
   named_by_entry id o named owed =
@@ -217,6 +218,8 @@ module _ (setup : Setup) (before : List Record) (sound : IsSoundSetup setup) (fo
           first_among id_of_order id (order_at before) d (order_entry o) (by_address setup.devices) stands
           (named_id id before o named) one
           (found_by_address setup.devices d.addr ∙ ap (device_at setup.devices) own ∙ is)
+
+  -- so it is the one that the records name, where they tell that it is open, and there is none elsewhere
 
   pub named_carried : (id : ℕ) → is_open id before ≡ true → order_with id (carry setup before) ≡ order_named id before
   named_carried id open_is =
@@ -271,6 +274,10 @@ module _ (setup : Setup) (before : List Record) (sound : IsSoundSetup setup) (fo
       (λ d there. ap (option_and_then (order_at before)) (sym (sym (found_by_address setup.devices d.addr) ∙ there))
       ∙ order_there setup before d.addr (belongs_all setup before follow)))
       ∙ sum_by_address (λ d. amount setup (order_in d.addr before)) setup.devices
+
+  -- what is reserved
+  pub reserved_carried : reserved_held setup (carry setup before) ≡ reserved_in setup before
+  reserved_carried = ap (λ owed. owed + odd_in setup before) owed_carried
 
   -- what is available, beside what else is reserved
   pub available_carried : (beside : ℕ) →

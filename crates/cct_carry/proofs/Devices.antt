@@ -8,6 +8,7 @@ use Rattle.cct_model.specs.Money.{sum_over}
 use Rattle.cct_model.specs.Setup.{AreDistinct}
 use Rattle.cct_laws.specs.Law.{AreRising}
 
+-- one of two addresses that isn't at most the other is another
 apart_by : (a b : ℕ) → nat_le a b ≡ false → a ≢ b
 apart_by a b test same = grind (arith, nat_tests)
 
@@ -46,6 +47,7 @@ found_swapped addr d e found apart = by_tests (d.addr == addr) (e.addr == addr) 
     by_tests true false first second = refl
     by_tests false second first other = refl
 
+-- is found wherever the devices stand
 pub found_by_address : (devices : List DeviceSetup) (addr : ℕ) →
     device_at (by_address devices) addr ≡ device_at devices addr
 found_by_address devices addr =

@@ -13,7 +13,7 @@ use Rattle.cct_model.specs.Records.{is_open, order_in, order_named}
 use Rattle.cct_carry.proofs.Carried.{available_carried, epoch_carried, named_carried, opened_carried, order_carried}
 
 -- nothing is reserved beside
-pub available_alone : (setup : Setup) (before : List Record) (sound : IsSoundSetup setup) (follow : all_follow setup before ≡ true) →
+pub available_alone : (setup : Setup) (before : List Record) → IsSoundSetup setup → all_follow setup before ≡ true →
     available_held setup (carry setup before) 0 ≡ available_in setup before
 available_alone setup before sound follow =
     available_carried setup before sound follow 0 ∙ beside_none
@@ -27,8 +27,9 @@ counts_same : (b : Bool) (many : ℕ) (held named : Option OpenOrder) → (b ≡
 counts_same true many held named same = ap (λ o. many == count_of o) (same refl)
 counts_same false many held named same = refl
 
-pub follows_carried : (setup : Setup) (before : List Record) (sound : IsSoundSetup setup) (follow : all_follow setup before ≡ true) (r : Record) →
-    follows_carry setup (carry setup before) r ≡ follows setup before r
+-- a record follows the carry where it follows the records
+pub follows_carried : (setup : Setup) (before : List Record) → IsSoundSetup setup → all_follow setup before ≡ true →
+    (r : Record) → follows_carry setup (carry setup before) r ≡ follows setup before r
 follows_carried setup before sound follow (record_of.Epoch addr mask) =
     ap (λ state. acceptor_there (device_at setup.devices addr) && not (is_running state) && not (mask == 0)
     && has_values (device_at setup.devices addr) mask)

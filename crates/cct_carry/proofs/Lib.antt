@@ -9,3 +9,4 @@ pub mod Carried
 pub mod Follows
 pub mod Steps
 pub mod Over
+pub mod Resumed

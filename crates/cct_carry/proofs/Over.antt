@@ -36,13 +36,13 @@ follow_append setup c (r ∷ first) later =
     by_test true rest = rest
     by_test false rest = refl
 
--- the first of more records stands last before the others
-next_behind : (before : List Record) (r : Record) (later : List Record) →
+-- of more records, oldest first, the first one is the next after those before
+next_before : (before : List Record) (r : Record) (later : List Record) →
     reverse (r ∷ later) ++ before ≡ reverse later ++ r ∷ before
-next_behind before r later =
+next_before before r later =
     ap (λ rs. rs ++ before) (reverse_onto later r []) ∙ append_assoc (reverse later) (r ∷ []) before
 
--- what doesn't follow is not followed by anything
+-- where records don't follow one another, they don't with more of them
 stays_refused : (setup : Setup) (later before : List Record) → all_follow setup before ≡ false →
     all_follow setup (later ++ before) ≡ false
 stays_refused setup [] before refused = refused
@@ -50,6 +50,7 @@ stays_refused setup (r ∷ later) before refused =
     and_right (follows setup (later ++ before) r) (all_follow setup (later ++ before))
     (stays_refused setup later before refused)
 
+-- in a sound setup
 module _ (setup : Setup) (sound : IsSoundSetup setup) where
   -- the carry of records that follow one another, after more of them
   pub carry_after : (later before : List Record) → all_follow setup (reverse later ++ before) ≡ true →
@@ -57,10 +58,10 @@ module _ (setup : Setup) (sound : IsSoundSetup setup) where
   carry_after [] before follow = refl
   carry_after (r ∷ later) before follow =
       let follow_too : all_follow setup (reverse later ++ r ∷ before) ≡ true =
-      ap (all_follow setup) (sym (next_behind before r later)) ∙ follow in
+      ap (all_follow setup) (sym (next_before before r later)) ∙ follow in
       ap (λ c. carry_over setup c later)
       (carry_next setup before sound r (follow_front setup (reverse later) (r ∷ before) follow_too))
-      ∙ carry_after later (r ∷ before) follow_too ∙ ap (carry setup) (sym (next_behind before r later))
+      ∙ carry_after later (r ∷ before) follow_too ∙ ap (carry setup) (sym (next_before before r later))
 
   -- and which follow it
   pub follow_after : (later before : List Record) → all_follow setup before ≡ true →
@@ -68,11 +69,8 @@ module _ (setup : Setup) (sound : IsSoundSetup setup) where
   follow_after [] before follow = sym follow
   follow_after (r ∷ later) before follow =
       by_test (follows setup before r) refl (λ next. follow_after later (r ∷ before) next)
-      ∙ ap (all_follow setup) (sym (next_behind before r later))
+      ∙ ap (all_follow setup) (sym (next_before before r later))
     where
-      rest : Carry → Bool
-      rest c = all_follow_carry setup c later
-
       by_test : (ok : Bool) → follows setup before r ≡ ok →
           (all_follow setup (r ∷ before) ≡ true →
           all_follow_carry setup (carry setup (r ∷ before)) later ≡ all_follow setup (reverse later ++ r ∷ before)) →

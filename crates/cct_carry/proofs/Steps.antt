@@ -63,9 +63,13 @@ goes_on setup r c owner odd epochs orders = record {
   orders = orders;
 }
 
-module _ (setup : Setup) (before : List Record) (sound : IsSoundSetup setup) (r : Record) (follow : all_follow setup (r ∷ before) ≡ true) where
+-- one record more, of records that follow one another
+module _ (setup : Setup) (before : List Record) (sound : IsSoundSetup setup) (r : Record)
+    (follow : all_follow setup (r ∷ before) ≡ true) where
   abbrev earlier : all_follow setup before ≡ true
   earlier = (and_parts _ _ follow).1
+
+  -- the epochs and the open orders after it
 
   epochs_next : epochs_after (owner_in before r) r (carry setup before) ≡ (carry setup (r ∷ before)).epochs
   epochs_next =
@@ -94,6 +98,7 @@ module _ (setup : Setup) (before : List Record) (sound : IsSoundSetup setup) (r 
       (sym (order_else d.addr r before (λ own. other (sym own)))))
       (by_address setup.devices) (devices_rise setup sound)
 
+  -- and so the carry
   pub carry_next : carry_with setup r (carry setup before) ≡ carry setup (r ∷ before)
   carry_next =
       let c = carry setup before in

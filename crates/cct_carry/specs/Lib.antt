@@ -1,3 +1,4 @@
 pub mod CoinPlaces
+pub mod Scope
 pub mod Sound
 pub mod Tally

@@ -11,7 +11,6 @@ use Rattle.cct_model.specs.Records.{records}
 use Rattle.cct_model.specs.Transcript.{onto}
 use Rattle.cct_disk.specs.declared.disk.Disk.{Ghosts}
 use Rattle.cct_disk.specs.Disk.{IsTrusted}
-use Rattle.cct_journal.specs.Image.{capacity_of}
 use Rattle.cct_disk.specs.Disk.{Outlasts}
 use Rattle.cct_host.specs.OnDisk.{LeavesRecords}
 use Rattle.cct_laws.specs.Restart.{due_in}
@@ -100,9 +99,7 @@ module _ {D : Type 0} {g : Ghosts D} (world : World D g) where
       reliable_survives (HasTrusted world) (HasTrusted now)
       (trusted_on g.size g.honest g.seen g.cuts (disk_of world) (disk_of now) goes.disk.outlasts) news past s told relies in
       let goes_so = plays past (goes.lines.holds.so.stands here) (suits now sums seed n goes here s) survives in
-      let by_setup : Entries (capacity_in now) load_setup past s news =
-      subst (λ setup. Entries (capacity_in now) setup past s news) goes.setup goes_so.0 in
-      (subst (λ size. Entries (capacity_of size) load_setup past s news) goes.disk.outlasts.same_size by_setup, goes_so.1)
+      (subst (λ setup. Entries (capacity_in now) setup past s news) goes.setup goes_so.0, goes_so.1)
 
   -- one line more
   pub goes_on : (now next : World D g) (sums sums1 : LoadSums) (seed n : ℕ) (s : Step) (report : List Entry)

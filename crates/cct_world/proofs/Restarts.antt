@@ -152,14 +152,8 @@ module _ {D : Type 0} {g : Ghosts D} where
   crash_restarts old new at choice crashed news told restarts = record {
     all = record { kept = crashed.kept; kept_is = restarts.kept; count = sym restarts.records ∙ restarts.counts };
     news_are = told ∙ ap (λ n. told_by n crashed.kept) restarts.records;
-    whole = λ image tells. let opened = restarts.found image tells in (
-      opened.0,
-      opened.1,
-      opened.2,
-      subst (λ setup. all_follow setup (reverse opened.0) ≡ true) restarts.setup
-          (restarts.replays opened.0
-          (record { image = image; tells = tells; stands = opened.1; count = sym opened.2 })).over.follow,
-    );
+    whole = λ image tells. subst (λ setup. FindsWhole setup image (journals.used_of (hosts.journal_of new))) restarts.setup
+        (restarts.whole image tells);
   }
 
 module _ {D : Type 0} (size : D → ℕ) (honest : D → Bool) (seen : D → Option (List ℕ)) (cuts : D → ℕ)
