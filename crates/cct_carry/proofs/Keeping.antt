@@ -1,8 +1,8 @@
 -- A carry that is safe for some records is safe for one more, with a record more that follows, and as it is.
-use Rattle.std.proofs.Common.{◌≡◌, ℕ, ◌+◌, ◌-◌, ◌*◌, ◌^◌, ◌<◌, ◌≤◌, ◌==◌, ◌&&◌, max, nat_le, not, Bool, true, false, List, [], ◌∷◌, length, map, All, Option, Some, None, IfSome, is_none, is_some, ◌⊎◌, inl, inr, refl, ap, sym, ◌∙◌, subst, arith, eqb-true, leb-true, lit<}
+use Rattle.std.proofs.Common.{◌≡◌, ℕ, ◌+◌, ◌*◌, ◌^◌, ◌<◌, ◌≤◌, max, not, true, List, [], ◌∷◌, length, map, All, Option, Some, None, IfSome, is_none, is_some, ◌⊎◌, inl, inr, refl, ap, sym, ◌∙◌, subst, arith, eqb-true, leb-true, lit<}
 use Rattle.std.specs.Option.{option_map}
 use Rattle.std.proofs.lemmas.Bool.{and_parts}
-use Rattle.std.proofs.lemmas.List.Elements.{All-cons, All-head, All-nil, All-tail, All-weaker}
+use Rattle.std.proofs.lemmas.List.Elements.{All-head, All-nil, All-tail, All-weaker}
 use Rattle.cct_model.specs.terms.coin.TheConstants.{EVENTS}
 use Rattle.cct_model.specs.terms.device.TheConstants.{DEVICES}
 use Rattle.cct_model.specs.terms.device.Setup.{Setup}
@@ -11,10 +11,10 @@ use Rattle.cct_model.specs.lines.record.Record.TheVariants as record_of
 use Rattle.cct_model.specs.lines.carry.Carry.{Carry}
 use Rattle.cct_model.specs.lines.carry.CarryEpoch.{CarryEpoch}
 use Rattle.cct_model.specs.lines.carry.CarryOrder.{CarryOrder}
-use Rattle.cct_model.specs.Carried.{AreSmall, EpochFits, IsBelow, IsRightly, OrderFits, Rise, addr_of_epoch, addr_of_order, empty_carry, first_with, id_of_order, set_with, with_some}
-use Rattle.cct_model.specs.Carry.{AreApart, Fits, IsOther, IsSafe, available_held, carry_with, epoch_entry, epoch_from, epoch_held, epochs_after, follows_carry, odd_more, order_entry, order_from, order_held, order_with, orders_after, owed_by, owner_by}
+use Rattle.cct_model.specs.Carried.{AreSmall, EpochFits, IsRightly, OrderFits, Rise, addr_of_epoch, addr_of_order, empty_carry, first_with, id_of_order, set_with, with_some}
+use Rattle.cct_model.specs.Carry.{AreApart, IsOther, IsSafe, available_held, carry_with, epoch_entry, epoch_from, epoch_held, epochs_after, follows_carry, odd_more, order_entry, order_from, order_held, order_with, orders_after, owed_by, owner_by}
 use Rattle.cct_model.specs.Exchange.{acceptor_there, device_at, hopper_there}
-use Rattle.cct_model.specs.Following.{count_of, has_values, is_running}
+use Rattle.cct_model.specs.Following.{count_of}
 use Rattle.cct_model.specs.Job.{counted, epoch_by}
 use Rattle.cct_model.specs.Money.{amount, coins_of, coins_value}
 use Rattle.cct_model.specs.Order.{order_by}
@@ -23,6 +23,7 @@ use Rattle.cct_model.specs.Setup.{IsSoundSetup}
 use Rattle.cct_model.specs.Sums.{coins_paid, coins_posted, coins_unpaid, events_lost, posts_of, price_sold}
 use Rattle.cct_model.proofs.OpenOrders.{coins_both}
 use Rattle.cct_record.specs.Body.{InRange}
+use Rattle.cct_carry.specs.GoingOn.{CanGoOn, IsCovered, IsInReach}
 use Rattle.cct_carry.proofs.Coins.{coins_most, values_most, worth_most}
 use Rattle.cct_carry.proofs.Sets.{all_set, by_order, few_in, first_above, first_by_both, first_here, first_holds, first_key, first_past, length_set, none_has, rise_set, set_before, set_found, set_here, set_past}
 
@@ -85,12 +86,12 @@ kept_epoch setup many addr c safe =
     (held_epoch setup many addr c safe)
 
 next_epoch : (setup : Setup) (many : ℕ) (c : Carry) (r : Record) → IsSafe setup many c
-    → follows_carry setup c r ≡ true → InRange r
+    → follows_carry setup c r ≡ true → IsInReach r
     → IfSome (new_epoch c (owner_by c r) r) (IsEpochAt setup (owner_by c r))
 next_epoch setup many c (record_of.Epoch addr mask) safe ok fits =
     epoch_made setup addr mask 0 fits.0 fits.1 (lit< tt) (and_parts _ _ (and_parts _ _ (and_parts _ _ ok).0).0).0
 next_epoch setup many c (record_of.Reading addr counter lost posted) safe ok fits =
-    epoch_counted setup addr counter (first_with addr_of_epoch addr c.epochs) fits.1
+    epoch_counted setup addr counter (first_with addr_of_epoch addr c.epochs) fits.0
     (held_epoch setup many addr c safe)
 next_epoch setup many c (record_of.Broken addr seen counter posted) safe ok fits = tt
 next_epoch setup many c (record_of.EpochEnd addr) safe ok fits = tt
@@ -127,7 +128,7 @@ epochs_set setup addr new epochs new_is safe = record {
 
 -- the epochs of a safe carry stay so
 pub epochs_next : (setup : Setup) (many : ℕ) (c : Carry) (r : Record) → IsSafe setup many c
-    → follows_carry setup c r ≡ true → InRange r → EpochsSafe setup (epochs_after (owner_by c r) r c)
+    → follows_carry setup c r ≡ true → IsInReach r → EpochsSafe setup (epochs_after (owner_by c r) r c)
 epochs_next setup many c r safe ok fits =
     epochs_set setup (owner_by c r) (new_epoch c (owner_by c r) r) c.epochs (next_epoch setup many c r safe ok fits)
     (record { rise = safe.rightly.epochs_rise; fit = safe.rightly.epochs_fit; there = safe.fits.epochs })
@@ -274,7 +275,7 @@ closes c id open_is rise = closes_by c id (first_with id_of_order id c.orders) r
 
 -- the orders of a safe carry stay so
 pub orders_next : (setup : Setup) (many : ℕ) (c : Carry) (r : Record) → IsSafe setup many c
-    → follows_carry setup c r ≡ true → InRange r
+    → follows_carry setup c r ≡ true → IsInReach r
     → OrdersSafe setup (max (id_of r) c.last_id) (orders_after (owner_by c r) r c)
 orders_next setup many c (record_of.Opened id addr count life) safe ok fits =
     let at = opens setup c id addr count life ok in
@@ -367,9 +368,6 @@ closes_many : (c : Carry) (id : ℕ) → (at : Closes c id) → count_of (order_
 closes_many c id at = ap (λ found. count_of (option_map order_from found)) at.named
 
 -- what is posted covers what is reserved, paid and sold
-abbrev IsCovered : Setup → Carry → Type 0
-IsCovered setup c = c.paid_value + c.odd_value + c.sold + owed_by setup c.orders ≤ c.value
-
 pub covered_next : (setup : Setup) (many : ℕ) (c : Carry) (r : Record) → IsSafe setup many c
     → follows_carry setup c r ≡ true → IsCovered setup (carry_with setup r c)
 covered_next setup many c (record_of.Opened id addr count life) safe ok =
@@ -433,9 +431,9 @@ record AddsFew (setup : Setup) (c : Carry) (r : Record) : Type 0 where
   pub sold : price_sold r ≤ 2 ^ 32
   pub id : id_of r < 2 ^ 32
 
-posts_few : (r : Record) → InRange r → length (posts_of r) ≤ EVENTS
-posts_few (record_of.Reading addr counter lost posted) fits = fits.3.few
-posts_few (record_of.Broken addr seen counter posted) fits = fits.3.few
+posts_few : (r : Record) → IsInReach r → length (posts_of r) ≤ EVENTS
+posts_few (record_of.Reading addr counter lost posted) fits = fits.2
+posts_few (record_of.Broken addr seen counter posted) fits = fits
 posts_few (record_of.Epoch addr mask) fits = omega arith
 posts_few (record_of.EpochEnd addr) fits = omega arith
 posts_few (record_of.Opened id addr count life) fits = omega arith
@@ -443,23 +441,23 @@ posts_few (record_of.Closed id paid unpaid) fits = omega arith
 posts_few (record_of.Odd id life_before life_after) fits = omega arith
 posts_few (record_of.Sold id price) fits = omega arith
 
-lost_few : (r : Record) → InRange r → events_lost r < 256
-lost_few (record_of.Reading addr counter lost posted) fits = fits.2
+lost_few : (r : Record) → IsInReach r → events_lost r < 256
+lost_few (record_of.Reading addr counter lost posted) fits = fits.1
 lost_few r fits = lit< tt
 
-paid_few : (r : Record) → InRange r → coins_paid r < 256
-paid_few (record_of.Closed id paid unpaid) fits = fits.1
+paid_few : (r : Record) → IsInReach r → coins_paid r < 256
+paid_few (record_of.Closed id paid unpaid) fits = fits.0
 paid_few r fits = lit< tt
 
-unpaid_few : (r : Record) → InRange r → coins_unpaid r < 256
-unpaid_few (record_of.Closed id paid unpaid) fits = fits.2
+unpaid_few : (r : Record) → IsInReach r → coins_unpaid r < 256
+unpaid_few (record_of.Closed id paid unpaid) fits = fits.1
 unpaid_few r fits = lit< tt
 
-price_few : (r : Record) → InRange r → price_sold r < 2 ^ 32
+price_few : (r : Record) → IsInReach r → price_sold r < 2 ^ 32
 price_few (record_of.Sold id price) fits = fits.1
 price_few r fits = lit< tt
 
-id_few : (r : Record) → InRange r → id_of r < 2 ^ 32
+id_few : (r : Record) → IsInReach r → id_of r < 2 ^ 32
 id_few (record_of.Opened id addr count life) fits = fits.0
 id_few (record_of.Sold id price) fits = fits.0
 id_few r fits = lit< tt
@@ -471,7 +469,7 @@ odd_few setup many c (record_of.Odd id life_before life_after) sound safe =
     (first_holds id_of_order OrderFits id c.orders safe.rightly.orders_fit)
 odd_few setup many c r sound safe = omega arith
 
-adds_few : (setup : Setup) (many : ℕ) (c : Carry) (r : Record) → IsSoundSetup setup → IsSafe setup many c → InRange r
+adds_few : (setup : Setup) (many : ℕ) (c : Carry) (r : Record) → IsSoundSetup setup → IsSafe setup many c → IsInReach r
     → AddsFew setup c r
 adds_few setup many c r sound safe fits =
     let posts = posts_few r fits in
@@ -535,7 +533,7 @@ each_next setup many c r safe =
 
 -- a safe carry is safe for one record more, with a record more that follows
 pub safe_next : (setup : Setup) (many : ℕ) (c : Carry) (r : Record) → IsSoundSetup setup
-    → length setup.devices ≤ DEVICES → IsSafe setup many c → follows_carry setup c r ≡ true → InRange r
+    → length setup.devices ≤ DEVICES → IsSafe setup many c → follows_carry setup c r ≡ true → IsInReach r
     → IsSafe setup (many + 1) (carry_with setup r c)
 safe_next setup many c r sound devices safe ok fits =
     let epochs = epochs_next setup many c r safe ok fits in
@@ -565,6 +563,50 @@ safe_next setup many c r sound devices safe ok fits =
         covered = covered_next setup many c r safe ok;
       };
     }
+
+-- a record that can be spelt is in reach
+pub in_reach : (r : Record) → InRange r → IsInReach r
+in_reach (record_of.Epoch addr mask) fits = fits
+in_reach (record_of.Reading addr counter lost posted) fits = (fits.1, fits.2, fits.3.few)
+in_reach (record_of.Broken addr seen counter posted) fits = fits.3.few
+in_reach (record_of.EpochEnd addr) fits = tt
+in_reach (record_of.Opened id addr count life) fits = fits
+in_reach (record_of.Closed id paid unpaid) fits = (fits.1, fits.2)
+in_reach (record_of.Odd id life_before life_after) fits = tt
+in_reach (record_of.Sold id price) fits = fits
+
+-- what goes on fits the numbers of a carry
+pub record HasRoom (c : Carry) : Type 0 where
+  pub value : c.value < 2 ^ 64
+  pub paid_value : c.paid_value < 2 ^ 64
+  pub odd_value : c.odd_value < 2 ^ 64
+  pub posted : c.posted < 2 ^ 64
+  pub lost : c.lost < 2 ^ 64
+  pub paid : c.paid < 2 ^ 64
+  pub unpaid : c.unpaid < 2 ^ 64
+  pub sold : c.sold < 2 ^ 64
+  pub epochs : length c.epochs ≤ DEVICES
+  pub orders : length c.orders ≤ DEVICES
+
+pub has_room : (many : ℕ) (c : Carry) → many < 2 ^ 32 → IsRightly many c → HasRoom c
+has_room many c few rightly = record {
+  value = omega (arith, rightly.small.value);
+  paid_value = omega (arith, rightly.small.paid_value);
+  odd_value = omega (arith, rightly.small.odd_value);
+  posted = omega (arith, rightly.small.posted);
+  lost = omega (arith, rightly.small.lost);
+  paid = omega (arith, rightly.small.paid);
+  unpaid = omega (arith, rightly.small.unpaid);
+  sold = omega (arith, rightly.small.sold);
+  epochs = rightly.epochs_few;
+  orders = rightly.orders_few;
+}
+
+pub room_next : (setup : Setup) (c : Carry) (r : Record) → CanGoOn setup c r → IsInReach r
+    → HasRoom (carry_with setup r c)
+room_next setup c r can fits =
+    has_room (can.many + 1) (carry_with setup r c) (let few = can.few in omega arith)
+    (safe_next setup can.many c r can.sound can.devices can.safe can.follows fits).rightly
 
 -- it is safe for one record more as it is
 pub rightly_more : (many : ℕ) (c : Carry) → IsRightly many c → IsRightly (many + 1) c

@@ -3,6 +3,7 @@ pub mod Coins
 pub mod Sets
 pub mod Keeping
 pub mod Small
+pub mod Fitting
 pub mod Devices
 pub mod Gathered
 pub mod Carried
@@ -10,3 +11,5 @@ pub mod Follows
 pub mod Steps
 pub mod Over
 pub mod Resumed
+pub mod Splits
+pub mod Arms
