@@ -1,6 +1,6 @@
 -- A ledger that begins with a carry: the orders that it keeps, what they are worth, and for which records it stands.
 use Rattle.std.proofs.Common.{◌≡◌, ◌≢◌, ℕ, ◌+◌, ◌≤◌, ◌==◌, Bool, true, false, cond, ◌||◌, List, [], ◌∷◌, length, map, sum_by, Option, Some, None, option_map, refl, ap, sym, ◌∙◌, subst, arith, eq-eqb, eqb-true, ne_eqb}
-use Rattle.std.specs.List.{find, list_any}
+use Rattle.std.specs.List.{list_any}
 use Rattle.std.specs.Option.{option_map_or}
 use Rattle.std.proofs.lemmas.List.Sums.{sum_by-cons}
 use Rattle.cct_model.specs.terms.device.DeviceSetup.{DeviceSetup}
@@ -23,12 +23,6 @@ use Rattle.cct_ledger.specs.Orders.{KeepsOrders, has_id}
 use Rattle.cct_ledger.specs.Resumed.{IsResumed}
 use Rattle.cct_ledger.specs.declared.ledger.Ledger.{Ledger}
 use Rattle.cct_ledger.proofs.Places.{sum_over-map}
-
--- the first order of an address
-pub found_first : (addr : ℕ) (orders : List CarryOrder) →
-    find (λ (o : CarryOrder). o.addr == addr) orders ≡ first_with addr_of_order addr orders
-found_first addr [] = refl
-found_first addr (o ∷ orders) = ap (cond (o.addr == addr) (Some o)) (found_first addr orders)
 
 -- the worth of orders is a sum
 pub worth_each : (setup : Setup) (orders : List CarryOrder) →

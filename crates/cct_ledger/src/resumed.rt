@@ -1,10 +1,9 @@
 //! What a ledger begins with: the open orders of a carry, at the devices of a setup, and what they are worth.
-ghost use Rattle.std.specs.Prelude.{◌≡◌, ◌<◌, ◌^◌, map, option_map};
-ghost use Rattle.cct_model.specs.Carried.{addr_of_order, first_with};
+ghost use Rattle.std.specs.Prelude.{◌≡◌, ◌<◌, ◌^◌, map};
 ghost use Rattle.cct_model.specs.Carry.{order_held, owed_by};
 
 use arrayvec::ArrayVec;
-use cct_carry::coins_of;
+use cct_carry::{coins_of, order_held};
 use cct_model::{Carry, CarryOrder, DEVICES, OpenOrder, Setup};
 
 /// The open order of each device by a carry.
@@ -17,27 +16,6 @@ pub(crate) fn open_orders(setup: &Setup, carry: &Carry) -> ArrayVec<Option<OpenO
         orders.push(order_held(carry, device.addr));
     }
     orders
-}
-
-/// The open order at an address by a carry, or none.
-fn order_held(carry: &Carry, addr: u8) -> Option<OpenOrder>
-    ensures { result ≡ order_held addr carry.now }
-{
-    let order = entry_at(carry.orders.as_slice(), addr)?;
-    Some(OpenOrder {
-        id: order.id,
-        addr: order.addr,
-        count: order.count,
-        life: order.life,
-    })
-}
-
-/// The first of these orders that is of an address, or none.
-#[tactic(auto, using(crate::proofs::OverCarry::found_first))]
-fn entry_at(orders: &[CarryOrder], addr: u8) -> Option<&CarryOrder>
-    ensures { option_map (λ o. o.now) result ≡ first_with addr_of_order addr orders.now }
-{
-    orders.iter().find(|order| order.addr == addr)
 }
 
 /// What these open orders are worth.
