@@ -1,19 +1,17 @@
 -- What the two writes that begin a half make of it.
-use Rattle.std.proofs.Common.{◌≡◌, ◌≢◌, ◌⊎◌, inl, inr, ℕ, suc, ◌+◌, ◌-◌, ◌*◌, ◌/◌, ◌<◌, ◌≤◌, Bool, not, List, [], ◌∷◌, ◌++◌, length, take, drop}
+use Rattle.std.proofs.Common.{◌≡◌, ℕ, ◌+◌, ◌*◌, ◌≤◌, Bool, not, List, [], ◌∷◌, ◌++◌, length, take, drop}
 use Rattle.std.proofs.Common.{slice_index, refl, sym, ◌∙◌, ap, arith, append_assoc, length-append, length-drop}
 use Rattle.std.proofs.lemmas.List.{drop_at, drop_more, take_at}
 use Rattle.std.proofs.lemmas.List.Elements.{All-nil}
 use Rattle.cct_lines.specs.declared.carry.Carry.{Carry}
 use Rattle.cct_record.specs.Body.{InRange}
 use Rattle.cct_disk.specs.Disk.{SameOutside}
-use Rattle.cct_disk.proofs.Ranges.{put_outside}
 use Rattle.cct_journal.specs.Half.{Wins, half, open_gate, slots_in, start_at}
 use Rattle.cct_journal.specs.Image.{HasHalf, bodies, least_size, room_of}
-use Rattle.cct_journal.specs.Gated.{behind_gate, behind_open_gate}
+use Rattle.cct_journal.specs.Gated.{behind_gate}
 use Rattle.cct_journal.specs.Start.{Begins, MayBegin, start_of}
 use Rattle.cct_journal.specs.Places.{behind_start}
 use Rattle.cct_journal.specs.declared.format.TheConstants.{START}
-use Rattle.cct_journal.proofs.Bytes.{first_byte, put_there}
 use Rattle.cct_journal.proofs.Beginnings.{begins_open}
 use Rattle.cct_journal.proofs.Heads.{start_gate}
 use Rattle.cct_journal.proofs.Rooms.{closed}

@@ -1,12 +1,12 @@
 -- What the calls of a put make of a disk on which a journal stands.
-use Rattle.std.proofs.Common.{◌≡◌, ◌⊎◌, inl, inr, ⊎_elim, true, ℕ, suc, ◌+◌, ◌-◌, ◌*◌, ◌/◌, ◌<◌, ◌≤◌, min, Bool, not, Option, Some, is_some, List, [], ◌∷◌}
+use Rattle.std.proofs.Common.{◌≡◌, ◌⊎◌, inl, inr, ⊎_elim, ℕ, ◌+◌, ◌-◌, ◌*◌, ◌<◌, ◌≤◌, Bool, not, Option, Some, is_some, List, [], ◌∷◌}
 use Rattle.std.proofs.Common.{◌++◌, length, take, refl, sym, ◌∙◌, ap, subst, arith, append_assoc, length-append}
 use Rattle.std.proofs.lemmas.List.{append-nil, take_at, length-take-le}
 use Rattle.cct_lines.specs.declared.carry.Carry.{Carry}
 use Rattle.cct_lines.specs.declared.record.Record.{Record}
 use Rattle.cct_record.specs.Body.{InRange, body_of}
 use Rattle.cct_disk.specs.Disk.{Holds, LeavesOnly, SameOutside}
-use Rattle.cct_journal.specs.declared.format.TheConstants.{FIRST_SLOT, MOST_RECORDS, START}
+use Rattle.cct_journal.specs.declared.format.TheConstants.{FIRST_SLOT}
 use Rattle.cct_journal.specs.declared.place.Place.{Place}
 use Rattle.cct_journal.specs.Half.{half, has_open_gate, slots_in, start_at}
 use Rattle.cct_journal.specs.Image.{Continues, HasHalf, StandsFor, StandsForOneOf, room_of}

@@ -1,6 +1,6 @@
 -- What the two writes of a put make of an image that has records in a half.
-use Rattle.std.proofs.Common.{All, ◌≡◌, ◌≢◌, ◌⊎◌, inl, inr, ℕ, suc, ◌+◌, ◌-◌, ◌*◌, ◌/◌, ◌<◌, ◌≤◌, Bool, not, min, List, [], ◌∷◌, ◌++◌}
-use Rattle.std.proofs.Common.{length, take, drop, map, slice_index, refl, sym, ◌∙◌, ap, subst, arith}
+use Rattle.std.proofs.Common.{All, ◌≡◌, ◌≢◌, ◌⊎◌, inl, inr, ℕ, ◌+◌, ◌*◌, ◌<◌, ◌≤◌, Bool, not, List, [], ◌∷◌, ◌++◌}
+use Rattle.std.proofs.Common.{length, drop, map, slice_index, refl, sym, ◌∙◌, ap, subst, arith}
 use Rattle.std.proofs.lemmas.Bool.{cases_eq}
 use Rattle.std.proofs.lemmas.List.{length-map, map-append}
 use Rattle.std.proofs.lemmas.List.Elements.{All-append, All-cons, All-nil}
@@ -11,7 +11,7 @@ use Rattle.cct_disk.specs.Disk.{SameOutside}
 use Rattle.cct_journal.specs.Half.{half, open_gate, slots_in, start_at}
 use Rattle.cct_journal.specs.Image.{HasHalf, bodies, least_size, room_of}
 use Rattle.cct_journal.specs.Gated.{IsBegun, behind_gate, behind_open_gate}
-use Rattle.cct_journal.specs.declared.format.TheConstants.{FIRST_SLOT, MOST_RECORDS, START}
+use Rattle.cct_journal.specs.declared.format.TheConstants.{START}
 use Rattle.cct_disk.proofs.Ranges.{put_outside}
 use Rattle.cct_journal.proofs.Bytes.{first_byte, put_there, same_before}
 use Rattle.cct_journal.proofs.Sides.{half_byte, half_long, has_again, other_same, own_same, own_written, start_fits}

@@ -1,15 +1,15 @@
 -- The two halves of an image: what a write in one of them leaves of both, and when the current one stays so.
-use Rattle.std.proofs.Common.{◌≡◌, ◌≢◌, ◌⊎◌, inl, inr, ⊎_elim, ℕ, ◌+◌, ◌-◌, ◌*◌, ◌/◌, ◌<◌, ◌≤◌, Bool, true, false, not, List, [], ◌∷◌}
+use Rattle.std.proofs.Common.{◌≡◌, ◌⊎◌, inl, inr, ⊎_elim, ℕ, ◌+◌, ◌*◌, ◌<◌, ◌≤◌, Bool, true, false, not, List}
 use Rattle.std.proofs.Common.{length, take, drop, map, slice_index, refl, sym, ◌∙◌, ap, subst, arith}
 use Rattle.std.proofs.Common.{All}
 use Rattle.std.specs.Int.{w32, from_le_bytes}
-use Rattle.std.proofs.lemmas.List.{get_or-drop, get_or-take, take-take, length-take-le}
+use Rattle.std.proofs.lemmas.List.{get_or-drop, get_or-take, take-take}
 use Rattle.cct_lines.specs.declared.carry.Carry.{Carry}
 use Rattle.cct_lines.specs.declared.record.Record.{Record}
 use Rattle.cct_record.specs.Body.{InRange, body_of}
 use Rattle.cct_disk.specs.Disk.{SameOutside}
-use Rattle.cct_journal.specs.Half.{IsOpen, Wins, generation_in, half, open_gate, slots_in, start_at, title, window}
-use Rattle.cct_journal.specs.Image.{HasHalf, bodies, bodies_in, least_size, room_of}
+use Rattle.cct_journal.specs.Half.{IsOpen, Wins, generation_in, half, open_gate, slots_in, start_at, window}
+use Rattle.cct_journal.specs.Image.{HasHalf, bodies, room_of}
 use Rattle.cct_journal.specs.declared.format.TheConstants.{START}
 use Rattle.cct_journal.proofs.Bytes.{same_before}
 use Rattle.cct_journal.proofs.Windows.{Written, length_part, part_of_part, same_behind, same_within, written_within}

@@ -1,7 +1,7 @@
 -- What the two writes of a put make of the slots of a half.
 use Rattle.std.proofs.Common.{◌≡◌, ◌≢◌, ◌⊎◌, inl, inr, ℕ, suc, ◌+◌, ◌-◌, ◌*◌, ◌<◌, ◌≤◌, List, [], ◌∷◌, ◌++◌, length}
-use Rattle.std.proofs.Common.{take, drop, slice_index, refl, sym, ◌∙◌, ap, arith, append_assoc, length-drop, take-append-drop}
-use Rattle.std.proofs.lemmas.List.{append-nil, drop-drop, drop_more, take_at}
+use Rattle.std.proofs.Common.{take, drop, slice_index, sym, ◌∙◌, ap, arith, append_assoc, length-drop, take-append-drop}
+use Rattle.std.proofs.lemmas.List.{drop-drop, drop_more, take_at}
 use Rattle.cct_disk.specs.Disk.{SameOutside}
 use Rattle.cct_journal.specs.Half.{open_gate}
 use Rattle.cct_journal.specs.Image.{bodies}

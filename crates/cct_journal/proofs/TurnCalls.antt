@@ -1,14 +1,14 @@
 -- What the calls of a turn make of a disk on which a journal stands.
-use Rattle.std.proofs.Common.{◌≡◌, ◌⊎◌, inl, inr, ⊎_elim, true, false, ℕ, suc, ◌+◌, ◌-◌, ◌*◌, ◌/◌, ◌%◌, ◌<◌, ◌≤◌, min, Bool, not, Option, Some}
-use Rattle.std.proofs.Common.{List, [], ◌∷◌, ◌++◌, length, refl, sym, ◌∙◌, ap, subst, arith}
+use Rattle.std.proofs.Common.{◌≡◌, inl, ⊎_elim, true, false, ℕ, ◌+◌, ◌<◌, ◌≤◌, Bool, not, Option, Some}
+use Rattle.std.proofs.Common.{List, [], ◌∷◌, length, sym, ◌∙◌, ap, subst, arith}
 use Rattle.std.proofs.lemmas.List.{append-nil}
 use Rattle.cct_lines.specs.Carried.{IsRightly}
 use Rattle.cct_lines.specs.declared.carry.Carry.{Carry}
 use Rattle.cct_lines.specs.declared.record.Record.{Record}
 use Rattle.cct_disk.specs.Disk.{Holds, LeavesOnly, SameOutside, put_at}
-use Rattle.cct_journal.specs.declared.format.TheConstants.{FIRST_SLOT, MOST_RECORDS, START}
+use Rattle.cct_journal.specs.declared.format.TheConstants.{MOST_RECORDS, START}
 use Rattle.cct_journal.specs.declared.place.Place.{Place}
-use Rattle.cct_journal.specs.Half.{half, has_open_gate, slots_in, start_at}
+use Rattle.cct_journal.specs.Half.{half, has_open_gate, start_at}
 use Rattle.cct_journal.specs.Image.{Continues, HasHalf, StandsFor, StandsForOneOf, room_of}
 use Rattle.cct_journal.specs.Gated.{IsBegun, behind_open_gate}
 use Rattle.cct_journal.specs.Places.{after_close, after_turn, behind_start}
