@@ -93,6 +93,7 @@ module _ (image : List ℕ) (second : Bool) (generation base : ℕ) (carry : Car
   closing false at was places c same =
       behind_shut c 1 was (subst (λ k. SameOutside k 1 image c) (places.1 refl) same) (omega (arith, halves))
 
+  -- So it is at the end.
   pub closed_has : (was : Bool) (at : ℕ) → has_open_gate (half image (not second)) ≡ was
       → ClosesAt (start_at (length image) (not second)) was at
       → HasHalf (put_at image at (0 ∷ [])) second generation base carry rest
@@ -173,10 +174,12 @@ module _ (image : List ℕ) (second : Bool) (generation base : ℕ) (carry : Car
     abbrev turned : List ℕ
     turned = behind_open_gate (start_at (length image) (not second)) (behind_start (generation + 1) used new) image
 
+    -- The gate lies within the image.
     one_more : start_at (length image) (not second) + 1
         ≤ length (staged image (not second) (generation + 1) used new may has.headed.long whole)
     one_more = staged_long image (not second) (generation + 1) used new may has.headed.long whole
 
+    -- The last write is one of the gate.
     turned_gated : SameOutside (start_at (length image) (not second)) 1
         (staged image (not second) (generation + 1) used new may has.headed.long whole) turned
     turned_gated = put_outside (start_at (length image) (not second))
