@@ -1,10 +1,10 @@
 -- What a half that begins with a generation, a base and a carry says.
-use Rattle.std.proofs.Common.{◌≡◌, ℕ, ◌+◌, ◌^◌, ◌<◌, ◌≤◌, Bool, List, take, sym, ◌∙◌, ap, arith}
+use Rattle.std.proofs.Common.{◌≡◌, ℕ, Bool, List, take, sym, ◌∙◌, ap, arith}
 use Rattle.std.proofs.lemmas.List.{take-take}
 use Rattle.cct_lines.specs.declared.carry.Carry.{Carry}
 use Rattle.cct_journal.specs.Half.{IsOpen, generation_in}
 use Rattle.cct_journal.specs.Start.{Begins}
-use Rattle.cct_journal.specs.declared.format.TheConstants.{MOST_RECORDS, START}
+use Rattle.cct_journal.specs.declared.format.TheConstants.{START}
 use Rattle.cct_journal.proofs.Heads.{start_opens, start_tells}
 
 -- It is open.

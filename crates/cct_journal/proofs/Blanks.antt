@@ -1,5 +1,5 @@
 -- A blank image, and the header that is laid on it.
-use Rattle.std.proofs.Common.{◌≡◌, ◌≢◌, inl, inr, true, false, not, Bool, Option, Some, None, ℕ, ◌+◌, ◌-◌, ◌*◌, ◌/◌, ◌<◌, ◌≤◌, List, [], ◌∷◌}
+use Rattle.std.proofs.Common.{◌≡◌, ◌≢◌, inl, inr, true, false, Bool, Option, Some, None, ℕ, ◌+◌, ◌-◌, ◌*◌, ◌<◌, ◌≤◌, List, [], ◌∷◌}
 use Rattle.std.proofs.Common.{length, take, drop, slice_index, refl, sym, ◌∙◌, ap, arith, rules, subst}
 use Rattle.std.specs.Option.{MatchOption, is_some}
 use Rattle.std.proofs.lemmas.Bool.{cases_eq, cases_lt, ne_eqb}
@@ -91,6 +91,7 @@ alien_by c shut second generation base carry headed =
 
 module _ (image : List ℕ) (blank : IsBlank image) (long : least_size ≤ length image)
     (whole : length (start_of 0 0 empty_carry) ≡ START) where
+  -- What is written lies within the first half.
   many_bytes : 1 + length (behind_start 0 0 empty_carry) ≤ 32 * slots_in (length image)
   many_bytes = omega (arith, long, many image false 0 0 empty_carry empty_may long whole)
 
@@ -104,6 +105,7 @@ module _ (image : List ℕ) (blank : IsBlank image) (long : least_size ≤ lengt
   torn_alien : (c : List ℕ) → SameOutside (0 + 1) (length (behind_start 0 0 empty_carry)) image c → IsAlien c
   torn_alien c torn = alien_by c (gates c torn)
     where
+      -- No gate is open.
       gates : (c : List ℕ) → SameOutside (0 + 1) (length (behind_start 0 0 empty_carry)) image c → (second : Bool)
           → slice_index (half c second) 0 ≢ open_gate
       gates c torn false is_open =
@@ -136,6 +138,7 @@ module _ (image : List ℕ) (blank : IsBlank image) (long : least_size ≤ lengt
     shut_alien : slice_index c 0 ≢ open_gate → IsAlien c
     shut_alien shut = alien_by c gates
       where
+        -- No gate is open.
         gates : (second : Bool) → slice_index (half c second) 0 ≢ open_gate
         gates false is_open =
             shut (sym (gate_byte image false 0 0 empty_carry empty_may long whole c gated) ∙ is_open)
@@ -149,9 +152,11 @@ module _ (image : List ℕ) (blank : IsBlank image) (long : least_size ≤ lengt
     | inr shut ↦ inr (inl (shut_alien c gated shut))
   ]
 
+  -- The image at the end.
   abbrev laid : List ℕ
   laid = behind_open_gate 0 (behind_start 0 0 empty_carry) image
 
+  -- The last write is one of the gate.
   laid_gated : SameOutside 0 1 (staged image false 0 0 empty_carry empty_may long whole) laid
   laid_gated = put_outside 0 (staged image false 0 0 empty_carry empty_may long whole) (open_gate ∷ [])
       (staged_long image false 0 0 empty_carry empty_may long whole)

@@ -1,12 +1,12 @@
 -- What the calls of a put make of a disk on which a journal stands.
-use Rattle.std.proofs.Common.{◌≡◌, ◌⊎◌, inl, inr, ⊎_elim, true, ℕ, suc, ◌+◌, ◌-◌, ◌*◌, ◌/◌, ◌<◌, ◌≤◌, min, Bool, not, Option, Some, is_some, List, [], ◌∷◌}
+use Rattle.std.proofs.Common.{◌≡◌, ◌⊎◌, inl, inr, ⊎_elim, ℕ, ◌+◌, ◌-◌, ◌*◌, ◌<◌, ◌≤◌, Bool, not, Option, Some, is_some, List, [], ◌∷◌}
 use Rattle.std.proofs.Common.{◌++◌, length, take, refl, sym, ◌∙◌, ap, subst, arith, append_assoc, length-append}
 use Rattle.std.proofs.lemmas.List.{append-nil, take_at, length-take-le}
 use Rattle.cct_lines.specs.declared.carry.Carry.{Carry}
 use Rattle.cct_lines.specs.declared.record.Record.{Record}
 use Rattle.cct_record.specs.Body.{InRange, body_of}
 use Rattle.cct_disk.specs.Disk.{Holds, LeavesOnly, SameOutside}
-use Rattle.cct_journal.specs.declared.format.TheConstants.{FIRST_SLOT, MOST_RECORDS, START}
+use Rattle.cct_journal.specs.declared.format.TheConstants.{FIRST_SLOT}
 use Rattle.cct_journal.specs.declared.place.Place.{Place}
 use Rattle.cct_journal.specs.Half.{half, has_open_gate, slots_in, start_at}
 use Rattle.cct_journal.specs.Image.{Continues, HasHalf, StandsFor, StandsForOneOf, room_of}
@@ -60,6 +60,7 @@ put_bytes slots n many count body spelt whole is which few = record {
   ];
 }
 
+-- It lies within the half.
 put_within : (slots many count : ℕ) (spelt : List ℕ) → length spelt ≡ 32 → FIRST_SLOT + many < slots
     → IsCount slots (FIRST_SLOT + many) count → gate_place many + 1 + length (take count spelt) ≤ 32 * slots
 put_within slots many count spelt long few which = elim which [
@@ -76,14 +77,17 @@ module _ {D : Type 0} (size : D → ℕ) (honest : D → Bool) (seen : D → Opt
     (len : ℕ) (len_is : len ≡ size old) (index : ℕ) (index_is : index ≡ place.used - place.base) (start : ℕ)
     (start_is : start ≡ start_at len place.second) (slots : ℕ) (slots_is : slots ≡ slots_in len)
     (which : IsCount slots (FIRST_SLOT + index) count) where
+  -- A body has 31 bytes.
   whole : length (body_of entry) ≡ 31
   whole = omega (arith, long, ap length spelt_is, length-append (body_of entry) (0 ∷ []))
 
   module _ (carry_of : List Record → Carry) (records : List Record)
       (stands : Stands carry_of honest seen may_leave old place records) where
+    -- The image is as long as the disk.
     size_is : length stands.image ≡ size old
     size_is = fits old stands.image stands.held.tells
 
+    -- So many records are in the half.
     many : place.used - place.base ≡ length stands.rest
     many = omega (
       arith,
@@ -93,27 +97,32 @@ module _ {D : Type 0} (size : D → ℕ) (honest : D → Bool) (seen : D → Opt
       length-append stands.continues.first stands.rest,
     )
 
+    -- The half has room.
     few : length stands.rest < room_of (length stands.image) place.base
     few = subst (λ n. length stands.rest < room_of n place.base) (sym size_is) (omega (arith, many, room))
 
+    -- The gate is that of the slot after them.
     gate_here : gate_in (length stands.image) place.second (length stands.rest) ≡ start + 32 * (FIRST_SLOT + index)
     gate_here =
         let there : gate_place (length stands.rest) ≡ 32 * (FIRST_SLOT + index) = omega (arith, many, index_is) in
         ap (λ n. start_at n place.second + gate_place (length stands.rest)) (size_is ∙ sym len_is)
         ∙ ap (λ k. start_at len place.second + k) there ∙ ap (λ k. k + 32 * (FIRST_SLOT + index)) (sym start_is)
 
+    -- So many bytes are written after it.
     count_here : IsCount (slots_in (length stands.image)) (FIRST_SLOT + length stands.rest) count
     count_here =
         subst (λ n. IsCount (slots_in n) (FIRST_SLOT + length stands.rest) count) (len_is ∙ sym size_is)
         (subst (λ k. IsCount (slots_in len) (FIRST_SLOT + k) count) (index_is ∙ many)
         (subst (λ n. IsCount n (FIRST_SLOT + index) count) slots_is which))
 
+    -- What a put writes first.
     bytes_are : PutBytes (room_of (length stands.image) place.base) (length stands.rest) (body_of entry)
         (take count spelt)
     bytes_are =
         put_bytes (slots_in (length stands.image)) (room_of (length stands.image) place.base) (length stands.rest) count
         (body_of entry) spelt whole spelt_is count_here (omega arith)
 
+    -- It lies within the half.
     within : gate_place (length stands.rest) + 1 + length (take count spelt) ≤ 32 * slots_in (length stands.image)
     within = put_within (slots_in (length stands.image)) (length stands.rest) count spelt long (omega (arith, few))
         count_here
@@ -181,6 +190,7 @@ pub stands_settled : {D : Type 0} {honest : D → Bool} {seen : D → Option (Li
 stands_settled stands =
     record { image = stands.image; held = stands.held; stands = stands_for stands.has stands.continues }
 
+-- A disk that keeps just one image leaves that.
 pub settled_leaves : {D : Type 0} {honest : D → Bool} {seen : D → Option (List ℕ)} {may_leave : D → List ℕ → Type 0}
     {disk : D} {carry_of : List Record → Carry} {records : List Record}
     → Settled carry_of honest seen may_leave disk records → Leaves carry_of honest seen may_leave disk records

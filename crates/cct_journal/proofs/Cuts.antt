@@ -45,6 +45,7 @@ cut_here size honest seen cuts cut_to choice old before behind on is_cut count =
   count = count ∙ ap next_count on.same_cuts;
 }
 
+-- It was only read after the cut.
 pub cut_read : {D : Type 0} (size : D → ℕ) (honest : D → Bool) (seen : D → Option (List ℕ))
     (may_leave : D → List ℕ → Type 0) (moment : D → ℕ) (left_since : D → ℕ → List ℕ → Type 0) (cuts : D → ℕ)
     (cut_to : D → ℕ → D → Type 0) (choice : ℕ) (old mid new : D) → CutOnce size honest seen cuts cut_to choice old mid

@@ -58,6 +58,7 @@ module _ {D : Type 0} {size : D → ℕ} {honest : D → Bool} {seen : D → Opt
     {may_leave : D → List ℕ → Type 0} {cuts : D → ℕ} {cut_to : D → ℕ → D → Type 0} {choice : ℕ} {old new : D}
     (outlasts : Outlasts size honest seen cuts old new) (cut : IsCutBy honest seen may_leave cut_to choice old new)
   where
+    -- It holds one of them.
     cut_holds : honest old ≡ true → is_some (seen old) ≡ true
         → (image : List ℕ) × Holds honest seen may_leave new image × may_leave old image
     cut_holds is_honest told =
@@ -71,12 +72,14 @@ module _ {D : Type 0} {size : D → ℕ} {honest : D → Bool} {seen : D → Opt
           cut.left is_honest found.0 found.1,
         )
 
+    -- So it stands for the records.
     pub cut_settled : (carry_of : List Record → Carry) (records : List Record)
         → Leaves carry_of honest seen may_leave old records → Settled carry_of honest seen may_leave new records
     cut_settled carry_of records leaves =
         let found = cut_holds leaves.keeps_synced leaves.tells in
         record { image = found.0; held = found.1; stands = leaves.each found.0 found.2 }
 
+    -- Or for those that are left by so many calls.
     pub cut_by : (calls : ℕ) (put : Option Record) (carry_of : List Record → Carry) (records : List Record)
         → LeavesBy carry_of honest seen may_leave old calls put records
         → (left : List Record) × LeftBy calls put records left × Settled carry_of honest seen may_leave new left
@@ -85,6 +88,7 @@ module _ {D : Type 0} {size : D → ℕ} {honest : D → Bool} {seen : D → Opt
         let which = leaves.each found.0 found.2 in
         (which.0, which.1, record { image = found.0; held = found.1; stands = which.2 })
 
+    -- Or for the records, or these and one more.
     pub cut_one_of : (carry_of : List Record → Carry) (records : List Record) (entry : Record)
         → LeavesOneOf carry_of honest seen may_leave old records entry
         → Settled carry_of honest seen may_leave new records

@@ -1,6 +1,6 @@
 -- What the two writes of a put make of an image that has records in a half.
-use Rattle.std.proofs.Common.{All, ◌≡◌, ◌≢◌, ◌⊎◌, inl, inr, ℕ, suc, ◌+◌, ◌-◌, ◌*◌, ◌/◌, ◌<◌, ◌≤◌, Bool, not, min, List, [], ◌∷◌, ◌++◌}
-use Rattle.std.proofs.Common.{length, take, drop, map, slice_index, refl, sym, ◌∙◌, ap, subst, arith}
+use Rattle.std.proofs.Common.{All, ◌≡◌, ◌≢◌, ◌⊎◌, inl, inr, ℕ, ◌+◌, ◌*◌, ◌<◌, ◌≤◌, Bool, not, List, [], ◌∷◌, ◌++◌}
+use Rattle.std.proofs.Common.{length, drop, map, slice_index, refl, sym, ◌∙◌, ap, subst, arith}
 use Rattle.std.proofs.lemmas.Bool.{cases_eq}
 use Rattle.std.proofs.lemmas.List.{length-map, map-append}
 use Rattle.std.proofs.lemmas.List.Elements.{All-append, All-cons, All-nil}
@@ -11,7 +11,7 @@ use Rattle.cct_disk.specs.Disk.{SameOutside}
 use Rattle.cct_journal.specs.Half.{half, open_gate, slots_in, start_at}
 use Rattle.cct_journal.specs.Image.{HasHalf, bodies, least_size, room_of}
 use Rattle.cct_journal.specs.Gated.{IsBegun, behind_gate, behind_open_gate}
-use Rattle.cct_journal.specs.declared.format.TheConstants.{FIRST_SLOT, MOST_RECORDS, START}
+use Rattle.cct_journal.specs.declared.format.TheConstants.{START}
 use Rattle.cct_disk.proofs.Ranges.{put_outside}
 use Rattle.cct_journal.proofs.Bytes.{first_byte, put_there, same_before}
 use Rattle.cct_journal.proofs.Sides.{half_byte, half_long, has_again, other_same, own_same, own_written, start_fits}
@@ -42,6 +42,7 @@ module _ (image : List ℕ) (second : Bool) (generation base : ℕ) (carry : Car
       START behind)
       (λ _. other_same image second at inner place k c same inside) are in_range
 
+  -- There are as many bodies as records.
   number : length (map body_of rest) ≡ length rest
   number = length-map rest body_of
 
@@ -59,19 +60,24 @@ module _ (image : List ℕ) (second : Bool) (generation base : ℕ) (carry : Car
       (subst (λ k. SameOutside (gate_place k + 1) (length bytes) (half image second) (half c second)) (sym number)
       mine_torn)) has.in_range
 
+  -- The image after the first write, which lies within the half.
   staged : List ℕ
   staged = behind_gate (gate_in (length image) second (length rest)) bytes image
 
+  -- It lies within the image.
   inside : gate_in (length image) second (length rest) + 1 + length bytes ≤ length image
   inside = omega (arith, within, start_fits (length image) second)
 
+  -- It is written there.
   staged_written : Written (gate_in (length image) second (length rest) + 1) bytes image staged
   unfolding staged
   staged_written = put_written (gate_in (length image) second (length rest) + 1) bytes image inside
 
+  -- The image has the same records then.
   staged_has : HasHalf staged second generation base carry rest
   staged_has = body_torn staged staged_written.same
 
+  -- The write is one of the half.
   own_staged : Written (gate_place (length (map body_of rest)) + 1) bytes (half image second) (half staged second)
   own_staged =
       subst (λ k. Written (gate_place k + 1) bytes (half image second) (half staged second)) (sym number)
@@ -80,12 +86,15 @@ module _ (image : List ℕ) (second : Bool) (generation base : ℕ) (carry : Car
 
   -- A write at the gate, after the first write.
   module _ (c : List ℕ) (gated : SameOutside (gate_in (length image) second (length rest)) 1 staged c) where
+    -- The gate lies in the half.
     place : gate_in (length image) second (length rest) ≡ start_at (length staged) second + gate_place (length rest)
     place = ap (λ n. start_at n second + gate_place (length rest)) (sym staged_written.same.size)
 
+    -- And within it.
     one : gate_place (length rest) + 1 ≤ 32 * slots_in (length staged)
     one = omega (arith, within, staged_written.same.size)
 
+    -- So the write is one of the half.
     own_gated : SameOutside (gate_place (length (map body_of rest))) 1 (half staged second) (half c second)
     own_gated =
         subst (λ k. SameOutside (gate_place k) 1 (half staged second) (half c second)) (sym number)
@@ -120,12 +129,15 @@ module _ (image : List ℕ) (second : Bool) (generation base : ℕ) (carry : Car
         ∙ half_byte image c second (gate_in (length image) second (length rest)) (gate_place (length rest)) refl
         (gated.size ∙ staged_written.same.size) (omega (arith, within))
 
+    -- What was written first, by the number of bodies.
     put_bytes : PutBytes (room_of (length image) base) (length (map body_of rest)) body bytes
     put_bytes = subst (λ k. PutBytes (room_of (length image) base) k body bytes) (sym number) p
 
+    -- There is room for one more.
     few_bodies : length (map body_of rest) < room_of (length image) base
     few_bodies = omega (arith, few, number)
 
+    -- The half has so many slots.
     long_half : START + 32 * room_of (length image) base ≤ length (half image second)
     long_half = omega (arith, room_long (length image) base has.headed.long, half_long image second)
 
@@ -149,6 +161,7 @@ module _ (image : List ℕ) (second : Bool) (generation base : ℕ) (carry : Car
         ∙ sym (map-append body_of rest (entry ∷ [])))
         (All-append InRange rest (entry ∷ []) has.in_range (All-cons InRange entry [] fits (All-nil InRange)))
 
+    -- One of the two.
     gate_either : HasHalf c second generation base carry rest
         ⊎ HasHalf c second generation base carry (rest ++ entry ∷ [])
     gate_either = elim (cases_eq (slice_index c (gate_in (length image) second (length rest))) open_gate) [

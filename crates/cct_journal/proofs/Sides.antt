@@ -1,15 +1,15 @@
 -- The two halves of an image: what a write in one of them leaves of both, and when the current one stays so.
-use Rattle.std.proofs.Common.{◌≡◌, ◌≢◌, ◌⊎◌, inl, inr, ⊎_elim, ℕ, ◌+◌, ◌-◌, ◌*◌, ◌/◌, ◌<◌, ◌≤◌, Bool, true, false, not, List, [], ◌∷◌}
+use Rattle.std.proofs.Common.{◌≡◌, ◌⊎◌, inl, inr, ⊎_elim, ℕ, ◌+◌, ◌*◌, ◌<◌, ◌≤◌, Bool, true, false, not, List}
 use Rattle.std.proofs.Common.{length, take, drop, map, slice_index, refl, sym, ◌∙◌, ap, subst, arith}
 use Rattle.std.proofs.Common.{All}
 use Rattle.std.specs.Int.{w32, from_le_bytes}
-use Rattle.std.proofs.lemmas.List.{get_or-drop, get_or-take, take-take, length-take-le}
+use Rattle.std.proofs.lemmas.List.{get_or-drop, get_or-take, take-take}
 use Rattle.cct_lines.specs.declared.carry.Carry.{Carry}
 use Rattle.cct_lines.specs.declared.record.Record.{Record}
 use Rattle.cct_record.specs.Body.{InRange, body_of}
 use Rattle.cct_disk.specs.Disk.{SameOutside}
-use Rattle.cct_journal.specs.Half.{IsOpen, Wins, generation_in, half, open_gate, slots_in, start_at, title, window}
-use Rattle.cct_journal.specs.Image.{HasHalf, bodies, bodies_in, least_size, room_of}
+use Rattle.cct_journal.specs.Half.{IsOpen, Wins, generation_in, half, open_gate, slots_in, start_at, window}
+use Rattle.cct_journal.specs.Image.{HasHalf, bodies, room_of}
 use Rattle.cct_journal.specs.declared.format.TheConstants.{START}
 use Rattle.cct_journal.proofs.Bytes.{same_before}
 use Rattle.cct_journal.proofs.Windows.{Written, length_part, part_of_part, same_behind, same_within, written_within}
@@ -19,6 +19,7 @@ pub start_fits : (size : ℕ) (second : Bool) → start_at size second + 32 * sl
 start_fits size false = omega arith
 start_fits size true = omega arith
 
+-- The two halves lie beside each other.
 apart : (size : ℕ) (second : Bool) → (start_at size (not second) + 32 * slots_in size ≤ start_at size second)
     ⊎ (start_at size second + 32 * slots_in size ≤ start_at size (not second))
 apart size false = inr (omega arith)
@@ -43,6 +44,7 @@ module _ (image : List ℕ) (second : Bool) (at p : ℕ) (place : at ≡ start_a
       (same_within at n image c same (start_at (length image) second) (32 * slots_in (length image)) p place within
       (start_fits (length image) second))
 
+  -- And so are bytes that are written in it.
   pub own_written : (bytes c : List ℕ) → Written at bytes image c
       → p + length bytes ≤ 32 * slots_in (length image) → Written p bytes (half image second) (half c second)
   own_written bytes c written within =
@@ -80,10 +82,12 @@ open_gate_first bytes is_open =
 
 -- Bytes with the same beginning say the same.
 module _ (mine other : List ℕ) (same : take START mine ≡ take START other) where
+  -- Their first bytes are the same.
   pub same_title : take 16 mine ≡ take 16 other
   same_title = sym (take-take 16 START mine (omega arith)) ∙ ap (λ (l : List ℕ). take 16 l) same
       ∙ take-take 16 START other (omega arith)
 
+  -- They say the same generation.
   pub same_generation : generation_in mine ≡ generation_in other
   same_generation =
       ap (λ (l : List ℕ). from_le_bytes w32 l)

@@ -1,7 +1,7 @@
 -- What the two writes of a put make of the slots of a half.
 use Rattle.std.proofs.Common.{◌≡◌, ◌≢◌, ◌⊎◌, inl, inr, ℕ, suc, ◌+◌, ◌-◌, ◌*◌, ◌<◌, ◌≤◌, List, [], ◌∷◌, ◌++◌, length}
-use Rattle.std.proofs.Common.{take, drop, slice_index, refl, sym, ◌∙◌, ap, arith, append_assoc, length-drop, take-append-drop}
-use Rattle.std.proofs.lemmas.List.{append-nil, drop-drop, drop_more, take_at}
+use Rattle.std.proofs.Common.{take, drop, slice_index, sym, ◌∙◌, ap, arith, append_assoc, length-drop, take-append-drop}
+use Rattle.std.proofs.lemmas.List.{drop-drop, drop_more, take_at}
 use Rattle.cct_disk.specs.Disk.{SameOutside}
 use Rattle.cct_journal.specs.Half.{open_gate}
 use Rattle.cct_journal.specs.Image.{bodies}
@@ -69,6 +69,7 @@ record Follows (n many : ℕ) (body half : List ℕ) : Type 0 where
   there : drop (gate_place many + 1) half ≡ body ++ back
   none : bodies (n - suc many) back ≡ []
 
+-- So they do after what a put writes first.
 put_follows : (n many : ℕ) (body bytes half staged : List ℕ) → PutBytes n many body bytes
     → Written (gate_place many + 1) bytes half staged → Follows n many body staged
 put_follows n many body bytes half staged p w = elim p.are [
@@ -92,9 +93,11 @@ put_follows n many body bytes half staged p w = elim p.are [
 module _ (half : List ℕ) (n : ℕ) (old : List (List ℕ)) (are : bodies n (drop START half) ≡ old)
     (few : length old < n) (long : START + 32 * n ≤ length half) (body bytes staged : List ℕ)
     (p : PutBytes n (length old) body bytes) (w : Written (gate_place (length old) + 1) bytes half staged) where
+  -- After the first write the records are the same.
   staged_are : bodies n (drop START staged) ≡ old
   staged_are = behind_torn half n old are few long staged (length bytes) w.same
 
+  -- And the half is as long.
   staged_long : START + 32 * n ≤ length staged
   staged_long = omega (arith, w.same.size)
 

@@ -1,14 +1,14 @@
 -- What the calls of a turn make of a disk on which a journal stands.
-use Rattle.std.proofs.Common.{◌≡◌, ◌⊎◌, inl, inr, ⊎_elim, true, false, ℕ, suc, ◌+◌, ◌-◌, ◌*◌, ◌/◌, ◌%◌, ◌<◌, ◌≤◌, min, Bool, not, Option, Some}
-use Rattle.std.proofs.Common.{List, [], ◌∷◌, ◌++◌, length, refl, sym, ◌∙◌, ap, subst, arith}
+use Rattle.std.proofs.Common.{◌≡◌, inl, ⊎_elim, true, false, ℕ, ◌+◌, ◌<◌, ◌≤◌, Bool, not, Option, Some}
+use Rattle.std.proofs.Common.{List, [], ◌∷◌, length, sym, ◌∙◌, ap, subst, arith}
 use Rattle.std.proofs.lemmas.List.{append-nil}
 use Rattle.cct_lines.specs.Carried.{IsRightly}
 use Rattle.cct_lines.specs.declared.carry.Carry.{Carry}
 use Rattle.cct_lines.specs.declared.record.Record.{Record}
 use Rattle.cct_disk.specs.Disk.{Holds, LeavesOnly, SameOutside, put_at}
-use Rattle.cct_journal.specs.declared.format.TheConstants.{FIRST_SLOT, MOST_RECORDS, START}
+use Rattle.cct_journal.specs.declared.format.TheConstants.{MOST_RECORDS, START}
 use Rattle.cct_journal.specs.declared.place.Place.{Place}
-use Rattle.cct_journal.specs.Half.{half, has_open_gate, slots_in, start_at}
+use Rattle.cct_journal.specs.Half.{half, has_open_gate, start_at}
 use Rattle.cct_journal.specs.Image.{Continues, HasHalf, StandsFor, StandsForOneOf, room_of}
 use Rattle.cct_journal.specs.Gated.{IsBegun, behind_open_gate}
 use Rattle.cct_journal.specs.Places.{after_close, after_turn, behind_start}
@@ -48,10 +48,12 @@ module _ {D : Type 0} (size : D → ℕ) (honest : D → Bool) (seen : D → Opt
   module _ (at : ℕ) (opened : place.other_open ≡ true → at ≡ start) (shut : place.other_open ≡ false → at ≡ start + 1)
       (carry_of : List Record → Carry) (records : List Record)
       (stands : Stands carry_of honest seen may_leave old place records) where
+    -- The first write goes where it should.
     closes : ClosesAt (start_at (length stands.image) (not place.second)) place.other_open at
     closes =
         subst (λ s. ClosesAt s place.other_open at) (sym (start_here stands.image stands.held.tells)) (opened, shut)
 
+    -- At each moment an image stands for the records.
     pub close_moments : (new : D)
         → ((image : List ℕ) → Holds honest seen may_leave old image
         → LeavesOnly moment left_since old new (SameOutside at 1 image))
@@ -63,6 +65,7 @@ module _ {D : Type 0} (size : D → ℕ) (honest : D → Bool) (seen : D → Opt
         place.other_open at stands.other_gate closes c same) stands.continues)
         (run stands.image stands.held)
 
+    -- At the end the journal does, and the gate is shut.
     pub close_done : (new : D)
         → ((image : List ℕ) → Holds honest seen may_leave old image
         → Holds honest seen may_leave new (put_at image at (0 ∷ [])))
@@ -86,6 +89,7 @@ module _ {D : Type 0} (size : D → ℕ) (honest : D → Bool) (seen : D → Opt
       (whole : length (start_of (place.generation + 1) place.used carry) ≡ START) (carry_of : List Record → Carry)
       (records : List Record)
       (with_carry : StandsWith carry_of honest seen may_leave old (after_close place) carry records) where
+    -- The other half may begin.
     turns : MayBegin (not place.second) (place.generation + 1) place.used carry
     turns = may_turn (size old) place carry placed full few rightly
 
@@ -98,6 +102,7 @@ module _ {D : Type 0} (size : D → ℕ) (honest : D → Bool) (seen : D → Opt
       carry_is = with_carry.carry_is;
     }
 
+    -- At each moment an image stands for the records.
     pub begin_moments : (new : D)
         → ((image : List ℕ) → Holds honest seen may_leave old image
         → LeavesOnly moment left_since old new (IsBegun start (behind_start (place.generation + 1) place.used carry) image))
@@ -114,6 +119,7 @@ module _ {D : Type 0} (size : D → ℕ) (honest : D → Bool) (seen : D → Opt
         place.used carry turns whole stands.other_gate c begun)))
         (run stands.image stands.held)
 
+    -- At the end the journal does, in the other half.
     pub begin_done : (new : D)
         → ((image : List ℕ) → Holds honest seen may_leave old image
         → Holds honest seen may_leave new

@@ -1,29 +1,24 @@
 -- What the writes of a turn make of an image that has records in a half.
-use Rattle.std.proofs.Common.{All, ◌≡◌, ◌≢◌, ◌⊎◌, inl, inr, ℕ, suc, ◌+◌, ◌-◌, ◌*◌, ◌/◌, ◌%◌, ◌<◌, ◌≤◌, ◌==◌, Bool, true, false, not, min}
-use Rattle.std.proofs.Common.{List, [], ◌∷◌, ◌++◌, length, take, drop, map, slice_index, refl, sym, ◌∙◌, ap, subst, arith}
-use Rattle.std.proofs.Common.{append_assoc, eq-eqb, length-append, length-drop}
+use Rattle.std.proofs.Common.{◌≡◌, ◌≢◌, ◌⊎◌, inl, inr, ℕ, ◌+◌, ◌*◌, ◌<◌, ◌≤◌, ◌==◌, Bool, true, false, not}
+use Rattle.std.proofs.Common.{List, [], ◌∷◌, length, take, drop, slice_index, refl, sym, ◌∙◌, ap, subst, arith}
+use Rattle.std.proofs.Common.{eq-eqb}
 use Rattle.std.proofs.lemmas.Bool.{cases_eq, eqb-true, ne_eqb, true≢false}
-use Rattle.std.proofs.lemmas.List.{drop_at, drop_more, get_or-take, take_at}
-use Rattle.std.proofs.lemmas.List.Elements.{All-nil}
-use Rattle.cct_lines.specs.Carried.{IsRightly}
+use Rattle.std.proofs.lemmas.List.{drop_more}
 use Rattle.cct_lines.specs.declared.carry.Carry.{Carry}
 use Rattle.cct_lines.specs.declared.record.Record.{Record}
-use Rattle.cct_record.specs.Body.{InRange, body_of}
 use Rattle.cct_disk.specs.Disk.{SameOutside, put_at}
 use Rattle.cct_disk.proofs.Ranges.{outside, put_outside}
-use Rattle.cct_journal.specs.Half.{IsOpen, generation_in, half, has_open_gate, open_gate, slots_in, start_at, title}
-use Rattle.cct_journal.specs.Image.{HasHalf, bodies, least_size, room_of}
-use Rattle.cct_journal.specs.Gated.{IsBegun, behind_gate, behind_open_gate}
+use Rattle.cct_journal.specs.Half.{IsOpen, generation_in, half, has_open_gate, open_gate, slots_in, start_at}
+use Rattle.cct_journal.specs.Image.{HasHalf, bodies, room_of}
+use Rattle.cct_journal.specs.Gated.{IsBegun, behind_open_gate}
 use Rattle.cct_journal.specs.Places.{behind_start}
-use Rattle.cct_journal.specs.Start.{HasParity, MayBegin, start_of}
-use Rattle.cct_journal.specs.declared.format.TheConstants.{FIRST_SLOT, MOST_RECORDS, START}
+use Rattle.cct_journal.specs.Start.{MayBegin, start_of}
+use Rattle.cct_journal.specs.declared.format.TheConstants.{START}
 use Rattle.cct_journal.proofs.Bytes.{first_byte, put_there}
-use Rattle.cct_journal.proofs.Beginnings.{begins_open, begins_tells}
-use Rattle.cct_journal.proofs.Rooms.{closed}
+use Rattle.cct_journal.proofs.Beginnings.{begins_tells}
 use Rattle.cct_journal.proofs.Begun.{begun_begins, begun_has, gate_byte, many, other_stays, same_size, staged, staged_long}
-use Rattle.cct_journal.proofs.Sides.{half_byte, half_long, has_again, not_not, open_gate_first, other_same, own_same, own_written, start_fits}
+use Rattle.cct_journal.proofs.Sides.{half_byte, half_long, has_again, not_not, open_gate_first, other_same, own_same, start_fits}
 use Rattle.cct_journal.proofs.Sides.{wins_over}
-use Rattle.cct_journal.proofs.Windows.{Written, put_written, written_there}
 
 -- A gate that isn't open.
 pub gate_is_shut : (bytes : List ℕ) → has_open_gate bytes ≡ false → slice_index bytes 0 ≢ open_gate
@@ -98,6 +93,7 @@ module _ (image : List ℕ) (second : Bool) (generation base : ℕ) (carry : Car
   closing false at was places c same =
       behind_shut c 1 was (subst (λ k. SameOutside k 1 image c) (places.1 refl) same) (omega (arith, halves))
 
+  -- So it is at the end.
   pub closed_has : (was : Bool) (at : ℕ) → has_open_gate (half image (not second)) ≡ was
       → ClosesAt (start_at (length image) (not second)) was at
       → HasHalf (put_at image at (0 ∷ [])) second generation base carry rest
@@ -178,10 +174,12 @@ module _ (image : List ℕ) (second : Bool) (generation base : ℕ) (carry : Car
     abbrev turned : List ℕ
     turned = behind_open_gate (start_at (length image) (not second)) (behind_start (generation + 1) used new) image
 
+    -- The gate lies within the image.
     one_more : start_at (length image) (not second) + 1
         ≤ length (staged image (not second) (generation + 1) used new may has.headed.long whole)
     one_more = staged_long image (not second) (generation + 1) used new may has.headed.long whole
 
+    -- The last write is one of the gate.
     turned_gated : SameOutside (start_at (length image) (not second)) 1
         (staged image (not second) (generation + 1) used new may has.headed.long whole) turned
     turned_gated = put_outside (start_at (length image) (not second))

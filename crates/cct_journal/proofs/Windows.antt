@@ -1,7 +1,7 @@
 -- What a write leaves of a part of an image.
-use Rattle.std.proofs.Common.{◌≡◌, ℕ, ◌+◌, ◌-◌, ◌≤◌, List, ◌++◌, length, take, drop, refl, sym, ◌∙◌, ap, subst}
-use Rattle.std.proofs.Common.{arith, append_assoc, length-drop, take-append-drop}
-use Rattle.std.proofs.lemmas.List.{drop_at, drop-drop, drop-take, drop_more, length-take-le, take-take, take_at}
+use Rattle.std.proofs.Common.{◌≡◌, ℕ, ◌+◌, ◌-◌, ◌≤◌, List, ◌++◌, length, take, drop, refl, sym, ◌∙◌, ap}
+use Rattle.std.proofs.Common.{arith, length-drop, take-append-drop}
+use Rattle.std.proofs.lemmas.List.{drop-drop, drop-take, length-take-le, take-take, take_at}
 use Rattle.cct_disk.specs.Disk.{SameOutside, put_at}
 use Rattle.cct_disk.proofs.Ranges.{put_outside}
 use Rattle.cct_journal.specs.Half.{window}

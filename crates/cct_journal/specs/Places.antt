@@ -1,5 +1,5 @@
 -- The places to which a put and a turn lead, and the bytes that begin a half.
-use Rattle.std.specs.Prelude.{ℕ, ◌+◌, Bool, true, false, not, Option, None, Some, List, [], ◌∷◌, ◌++◌, drop}
+use Rattle.std.specs.Prelude.{ℕ, ◌+◌, true, false, not, Option, None, Some, List, [], ◌∷◌, ◌++◌, drop}
 use Rattle.cct_lines.specs.declared.carry.Carry.{Carry}
 use Rattle.cct_journal.specs.Start.{start_of}
 use Rattle.cct_journal.specs.declared.place.Place.{Place}

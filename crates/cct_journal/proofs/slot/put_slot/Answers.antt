@@ -1,4 +1,4 @@
-use Rattle.std.proofs.Common.{◌≡◌, length, refl, rules}
+use Rattle.std.proofs.Common.{◌≡◌, length, rules}
 use Rattle.std.proofs.lemmas.Result.{on_ok_weaker}
 use Rattle.cct_journal.proofs.Calls.{slot_done, slot_early, slot_moments}
 use Rattle.cct_journal.proofs.slot.put_slot.Goals as goal

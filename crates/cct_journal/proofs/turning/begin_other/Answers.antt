@@ -1,4 +1,3 @@
-use Rattle.std.proofs.lemmas.Result.{on_ok_weaker}
 use Rattle.cct_journal.proofs.TurnCalls.{begin_done, begin_moments}
 use Rattle.cct_journal.proofs.turning.begin_other.Goals as goal
 

@@ -1,4 +1,4 @@
-use Rattle.std.proofs.Common.{◌∙◌, ap, is_some, sym}
+use Rattle.std.proofs.Common.{◌∙◌, ap, is_some}
 use Rattle.cct_journal.specs.PowerCuts.{StandsForWith}
 use Rattle.cct_journal.proofs.Cuts.{cut_read, found_again}
 use Rattle.cct_journal.proofs.Leaving.{leaves_with}
