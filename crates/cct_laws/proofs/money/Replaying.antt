@@ -1,15 +1,12 @@
 -- The epoch at each address after one record more. And of records that follow, the first ones do so too.
-use Rattle.std.proofs.Common.{◌≡◌, ◌≢◌, ℕ, true, List, [], ◌∷◌, ◌++◌, refl, ap, sym, ◌∙◌, Some}
+use Rattle.std.proofs.Common.{◌≡◌, ◌≢◌, ℕ, true, List, [], ◌∷◌, ◌++◌, refl}
 use Rattle.std.proofs.lemmas.Bool.{and_parts}
 use Rattle.cct_model.specs.terms.device.Setup.{Setup}
 use Rattle.cct_model.specs.lines.record.Record.{Record}
-use Rattle.cct_model.specs.declared.judging.OpenOrder.{OpenOrder}
-use Rattle.cct_model.specs.Exchange.{device_at, hopper_there}
 use Rattle.cct_model.specs.Following.{follows, all_follow}
 use Rattle.cct_model.specs.Job.{epoch_by}
-use Rattle.cct_model.specs.Records.{hopper_of, opened_in, owner_in, epoch_of, epoch_in, order_in, is_open}
+use Rattle.cct_model.specs.Records.{owner_in, epoch_of, epoch_in}
 use Rattle.cct_model.proofs.OpenOrders.{told_own, told_else}
-use Rattle.cct_laws.proofs.orders.Orders.{belongs_all, named_id}
 
 -- the epoch at the address of the record
 pub epoch_own : (addr : ℕ) (r : Record) (before : List Record) → owner_in before r ≡ addr →
