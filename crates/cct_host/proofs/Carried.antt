@@ -1,5 +1,5 @@
 -- The carry of records that follow one another fits their setup.
-use Rattle.std.proofs.Common.{◌≡◌, ℕ, ◌+◌, ◌≤◌, ◌==◌, max, Bool, true, false, cond, List, [], ◌∷◌, Option, Some, None, All, refl, ap, sym, ◌∙◌, subst, arith, eqb-true}
+use Rattle.std.proofs.Common.{◌≡◌, ℕ, ◌≤◌, ◌==◌, max, Bool, true, false, cond, List, [], ◌∷◌, Option, Some, None, refl, ap, sym, ◌∙◌, subst, arith, eqb-true}
 use Rattle.cct_model.specs.terms.device.DeviceSetup.{DeviceSetup}
 use Rattle.cct_model.specs.terms.device.Setup.{Setup}
 use Rattle.cct_model.specs.lines.record.Record.{Record}
@@ -7,12 +7,12 @@ use Rattle.cct_model.specs.lines.record.Record.TheVariants as record_of
 use Rattle.cct_model.specs.lines.carry.CarryEpoch.{CarryEpoch}
 use Rattle.cct_model.specs.lines.carry.CarryOrder.{CarryOrder}
 use Rattle.cct_model.specs.declared.judging.OpenOrder.{OpenOrder}
-use Rattle.cct_model.specs.Carried.{addr_of_epoch, addr_of_order, id_of_order, with_some}
-use Rattle.cct_model.specs.Carry.{AreApart, Fits, IsOther, carry, epoch_at, epoch_entry, gathered, order_at, owed_by}
+use Rattle.cct_model.specs.Carried.{id_of_order, with_some}
+use Rattle.cct_model.specs.Carry.{AreApart, Fits, IsOther, carry, epoch_at, epoch_entry, gathered, order_at}
 use Rattle.cct_model.specs.Device.{is_acceptor}
 use Rattle.cct_model.specs.Exchange.{acceptor_there, by_address, device_at, hopper_there}
 use Rattle.cct_model.specs.Following.{all_follow}
-use Rattle.cct_model.specs.Records.{epoch_in, greatest_id, id_of, order_named}
+use Rattle.cct_model.specs.Records.{epoch_in, greatest_id, order_named}
 use Rattle.cct_model.specs.Setup.{AreDistinct, IsSoundSetup}
 use Rattle.cct_laws.proofs.Rising.{devices_rise}
 use Rattle.cct_laws.proofs.Setups.{same_some}

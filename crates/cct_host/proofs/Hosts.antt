@@ -136,8 +136,12 @@ module _ {D : Type 0} {g : Ghosts D} where
               ∙ ap (λ d. carry (all_desks.setup_of d) (records past)) (sym fails.desks_stay);
           used = ap (λ (p : Place). p.used) fails.place ∙ stands.keeps.used;
         },
-        (failed.0, failed.1, λ trusted. failed.2 (reverse (records past)) (stands.on_disk trusted)
-        (stands.keeps.carry_is ∙ ap (carry (setup_of old)) (sym (reverse-reverse (records past))))),
+        (
+          failed.0,
+          failed.1,
+          λ trusted. failed.2 (reverse (records past)) (stands.on_disk trusted)
+              (stands.keeps.carry_is ∙ ap (carry (setup_of old)) (sym (reverse-reverse (records past)))),
+        ),
       )
 
   -- after a command that had room the parts of a host still belong together

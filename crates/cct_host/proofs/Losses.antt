@@ -1,9 +1,9 @@
 -- What a host finds after a power cut, and what it makes of it.
-use Rattle.std.proofs.Common.{◌≡◌, ◌⊎◌, inl, inr, ℕ, ◌+◌, ◌<◌, true, List, [], ◌∷◌, ◌++◌, length, reverse, Option, Some, None, refl, sym, ap, subst, ◌∙◌, arith, append_assoc, append-nil, length-append, true≢false}
+use Rattle.std.proofs.Common.{◌≡◌, ◌⊎◌, inl, inr, ℕ, ◌+◌, ◌<◌, true, List, [], ◌∷◌, ◌++◌, length, reverse, Option, Some, None, refl, sym, ap, subst, ◌∙◌, arith, append-nil, length-append}
 use Rattle.std.specs.Option.{IfSome}
 use Rattle.std.specs.Prelude.{Err, IfErr, IfOk, Ok, Result, is_some}
 use Rattle.std.proofs.lemmas.Bool.{and_from}
-use Rattle.std.proofs.lemmas.List.{length-reverse, reverse-append, reverse-reverse}
+use Rattle.std.proofs.lemmas.List.{reverse-append, reverse-reverse}
 use Rattle.cct_model.specs.terms.device.Setup.{Setup}
 use Rattle.cct_model.specs.lines.command.CrashAt.{CrashAt}
 use Rattle.cct_model.specs.lines.entry.Entry.{Entry}
@@ -36,7 +36,7 @@ use Rattle.cct_host.specs.Desks as all_desks
 use Rattle.cct_host.specs.Host.{StandsFor, disk_of, journal_of, put_by, setup_of}
 use Rattle.cct_host.specs.Replaying.{GoesOver, ReplaysTo}
 use Rattle.cct_host.specs.Restarting.{TellsRestart, IsLost, JournalFails, JournalRestarts, KeptBy, Opens, RestartFails, Restarts, due_of, told_by}
-use Rattle.cct_host.specs.Starting.{BeginFrom, FirstFollow, HasReplayed, HasResumed, TalliesOver}
+use Rattle.cct_host.specs.Starting.{BeginFrom, HasResumed, TalliesOver}
 use Rattle.cct_host.proofs.Begun.{resumed_all, resumed_by}
 use Rattle.cct_host.proofs.Putting.{one_turned}
 use Rattle.cct_host.proofs.Records.{first_follow, stops_nowhere, went_over}

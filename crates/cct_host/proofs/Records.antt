@@ -1,12 +1,12 @@
 -- A host goes over a carry and the records after it, oldest first, and finds what one finds that goes over all records.
-use Rattle.std.proofs.Common.{◌≡◌, ℕ, ◌+◌, true, List, [], ◌∷◌, ◌++◌, length, reverse, Option, Some, None, inl, inr, refl, sym, ap, subst, ◌∙◌, arith, append_assoc, length-append, true≢false}
+use Rattle.std.proofs.Common.{◌≡◌, ℕ, ◌+◌, true, List, [], ◌∷◌, ◌++◌, length, reverse, inl, inr, sym, ap, subst, ◌∙◌, append_assoc, length-append, true≢false}
 use Rattle.std.proofs.lemmas.Grind.{reverse_onto}
 use Rattle.std.proofs.lemmas.List.{length-reverse, reverse-append, reverse-reverse}
 use Rattle.cct_model.specs.terms.device.Setup.{Setup}
 use Rattle.cct_model.specs.lines.carry.Carry.{Carry}
 use Rattle.cct_model.specs.lines.record.Record.{Record}
 use Rattle.cct_model.specs.Carry.{Fits, all_follow_carry, carry, carry_of, carry_over, follows_carry}
-use Rattle.cct_model.specs.Following.{all_follow, follows}
+use Rattle.cct_model.specs.Following.{all_follow}
 use Rattle.cct_model.specs.Setup.{IsSoundSetup}
 use Rattle.cct_journal.specs.Image.{Continues}
 use Rattle.cct_journal.specs.declared.refusal.ReadNo.{ReadNo}

@@ -167,8 +167,8 @@ module _ {D : Type 0} {g : Ghosts D} where
   pub record RestartFails (old : Host D g) (at : Option CrashAt) (choice : ℕ) (left : D) (why : CrashNo) : Type 0 where
     -- why, and what the disk may then keep:
     -- The first of these: the disk failed; no journal stands there; a body after an open gate spells no record; the
-    -- records are neither as many as were put nor one more where one was due; one of them doesn't follow those before
-    -- it.
+    -- records are neither as many as were put nor one more where one was due; the carry doesn't fit the setup; one of
+    -- the records after it doesn't follow.
     pub refused : RefusesWith (journal_of old) (due_of old at) (setup_of old) left why
     -- Over a trusted disk, if the records of the past follow one another, only the disk can have failed.
     pub never : (past : List Entry) → StandsFor old past → RestartSuits (setup_of old) past at

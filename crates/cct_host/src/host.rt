@@ -11,7 +11,6 @@ ghost use Rattle.cct_model.specs.Refusal as refusals;
 ghost use Rattle.cct_model.specs.Script.{IsCrash};
 ghost use Rattle.cct_model.specs.Setup.{IsSoundSetup};
 ghost use Rattle.cct_disk.specs.Disk.{OnlyReads};
-ghost use Rattle.cct_carry.specs.Tally as tallies;
 ghost use Rattle.cct_journal.specs.Journal as journals;
 ghost use Rattle.cct_disk.specs.Disk.{GoesOn};
 ghost use Rattle.cct_ledger.specs.Ledger as ledgers;
@@ -54,11 +53,12 @@ impl<'s, D: Disk> Host<'s, D> {
     ghost use Rattle.cct_host.specs.Restarting.{RestartFails, Restarts};
     ghost use Rattle.cct_host.specs.Starting.{FirstFollow, HasReplayed, HasResumed, RefusesResume, RefusesStart};
 
-    /// The host over a journal, whose records it goes over, oldest first: it has no job, and the epochs, open orders
-    /// and money that they tell. The disk is only read.
+    /// The host over a journal: it begins with the carry of the records before the current half, and goes over those of the
+    /// half, oldest first. It has no job, and the epochs, open orders and money that these tell. The disk is only read.
     ///
     /// Over a journal without records it always starts. [`StartNo::Disk`] comes where a call of the disk fails, and
-    /// [`StartNo::BadRecord`] at the first record that can't be read or doesn't follow those before it.
+    /// [`StartNo::BadRecord`] at the first record of the half where the carry doesn't fit the setup, else at the first one
+    /// there that can't be read or doesn't follow those before it.
     pub fn start(setup: &'s Setup, journal: Journal<D>) -> Result<Host<'s, D>, (D, StartNo)>
         requires sound { IsSoundSetup setup.now }
         requires whole { journals.has_failed journal ≡ false }
@@ -248,8 +248,8 @@ impl<'s, D: Disk> Host<'s, D> {
     /// job runs then.
     ///
     /// [`CrashNo::Disk`] comes where a call of the disk fails. Then come, in this order, [`CrashNo::Alien`] and
-    /// [`CrashNo::BadRecord`] as the journal is opened again, [`CrashNo::Lost`], and [`CrashNo::BadRecord`] at the
-    /// first record that doesn't follow those before it. After any of them only [`Host::into_disk`] may be called.
+    /// [`CrashNo::BadRecord`] as the journal is opened again, [`CrashNo::Lost`], and [`CrashNo::BadRecord`] as from
+    /// [`Host::start`]. After any of them only [`Host::into_disk`] may be called.
     pub fn restart(&mut self, at: Option<CrashAt>, choice: u64) -> Result<Crashed, CrashNo>
         requires whole { has_failed self.old ≡ false }
         requires few { IsCrash at }

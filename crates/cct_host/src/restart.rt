@@ -1,5 +1,5 @@
 //! A host starts again after a power cut, over what its disk then keeps.
-ghost use Rattle.std.specs.Prelude.{◌≡◌, ◌≤◌, ◌<◌, ◌+◌, List, [], Err, IfErr, IfOk, IfSome, OnOk, Option, Some, false, length, reverse, true};
+ghost use Rattle.std.specs.Prelude.{◌≡◌, ◌≤◌, ◌<◌, ◌+◌, List, Err, IfErr, IfOk, IfSome, OnOk, Option, Some, false, length, reverse, true};
 ghost use Rattle.cct_model.specs.lines.entry.Entry.{Entry};
 ghost use Rattle.cct_model.specs.terms.device.Setup.{Setup};
 ghost use Rattle.cct_model.specs.lines.record.Record.{Record};
@@ -85,7 +85,14 @@ pub(crate) fn restart<'s, D: Disk>(
     let due = due_for(desks, at);
     let setup = desks.setup();
     let mut replayed = ReplayState::new(setup);
-    let kept = match lose(journal, due, tally.carry(), calls_in(at), choice, &mut replayed) {
+    let kept = match lose(
+        journal,
+        due,
+        tally.carry(),
+        calls_in(at),
+        choice,
+        &mut replayed,
+    ) {
         Ok(kept) => kept,
         Err(why) => {
             clear(desks, ledger, tally, journal.used());

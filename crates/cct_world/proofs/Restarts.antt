@@ -8,7 +8,7 @@ use Rattle.cct_model.specs.lines.command.Step.TheVariants as step
 use Rattle.cct_model.specs.lines.record.Record.{Record}
 use Rattle.cct_model.specs.lines.entry.Entry.{Entry}
 use Rattle.cct_model.specs.lines.entry.Entry.TheVariants as entry
-use Rattle.cct_model.specs.Following.{all_follow}
+use Rattle.cct_model.specs.Legal.{EntriesOfRestart}
 use Rattle.cct_model.specs.Records.{records}
 use Rattle.cct_edge.specs.Faults.{next_count}
 use Rattle.cct_disk.specs.declared.disk.Disk.{Ghosts}
@@ -18,22 +18,24 @@ use Rattle.cct_journal.specs.Image.{IsBadAt}
 use Rattle.cct_journal.specs.Journal as journals
 use Rattle.cct_disk.specs.Disk.{Outlasts}
 use Rattle.cct_journal.specs.Stands.{CutOnce}
+use Rattle.cct_bus.specs.Bus as wires
 use Rattle.cct_laws.specs.Restart.{RestartSuits}
 use Rattle.cct_host.specs.declared.host.Host.{Host}
 use Rattle.cct_host.specs.declared.refusal.CrashNo.{CrashNo}
 use Rattle.cct_host.specs.declared.refusal.CrashNo.TheVariants as crash_no
 use Rattle.cct_host.specs.declared.restart.Crashed.{Crashed}
 use Rattle.cct_host.specs.Attempt.{Attempt, asked, idle, news_of, put, put_of}
-use Rattle.cct_host.specs.OnDisk.{FindsBad, FindsMany}
+use Rattle.cct_host.specs.OnDisk.{FindsBad, FindsMany, FindsWhole}
 use Rattle.cct_host.specs.Host as hosts
 use Rattle.cct_host.specs.Host.{put_by}
 use Rattle.cct_host.specs.Restarting as restarting
 use Rattle.cct_host.specs.Restarting.{HasAll, IsLost, RefusesRestart, restart_news, due_of, told_by}
 use Rattle.cct_world.specs.declared.machine.Machine.{Machine}
-use Rattle.cct_world.specs.Machine.{Breaks, DueAsTold, StandsFor}
+use Rattle.cct_world.specs.Machine.{Breaks, DueAsTold, Plays, StandsFor}
 use Rattle.cct_world.specs.Restarts.{CutAt, HasBad, Loses, Restarts, kept_in}
 use Rattle.cct_world.specs.Step.{count_after, crashes}
 use Rattle.cct_world.proofs.Lasting.{lasts_on, lasts_then}
+use Rattle.cct_world.proofs.Wires.{crash_wire}
 
 -- records after others
 pub records_counted : (news past : List Entry)
@@ -143,6 +145,21 @@ module _ {D : Type 0} {g : Ghosts D} where
       crash_loses old at choice left (crash_no.BadRecord index) (λ is. cc is) fails
   crash_breaks old at choice left (crash_no.Lost found many) fails =
       crash_loses old at choice left (crash_no.Lost found many) (λ is. cc is) fails
+
+  -- a machine goes on by the entries of a power cut
+  pub crash_plays : (old new : Machine D g) (at : Option CrashAt) (choice : ℕ) (crashed : Crashed) (report : List Entry)
+      → reverse report ≡ restart_news crashed → restarting.TellsRestart old.host new.host at crashed → new.bus ≡ old.bus
+      → Plays old new (step.Crash at choice) report
+  crash_plays old new at choice crashed report told tells same past stands suits trusted =
+      let goes = tells past stands.host suits trusted in
+      subst (λ news. EntriesOfRestart (hosts.setup_of old.host) past at news × StandsFor new (news ++ past)) (sym told) (
+        goes.0,
+        record {
+          host = goes.1;
+          bus = crash_wire new.bus past crashed.records crashed.kept
+              (subst (λ bus. wires.StandsFor bus past) (sym same) stands.bus);
+        },
+      )
 
   -- a host starts again
   pub crash_restarts : (old new : Host D g) (at : Option CrashAt) (choice : ℕ) (crashed : Crashed) (news : List Entry)

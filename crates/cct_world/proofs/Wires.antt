@@ -11,6 +11,7 @@ use Rattle.cct_model.specs.Legal.{command_entry, with_end}
 use Rattle.cct_model.specs.Transcript.{heard_after}
 use Rattle.cct_bus.specs.declared.bus.Bus.{Bus}
 use Rattle.cct_bus.specs.Bus as wires
+use Rattle.cct_host.specs.Restarting.{told_by}
 use Rattle.cct_host.specs.Attempt.{Attempt, HeardBy, Links, asked, idle, news_of, put}
 
 -- an end, an idle address, a record, a command and a balance change nothing on the wire
@@ -34,6 +35,11 @@ command_wire bus past c (Some why) s = record { sound = s.sound; order = s.order
 pub balance_wire : (bus : Bus) (past : List Entry) (t : Totals) → wires.StandsFor bus past
     → wires.StandsFor bus (entry.Balance t ∷ past)
 balance_wire bus past t s = record { sound = s.sound; order = s.order; devices = s.devices; fault = s.fault }
+
+pub crash_wire : (bus : Bus) (past : List Entry) (many : ℕ) (kept : Option Record) → wires.StandsFor bus past
+    → wires.StandsFor bus (told_by many kept ++ past)
+crash_wire bus past many None s = record { sound = s.sound; order = s.order; devices = s.devices; fault = s.fault }
+crash_wire bus past many (Some r) s = record { sound = s.sound; order = s.order; devices = s.devices; fault = s.fault }
 
 with_end_wire : (bus : Bus) (past : List Entry) (addr : ℕ) (e : Entry) (end : Option End)
     → wires.StandsFor bus (e ∷ past) → wires.StandsFor bus (with_end addr e end ++ past)

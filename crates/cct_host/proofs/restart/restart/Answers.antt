@@ -1,6 +1,5 @@
-use Rattle.std.proofs.Common.{◌∙◌, ◌++◌, ◌≡◌, Some, arith, refl, subst, sym}
+use Rattle.std.proofs.Common.{◌∙◌, ◌++◌, ◌≡◌, Some, arith, subst, sym}
 use Rattle.std.specs.Option.{IfSome}
-use Rattle.cct_journal.specs.Journal as journals
 use Rattle.cct_host.specs.Desks.{setup_of}
 use Rattle.cct_host.specs.Host.{put_by}
 use Rattle.cct_host.specs.Restarting.{due_for}

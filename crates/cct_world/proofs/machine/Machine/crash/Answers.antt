@@ -1,5 +1,5 @@
-use Rattle.std.proofs.Common.{rules}
-use Rattle.cct_world.proofs.Restarts.{crash_breaks, crash_restarts, restarts_count}
+use Rattle.std.proofs.Common.{refl, rules}
+use Rattle.cct_world.proofs.Restarts.{crash_breaks, crash_plays, crash_restarts, restarts_count}
 use Rattle.cct_world.proofs.machine.Machine.crash.Goals as goal
 
 pub returns-in-Ok-clause-played : goal.returns-in-Ok-clause-played
@@ -10,7 +10,8 @@ returns-in-Ok-clause-played g c =
     record {
       setup = again.setup;
       whole = again.whole;
-      plays = search rules;
+      plays = crash_plays c.args.self.now _ c.args.at c.args.choice c.in-Ok.crashed c.tell_crash.new.report.items
+          c.tell_crash.ensures again.tells refl;
       told = search rules;
       counts = restarts_count _ _ _ _ _ _ restarts;
       restarts = (λ past stands. again.due past stands.host, restarts);
