@@ -15,4 +15,8 @@ mod ledger;
 #[cfg(test)]
 mod life;
 #[cfg(test)]
+mod machine;
+#[cfg(test)]
 mod record;
+#[cfg(test)]
+mod turns;
