@@ -1,3 +1,9 @@
+pub mod CoinPlaces
+pub mod Coins
+pub mod Sets
+pub mod Keeping
+pub mod Small
+pub mod Fitting
 pub mod Devices
 pub mod Gathered
 pub mod Carried

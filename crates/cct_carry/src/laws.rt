@@ -1,17 +1,20 @@
 //! How the carry of records stands to the list of them. Where records follow one another, either tells the same of one
 //! record more, so a host that starts from a carry knows what one knows that starts from the whole list.
-ghost use Rattle.std.specs.Prelude.{◌≡◌, ℕ, ◌==◌, ◌++◌, true, false, is_some, List, [], ◌∷◌, map, reverse, Option, Some, slice_get};
+ghost use Rattle.std.specs.Prelude.{◌≡◌, ℕ, ◌+◌, ◌≤◌, ◌==◌, ◌++◌, true, false, is_some, All, List, [], ◌∷◌, length, map, reverse, Option, Some, slice_get};
 ghost use Rattle.std.specs.List.{list_any};
 ghost use Rattle.std.specs.Option.{option_map_or};
 ghost use Rattle.cct_model.specs.terms.device.Setup.{Setup};
+ghost use Rattle.cct_model.specs.terms.device.TheConstants.{DEVICES};
 ghost use Rattle.cct_model.specs.lines.record.Record.{Record};
 ghost use Rattle.cct_model.specs.declared.judging.OpenOrder.{OpenOrder};
-ghost use Rattle.cct_model.specs.Carried.{empty_carry};
-ghost use Rattle.cct_model.specs.Carry.{all_follow_carry, available_held, carry, carry_of, carry_over, carry_with, epoch_held, follows_carry, order_held, order_with, reserved_held};
+ghost use Rattle.cct_model.specs.lines.carry.Carry.{Carry};
+ghost use Rattle.cct_model.specs.Carried.{IsRightly, empty_carry};
+ghost use Rattle.cct_model.specs.Carry.{IsSafe, all_follow_carry, available_held, carry, carry_of, carry_over, carry_with, epoch_held, follows_carry, order_held, order_with, reserved_held};
 ghost use Rattle.cct_model.specs.Following.{all_follow, follows};
 ghost use Rattle.cct_model.specs.Money.{available_beside, reserved_in};
 ghost use Rattle.cct_model.specs.Records.{epoch_in, is_open, order_in, order_named};
 ghost use Rattle.cct_model.specs.Setup.{IsSoundSetup};
+ghost use Rattle.cct_record.specs.Body.{InRange};
 ghost use Rattle.cct_carry.specs.Scope.{EachFollowing};
 
 /// The carry of no record is empty.
@@ -90,4 +93,24 @@ pub fn the_orders_of_a_carry_are_those_of_the_devices()
     ensures named { EachFollowing (λ setup before. (place : ℕ) (o : OpenOrder)
         → slice_get (map (λ d. order_held d.addr (carry setup before)) setup.devices) place ≡ Some (Some o)
         → order_named o.id before ≡ Some o) }
+{}
+
+/// The carry of records that follow one another and can be spelt, in a setup with no more devices than a script can say, may
+/// be that of so many records, and fits the setup.
+pub fn the_carry_of_records_is_safe()
+    ensures { EachFollowing (λ setup before. length setup.devices ≤ DEVICES → All InRange before
+        → IsSafe setup (length before) (carry setup before)) }
+{}
+
+/// A carry that may be that of no record is the empty one.
+pub fn a_carry_of_no_record_is_empty()
+    ensures { (c : Carry) → IsRightly 0 c → c ≡ empty_carry }
+{}
+
+/// A safe carry is safe for one record more with a record that follows, which can be spelt, and also as it is.
+pub fn a_safe_carry_goes_on_safely()
+    ensures next { (setup : Setup) (many : ℕ) (c : Carry) (r : Record) → IsSoundSetup setup
+        → length setup.devices ≤ DEVICES → IsSafe setup many c → follows_carry setup c r ≡ true → InRange r
+        → IsSafe setup (many + 1) (carry_with setup r c) }
+    ensures more { (setup : Setup) (many : ℕ) (c : Carry) → IsSafe setup many c → IsSafe setup (many + 1) c }
 {}

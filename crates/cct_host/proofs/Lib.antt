@@ -1,5 +1,4 @@
 pub mod Attempts
-pub mod CoinPlaces
 pub mod Commands
 pub mod Held
 pub mod Holding

@@ -1,4 +1,3 @@
-pub mod CoinPlaces
 pub mod Place
 pub mod Attempt
 pub mod Exchange

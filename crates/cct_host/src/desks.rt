@@ -26,7 +26,7 @@ use crate::desk::JobDesk;
 use crate::recorded::id_of;
 use crate::reserves::greater;
 use arrayvec::ArrayVec;
-use cct_ledger::coins_of;
+use cct_carry::coins_of;
 use cct_model::{BROADCAST, Command, CommandNo, DEVICES, DeviceSetup, Entry, HOST, Record, Setup};
 use cct_wire::Link;
 

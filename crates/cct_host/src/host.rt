@@ -25,10 +25,11 @@ use crate::refusal::{CrashNo, StartNo};
 use crate::replay::replay_all;
 use crate::restart::{Crashed, restart};
 use arrayvec::ArrayVec;
+use cct_carry::coins_of;
 use cct_disk::Disk;
 use cct_edge::Failed;
 use cct_journal::Journal;
-use cct_ledger::{Ledger, coins_of};
+use cct_ledger::Ledger;
 use cct_model::{Command, CommandNo, CrashAt, Entry, Setup, Totals};
 use cct_wire::Link;
 

@@ -14,7 +14,6 @@ mod refusal;
 mod replay;
 mod reserves;
 mod restart;
-mod values;
 
 pub use desks::Desks;
 pub use host::Host;

@@ -11,7 +11,7 @@ ghost use Rattle.cct_host.specs.Place as places;
 ghost use Rattle.cct_host.specs.Running.{acceptor_refusal, busy_by, halting_refusal, halts_in, hopper_refusal, refusal_beside, sale_refusal};
 
 use crate::desk::JobDesk;
-use crate::values::valueless;
+use cct_carry::valueless;
 use cct_model::{Command, CommandNo, DeviceSetup, EpochState, Family};
 
 impl JobDesk {

@@ -10,7 +10,7 @@ ghost use Rattle.cct_ledger.specs.Orders.{has_id};
 ghost use Rattle.cct_host.specs.Replayed.{may_begin};
 
 use crate::desk::JobDesk;
-use crate::values::valueless;
+use cct_carry::valueless;
 use cct_jobs::Owed;
 use cct_model::{DeviceSetup, EpochState, OpenOrder, Record};
 

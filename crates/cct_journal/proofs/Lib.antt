@@ -4,7 +4,12 @@ mod Rooms
 mod Puts
 pub mod Calls
 mod Walks
+mod Fronts
+mod Currents
 mod Blanks
-mod Opens
+pub mod Opens
+mod Indexed
+mod Found
 mod Gathered
 mod Cuts
+pub mod Heads

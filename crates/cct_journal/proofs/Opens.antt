@@ -1,20 +1,18 @@
--- What the records that are counted on an image are to a journal.
-use Rattle.std.proofs.Common.{◌≡◌, inl, inr, Some, ℕ, zero, suc, ◌+◌, ◌*◌, ◌<◌, ◌≤◌, List, [], ◌∷◌, ◌++◌, length, take}
-use Rattle.std.proofs.Common.{drop, map, refl, sym, ◌∙◌, ap, ap₂, subst, arith}
-use Rattle.std.specs.List.{All, slice_get}
-use Rattle.std.proofs.lemmas.Bool.{cases_eq}
-use Rattle.std.proofs.lemmas.List.{drop-drop}
+-- What an image is to a journal that is opened on it: one thing at most.
+use Rattle.std.proofs.Common.{◌≡◌, ℕ, suc, Bool, ◌+◌, List, [], ◌∷◌, ◌++◌, length, map, refl, sym, ◌∙◌, ap, ap₂, subst, arith}
+use Rattle.std.specs.List.{All}
 use Rattle.std.proofs.lemmas.List.Elements.{All-head, All-tail}
+use Rattle.cct_lines.specs.declared.carry.Carry.{Carry}
 use Rattle.cct_lines.specs.declared.record.Record.{Record}
-use Rattle.cct_record.specs.Body.{InRange, IsRefused, Spells, body_of}
+use Rattle.cct_record.specs.Body.{InRange, IsRefused, body_of}
 use Rattle.cct_record.proofs.Spellings.{one_spelling}
 use Rattle.cct_journal.specs.declared.refusal.OpenNo.{OpenNo}
 use Rattle.cct_journal.specs.declared.refusal.OpenNo.TheVariants.{Disk, Alien, BadRecord}
-use Rattle.cct_journal.specs.Image.{StandsFor, bodies, body_at, capacity_of, header, least_size, open_gate}
+use Rattle.cct_journal.specs.Image.{HasFrom, HasHalf, IsAlien, IsBadAt, IsHeaded, IsRefusedIn, StandsFor, bodies_in}
 use Rattle.cct_journal.specs.Opening.{CountsIn, RefusesOpen, StopsCount}
-use Rattle.cct_journal.proofs.Rooms.{closed, opened}
+use Rattle.cct_journal.proofs.Currents.{one_head, over_head}
 
--- the bodies of records are those of no others
+-- The bodies of records are those of no others.
 one_list : (rs ss : List Record) → All InRange rs → All InRange ss → map body_of rs ≡ map body_of ss → rs ≡ ss
 one_list [] [] fits others same = refl
 one_list [] (s ∷ ss) fits others same = absurd cc
@@ -26,106 +24,131 @@ one_list (r ∷ rs) (s ∷ ss) fits others same =
     (one_spelling r s (All-head InRange r rs fits) (All-head InRange s ss others) first)
     (one_list rs ss (All-tail InRange r rs fits) (All-tail InRange s ss others) later)
 
--- so those that are counted are those for which the image stands
-pub counted_same : (image : List ℕ) (counted records : List Record) → CountsIn image counted → StandsFor image records
-    → counted ≡ records
-counted_same image counted records counts stands =
-    one_list counted records counts.in_range stands.in_range (sym counts.bodies_are ∙ stands.records_are)
+-- So those that are counted are those that the half has.
+pub counted_same : (image : List ℕ) (second : Bool) (generation base : ℕ) (carry : Carry) (counted rest : List Record)
+    → CountsIn image second base counted → HasHalf image second generation base carry rest → counted ≡ rest
+counted_same image second generation base carry counted rest counts has =
+    one_list counted rest counts.in_range has.in_range (sym counts.bodies_are ∙ has.records_are)
 
--- and with the header the image stands for those that were counted
-pub counted_stands : (image : List ℕ) (counted : List Record) → CountsIn image counted → least_size ≤ length image
-    → take 32 image ≡ header → StandsFor image counted
-counted_stands image counted counts long header_is =
-    record { long = long; header_is = header_is; records_are = counts.bodies_are; in_range = counts.in_range }
+-- And where the half begins so, it has those that were counted.
+pub counted_has : (image : List ℕ) (second : Bool) (generation base : ℕ) (carry : Carry) (counted : List Record)
+    → IsHeaded image second generation base carry → CountsIn image second base counted
+    → HasHalf image second generation base carry counted
+counted_has image second generation base carry counted headed counts =
+    record { headed = headed; records_are = counts.bodies_are; in_range = counts.in_range }
 
--- where they can't be counted, no journal is opened
-pub stopped_refuses : (why : OpenNo) (image : List ℕ) → StopsCount why image → least_size ≤ length image
-    → take 32 image ≡ header → RefusesOpen why image
-stopped_refuses Disk image stops long header_is = tt
-stopped_refuses Alien image stops long header_is = absurd stops
-stopped_refuses (BadRecord index) image stops long header_is =
-    record { long = long; header_is = header_is; refused = stops }
+-- Where they can't be counted, no journal is opened.
+pub stopped_refuses : (why : OpenNo) (image : List ℕ) (second : Bool) (generation base : ℕ) (carry : Carry)
+    → IsHeaded image second generation base carry → StopsCount why image second base → RefusesOpen why image
+stopped_refuses Disk image second generation base carry headed stops = tt
+stopped_refuses Alien image second generation base carry headed stops = absurd stops
+stopped_refuses (BadRecord index) image second generation base carry headed stops = record {
+  second = second;
+  generation = generation;
+  base = base;
+  carry = carry;
+  headed = headed;
+  refused = stops;
+}
 
--- a body that spells none isn't among those of records
-none_refused : (before records : List Record) (body : List ℕ) (rest : List (List ℕ))
-    → map body_of before ++ body ∷ rest ≡ map body_of records → All InRange records → IsRefused body → ⊥
-none_refused [] [] body rest same fits refused = cc
-none_refused [] (r ∷ rs) body rest same fits refused =
+-- A body that spells none isn't among those of records.
+none_refused : (before records : List Record) (body : List ℕ) (later : List (List ℕ))
+    → map body_of before ++ body ∷ later ≡ map body_of records → All InRange records → IsRefused body → ⊥
+none_refused [] [] body later same fits refused = cc
+none_refused [] (r ∷ rs) body later same fits refused =
     let is : body ≡ body_of r = cc in
     refused.none r (All-head InRange r rs fits) (sym is)
-none_refused (b ∷ bs) [] body rest same fits refused = cc
-none_refused (b ∷ bs) (r ∷ rs) body rest same fits refused =
-    let later : map body_of bs ++ body ∷ rest ≡ map body_of rs = cc in
-    none_refused bs rs body rest later (All-tail InRange r rs fits) refused
+none_refused (b ∷ bs) [] body later same fits refused = cc
+none_refused (b ∷ bs) (r ∷ rs) body later same fits refused =
+    let others : map body_of bs ++ body ∷ later ≡ map body_of rs = cc in
+    none_refused bs rs body later others (All-tail InRange r rs fits) refused
 
--- an image that stands for records is refused only by a disk that fails
-pub never_refused : (why : OpenNo) (image : List ℕ) (records : List Record) → RefusesOpen why image
-    → StandsFor image records → why ≡ Disk
-never_refused Disk image records refuses stands = refl
-never_refused Alien image records (inl short) stands = absurd (omega (arith, stands.long))
-never_refused Alien image records (inr other) stands = absurd (other stands.header_is)
-never_refused (BadRecord index) image records bad stands =
-    absurd (none_refused bad.refused.before records bad.refused.body bad.refused.rest
-    (sym bad.refused.bodies_are ∙ stands.records_are) stands.in_range bad.refused.refused)
+-- The first one that spells none stands after one number of records.
+first_refused : (before others : List Record) (body other : List ℕ) (later rest : List (List ℕ))
+    → map body_of before ++ body ∷ later ≡ map body_of others ++ other ∷ rest → All InRange before
+    → All InRange others → IsRefused body → IsRefused other → length before ≡ length others
+first_refused [] [] body other later rest same fits all refused bad = refl
+first_refused [] (s ∷ ss) body other later rest same fits all refused bad =
+    let is : body ≡ body_of s = cc in
+    absurd (refused.none s (All-head InRange s ss all) (sym is))
+first_refused (r ∷ rs) [] body other later rest same fits all refused bad =
+    let is : body_of r ≡ other = cc in
+    absurd (bad.none r (All-head InRange r rs fits) is)
+first_refused (r ∷ rs) (s ∷ ss) body other later rest same fits all refused bad =
+    let next : map body_of rs ++ body ∷ later ≡ map body_of ss ++ other ∷ rest = cc in
+    ap suc
+    (first_refused rs ss body other later rest next (All-tail InRange r rs fits) (All-tail InRange s ss all) refused
+    bad)
 
--- where a body stands in the first slot, its gate is open
-first_open : (n gate : ℕ) (rest body : List ℕ) (others : List (List ℕ)) → bodies (suc n) (gate ∷ rest) ≡ body ∷ others
-    → (take 31 rest ≡ body) × (bodies n (drop 31 rest) ≡ others)
-first_open n gate rest body others are = elim (cases_eq gate open_gate) [
-  | inr shut ↦
-      let none : [] ≡ body ∷ others = sym (closed (suc n) gate rest shut) ∙ are in
-      absurd cc
-  | inl is_open ↦
-      let both : take 31 rest ∷ bodies n (drop 31 rest) ≡ body ∷ others = sym (opened n gate rest is_open) ∙ are in
-      let first : take 31 rest ≡ body = cc in
-      let later : bodies n (drop 31 rest) ≡ others = cc in
-      (first, later)
-]
+-- An image has one base, one carry and one list of records after them.
+pub record OneFrom (base after : ℕ) (carry next : Carry) (rest later : List Record) : Type 0 where
+  pub base_is : base ≡ after
+  pub carry_is : carry ≡ next
+  pub rest_is : rest ≡ later
 
--- the record of an index is spelt by the body of its slot
-record_in : (n : ℕ) (bytes : List ℕ) (records : List Record) → bodies n bytes ≡ map body_of records
-    → All InRange records → (i : ℕ) → i < length records
-    → (r : Record) × (slice_get records i ≡ Some r) × Spells r (take 31 (drop (32 * i + 1) bytes))
-record_in n bytes [] are fits i few = absurd (omega arith)
-record_in zero bytes (r ∷ rs) are fits i few = absurd cc
-record_in (suc n) [] (r ∷ rs) are fits i few = absurd cc
-record_in (suc n) (gate ∷ rest) (r ∷ rs) are fits zero few = (
-  r,
-  refl,
-  record {
-    in_range = All-head InRange r rs fits;
-    spelt =
-        sym (first_open n gate rest (body_of r) (map body_of rs) are).0;
-  },
-)
-record_in (suc n) (gate ∷ rest) (r ∷ rs) are fits (suc i) few =
-    let found = record_in n (drop 31 rest) rs (first_open n gate rest (body_of r) (map body_of rs) are).1
-    (All-tail InRange r rs fits) i (omega arith) in
-    let place : 32 * suc i + 1 ≡ suc (31 + (32 * i + 1)) = omega arith in
-    let body : take 31 (drop (32 * i + 1) (drop 31 rest)) ≡ take 31 (drop (32 * suc i + 1) (gate ∷ rest)) =
-    ap (λ (l : List ℕ). take 31 l) (drop-drop (32 * i + 1) 31 rest ∙ ap (λ k. drop k (gate ∷ rest)) (sym place)) in
-    (found.0, found.1, subst (λ (b : List ℕ). Spells found.0 b) body found.2)
+pub one_from : (image : List ℕ) (base after : ℕ) (carry next : Carry) (rest later : List Record)
+    → HasFrom image base carry rest → HasFrom image after next later → OneFrom base after carry next rest later
+one_from image base after carry next rest later has other =
+    let one = one_head image has.second other.second has.generation other.generation base after carry next
+    has.current.headed other.current.headed in
+    let here : HasHalf image other.second other.generation after next rest =
+    over_head (λ s g b c. HasHalf image s g b c rest) one has.current in
+    record {
+      base_is = one.base_is;
+      carry_is = one.carry_is;
+      rest_is = one_list rest later here.in_range other.current.in_range
+          (sym here.records_are ∙ other.current.records_are);
+    }
 
-record_at_index : (image : List ℕ) (records : List Record) (index : ℕ) → StandsFor image records
-    → index < length records → (r : Record) × (slice_get records index ≡ Some r) × Spells r (body_at index image)
-record_at_index image records index stands few =
-    let found = record_in (capacity_of (length image))
-    (drop 32 image) records stands.records_are stands.in_range index few in
-    let place : 32 + (32 * index + 1) ≡ 32 * (index + 1) + 1 = omega arith in
-    let body : take 31 (drop (32 * index + 1) (drop 32 image)) ≡ body_at index image =
-    ap (λ (l : List ℕ). take 31 l) (drop-drop (32 * index + 1) 32 image ∙ ap (λ k. drop k image) place) in
-    (found.0, found.1, subst (λ (b : List ℕ). Spells found.0 b) body found.2)
+-- What holds by the one way holds by the other.
+pub over_from : {base after : ℕ} {carry next : Carry} {rest later : List Record} (P : ℕ → Carry → List Record → Type 0)
+    → OneFrom base after carry next rest later → P base carry rest → P after next later
+over_from {base} {after} {carry} {next} {rest} {later} P one holds =
+    subst (λ rs. P after next rs) one.rest_is
+    (subst (λ c. P after c rest) one.carry_is (subst (λ b. P b carry rest) one.base_is holds))
 
--- the record that is read is that of the index
-pub read_is : (image : List ℕ) (records : List Record) (index : ℕ) (r : Record) → StandsFor image records
-    → index < length records → Spells r (body_at index image) → slice_get records index ≡ Some r
-read_is image records index r stands few spells =
-    let found = record_at_index image records index stands few in
-    found.1 ∙ ap Some (one_spelling found.0 r found.2.in_range spells.in_range (found.2.spelt ∙ sym spells.spelt))
+-- The image of no journal has none.
+pub alien_has_none : (image : List ℕ) (base : ℕ) (carry : Carry) (rest : List Record) → IsAlien image
+    → HasFrom image base carry rest → ⊥
+alien_has_none image base carry rest alien has = alien has.second has.generation base carry has.current.headed
 
--- and none is refused
-pub never_unread : (image : List ℕ) (records : List Record) (index : ℕ) → StandsFor image records
-    → index < length records → IsRefused (body_at index image) → ⊥
-never_unread image records index stands few refused =
-    let found = record_at_index image records index stands few in
-    refused.none found.0 found.2.in_range found.2.spelt
+-- Nor has an image with a body that spells none,
+pub bad_has_none : (image : List ℕ) (index base : ℕ) (carry : Carry) (rest : List Record) → IsBadAt image index
+    → HasFrom image base carry rest → ⊥
+bad_has_none image index base carry rest bad has =
+    let one = one_head image has.second bad.second has.generation bad.generation base bad.base carry bad.carry
+    has.current.headed bad.headed in
+    let here : HasHalf image bad.second bad.generation bad.base bad.carry rest =
+    over_head (λ s g b c. HasHalf image s g b c rest) one has.current in
+    none_refused bad.refused.before rest bad.refused.body bad.refused.later
+    (sym bad.refused.bodies_are ∙ here.records_are) here.in_range bad.refused.refused
+
+-- which isn't that of no journal,
+pub bad_is_none : (image : List ℕ) (index : ℕ) → IsBadAt image index → IsAlien image → ⊥
+bad_is_none image index bad alien = alien bad.second bad.generation bad.base bad.carry bad.headed
+
+-- and has one index.
+pub one_bad : (image : List ℕ) (index other : ℕ) → IsBadAt image index → IsBadAt image other → index ≡ other
+one_bad image index other bad same =
+    let one = one_head image bad.second same.second bad.generation same.generation bad.base same.base bad.carry
+    same.carry bad.headed same.headed in
+    let here : IsRefusedIn image same.second same.base index =
+    over_head (λ s g b c. IsRefusedIn image s b index) one bad.refused in
+    let many = first_refused here.before same.refused.before here.body same.refused.body here.later same.refused.later
+    (sym here.bodies_are ∙ same.refused.bodies_are) here.in_range same.refused.in_range here.refused
+    same.refused.refused in
+    here.count ∙ ap (λ n. same.base + n) many ∙ sym same.refused.count
+
+-- An image that has records is refused only by a disk that fails.
+pub never_refused_from : (why : OpenNo) (image : List ℕ) (base : ℕ) (carry : Carry) (rest : List Record)
+    → RefusesOpen why image → HasFrom image base carry rest → why ≡ Disk
+never_refused_from Disk image base carry rest refuses has = refl
+never_refused_from Alien image base carry rest alien has = absurd (alien_has_none image base carry rest alien has)
+never_refused_from (BadRecord index) image base carry rest bad has =
+    absurd (bad_has_none image index base carry rest bad has)
+
+-- So is one that stands for records.
+pub never_refused : (why : OpenNo) (carry_of : List Record → Carry) (image : List ℕ) (records : List Record)
+    → RefusesOpen why image → StandsFor carry_of image records → why ≡ Disk
+never_refused why carry_of image records refuses stands =
+    never_refused_from why image stands.base stands.carry stands.rest refuses stands.has

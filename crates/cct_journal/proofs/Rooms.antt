@@ -4,7 +4,8 @@ use Rattle.std.proofs.Common.{length, take, drop, refl, sym, ◌∙◌, ap, subs
 use Rattle.std.proofs.Common.{length-drop, take-append-drop, eq-eqb}
 use Rattle.std.proofs.lemmas.Bool.{cases_eq, ne_eqb}
 use Rattle.std.proofs.lemmas.List.{take_at, drop_at, length-take-le}
-use Rattle.cct_journal.specs.Image.{bodies, open_gate}
+use Rattle.cct_journal.specs.Image.{bodies}
+use Rattle.cct_journal.specs.Half.{open_gate}
 
 -- the bytes after an open gate are a body
 pub opened : (n gate : ℕ) (back : List ℕ) → gate ≡ open_gate

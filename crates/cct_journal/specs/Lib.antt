@@ -1,9 +1,11 @@
 pub mod Half
 pub mod Start
 pub mod Image
+pub mod Fronts
 pub mod Gated
 pub mod Stands
 pub mod PowerCuts
 pub mod Opening
 pub mod Creating
 pub mod Journal
+pub mod StartReading

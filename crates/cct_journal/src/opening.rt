@@ -1,23 +1,128 @@
 //! The journal that stands on a disk is found.
-ghost use Rattle.std.specs.Prelude.{◌≡◌, ℕ, ◌<◌, Err, Some, List, [], IfErr, IfOk};
-ghost use Rattle.cct_edge.specs.Faults.{Caused};
+ghost use Rattle.std.specs.Prelude.{◌≡◌, ℕ, ◌<◌, ◌≤◌, true, false, not, Bool, Err, Some, List};
+ghost use Rattle.std.specs.Prelude.{IfErr, IfOk, IfSome, MatchOption};
+ghost use Rattle.cct_edge.specs.Faults.{Caused, HasCause};
+ghost use Rattle.cct_lines.specs.declared.carry.Carry.{Carry};
+ghost use Rattle.cct_lines.specs.declared.record.Record.{Record};
 ghost use Rattle.cct_disk.specs.Disk.{OnlyReads};
-ghost use Rattle.cct_journal.specs.Image.{least_size};
+ghost use Rattle.cct_journal.specs.Half.{IsCurrent, half, window};
+ghost use Rattle.cct_journal.specs.Start.{Begins, MayBegin};
+ghost use Rattle.cct_journal.specs.Fronts.{BeginsAt, IsFront};
+ghost use Rattle.cct_journal.specs.Image.{IsAlien, least_size};
 ghost use Rattle.cct_journal.specs.Opening.{Finds, RefusesOpen, ReplaysAll};
-ghost use Rattle.cct_journal.specs.Stands.{IsPlaced};
+ghost use Rattle.cct_journal.specs.Stands.{IsPlaced, Settled, Stands};
 
-use crate::format::LEAST;
+use crate::format::{LEAST, OPEN, START, TITLE};
 use crate::place::Place;
-use crate::reading::{has_header, replay_records};
+use crate::reading::{read_in, replay_records};
+use crate::start::{Start, read_start};
 use crate::{OpenNo, Replay};
 use cct_disk::Disk;
+use cct_edge::Failed;
 
-/// The place of the journal on a disk, which is only read. Each of its records is replayed.
+/// The bytes at the front of a half that say whether it counts: its gate, the title, the version and its generation.
+const FRONT: usize = 20;
+
+/// What stands at the front of a half.
+#[derive(Clone, Copy, Debug)]
+pub(crate) struct Front {
+    /// Whether the gate is open.
+    gate_open: bool,
+    /// Whether the half is open: its gate is, and it has the title and the version.
+    is_open: bool,
+    generation: u32,
+}
+
+/// What the first bytes of a half say.
+fn front_of(bytes: &[u8; FRONT]) -> Front
+    ensures { IsFront result bytes.now }
+{
+    Front {
+        gate_open: bytes[0] == OPEN,
+        is_open: bytes[..16] == TITLE[..],
+        generation: u32::from_le_bytes([bytes[16], bytes[17], bytes[18], bytes[19]]),
+    }
+}
+
+/// Reads the front of a half.
+fn look_at<D: Disk>(disk: &mut D, second: bool) -> Result<Front, Failed>
+    requires { least_size ≤ D.size disk.old }
+    ensures front { IfOk result (λ front. (image : List ℕ) → D.seen disk.old ≡ Some image
+        → IsFront front (half image second)) }
+    ensures reads { OnlyReads D.size D.honest D.seen D.may_leave D.moment D.left_since D.cuts disk.old disk.new }
+    ensures cause { HasCause (D.faults disk.old) (D.faults disk.new) result }
+{
+    let mut bytes = [0; FRONT];
+    read_in(disk, second, 0, &mut bytes)?;
+    Ok(front_of(&bytes))
+}
+
+/// Which half is the current one, the second or the first, where there is one.
+fn choose(first: Front, second: Front) -> Option<bool>
+    ensures { (image : List ℕ) → IsFront first (half image false) → IsFront second (half image true)
+        → MatchOption result ((second : Bool) → IsCurrent second image → ⊥) (λ second. IsCurrent second image) }
+{
+    if first.is_open && (!second.is_open || second.generation <= first.generation) {
+        Some(false)
+    } else if second.is_open {
+        Some(true)
+    } else {
+        None
+    }
+}
+
+/// Reads what a half begins with before its records, if it is the one spelling of a start.
+fn find_start<D: Disk>(disk: &mut D, second: bool) -> Result<Option<Start>, Failed>
+    requires { least_size ≤ D.size disk.old }
+    ensures may { IfOk result (λ found. IfSome found (λ s. MayBegin second s.generation s.base s.carry)) }
+    ensures found { IfOk result (λ found. (image : List ℕ) → D.seen disk.old ≡ Some image → MatchOption found
+        ((generation base : ℕ) (carry : Carry) → Begins second generation base carry (half image second) → ⊥)
+        (λ s. Begins second s.generation s.base s.carry (half image second))) }
+    ensures reads { OnlyReads D.size D.honest D.seen D.may_leave D.moment D.left_since D.cuts disk.old disk.new }
+    ensures cause { HasCause (D.faults disk.old) (D.faults disk.new) result }
+{
+    let mut bytes = [0; START];
+    read_in(disk, second, 0, &mut bytes)?;
+    Ok(read_start(&bytes, second))
+}
+
+/// The place of the journal on a disk, before the first record of its current half.
+fn find_half<D: Disk>(disk: &mut D) -> Result<Place, OpenNo>
+    requires { least_size ≤ D.size disk.old }
+    ensures placed { IfOk result (λ place. IsPlaced (D.size disk.old) place) }
+    ensures begins { IfOk result (λ place. (image : List ℕ) → D.seen disk.old ≡ Some image → BeginsAt image place) }
+    ensures refused { IfErr result (λ why. (image : List ℕ) → D.seen disk.old ≡ Some image → RefusesOpen why image) }
+    ensures reads { OnlyReads D.size D.honest D.seen D.may_leave D.moment D.left_since D.cuts disk.old disk.new }
+    ensures cause { Caused (D.faults disk.old) (D.faults disk.new) (result ≡ Err OpenNo.Disk) }
+{
+    let first_front = look_at(disk, false)?;
+    let second_front = look_at(disk, true)?;
+    let Some(second) = choose(first_front, second_front) else {
+        return Err(OpenNo::Alien);
+    };
+    let Some(start) = find_start(disk, second)? else {
+        return Err(OpenNo::Alien);
+    };
+    let other = if second { first_front } else { second_front };
+    Ok(Place {
+        used: start.base,
+        second,
+        generation: start.generation,
+        base: start.base,
+        carry: start.carry,
+        other_open: other.gate_open,
+    })
+}
+
+/// The place of the journal on a disk, which is only read. Its carry is replayed, and each of its records after it.
 pub(crate) fn find_place<D: Disk, R: Replay>(disk: &mut D, replay: &mut R) -> Result<Place, OpenNo>
-    requires { R.replayed 0 replay.old [] replay.old }
-    ensures placed { IfOk result (IsPlaced (D.size disk.old)) }
-    ensures finds { IfOk result (Finds D.seen disk.old disk.new) }
+    ensures placed { IfOk result (λ place. IsPlaced (D.size disk.old) place) }
+    ensures finds { IfOk result (λ place. Finds D.seen disk.old disk.new place) }
     ensures replayed { IfOk result (λ place. ReplaysAll D.seen R.replayed disk.new place replay.old replay.new) }
+    // If the disk keeps exactly one image, a journal at that place stands for it.
+    ensures stands { IfOk result (λ place. (carry_of : List Record → Carry) (records : List Record)
+        → Settled carry_of D.honest D.seen D.may_leave disk.old records
+        → Stands carry_of D.honest D.seen D.may_leave disk.new place records) }
 
     // why none is found
     ensures refused { IfErr result (λ why. (image : List ℕ) → D.seen disk.old ≡ Some image → RefusesOpen why image) }
@@ -30,11 +135,7 @@ pub(crate) fn find_place<D: Disk, R: Replay>(disk: &mut D, replay: &mut R) -> Re
     if disk.len() < LEAST {
         return Err(OpenNo::Alien);
     }
-    if !has_header(disk)? {
-        return Err(OpenNo::Alien);
-    }
-    match replay_records(disk, replay) {
-        Ok(used) => Ok(Place { used }),
-        Err(why) => Err(why),
-    }
+    let half = find_half(disk)?;
+    let used = replay_records(disk, &half, replay)?;
+    Ok(Place { used, ..half })
 }

@@ -1,4 +1,3 @@
-pub mod Coins
 pub mod Positions
 pub mod OpenOrders
 pub mod Lists

@@ -140,34 +140,3 @@ no_hopper (e ∷ ds) addr none =
 pub hopper_nowhere : (ds : List DeviceSetup) (addr : ℕ) → position (hopper_is_at addr) ds ≡ None →
     hopper_there (device_at ds addr) ≡ false
 hopper_nowhere ds addr none = no_hopper ds addr (none_passes (hopper_is_at addr) ds none)
-
--- what a coin is worth at most
-
-index_most : (values : List ℕ) (i most : ℕ) → All (λ value. value ≤ most) values → get_or values i 0 ≤ most
-index_most [] i most each = omega arith
-index_most (v ∷ vs) zero most each = All-head (λ value. value ≤ most) v vs each
-index_most (v ∷ vs) (suc i) most each = index_most vs i most (All-tail (λ value. value ≤ most) v vs each)
-
-body_most : (body : DeviceBody) (place : ℕ) → IsSoundBody body → value_at body place ≤ 1000000
-body_most (Acceptor accepts values ids) place sound =
-    index_most values (place - 1) 1000000 sound.1
-body_most (Hopper life value) place sound = omega arith
-
-device_most : (d : DeviceSetup) (place : ℕ) → IsSound d → place_value (Some d) place ≤ 1000000
-device_most d place sound = by_none (place == 0) (body_most d.body place sound.body)
-  where
-    by_none : (none : Bool) → value_at d.body place ≤ 1000000 → cond none 0 (value_at d.body place) ≤ 1000000
-    by_none true most = omega arith
-    by_none false most = most
-
-pub values_most : (ds : List DeviceSetup) (addr place : ℕ) → All IsSound ds →
-    place_value (device_at ds addr) place ≤ 1000000
-values_most [] addr place sound = omega arith
-values_most (d ∷ ds) addr place sound =
-    by_here (d.addr == addr) (device_most d place (All-head IsSound d ds sound))
-    (values_most ds addr place (All-tail IsSound d ds sound))
-  where
-    by_here : (here : Bool) → place_value (Some d) place ≤ 1000000 → place_value (device_at ds addr) place ≤ 1000000 →
-        place_value (cond here (Some d) (device_at ds addr)) place ≤ 1000000
-    by_here true own rest = own
-    by_here false own rest = rest

@@ -12,8 +12,8 @@ ghost use Rattle.cct_ledger.specs.Told.{totals_beside, is_of_money};
 ghost use Rattle.cct_ledger.specs.Orders.{has_id};
 
 use crate::lookup::{hopper_place, none_open, opened, put_order};
-use crate::worth::{coins_of, coins_value};
 use arrayvec::ArrayVec;
+use cct_carry::{coins_of, coins_value};
 use cct_model::{Coins, DEVICES, OpenOrder, Record, Setup, Totals};
 use thiserror::Error;
 

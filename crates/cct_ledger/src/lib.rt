@@ -5,8 +5,6 @@
 mod laws;
 mod ledger;
 mod lookup;
-mod worth;
 
 pub use laws::{a_ledger_takes_what_follows, a_ledger_tells_what_the_operator_has};
 pub use ledger::{Ledger, NotAllowed};
-pub use worth::coins_of;

@@ -1,9 +1,11 @@
 //! Tests of the parts by themselves: a framer, devices that hear byte by byte, a life count, a hopper, the bodies of
-//! records, a journal and a ledger.
+//! records and of a carry, a journal and a ledger.
 #![tactic(auto)]
 
 #[cfg(test)]
 mod bytes;
+#[cfg(test)]
+mod carry;
 #[cfg(test)]
 mod framer;
 #[cfg(test)]

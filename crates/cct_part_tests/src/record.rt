@@ -9,7 +9,7 @@ use std::process::Abort;
 use std::test::Fail;
 
 // A body that begins with these bytes and goes on with 0.
-fn body(fields: &[u8]) -> [u8; 31] {
+pub(crate) fn body(fields: &[u8]) -> [u8; 31] {
     let mut body = [0; 31];
     for (to, from) in body.iter_mut().zip(fields) {
         *to = *from;

@@ -1,1 +1,2 @@
+pub mod CarryBack
 pub mod Spellings

@@ -1,3 +1,4 @@
 pub mod Body
 pub mod Fields
 pub mod CarryBody
+pub mod CarryTests

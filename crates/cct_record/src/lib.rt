@@ -1,13 +1,17 @@
-//! The records of the host's journal as bodies of 31 bytes, one spelling for each record, both ways
-//! (`docs/JOURNAL.md`).
+//! The records of the host's journal as bodies of 31 bytes, and a carry as some of them: one spelling for each, both
+//! ways (`docs/JOURNAL.md`).
 #![tactic(auto)]
 
+mod carry;
+mod carry_reading;
 mod kind;
 mod laws;
 mod reading;
 mod writing;
 
+pub use carry::encode_carry;
+pub use carry_reading::read_carry;
 pub use cct_lines::Record;
-pub use laws::a_body_spells_one_record;
+pub use laws::{a_body_spells_one_record, bodies_spell_one_carry};
 pub use reading::read;
 pub use writing::encode;

@@ -105,7 +105,7 @@ fn record_at(bytes: &[u8; BODY]) -> Option<Record>
 }
 
 /// The number of two bytes, low byte first.
-fn two_at(bytes: &[u8; BODY], at: usize) -> u16
+pub(crate) fn two_at(bytes: &[u8; BODY], at: usize) -> u16
     requires { at + 2 ≤ BODY }
     ensures { result ≡ two_at bytes.now at }
 {
@@ -113,7 +113,7 @@ fn two_at(bytes: &[u8; BODY], at: usize) -> u16
 }
 
 /// The number of three bytes, low byte first.
-fn three_at(bytes: &[u8; BODY], at: usize) -> u32
+pub(crate) fn three_at(bytes: &[u8; BODY], at: usize) -> u32
     requires { at + 3 ≤ BODY }
     ensures { result ≡ three_at bytes.now at }
 {
@@ -121,7 +121,7 @@ fn three_at(bytes: &[u8; BODY], at: usize) -> u32
 }
 
 /// The number of four bytes, low byte first.
-fn four_at(bytes: &[u8; BODY], at: usize) -> u32
+pub(crate) fn four_at(bytes: &[u8; BODY], at: usize) -> u32
     requires { at + 4 ≤ BODY }
     ensures { result ≡ four_at bytes.now at }
 {

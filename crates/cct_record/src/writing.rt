@@ -23,7 +23,7 @@ pub fn encode(entry: &Record) -> [u8; 31]
 }
 
 /// Some fields, and 0 after them.
-fn filled_up(fields: &ArrayVec<u8, BODY>) -> [u8; BODY]
+pub(crate) fn filled_up(fields: &ArrayVec<u8, BODY>) -> [u8; BODY]
     ensures { result ≡ fields.now.items ++ replicate (31 - length fields.now.items) 0 }
 {
     let mut body = [0; BODY];
@@ -99,7 +99,7 @@ fn fields(entry: &Record) -> ArrayVec<u8, BODY>
 }
 
 /// Appends bytes for which there is room.
-fn add(fields: &mut ArrayVec<u8, BODY>, bytes: &[u8])
+pub(crate) fn add(fields: &mut ArrayVec<u8, BODY>, bytes: &[u8])
     requires { array_vec_len fields.old + length bytes.now ≤ BODY }
     ensures items { fields.new.items ≡ fields.old.items ++ bytes.now }
     ensures len { array_vec_len fields.new ≡ array_vec_len fields.old + length bytes.now }
@@ -108,7 +108,7 @@ fn add(fields: &mut ArrayVec<u8, BODY>, bytes: &[u8])
 }
 
 /// Appends the id of an order or of a sale.
-fn add_id(fields: &mut ArrayVec<u8, BODY>, id: u32)
+pub(crate) fn add_id(fields: &mut ArrayVec<u8, BODY>, id: u32)
     requires { array_vec_len fields.old + 4 ≤ BODY }
     ensures items { fields.new.items ≡ fields.old.items ++ to_le_bytes w32 id }
     ensures len { array_vec_len fields.new ≡ array_vec_len fields.old + 4 }
@@ -142,7 +142,7 @@ fn add_coin(fields: &mut ArrayVec<u8, BODY>, coin: Coin)
 }
 
 /// The three low bytes of a number, low byte first.
-fn three_bytes(number: u32) -> [u8; 3]
+pub(crate) fn three_bytes(number: u32) -> [u8; 3]
     ensures { result ≡ three_bytes number }
 {
     let [low, middle, high, _] = number.to_le_bytes();

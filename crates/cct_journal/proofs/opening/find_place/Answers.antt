@@ -1,54 +1,60 @@
-use Rattle.std.proofs.Common.{◌≤◌, length, reverse, ◌∙◌, sym, ap, subst, rules, arith}
-use Rattle.std.specs.Bool.{IsTrue}
-use Rattle.std.proofs.lemmas.List.{length-reverse, reverse-reverse}
-use Rattle.cct_journal.specs.Image.{least_size}
-use Rattle.cct_journal.proofs.Opens.{counted_same, counted_stands, stopped_refuses}
+use Rattle.std.proofs.Common.{◌∙◌, ◌≡◌, ◌+◌, Some, List, ℕ, length, refl, reverse, sym, ap, arith, rules}
+use Rattle.std.proofs.lemmas.List.{length-reverse}
+use Rattle.std.proofs.lemmas.Result.{err_from_is_err_and}
+use Rattle.cct_journal.proofs.Found.{found_reads, place_stands, reads_records, replays_all}
+use Rattle.cct_journal.proofs.Moments.{reads_hold, reads_then}
+use Rattle.cct_journal.proofs.Opens.{counted_has, stopped_refuses}
+use Rattle.cct_journal.proofs.Walks.{replayed_all}
 use Rattle.cct_journal.proofs.opening.find_place.Goals as goal
 
-pub returns-in-Ok-clause-finds : goal.returns-in-Ok-clause-finds
-returns-in-Ok-clause-finds g c =
-    let over = c.in-Ok.ensures.replayed in
-    let same = c.has_header.ensures.reads.same_seen in
+pub returns-in_err-used-clause-refused : goal.returns-in_err-used-clause-refused
+returns-in_err-used-clause-refused g c =
+    let why = err_from_is_err_and c.from_residual-in_err-used.result c.from_residual-in_err-used.ensures.1 in
+    rw (why.1, why.2)
+    (λ image told.
+    stopped_refuses c.in_err-used.field-0.0 image c.in_ok-half.half.second c.in_ok-half.half.generation
+    c.in_ok-half.half.base c.in_ok-half.half.carry (c.in_ok-half.ensures.begins image told).headed
+    (c.in_err-used.ensures.stopped image (c.find_half.ensures.reads.same_seen ∙ told)))
+
+pub returns-clause-finds : goal.returns-clause-finds
+returns-clause-finds g c =
+    let over = c.in_ok-used.ensures.replayed in
+    let half = c.in_ok-half.half in
+    let seen = c.find_half.ensures.reads.same_seen in
+    let later = c.replay_records.ensures.reads.same_seen in
+    let many : c.in_ok-used.used ≡ half.base + length (reverse over.before) =
+    omega (arith, over.count, length-reverse over.before) in
     record {
-      found = λ image told.
-          let has : IsTrue c.in_ok-has_header.field-0 = search rules in
-          let header_is = (c.in_ok-has_header.ensures.header image told).0 has in
-          let long : least_size ≤ length image =
-          omega (arith, g.met.D.Disk.fits _ image told, c.len.ensures, c.if-len-lt-LEAST.false) in (
-            reverse over.before,
-            counted_stands image _ (over.fact image (same ∙ told)) long header_is,
-            omega (arith, length-reverse over.before, over.count),
-          );
-      every = λ image records told stands. record {
-        image = image;
-        tells = c.replay_records.ensures.reads.same_seen ∙ same ∙ told;
-        stands = stands;
-        count = omega (
-          arith,
-          over.count,
-          length-reverse over.before,
-          ap length (counted_same image _ records (over.fact image (same ∙ told)) stands),
-        );
-      };
+      found = λ image told. (
+        reverse over.before,
+        found_reads _ _ _ image (reverse over.before) (later ∙ seen ∙ told)
+            (counted_has image half.second half.generation half.base half.carry (reverse over.before)
+            (c.in_ok-half.ensures.begins image told).headed (over.fact image (seen ∙ told))) many,
+      );
+      every = λ carry_of image records told stands.
+          reads_records _ _ _ image (reverse over.before) (later ∙ seen ∙ told)
+          (counted_has image half.second half.generation half.base half.carry (reverse over.before)
+          (c.in_ok-half.ensures.begins image told).headed (over.fact image (seen ∙ told))) many carry_of records stands;
     }
 
-pub returns-in-Ok-clause-replayed : goal.returns-in-Ok-clause-replayed
-returns-in-Ok-clause-replayed g c =
-    let over = c.in-Ok.ensures.replayed in
-    record {
-      each = (over.before, omega (arith, over.count), over.over);
-      told = λ records reads.
-          let seen = sym c.replay_records.ensures.reads.same_seen ∙ reads.tells in
-          let same = counted_same reads.image _ records (over.fact reads.image seen) reads.stands in
-          subst (λ before. g.R.Replay.replayed 0 c.args.replay.now before c.replay_records.new.replay)
-          (sym (reverse-reverse over.before) ∙ ap reverse same) over.over;
-    }
+pub returns-clause-replayed : goal.returns-clause-replayed
+returns-clause-replayed g c =
+    replays_all _ _ _ _ _ _
+    (replayed_all _ _ _ _ _ _ _ _ _ refl c.in_ok-used.ensures.replayed
+    (λ records counts image told.
+    counts image (sym c.replay_records.ensures.reads.same_seen ∙ told)))
 
-pub returns-in-Err-clause-refused : goal.returns-in-Err-clause-refused
-returns-in-Err-clause-refused g c image told =
-    let has : IsTrue c.in_ok-has_header.field-0 = search rules in
-    let header_is = (c.in_ok-has_header.ensures.header image told).0 has in
-    let long : least_size ≤ length image =
-    omega (arith, g.met.D.Disk.fits _ image told, c.len.ensures, c.if-len-lt-LEAST.false) in
-    stopped_refuses c.in-Err.why image
-    (c.in-Err.ensures.stopped image (c.has_header.ensures.reads.same_seen ∙ told)) long header_is
+pub returns-clause-stands : goal.returns-clause-stands
+returns-clause-stands g c carry_of records settled =
+    let over = c.in_ok-used.ensures.replayed in
+    let half = c.in_ok-half.half in
+    let image = settled.image in
+    let told = settled.held.tells in
+    let begins = c.in_ok-half.ensures.begins image told in
+    let many : c.in_ok-used.used ≡ half.base + length (reverse over.before) =
+    omega (arith, over.count, length-reverse over.before) in
+    place_stands _ _ _ _ _ image (reverse over.before)
+    (reads_hold (reads_then c.find_half.ensures.reads c.replay_records.ensures.reads) image settled.held)
+    (counted_has image half.second half.generation half.base half.carry (reverse over.before) begins.headed
+    (over.fact image (c.find_half.ensures.reads.same_seen ∙ told))) many begins.other_gate carry_of records
+    settled.stands

@@ -1,9 +1,11 @@
 use Rattle.std.proofs.Common.{◌≡◌, ◌+◌, ◌*◌, rules}
+use Rattle.cct_journal.specs.declared.format.TheConstants.{FIRST_SLOT}
+use Rattle.cct_journal.specs.Half.{half}
 use Rattle.cct_journal.proofs.Walks.{body_read}
 use Rattle.cct_journal.proofs.reading.read_slot.Goals as goal
 
 pub returns-clause-body : goal.returns-clause-body
 returns-clause-body g c image told =
-    let place : 32 * (c.from.result + 1) ≡ 32 * (c.args.index + 1) = search rules in
-    body_read c.read.new.room c.copy_from_slice.new.self image c.args.index _
-    (c.in_ok-read.ensures.gives image told) c.read.ensures.room place c.copy_from_slice.ensures.after
+    let place : 32 * (36 + c.from.result) ≡ 32 * (FIRST_SLOT + c.args.many) = search rules in
+    body_read c.read_in.new.room c.copy_from_slice.new.self (half image c.args.second) _ (FIRST_SLOT + c.args.many)
+    (c.in_ok-read_in.ensures.gives image told) place c.copy_from_slice.ensures.after

@@ -5,7 +5,7 @@ use Rattle.std.proofs.lemmas.Bool.{cases_eq, eqb-true}
 use Rattle.std.proofs.lemmas.List.{drop_more}
 use Rattle.cct_model.specs.terms.device.DeviceBody.{DeviceBody}
 use Rattle.cct_model.specs.Job.{coin_places}
-use Rattle.cct_host.specs.CoinPlaces.{lacks}
+use Rattle.cct_carry.specs.CoinPlaces.{lacks}
 
 -- the first such place from one on
 abbrev pub found_from : DeviceBody → ℕ → ℕ → Option ℕ

@@ -1,7 +1,7 @@
 //! The values of an acceptor's coin places.
 ghost use Rattle.std.specs.Prelude.{◌≡◌, ◌≤◌, ◌==◌, ◌&&◌};
 ghost use Rattle.cct_model.specs.Refusal as refusal;
-ghost use Rattle.cct_host.specs.CoinPlaces.{lacks};
+ghost use Rattle.cct_carry.specs.CoinPlaces.{lacks};
 
 use cct_model::{COIN_PLACES, DeviceBody, has_place};
 
@@ -10,7 +10,7 @@ const LAST_PLACE: u8 = COIN_PLACES as u8;
 
 /// The least coin place of an inhibit mask that has no value at a device, or none.
 #[tactic(auto, using(crate::proofs::CoinPlaces::found_here, crate::proofs::CoinPlaces::found_behind))]
-pub(crate) fn valueless(body: &DeviceBody, mask: u16) -> Option<u8>
+pub fn valueless(body: &DeviceBody, mask: u16) -> Option<u8>
     ensures { result ≡ refusal.valueless body.now mask }
 {
     for place in 1..LAST_PLACE + 1 {

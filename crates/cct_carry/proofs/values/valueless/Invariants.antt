@@ -1,6 +1,6 @@
 use Rattle.std.proofs.Common.{◌≡◌, ◌≤◌}
-use Rattle.cct_host.proofs.CoinPlaces.{found_from}
-use Rattle.cct_host.proofs.values.valueless.Given as goal
+use Rattle.cct_carry.proofs.CoinPlaces.{found_from}
+use Rattle.cct_carry.proofs.values.valueless.Given as goal
 
 abbrev pub invariant-loop-place : goal.invariant-loop-place
 invariant-loop-place l =

@@ -1,6 +1,6 @@
 use Rattle.std.proofs.Common.{◌≡◌, arith}
-use Rattle.cct_host.proofs.CoinPlaces.{found_nowhere}
-use Rattle.cct_host.proofs.values.valueless.Goals as goal
+use Rattle.cct_carry.proofs.CoinPlaces.{found_nowhere}
+use Rattle.cct_carry.proofs.values.valueless.Goals as goal
 
 pub returns : goal.returns
 returns c =

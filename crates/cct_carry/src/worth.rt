@@ -7,7 +7,7 @@ use cct_model::{Coin, DeviceBody, DeviceSetup, EVENTS, Setup};
 
 /// The value of the coins that the acceptor at an address took, 0 where none is there.
 #[tactic(auto, using(crate::proofs::Coins::coins_each, crate::proofs::Coins::coins_nowhere))]
-pub(crate) fn coins_value(setup: &Setup, addr: u8, coins: &[Coin]) -> u64
+pub fn coins_value(setup: &Setup, addr: u8, coins: &[Coin]) -> u64
     requires few { length coins.now ≤ EVENTS }
     ensures { result ≡ coins_value (device_at setup.now.devices addr) coins.now }
 {
