@@ -1,5 +1,5 @@
 //! Tests of the parts by themselves: a framer, devices that hear byte by byte, a life count, a hopper, the bodies of
-//! records and of a carry, a journal and a ledger.
+//! records and of a carry, a journal that turns too, and a ledger.
 #![tactic(auto)]
 
 #[cfg(test)]

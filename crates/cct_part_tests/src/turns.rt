@@ -8,7 +8,7 @@ ghost use Rattle.cct_ledger.specs.Ledger.{applied};
 ghost use Rattle.cct_journal.specs.Journal.{has_failed, used_of};
 
 use crate::journal::{ONE_EACH, created, opened, put};
-use crate::machine::{five_coins, one_coin, setup};
+use crate::machine::{copied, five_coins, one_coin, setup};
 use cct_carry::Tally;
 use cct_disk::{Disk, MemDisk};
 use cct_journal::{Journal, JournalNo, Replay};
@@ -122,7 +122,7 @@ fn found(alloc: Global, journal: &mut Journal<MemDisk>) -> Result<Found, Fail> {
     Ok(Found {
         base,
         used,
-        carry: journal.carry().clone(),
+        carry: copied(journal.carry()),
         record: text,
     })
 }
@@ -310,7 +310,7 @@ impl Replay for Replayed {
 
     fn begin(&mut self, base: u32, carry: &Carry) {
         self.base = base;
-        self.carry = carry.clone();
+        self.carry = copied(carry);
         self.used = base;
     }
 
