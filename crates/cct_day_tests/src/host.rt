@@ -217,7 +217,7 @@ fn full(used: u32, held: u32, need: u32) -> Result<(), CommandNo> {
     Err(CommandNo::JournalFull { used, held, need })
 }
 
-const START: Command = Command::Start { addr: 4, mask: 1 };
+const START_OTHER: Command = Command::Start { addr: 4, mask: 1 };
 
 const ROUND: Command = Command::Round { addr: 2 };
 
@@ -291,7 +291,7 @@ fn a_full_journal_refuses_commands_and_no_put(rt: HostRuntime) -> Result<(), Fai
     next(&mut host, 2, &mut link)?;
     host.command(&pay(1, 2))?;
     assert_eq!(rt; host.command(&ROUND), full(4_294_967_293, 2, 1));
-    assert_eq!(rt; host.command(&START), full(4_294_967_293, 2, 1));
+    assert_eq!(rt; host.command(&START_OTHER), full(4_294_967_293, 2, 1));
     assert_eq!(rt; host.command(&STOP), full(4_294_967_293, 2, 2));
     next(&mut host, 3, &mut link)?;
     next(&mut host, 3, &mut link)?;

@@ -113,7 +113,7 @@ fn wanted(alloc: Global, base: u32, used: u32) -> Result<Found, Fail> {
 }
 
 /// What is found.
-fn found(alloc: Global, journal: &mut Journal<MemDisk>) -> Result<Found, Fail> {
+fn look_at(alloc: Global, journal: &mut Journal<MemDisk>) -> Result<Found, Fail> {
     let (base, used) = (journal.base(), journal.used());
     let mut text = String::new(alloc);
     if base < used {
@@ -202,7 +202,7 @@ fn stands(
 ) -> Result<(), Fail> {
     let mut journal = opened(disk)?;
     assert_eq!(rt;
-        found(alloc, &mut journal)?,
+        look_at(alloc, &mut journal)?,
         wanted(alloc, base, used)?,
         "{what}"
     );
@@ -225,7 +225,11 @@ fn stands(
     if used < 4 {
         put(rt, &mut journal, &mut tally, &record(3))?;
     }
-    assert_eq!(rt; found(alloc, &mut journal)?, wanted(alloc, 3, 4)?, "{what}");
+    assert_eq!(rt;
+        look_at(alloc, &mut journal)?,
+        wanted(alloc, 3, 4)?,
+        "{what}"
+    );
     Ok(())
 }
 
@@ -346,7 +350,7 @@ fn restarts(
     let what = format!(in alloc; "record {records}, {calls} calls, choice {choice}")?;
     assert_eq!(rt; counted, used, "{what}");
     assert_eq!(rt;
-        found(alloc, &mut journal)?,
+        look_at(alloc, &mut journal)?,
         wanted(alloc, base, used)?,
         "{what}"
     );
