@@ -20,23 +20,15 @@ use std::process::Abort;
 use std::test::Fail;
 
 /// The replies of an acceptor that is started, takes a coin of place 5, and is read: an acknowledgement, no credits, an
-/// acknowledgement, one credit, and the mask.
-const POSTED: [&[u8]; 5] = [
+/// acknowledgement, one credit, and the mask. After these come those of a hopper that is to pay two coins: an
+/// acknowledgement, life count 0, an acknowledgement; none to three questions how far it is; then two coins paid, and
+/// life count 2.
+const REPLIES: [&[u8]; 13] = [
     b"\x01\0\x02\0\xfd",
     b"\x01\x0b\x02\0\0\0\0\0\0\0\0\0\0\0\0\xf2",
     b"\x01\0\x02\0\xfd",
     b"\x01\x0b\x02\0\x01\x05\x01\0\0\0\0\0\0\0\0\xeb",
     b"\x01\x02\x02\0\xff\xff\xfd",
-];
-
-/// After these the replies of a hopper that is to pay two coins: an acknowledgement, life count 0, an acknowledgement; none
-/// to three questions how far it is; then two coins paid, and life count 2.
-const PAID: [&[u8]; 13] = [
-    POSTED[0],
-    POSTED[1],
-    POSTED[2],
-    POSTED[3],
-    POSTED[4],
     b"\x01\0\x03\0\xfc",
     b"\x01\x03\x03\0\0\0\0\xf9",
     b"\x01\0\x03\0\xfc",
@@ -48,19 +40,9 @@ const PAID: [&[u8]; 13] = [
 ];
 
 /// A link that gives the echo and the next of these replies.
-#[derive(Drop)]
+#[derive(Default, Drop)]
 struct Told {
-    replies: &'static [&'static [u8]],
     exchanges: usize,
-}
-
-impl Told {
-    fn new(replies: &'static [&'static [u8]]) -> Told {
-        Told {
-            replies,
-            exchanges: 0,
-        }
-    }
 }
 
 impl Link for Told {
@@ -69,9 +51,7 @@ impl Link for Told {
     fn exchange(&mut self, sent: &[u8], heard: &mut ArrayVec<u8, MOST_HEARD>) {
         heard.clear();
         let _ = heard.try_extend_from_slice(sent);
-        let _ = heard.try_extend_from_slice(
-            self.replies.get(self.exchanges).copied().unwrap_or(b""),
-        );
+        let _ = heard.try_extend_from_slice(REPLIES.get(self.exchanges).copied().unwrap_or(b""));
         self.exchanges = self.exchanges.saturating_add(1);
     }
 }
@@ -239,7 +219,7 @@ fn a_round_wants_room_for_a_record(rt: HostRuntime) -> Result<(), Fail> {
         (4_294_967_294, 4_294_967_294)
     );
     let mut host = host(&setup, journal)?;
-    start(&mut host, &mut Told::new(&POSTED))?;
+    start(&mut host, &mut Told::default())?;
     assert_eq!(rt; host.command(&ROUND), full(4_294_967_295, 0, 1));
 
     // The journal that it leaves takes no put.
@@ -273,7 +253,7 @@ fn a_round_wants_room_for_a_record(rt: HostRuntime) -> Result<(), Fail> {
 fn a_payment_wants_room_for_two_records(rt: HostRuntime) -> Result<(), Fail> {
     let setup = setup();
     let mut host = host(&setup, nearly_full(&rt, rt.alloc(), 3)?)?;
-    let mut link = Told::new(&POSTED);
+    let mut link = Told::default();
     start_and_read(&mut host, &mut link)?;
     next(&mut host, 2, &mut link)?;
     assert_eq!(rt; host.totals().available, 100);
@@ -286,7 +266,7 @@ fn a_payment_wants_room_for_two_records(rt: HostRuntime) -> Result<(), Fail> {
 fn a_full_journal_refuses_commands_and_no_put(rt: HostRuntime) -> Result<(), Fail> {
     let setup = setup();
     let mut host = host(&setup, nearly_full(&rt, rt.alloc(), 4)?)?;
-    let mut link = Told::new(&PAID);
+    let mut link = Told::default();
     start_and_read(&mut host, &mut link)?;
     next(&mut host, 2, &mut link)?;
     host.command(&pay(1, 2))?;
@@ -308,7 +288,7 @@ fn a_full_journal_refuses_commands_and_no_put(rt: HostRuntime) -> Result<(), Fai
     next(&mut host, 3, &mut link)?;
     next(&mut host, 3, &mut link)?;
     next(&mut host, 3, &mut link)?;
-    assert_eq!(rt; link.exchanges, PAID.len());
+    assert_eq!(rt; link.exchanges, REPLIES.len());
     is_full(&rt, &mut host)?;
 
     // Whoever starts again over that disk knows the same.
@@ -338,7 +318,7 @@ fn crashed(setup: &Setup, alloc: Global, fails: u64) -> Result<Option<u32>, Fail
     requires { IsSoundSetup setup.now }
 {
     let mut host = host(setup, created(alloc, 2496, &[fails])?)?;
-    start_and_read(&mut host, &mut Told::new(&POSTED))?;
+    start_and_read(&mut host, &mut Told::default())?;
     match host.restart(Some(CrashAt { addr: 2, calls: 4 }), 1) {
         Ok(crashed) => Ok(Some(crashed.records)),
         Err(CrashNo::Disk) => Ok(None),
