@@ -250,7 +250,7 @@ fn a_report_stops_at_each_fault_of_the_disk(rt: HostRuntime) -> Result<(), Fail>
 /// A byte that is set on the disk after the run of a posted coin, and how a report then ends. Slots have 32 bytes. Of the
 /// first half the first slot is the header, three have the carry of no record, and after 32 blank ones come those of the
 /// epoch, at place 1152, and of the reading. The second half begins at place 1,048,576, and is blank.
-const POKED: [(u64, u8, Status, &[u8]); 45] = [
+const POKED: [(u64, u8, Status, &[u8]); 46] = [
     // the header
     (0, 0, Status::JournalLost, b"journal alien\n"),
     (0, 0xa4, Status::JournalLost, b"journal alien\n"),

@@ -14,7 +14,7 @@ const SCRIPT_LINES: usize = 27;
 const TEXT_LINES: usize = 10;
 
 /// A power cut in the place of the put of a reading, and whether its record is kept. Its gate stands at place 1184.
-const READING_LOST: [(&str, bool); 40] = [
+const READING_LOST: [(&str, bool); 39] = [
     // no put is named
     ("crash 0", false),
     ("crash 1", false),
