@@ -1,5 +1,5 @@
 //! Tests of the parts by themselves: a framer, devices that hear byte by byte, a life count, a hopper, the bodies of
-//! records and of a carry, a journal that turns too, and a ledger.
+//! records and of a carry, a journal, how it is opened and how it turns, and a ledger.
 #![tactic(auto)]
 
 #[cfg(test)]
@@ -18,6 +18,8 @@ mod ledger;
 mod life;
 #[cfg(test)]
 mod machine;
+#[cfg(test)]
+mod opening;
 #[cfg(test)]
 mod record;
 #[cfg(test)]
