@@ -192,6 +192,20 @@ fn left(records: u32, made: u64, choice: u64) -> (u32, u32) {
     }
 }
 
+/// The tally of a journal of these records, one at most in its current half.
+fn tally_of<'s>(rt: &impl Abort, setup: &'s Setup, journal: &Journal<MemDisk>) -> Tally<'s>
+    requires { IsSoundSetup setup.now }
+{
+    let base = journal.base();
+    let Some(mut tally) = Tally::resume(setup, base, journal.carry()) else {
+        panic!(rt; "the carry fits the setup");
+    };
+    if base < journal.used() {
+        assert!(rt; tally.add(&record(base)), "a record that doesn't follow");
+    }
+    tally
+}
+
 /// What is found on a disk; and the journal goes on from there to the fourth record.
 fn stands(
     rt: &impl Abort,
@@ -261,6 +275,60 @@ fn a_turn_outlasts_each_failure(rt: HostRuntime) -> Result<(), Fail> {
         for made in 0..put.2 {
             for choice in CHOICES {
                 fails(&rt, rt.alloc(), put, made, choice)?;
+            }
+        }
+    }
+    Ok(())
+}
+
+/// How many disk calls an opening makes where each half takes one record: it looks at both halves, and reads the start and
+/// the slot of the current one.
+const OPENING: u64 = 4;
+
+/// The disk fails within a turn, and again in the next put, after so many of its calls; each time the power is cut.
+fn fails_again(
+    rt: &impl Abort,
+    alloc: Global,
+    (records, before): (u32, u64),
+    (made, choice): (u64, u64),
+    (again, last): (u64, u64),
+) -> Result<(), Fail> {
+    let setup = setup();
+    let mut tally = Tally::new(&setup);
+    let first = before.saturating_add(made).saturating_add(1);
+    let second = first.saturating_add(1 + OPENING + 1).saturating_add(again);
+    let mut journal = filled(rt, alloc, &mut tally, records, &[first, second])?;
+    assert!(rt; tally.many() == journal.used());
+    assert!(rt; journal.put(&record(records), tally.carry()).is_err());
+    let mut disk = journal.into_disk();
+    disk.power_cut(choice)?;
+
+    let mut journal = opened(disk)?;
+    let tally = tally_of(rt, &setup, &journal);
+    let is_full = journal.base() < journal.used();
+    assert!(rt; tally.many() == journal.used());
+    assert!(rt; journal.put(&record(records), tally.carry()).is_err());
+    let mut disk = journal.into_disk();
+    disk.power_cut(last)?;
+    let turn = if is_full { 0 } else { TURN };
+    let found = left(records, again.saturating_add(turn), last);
+    let what = format!(in alloc; "record {records}: {made}, {choice}, {again}, {last}")?;
+    stands(rt, alloc, disk, found, what.as_str())
+}
+
+/// Puts that turn: how many records were put before, and how many calls of the disk the journal made until then.
+const TURNS: [(u32, u64); 3] = [(1, 9), (2, 19), (3, 29)];
+
+#[test]
+fn a_turn_outlasts_a_second_failure(rt: HostRuntime) -> Result<(), Fail> {
+    for turn in TURNS {
+        for made in 2..6 {
+            for choice in [1, 2, 3] {
+                for again in 0..4 {
+                    for last in [1, 3, 5, 165] {
+                        fails_again(&rt, rt.alloc(), turn, (made, choice), (again, last))?;
+                    }
+                }
             }
         }
     }
@@ -445,9 +513,8 @@ impl<'s> Books<'s> {
         opened.put(rt, &opening(1))
     }
 
-    /// Fills a half: a coin is posted and an event lost, the second order is closed, something is sold, and the next order
-    /// is opened. The first order stays open.
-    fn round(self, rt: &impl Abort, round: u32) -> Result<Books<'s>, Fail> {
+    /// Half a round: a coin is posted and an event lost, and the second order is closed. The first one stays open.
+    fn half_round(self, rt: &impl Abort, round: u32) -> Result<Books<'s>, Fail> {
         let posted = self.put(
             rt,
             &Record::Reading {
@@ -457,7 +524,12 @@ impl<'s> Books<'s> {
                 posted: one_coin(),
             },
         )?;
-        let closed = posted.put(rt, &closing(round))?;
+        posted.put(rt, &closing(round))
+    }
+
+    /// Fills a half by a round, in which then something is sold and the next order is opened.
+    fn round(self, rt: &impl Abort, round: u32) -> Result<Books<'s>, Fail> {
+        let closed = self.half_round(rt, round)?;
         let id = 2000u32.saturating_add(round);
         let sold = closed.put(rt, &Record::Sold { id, price: 10 })?;
         sold.put(rt, &opening(round.saturating_add(1)))
@@ -561,12 +633,12 @@ fn totals_after(rounds: u32) -> Totals {
     }
 }
 
-/// What the operator has after a hundred rounds: 10,500 were posted.
+/// What the operator has after 99 rounds and the half of one: 10,500 were posted, and no order of a round is open.
 const LAST: Totals = Totals {
-    available: 6_300,
-    reserved: 230,
+    available: 6_350,
+    reserved: 190,
     paid: 2_970,
-    sold: 1_000,
+    sold: 990,
 };
 
 #[test]
@@ -575,7 +647,7 @@ fn a_journal_turns_a_hundred_times(rt: HostRuntime) -> Result<(), Fail> {
     let setup = setup();
     let mut books = Books::new(&rt, alloc, &setup)?.begin(&rt)?;
     assert_eq!(rt; (books.journal.base(), books.journal.used()), (0, 4));
-    for round in 1..101u32 {
+    for round in 1..100u32 {
         books = books.round(&rt, round)?;
         assert_eq!(rt;
             (books.journal.base(), books.journal.used()),
@@ -591,16 +663,16 @@ fn a_journal_turns_a_hundred_times(rt: HostRuntime) -> Result<(), Fail> {
         assert_eq!(rt; *books.tally.carry(), carry_after(round), "round {round}");
         assert_eq!(rt; books.ledger.totals(), totals_after(round), "round {round}");
     }
-    assert_eq!(rt; books.ledger.totals(), LAST);
-
-    // The disk tells the same to whoever opens it, but for the lines of 400 records.
     let Books {
         journal,
         tally: _,
-        ledger: _,
-    } = books;
+        ledger,
+    } = books.half_round(&rt, 100)?;
+    assert_eq!(rt; ledger.totals(), LAST);
+
+    // Whoever opens it finds its last two records and the carry of 400, and none of those that stood in that half before.
     let mut journal = opened(journal.into_disk())?;
-    assert_eq!(rt; (journal.base(), journal.used()), (400, 404));
+    assert_eq!(rt; (journal.base(), journal.used()), (400, 402));
     assert_eq!(rt; *journal.carry(), last_carry());
     let resumed = resume(&rt, &setup, &mut journal)?;
     assert_eq!(rt; resumed.totals(), LAST);
