@@ -113,7 +113,9 @@ fn wanted(alloc: Global, base: u32, used: u32) -> Result<Found, Fail> {
 }
 
 /// What is found.
-fn look_at(alloc: Global, journal: &mut Journal<MemDisk>) -> Result<Found, Fail> {
+fn look_at(alloc: Global, journal: &mut Journal<MemDisk>) -> Result<Found, Fail>
+    ensures { has_failed journal.new ≡ has_failed journal.old }
+{
     let (base, used) = (journal.base(), journal.used());
     let mut text = String::new(alloc);
     if base < used {
@@ -206,7 +208,29 @@ fn tally_of<'s>(rt: &impl Abort, setup: &'s Setup, journal: &Journal<MemDisk>) -
     tally
 }
 
-/// What is found on a disk; and the journal goes on from there to the fourth record.
+/// A journal of so many of the records goes on to the fourth.
+fn go_on(rt: &impl Abort, journal: &mut Journal<MemDisk>) -> Result<(), Fail>
+    requires { has_failed journal.old ≡ false }
+{
+    let setup = setup();
+    let mut tally = tally_of(rt, &setup, journal);
+    let used = journal.used();
+    if used < 1 {
+        put(rt, journal, &mut tally, &record(0))?;
+    }
+    if used < 2 {
+        put(rt, journal, &mut tally, &record(1))?;
+    }
+    if used < 3 {
+        put(rt, journal, &mut tally, &record(2))?;
+    }
+    if used < 4 {
+        put(rt, journal, &mut tally, &record(3))?;
+    }
+    Ok(())
+}
+
+/// What is found on a disk; and the journal goes on from there.
 fn stands(
     rt: &impl Abort,
     alloc: Global,
@@ -220,25 +244,7 @@ fn stands(
         wanted(alloc, base, used)?,
         "{what}"
     );
-    let setup = setup();
-    let Some(mut tally) = Tally::resume(&setup, journal.base(), journal.carry()) else {
-        panic!(rt; "the carry fits the setup: {what}");
-    };
-    if base < used {
-        assert!(rt; tally.add(&record(base)), "{what}");
-    }
-    if used < 1 {
-        put(rt, &mut journal, &mut tally, &record(0))?;
-    }
-    if used < 2 {
-        put(rt, &mut journal, &mut tally, &record(1))?;
-    }
-    if used < 3 {
-        put(rt, &mut journal, &mut tally, &record(2))?;
-    }
-    if used < 4 {
-        put(rt, &mut journal, &mut tally, &record(3))?;
-    }
+    go_on(rt, &mut journal)?;
     assert_eq!(rt;
         look_at(alloc, &mut journal)?,
         wanted(alloc, 3, 4)?,
