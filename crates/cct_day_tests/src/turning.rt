@@ -1,6 +1,7 @@
 //! A machine over a journal each of whose halves takes one record, so that each put but the first turns it: its lines are
 //! those of a machine whose journal doesn't turn.
-ghost use Rattle.std.specs.Prelude.{◌≡◌, IfOk};
+ghost use Rattle.std.specs.Prelude.{◌≡◌};
+ghost use Rattle.cct_model.specs.Legal.{is_played};
 ghost use Rattle.cct_model.specs.Setup.{IsSoundSetup};
 
 use arrayvec::ArrayVec;
@@ -34,6 +35,13 @@ fn setup_by(rt: &impl Abort, lines: &str) -> Setup
     setup
 }
 
+/// Whether a step is one of a run, and not the end of its script.
+fn is_played(step: &Step) -> bool
+    ensures { result ≡ is_played step.now }
+{
+    !matches!(step, Step::End)
+}
+
 /// Plays a step, and writes its lines.
 fn play_line<'s>(
     rt: &impl Abort,
@@ -44,7 +52,7 @@ fn play_line<'s>(
     let Ok(step) = read_step_line(line.as_bytes()) else {
         panic!(rt; "no step: {line}");
     };
-    assert!(rt; world.knows(&step) && !matches!(step, Step::End), "{line}");
+    assert!(rt; world.knows(&step) && is_played(&step), "{line}");
     let mut report = ArrayVec::new();
     let world = match world.step(&step, &mut report) {
         Ok(world) => world,
