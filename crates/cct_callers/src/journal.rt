@@ -54,7 +54,8 @@ fn tally_of<'s, D: Disk>(
     journal: &mut Journal<D>,
 ) -> Result<Option<Tally<'s>>, ReadNo>
     requires sound { IsSoundSetup setup.now }
-    ensures whole { has_failed journal.new ≡ has_failed journal.old }
+    requires whole { has_failed journal.old ≡ false }
+    ensures whole { has_failed journal.new ≡ false }
     ensures counted { IfOk result (λ found. IfSome found (λ tally. many_of tally ≡ used_of journal.new)) }
 {
     let Some(mut tally) = Tally::resume(setup, journal.base(), journal.carry()) else {

@@ -1,6 +1,7 @@
 //! A journal that turns. Within the first turns each disk call fails once, and the power is cut after each. And one turns a
 //! hundred times, with an epoch and two orders open over each turn: its sums are counted by hand.
-ghost use Rattle.std.specs.Prelude.{◌≡◌, false, IfOk};
+ghost use Rattle.std.specs.Prelude.{◌≡◌, ◌≤◌, false, IfOk};
+ghost use Rattle.cct_model.specs.Carried.{IsRightly};
 ghost use Rattle.cct_model.specs.Setup.{IsSoundSetup};
 ghost use Rattle.cct_record.specs.Body.{Encodable};
 ghost use Rattle.cct_carry.specs.Tally.{many_of};
@@ -341,6 +342,14 @@ fn a_turn_outlasts_a_second_failure(rt: HostRuntime) -> Result<(), Fail> {
     Ok(())
 }
 
+/// The carry of all records of a journal, by their tally.
+fn carry_before(rt: &impl Abort, journal: &Journal<MemDisk>, tally: &Tally<'_>) -> Carry
+    ensures { IsRightly (used_of journal.now) result }
+{
+    assert!(rt; tally.many() == journal.used());
+    copied(tally.carry())
+}
+
 /// One record is put after so many, up to this one of the calls of its put, and the power is cut.
 fn cut_short(
     rt: &impl Abort,
@@ -352,11 +361,10 @@ fn cut_short(
     let setup = setup();
     let mut tally = Tally::new(&setup);
     let journal = filled(rt, alloc, &mut tally, records, &[])?;
-    assert!(rt;
-        calls <= 4 && tally.many() == journal.used() && journal.used() < journal.capacity()
-    );
+    let carry = carry_before(rt, &journal, &tally);
+    assert!(rt; calls <= 4 && journal.used() < journal.capacity());
     let mut disk = journal
-        .put_calls(&record(records), tally.carry(), calls)
+        .put_calls(&record(records), &carry, calls)
         .map_err(|(_, failed)| failed)?;
     disk.power_cut(choice)?;
     let what = format!(in alloc; "record {records}, {calls} calls, choice {choice}")?;
@@ -410,16 +418,15 @@ fn restarts(
     let setup = setup();
     let mut tally = Tally::new(&setup);
     let mut journal = filled(rt, alloc, &mut tally, records, &[])?;
-    assert!(rt;
-        calls <= 4 && tally.many() == journal.used() && journal.used() < journal.capacity()
-    );
+    let carry = carry_before(rt, &journal, &tally);
+    assert!(rt; calls <= 4 && journal.used() < journal.capacity());
     let mut replayed = Replayed {
         base: 9,
         carry: Carry::empty(),
         used: 9,
     };
     let put = Some(record(records));
-    let counted = journal.restart(&put, tally.carry(), calls, choice, &mut replayed)?;
+    let counted = journal.restart(&put, &carry, calls, choice, &mut replayed)?;
     let (base, used) = left_by(records, calls, choice);
     let what = format!(in alloc; "record {records}, {calls} calls, choice {choice}")?;
     assert_eq!(rt; counted, used, "{what}");
@@ -600,9 +607,16 @@ fn orders_after(rounds: u32) -> CarryOrders {
 }
 
 /// How many orders of so many rounds were closed, and how many of them with counts of life that don't fit.
-fn orders_closed(rounds: u32) -> (u64, u64) {
-    let odd = u64::from(rounds >= ODD);
-    (u64::from(rounds).saturating_sub(odd), odd)
+fn orders_closed(rounds: u32) -> (u64, u64)
+    ensures closed { result.0 ≤ rounds }
+    ensures odd { result.1 ≤ 1 }
+{
+    let closed = u64::from(rounds);
+    if rounds < ODD {
+        (closed, 0)
+    } else {
+        (closed.saturating_sub(1), 1)
+    }
 }
 
 /// The carry of the first half and of so many rounds, one at least.
