@@ -8,7 +8,7 @@ ghost use Rattle.cct_journal.specs.Journal.{has_failed, used_of};
 use crate::acceptor;
 use cct_carry::Tally;
 use cct_disk::{Disk, MemDisk};
-use cct_journal::{Journal, JournalNo, ReadNo};
+use cct_journal::{Journal, JournalNo, OpenNo, ReadNo};
 use cct_lines::{CarryEpoch, Devices, Record, Setup};
 use std::test::Fail;
 
@@ -45,6 +45,16 @@ fn put<D: Disk>(
     journal.put(entry, tally.carry())?;
     tally.add(entry);
     Ok(())
+}
+
+/// The journal on a disk.
+fn opened<D: Disk>(disk: D) -> Result<Journal<D>, OpenNo>
+    ensures { IfOk result (λ journal. has_failed journal ≡ false) }
+{
+    match Journal::reopen(disk) {
+        Ok((journal, _)) => Ok(journal),
+        Err((_, why)) => Err(why),
+    }
 }
 
 /// The tally of all records of a journal, if it is one of this machine: it begins with the carry, and goes over the records
@@ -89,8 +99,8 @@ fn a_record_outlives_a_power_cut(rt: HostRuntime) -> Result<(), Fail> {
     disk.power_cut(0)?;
 
     // The machine starts again. The other record isn't there, and is put once more.
-    let (mut journal, used) = Journal::reopen(disk).map_err(|(_, why)| why)?;
-    assert_eq!(rt; used, 1);
+    let mut journal = opened(disk)?;
+    assert_eq!(rt; journal.used(), 1);
     let Some(mut tally) = tally_of(&setup, &mut journal)? else {
         panic!(rt; "the records of this machine");
     };
