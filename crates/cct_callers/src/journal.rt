@@ -48,7 +48,7 @@ fn put<D: Disk>(
 }
 
 /// The journal on a disk.
-fn opened<D: Disk>(disk: D) -> Result<Journal<D>, OpenNo>
+fn opened(disk: MemDisk) -> Result<Journal<MemDisk>, OpenNo>
     ensures { IfOk result (λ journal. has_failed journal ≡ false) }
 {
     match Journal::reopen(disk) {
