@@ -247,71 +247,99 @@ fn a_report_stops_at_each_fault_of_the_disk(rt: HostRuntime) -> Result<(), Fail>
     Ok(())
 }
 
-/// A byte that is set on the disk after the run of a posted coin, and how a report then ends. Slots have 32 bytes: the
-/// header has the first, the epoch the second, and the reading the third.
-const POKED: [(u64, u8, Status, &[u8]); 28] = [
+/// A byte that is set on the disk after the run of a posted coin, and how a report then ends. Slots have 32 bytes. Of the
+/// first half the first slot is the header, three have the carry of no record, and after 32 blank ones come those of the
+/// epoch, at place 1152, and of the reading. The second half begins at place 1,048,576, and is blank.
+const POKED: [(u64, u8, Status, &[u8]); 46] = [
     // the header
     (0, 0, Status::JournalLost, b"journal alien\n"),
     (0, 0xa4, Status::JournalLost, b"journal alien\n"),
     (1, b'c', Status::JournalLost, b"journal alien\n"),
-    (15, 2, Status::JournalLost, b"journal alien\n"),
+    (14, b'l', Status::JournalLost, b"journal alien\n"),
+    (15, 1, Status::JournalLost, b"journal alien\n"),
+    (15, 3, Status::JournalLost, b"journal alien\n"),
+    // a generation of the other half, and one above the base
+    (16, 1, Status::JournalLost, b"journal alien\n"),
+    (16, 2, Status::JournalLost, b"journal alien\n"),
+    (24, 2, Status::JournalLost, b"journal alien\n"),
+    (24, 4, Status::JournalLost, b"journal alien\n"),
     (31, 1, Status::JournalLost, b"journal alien\n"),
-    // the body of the epoch
-    (33, 0, Status::JournalLost, b"journal bad 0\n"),
-    (33, 9, Status::JournalLost, b"journal bad 0\n"),
-    (37, 1, Status::JournalLost, b"journal bad 0\n"),
-    (63, 1, Status::JournalLost, b"journal bad 0\n"),
+    // another base, whose records have the empty carry
     (
-        34,
+        20,
+        7,
+        Status::Done,
+        b"record 7 epoch 2 ffff\nrecord 8 reading 2 1 0 5/1\ntotal 1 0 0 0 0\n",
+    ),
+    // the carry: the first byte of a slot, a kind, a sum that no record has, and a slot that isn't used
+    (32, 1, Status::JournalLost, b"journal alien\n"),
+    (33, 10, Status::JournalLost, b"journal alien\n"),
+    (34, 1, Status::JournalLost, b"journal alien\n"),
+    (66, 1, Status::JournalLost, b"journal alien\n"),
+    (97, 0, Status::JournalLost, b"journal alien\n"),
+    (114, 1, Status::JournalLost, b"journal alien\n"),
+    (128, 1, Status::JournalLost, b"journal alien\n"),
+    (1151, 1, Status::JournalLost, b"journal alien\n"),
+    // the body of the epoch
+    (1153, 0, Status::JournalLost, b"journal bad 0\n"),
+    (1153, 9, Status::JournalLost, b"journal bad 0\n"),
+    (1157, 1, Status::JournalLost, b"journal bad 0\n"),
+    (1183, 1, Status::JournalLost, b"journal bad 0\n"),
+    (
+        1154,
         255,
         Status::Done,
         b"record 0 epoch 255 ffff\nrecord 1 reading 2 1 0 5/1\ntotal 1 0 0 0 0\n",
     ),
     (
-        35,
+        1155,
         0,
         Status::Done,
         b"record 0 epoch 2 ff00\nrecord 1 reading 2 1 0 5/1\ntotal 1 0 0 0 0\n",
     ),
     // the body of the reading
-    (65, 0, Status::JournalLost, b"journal bad 1\n"),
-    (69, 0, Status::JournalLost, b"journal bad 1\n"),
-    (69, 2, Status::JournalLost, b"journal bad 1\n"),
-    (69, 6, Status::JournalLost, b"journal bad 1\n"),
-    (70, 0, Status::JournalLost, b"journal bad 1\n"),
-    (72, 1, Status::JournalLost, b"journal bad 1\n"),
-    (95, 1, Status::JournalLost, b"journal bad 1\n"),
+    (1185, 0, Status::JournalLost, b"journal bad 1\n"),
+    (1189, 0, Status::JournalLost, b"journal bad 1\n"),
+    (1189, 2, Status::JournalLost, b"journal bad 1\n"),
+    (1189, 6, Status::JournalLost, b"journal bad 1\n"),
+    (1190, 0, Status::JournalLost, b"journal bad 1\n"),
+    (1192, 1, Status::JournalLost, b"journal bad 1\n"),
+    (1215, 1, Status::JournalLost, b"journal bad 1\n"),
     (
-        68,
+        1188,
         249,
         Status::Done,
         b"record 0 epoch 2 ffff\nrecord 1 reading 2 1 249 5/1\ntotal 1 249 0 0 0\n",
     ),
     (
-        70,
+        1190,
         255,
         Status::Done,
         b"record 0 epoch 2 ffff\nrecord 1 reading 2 1 0 255/1\ntotal 1 0 0 0 0\n",
     ),
     (
-        71,
+        1191,
         0,
         Status::Done,
         b"record 0 epoch 2 ffff\nrecord 1 reading 2 1 0 5/0\ntotal 1 0 0 0 0\n",
     ),
     // their gates
-    (32, 0, Status::Done, b"total 0 0 0 0 0\n"),
+    (1152, 0, Status::Done, b"total 0 0 0 0 0\n"),
     (
-        64,
+        1184,
         0,
         Status::Done,
         b"record 0 epoch 2 ffff\ntotal 0 0 0 0 0\n",
     ),
     // after the end
-    (96, 0xa5, Status::JournalLost, b"journal bad 2\n"),
-    (96, 0xa4, Status::Done, LISTED),
-    (97, 1, Status::Done, LISTED),
-    (128, 0xa5, Status::Done, LISTED),
+    (1216, 0xa5, Status::JournalLost, b"journal bad 2\n"),
+    (1216, 0xa4, Status::Done, LISTED),
+    (1217, 1, Status::Done, LISTED),
+    (1248, 0xa5, Status::Done, LISTED),
+    // the last slot of the half, and the other half: its gate alone, its title, and its last slot
+    (1_048_544, 0xa5, Status::Done, LISTED),
+    (1_048_576, 0xa5, Status::Done, LISTED),
+    (1_048_577, b'C', Status::Done, LISTED),
     (DISK - 32, 0xa5, Status::Done, LISTED),
 ];
 

@@ -13,14 +13,14 @@ const SCRIPT_LINES: usize = 27;
 
 const TEXT_LINES: usize = 10;
 
-/// A power cut in the place of the put of a reading, and whether its record is kept. Its gate stands at place 64.
-const READING_LOST: [(&str, bool); 40] = [
+/// A power cut in the place of the put of a reading, and whether its record is kept. Its gate stands at place 1184.
+const READING_LOST: [(&str, bool); 39] = [
     // no put is named
     ("crash 0", false),
     ("crash 1", false),
     ("crash 2", false),
     ("crash 3", false),
-    ("crash 101", false),
+    ("crash 5", false),
     // an address without a job
     ("crash 0 4 1", false),
     ("crash 1 4 1", false),
@@ -31,29 +31,28 @@ const READING_LOST: [(&str, bool); 40] = [
     ("crash 2 0 1", false),
     ("crash 2 0 2", false),
     ("crash 2 0 3", false),
-    ("crash 2 0 101", false),
+    ("crash 2 0 5", false),
     ("crash 2 1 0", false),
     ("crash 2 1 1", false),
     ("crash 2 1 2", false),
     ("crash 2 1 3", false),
-    ("crash 2 1 101", false),
+    ("crash 2 1 5", false),
     ("crash 2 2 0", false),
     ("crash 2 2 1", false),
     ("crash 2 2 2", false),
     ("crash 2 2 3", false),
-    ("crash 2 2 101", false),
+    ("crash 2 2 5", false),
     // the gate is written, and isn't synced yet
     ("crash 2 3 0", false),
     ("crash 2 3 1", true),
     ("crash 2 3 2", true),
     ("crash 2 3 3", false),
     ("crash 2 3 4", false),
-    ("crash 2 3 100", false),
-    ("crash 2 3 101", true),
-    ("crash 2 3 102", false),
+    ("crash 2 3 5", true),
+    ("crash 2 3 6", false),
     ("crash 2 3 165", false),
-    ("crash 2 3 357", true),
-    ("crash 2 3 18446744073709551461", true),
+    ("crash 2 3 261", true),
+    ("crash 2 3 18446744073709551365", true),
     ("crash 2 3 18446744073709551615", false),
     // the gate is synced
     ("crash 2 4 0", true),
@@ -76,10 +75,10 @@ const CLEAN: &[u8] = b"crash 2\nkept reading 2 1 0 5/1\nok round 2\n\
       clean 2\nidle 2\n";
 
 /// The script of a posted coin up to the step that puts its reading, and in its place this line and these.
-fn crashing(alloc: Global, line: &str, behind: &[u8]) -> Result<Vec<u8>, Fail> {
+fn crashing(alloc: Global, line: &str, after: &[u8]) -> Result<Vec<u8>, Fail> {
     let mut script = lines_and(alloc, POSTED, SCRIPT_LINES, line.as_bytes())?;
     script.extend_from_slice(b"\n")?;
-    script.extend_from_slice(behind)?;
+    script.extend_from_slice(after)?;
     Ok(script)
 }
 
@@ -90,8 +89,8 @@ fn a_reading_is_kept_or_posted_again(rt: HostRuntime) -> Result<(), Fail> {
         let script = crashing(alloc, line, b"round 2\nnext 2\nnext 2\nnext 2\nend\n")?;
         let blank = disk(alloc, DISK, &[])?;
         let (status, written, _) = play(alloc, &["run"], script, 4096, &[], &[], blank)?;
-        let behind = if kept { CLEAN } else { PUT_AGAIN };
-        let text = lines_and(alloc, POSTED_TEXT, TEXT_LINES, behind)?;
+        let after = if kept { CLEAN } else { PUT_AGAIN };
+        let text = lines_and(alloc, POSTED_TEXT, TEXT_LINES, after)?;
         assert_eq!(rt; status, Status::Done, "{line}");
         assert_eq!(rt; written.as_slice(), text.as_slice(), "{line}");
     }
@@ -100,7 +99,7 @@ fn a_reading_is_kept_or_posted_again(rt: HostRuntime) -> Result<(), Fail> {
 
 /// What is played after a coin of value 100 that was posted, by an acceptor at 2 and with a hopper at 3, and the last
 /// lines that it gives.
-const BEHIND: [(&[u8], &[u8]); 15] = [
+const AFTER: [(&[u8], &[u8]); 15] = [
     // an order that was opened, and not paid yet: no second dispense is sent
     (
         b"pay 3 41 4\nnext 3\nnext 3\nnext 3\ncrash 0\nsettle 3\nnext 3\nnext 3\nnext 3\n",
@@ -189,7 +188,7 @@ const BEHIND: [(&[u8], &[u8]); 15] = [
 ];
 
 /// A coin of value 100 is posted, and this is played after it.
-fn behind_a_coin(alloc: Global, steps: &[u8]) -> Result<Vec<u8>, Fail> {
+fn after_a_coin(alloc: Global, steps: &[u8]) -> Result<Vec<u8>, Fail> {
     let mut script = lines_and(
         alloc,
         POSTED,
@@ -208,8 +207,8 @@ const SETUP_LINES: usize = 17;
 #[test]
 fn a_host_goes_on_by_its_records(rt: HostRuntime) -> Result<(), Fail> {
     let alloc = rt.alloc();
-    for (steps, ending) in BEHIND {
-        let script = behind_a_coin(alloc, steps)?;
+    for (steps, ending) in AFTER {
+        let script = after_a_coin(alloc, steps)?;
         let text = String::from_utf8(script.clone()?)?;
         let blank = disk(alloc, DISK, &[])?;
         let (status, written, _) = play(alloc, &["run"], script, 4096, &[], &[], blank)?;
@@ -308,12 +307,12 @@ fn fails_by(
     let script = crashing(alloc, line, b"end\n")?;
     let failing = disk(alloc, DISK, &[call])?;
     let (status, written, left) = play(alloc, &["run"], script, 4096, &[], &[], failing)?;
-    let behind = match status {
+    let after = match status {
         Status::DiskFault => b"diskfault\n".as_slice(),
         _ if made > 2 => KEPT,
         _ => NOT_KEPT,
     };
-    let text = lines_and(alloc, POSTED_TEXT, TEXT_LINES, behind)?;
+    let text = lines_and(alloc, POSTED_TEXT, TEXT_LINES, after)?;
     assert_eq!(rt; written.as_slice(), text.as_slice(), "{line}, call {call}");
     if status == Status::DiskFault {
         let left = left_by_a_cut(alloc, left, choice)?.ok_or("no journal is left")?;
@@ -325,25 +324,25 @@ fn fails_by(
     Ok(status)
 }
 
-/// How many calls a power cut makes in all, so many of a put among them: it cuts the power, and reads the header, the
-/// slot of each record, and the slot after them.
-fn calls_of_a_loss(made: u64) -> u64 {
+/// How many calls a power cut makes in all, so many of a put among them: it cuts the power, looks at both halves, and
+/// reads the start of the current one, the slot of each record, and the slot after them.
+fn calls_of_a_cut(made: u64) -> u64 {
     let records: u64 = if made > 2 { 2 } else { 1 };
-    made.saturating_add(1 + 1 + records + 1)
+    made.saturating_add(1 + 2 + 1 + records + 1)
 }
 
 // Each of these calls may fail, and there is none after them.
 #[test]
-fn a_loss_of_power_stops_at_each_fault_of_the_disk(rt: HostRuntime) -> Result<(), Fail> {
+fn a_power_cut_stops_at_each_fault_of_the_disk(rt: HostRuntime) -> Result<(), Fail> {
     let alloc = rt.alloc();
     for (line, made) in FAILING {
-        for number in 1..made.saturating_add(9) {
+        for number in 1..made.saturating_add(11) {
             let call = CALLS_BEFORE.saturating_add(number);
             for choice in [0, 1, 3] {
                 let status = fails_by(&rt, alloc, (line, made), call, choice)?;
                 assert_eq!(rt;
                     status == Status::DiskFault,
-                    number <= calls_of_a_loss(made),
+                    number <= calls_of_a_cut(made),
                     "{line}, call {number}"
                 );
             }

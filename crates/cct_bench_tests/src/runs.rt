@@ -1,5 +1,5 @@
 //! Runs over a source that gives little at a time, over a source, a sink and a disk that fail, over a disk that isn't as
-//! a journal wants it, and up to a journal that is full.
+//! a journal wants it, and on after half of it is full.
 use cct_bench::{Status, bench};
 use cct_disk::{Disk, MemDisk};
 use cct_edge::{MemSink, MemSource};
@@ -48,6 +48,9 @@ pub(crate) const POSTED_TEXT: &[u8] = b"ok start 2 ffff\nwire 2 02000101fc 02000
       put reading 2 1 0 5/1\nposted 2\nok round 2\n\
       wire 2 020001e518 020001e518010b02000105010000000000000000eb\nwire 2 020001e617 020001e61701020200fffffd\n\
       clean 2\n";
+
+/// How many of its lines come before the coin.
+const START_LINES: usize = 23;
 
 /// The first so many puts of that transcript, which has two.
 fn first_puts(count: usize) -> &'static [u8] {
@@ -175,8 +178,8 @@ fn stops_at_each_fault_of_the_source(rt: HostRuntime) -> Result<(), Fail> {
     for taken in 0..=SCRIPT.len() {
         let (status, written) = play_words(alloc, 1, &[taken.saturating_add(1) as u64], &[])?;
         let text = lines_and(alloc, TRANSCRIPT, lines_played(taken), b"readfault\n")?;
-        assert_eq!(rt; status, Status::ReadFault, "behind {taken}");
-        assert_eq!(rt; written.as_slice(), text.as_slice(), "behind {taken}");
+        assert_eq!(rt; status, Status::ReadFault, "after {taken}");
+        assert_eq!(rt; written.as_slice(), text.as_slice(), "after {taken}");
     }
     Ok(())
 }
@@ -252,8 +255,8 @@ fn one_fault_ends_a_run(rt: HostRuntime) -> Result<(), Fail> {
     Ok(())
 }
 
-/// How many calls of the disk the run of a posted coin makes: 512 reads of a blank disk, four for the header, and four
-/// for each of two puts.
+/// How many calls of the disk the run of a posted coin makes: 512 reads of a blank disk, four that begin its first half,
+/// and four for each of two puts.
 pub(crate) const CALLS: u64 = 524;
 
 /// How many of them come before the first byte of the script.
@@ -300,7 +303,8 @@ fn stops_at_each_fault_of_the_disk(rt: HostRuntime) -> Result<(), Fail> {
     Ok(())
 }
 
-/// The records that a power cut leaves of a journal, each as the line of its put, or none where it leaves no header.
+/// The records that a power cut leaves of a journal that didn't turn, each as the line of its put, or none where no half is
+/// begun.
 pub(crate) fn left_by_a_cut(
     alloc: Global,
     disk: MemDisk,
@@ -308,14 +312,14 @@ pub(crate) fn left_by_a_cut(
 ) -> Result<Option<Vec<u8>>, Fail> {
     let mut disk = disk;
     disk.power_cut(choice)?;
-    let (mut journal, used) = match Journal::reopen(disk) {
-        Ok(opened) => opened,
+    let mut journal = match Journal::reopen(disk) {
+        Ok((journal, _)) => journal,
         Err((_, OpenNo::Alien)) => return Ok(None),
         Err((_, why)) => return Err(Fail::from(why)),
     };
     let mut sink = MemSink::new(alloc, 4096, Vec::new(alloc))?;
-    for index in 0..used {
-        if index < journal.used() {
+    for index in 0..journal.used() {
+        if journal.base() <= index && index < journal.used() {
             put_entry(&mut sink, &Entry::Put(journal.read_at(index)?))?;
         }
     }
@@ -341,54 +345,41 @@ fn try_cuts(rt: &impl Abort, alloc: Global, call: u64) -> Result<(), Fail> {
 }
 
 #[test]
-fn a_loss_of_power_leaves_the_puts_or_one_more(rt: HostRuntime) -> Result<(), Fail> {
+fn a_power_cut_leaves_the_puts_or_one_more(rt: HostRuntime) -> Result<(), Fail> {
     for call in 513..=CALLS {
         try_cuts(&rt, rt.alloc(), call)?;
     }
     try_cuts(&rt, rt.alloc(), 0)
 }
 
-/// What is played where two records more fit into a journal. A payment wants two; an order that it opened holds one.
-const FULL: &[u8] =
-    b"pay 3 1 2\nround 2\nstart 4 0001\nstop 2\nnext 3\nnext 3\nnext 3\nround 2\nnext 3\nfall 3\nfall 3\n\
-      fault host -\nnext 3\nfault host -\nnext 3\nfault host -\nnext 3\nround 2\nsettle 3\nnext 3\nnext 3\nnext 3\n\
-      round 2\npay 3 2 1\nbalance\nend\n";
+/// How many records a half takes; so many rounds fill it with the record of the epoch, and put one more.
+const ROUNDS: u32 = 32_732;
 
-const FULL_TEXT: &[u8] =
-    b"ok pay 3 1 2\nno round 2 journalfull 65533 2 1\nno start 4 0001 journalfull 65533 2 1\n\
-      no stop 2 journalfull 65533 2 2\nwire 3 030101a4a5b2 030101a4a5b201000300fc\n\
-      wire 3 030001a854 030001a85401030300000000f9\nput opened 1 3 2 0\nno round 2 journalfull 65534 1 1\n\
-      wire 3 030401a70700000248 030401a7070000024801000300fc\nfell 3\nfell 3\n\
-      fault host -\nwire 3 030001a656 030001a656\nfault host -\nwire 3 030001a656 030001a656\n\
-      fault host -\nwire 3 030001a656 030001a656\nnoanswer 3\nno round 2 journalfull 65534 1 1\nok settle 3\n\
-      wire 3 030001a656 030001a6560104030001000200f5\nwire 3 030001a854 030001a85401030300020000f7\n\
-      put closed 1 2 0\nclosed 3\nno round 2 journalfull 65535 0 1\nno pay 3 2 1 journalfull 65535 0 2\n\
-      balance 6553180 0 20 0\n";
+/// The event counter is then 92, the number of rounds modulo 255. No event is new to a host that starts again.
+const TURNED_TEXT: &[u8] = b"\nput reading 2 92 0 1/1\nposted 2\ncrash 32733\nok round 2\n\
+      wire 2 020001e518 020001e518010b02005c010101010101010101018c\nwire 2 020001e617 020001e61701020200fffffd\n\
+      clean 2\nidle 2\n";
+
+/// The carry has the sums of all that were put before.
+const TURNED_REPORT: &[u8] = b"record 32732 reading 2 92 0 1/1\ntotal 32732 0 0 0 0\n";
 
 #[test]
-fn a_full_journal_refuses_commands_and_no_put(rt: HostRuntime) -> Result<(), Fail> {
+fn a_full_half_is_followed_by_the_other(rt: HostRuntime) -> Result<(), Fail> {
     let alloc = rt.alloc();
-    let mut script = Vec::new(alloc);
-    script.extend_from_slice(
-        b"acceptor 2 simple 1 0\nvalue 2 5 100 XX100A\nacceptor 4 crc 4 0\nvalue 4 1 5 XX005A\n\
-          hopper 3 simple 7 0 10\nbegin\nstart 2 0010\nnext 2\nnext 2\nnext 2\nnext 2\n",
-    )?;
-    for _ in 0..65_532 {
-        script.extend_from_slice(b"coin 2 5\nround 2\nnext 2\nnext 2\nnext 2\n")?;
+    let mut script = lines_and(alloc, POSTED, START_LINES, b"")?;
+    for _ in 0..ROUNDS {
+        script.extend_from_slice(b"coin 2 1\nround 2\nnext 2\nnext 2\nnext 2\n")?;
     }
-    script.extend_from_slice(FULL)?;
+    script.extend_from_slice(b"crash 0\nround 2\nnext 2\nnext 2\nnext 2\nend\n")?;
     let blank = disk(alloc, DISK, &[])?;
     let (status, written, disk) = play(alloc, &["run"], script, 4096, &[], &[], blank)?;
     assert_eq!(rt; status, Status::Done);
-    assert!(rt; written.as_slice().ends_with(FULL_TEXT));
-    let puts = written
-        .as_slice()
-        .windows(5)
-        .filter(|front| *front == b"\nput ".as_slice())
-        .count();
-    assert_eq!(rt; puts, 65_535);
+    assert!(rt; written.as_slice().ends_with(TURNED_TEXT));
+    let nothing = Vec::new(alloc);
+    let (status, report, disk) = play(alloc, &["report"], nothing, 1, &[1], &[], disk)?;
+    assert_eq!(rt; (status, report.as_slice()), (Status::Done, TURNED_REPORT));
     match Journal::reopen(disk) {
-        Ok((_, used)) => assert_eq!(rt; used, 65_535),
+        Ok((journal, used)) => assert_eq!(rt; (journal.base(), used), (ROUNDS, ROUNDS + 1)),
         Err((_, why)) => return Err(Fail::from(why)),
     }
     Ok(())

@@ -71,23 +71,23 @@ fn next(host: &mut Host<'_, MemDisk>, line: &mut Serial<'_>) -> Result<Option<En
     Ok(report.pop())
 }
 
-/// A new journal without a record, on a disk with room for three.
+/// A new journal without a record, on a disk each of whose halves has room for three.
 fn journal(alloc: Global) -> Result<Journal<MemDisk>, Fail>
     ensures { IfOk result (λ journal. journals.has_failed journal ≡ false) }
 {
-    match Journal::create(MemDisk::new(alloc, 128, Vec::new(alloc))?) {
+    match Journal::create(MemDisk::new(alloc, 2496, Vec::new(alloc))?) {
         Ok(journal) => Ok(journal),
         Err((_, why)) => Err(Fail::from(why)),
     }
 }
 
-/// The second record of the journal on a disk, if it has one.
+/// The second record of the journal on a disk, if its current half has it.
 fn second_record(disk: MemDisk) -> Result<Option<Record>, Fail> {
-    let (mut journal, used) = match Journal::reopen(disk) {
-        Ok(opened) => opened,
+    let mut journal = match Journal::reopen(disk) {
+        Ok((journal, _)) => journal,
         Err((_, why)) => return Err(Fail::from(why)),
     };
-    if used < 2 {
+    if journal.base() > 1 || journal.used() < 2 {
         return Ok(None);
     }
     Ok(Some(journal.read_at(1)?))

@@ -6,11 +6,11 @@ ghost use Rattle.cct_disk.specs.Laws.{untold_fits};
 use cct_disk::Disk;
 use cct_edge::Failed;
 use cct_journal::{CreateNo, Journal};
-use cct_lines::Record;
+use cct_lines::{Carry, Record};
 use std::test::Fail;
 
 /// How many bytes the part has.
-const BYTES: usize = 256;
+const BYTES: usize = 2560;
 
 /// A part, played in memory. A real one has the same two calls, and either may fail.
 #[derive(Drop)]
@@ -153,11 +153,14 @@ const SOLD: Record = Record::Sold { id: 7, price: 150 };
 #[test]
 fn an_erased_part_takes_a_journal(rt: HostRuntime) -> Result<(), Fail> {
     let mut journal = Journal::create(PartDisk::filled(0xff)).map_err(|(_, why)| why)?;
-    journal.put(&SOLD)?;
+    journal.put(&SOLD, &Carry::empty())?;
 
     // The gate of the first record is a5, and its body begins with its kind, 8: on the part both are inverted.
     let disk = journal.into_disk();
-    assert_eq!(rt; (disk.part.cells[32], disk.part.cells[33]), (0x5a, 0xf7));
+    assert_eq!(rt;
+        (disk.part.cells[1152], disk.part.cells[1153]),
+        (0x5a, 0xf7)
+    );
 
     // What was programmed is no blank disk any more, and is opened in place of that.
     let Err((disk, CreateNo::NotBlank { at: 0 })) = Journal::create(disk) else {
@@ -165,6 +168,7 @@ fn an_erased_part_takes_a_journal(rt: HostRuntime) -> Result<(), Fail> {
     };
     let (mut journal, used) = Journal::reopen(disk).map_err(|(_, why)| why)?;
     assert_eq!(rt; used, 1);
+    assert_eq!(rt; journal.base(), 0);
     let Record::Sold { id: 7, price: 150 } = journal.read_at(0)? else {
         panic!(rt; "the sale was put");
     };

@@ -1,6 +1,8 @@
 //! A day's use, and the same day with one more power cut: whatever is lost, the coins that were accepted, posted and
-//! paid, the balance, and the records on the disk agree at its end.
+//! paid, the balance, and the records on the disk agree at its end. And its lines are the same over a journal that turns at
+//! each put.
 
+use crate::turning;
 use cct_bench::{Status, bench};
 use cct_disk::MemDisk;
 use cct_edge::{MemSink, MemSource};
@@ -339,6 +341,9 @@ fn agrees(
         "{crash:?}: {front}"
     );
     assert_eq!(rt; report.as_str(), told.report(alloc)?.as_str(), "{crash:?}");
+    let (turned, journal) = turning::played(rt, alloc, script.as_str())?;
+    assert_eq!(rt; turned.as_str(), transcript.as_str(), "{crash:?}");
+    assert_eq!(rt; u64::from(journal.used()), told.records, "{crash:?}");
     assert_eq!(rt; told.fell, told.paid, "{crash:?}");
     assert_eq!(rt;
         told.accepted,
@@ -501,21 +506,21 @@ fn a_day_outlasts_a_crash_before_each_put(rt: HostRuntime) -> Result<(), Fail> {
 }
 
 #[test]
-fn a_day_outlasts_a_crash_behind_each_body(rt: HostRuntime) -> Result<(), Fail> {
+fn a_day_outlasts_a_crash_after_each_body(rt: HostRuntime) -> Result<(), Fail> {
     outlasts(&rt, rt.alloc(), 1, &NEVER)
 }
 
 #[test]
-fn a_day_outlasts_a_crash_behind_each_synced_body(rt: HostRuntime) -> Result<(), Fail> {
+fn a_day_outlasts_a_crash_after_each_synced_body(rt: HostRuntime) -> Result<(), Fail> {
     outlasts(&rt, rt.alloc(), 2, &NEVER)
 }
 
 #[test]
-fn a_day_outlasts_a_crash_behind_each_gate(rt: HostRuntime) -> Result<(), Fail> {
+fn a_day_outlasts_a_crash_after_each_gate(rt: HostRuntime) -> Result<(), Fail> {
     outlasts(&rt, rt.alloc(), 3, &SOMETIMES)
 }
 
 #[test]
-fn a_day_outlasts_a_crash_behind_each_put(rt: HostRuntime) -> Result<(), Fail> {
+fn a_day_outlasts_a_crash_after_each_put(rt: HostRuntime) -> Result<(), Fail> {
     outlasts(&rt, rt.alloc(), 4, &ALWAYS)
 }

@@ -1,7 +1,9 @@
-//! Tests of a host by itself, and of days of use with one more power cut.
+//! Tests of a host by itself, and of days of use with one more power cut, over a journal that turns too.
 #![tactic(auto)]
 
 #[cfg(test)]
 mod day;
 #[cfg(test)]
 mod host;
+#[cfg(test)]
+mod turning;

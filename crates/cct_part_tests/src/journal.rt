@@ -1,11 +1,16 @@
-// A journal on a disk in memory, with a failure of each disk call and power cuts between any two.
-ghost use Rattle.std.specs.Prelude.{◌≡◌, false, IfOk};
-ghost use Rattle.cct_journal.specs.Journal.{has_failed};
+// A journal on a disk in memory, in its first half: a put that is cut short, a failure of each disk call, and a journal
+// that is full.
+ghost use Rattle.std.specs.Prelude.{◌≡◌, false, IfOk, OnOk};
+ghost use Rattle.cct_lines.specs.Carried.{IsRightly};
+ghost use Rattle.cct_record.specs.Body.{Encodable};
+ghost use Rattle.cct_journal.specs.Journal.{has_failed, used_of};
 
+use crate::machine::{copied, setup};
+use cct_carry::Tally;
 use cct_disk::{Disk, MemDisk};
 use cct_edge::Failed;
 use cct_journal::{CreateNo, Journal, JournalNo, OpenNo, Replay};
-use cct_lines::Record;
+use cct_lines::{Carry, Record};
 use std::alloc::Global;
 use std::process::Abort;
 use std::test::Fail;
@@ -13,7 +18,13 @@ use std::test::Fail;
 // What is put. Its body is 4, 9 and 29 bytes 0.
 const ENTRY: Record = Record::EpochEnd { addr: 9 };
 
-const HEADER: [u8; 32] = *b"\xa5CCTALK JOURNAL\x01\0\0\0\0\0\0\0\0\0\0\0\0\0\0\0\0";
+// How many bytes a disk has if each half takes one record, and how many if each takes three.
+pub(crate) const ONE_EACH: u64 = 2368;
+
+const THREE_EACH: u64 = 2496;
+
+// What the first half of a new journal begins with: its header, and a carry of three bodies without a sum.
+const HEADER: [u8; 32] = *b"\xa5CCTALK JOURNAL\x02\0\0\0\0\0\0\0\0\x03\0\0\0\0\0\0\0";
 
 // What a body may be after a power cut: not yet written, written, and written at even places alone; and bytes that
 // rise by one from the first on.
@@ -27,14 +38,14 @@ const EVEN: [u8; 31] = [
     0, 9, 0, 0, 0, 0, 0, 0, 0, 0, 0, 0, 0, 0, 0, 0, 0, 0, 0, 0, 0, 0, 0, 0, 0, 0, 0, 0, 0, 0, 0,
 ];
 
-const FROM_36: [u8; 31] = [
-    36, 37, 38, 39, 40, 41, 42, 43, 44, 45, 46, 47, 48, 49, 50, 51, 52, 53, 54, 55, 56, 57, 58, 59,
-    60, 61, 62, 63, 64, 65, 66,
+const FROM_132: [u8; 31] = [
+    132, 133, 134, 135, 136, 137, 138, 139, 140, 141, 142, 143, 144, 145, 146, 147, 148, 149, 150,
+    151, 152, 153, 154, 155, 156, 157, 158, 159, 160, 161, 162,
 ];
 
-const FROM_37: [u8; 31] = [
-    37, 38, 39, 40, 41, 42, 43, 44, 45, 46, 47, 48, 49, 50, 51, 52, 53, 54, 55, 56, 57, 58, 59, 60,
-    61, 62, 63, 64, 65, 66, 67,
+const FROM_133: [u8; 31] = [
+    133, 134, 135, 136, 137, 138, 139, 140, 141, 142, 143, 144, 145, 146, 147, 148, 149, 150, 151,
+    152, 153, 154, 155, 156, 157, 158, 159, 160, 161, 162, 163,
 ];
 
 const FROM_166: [u8; 31] = [
@@ -42,55 +53,91 @@ const FROM_166: [u8; 31] = [
     185, 186, 187, 188, 189, 190, 191, 192, 193, 194, 195, 196,
 ];
 
-// How many calls of the first put were made, how the power was lost then, the gate and the body that stand there, and
-// how many records are found. The gate stands at place 32.
+// How many calls of the first put were made, how the power was cut then, the gate and the body that stand there, and
+// how many records are found. The gate stands at place 1152, in the last slot of its half.
 const CUTS: [(u8, u64, u8, &[u8; 31], u32); 24] = [
     (1, 0, 0, &NONE, 0),
     (1, 1, 0, &BODY, 0),
     (1, 2, 0, &EVEN, 0),
-    (1, 3, 0, &FROM_36, 0),
-    (1, 4, 0, &FROM_37, 0),
-    (1, 133, 0, &FROM_166, 0),
+    (1, 3, 0, &FROM_132, 0),
+    (1, 4, 0, &FROM_133, 0),
+    (1, 37, 0, &FROM_166, 0),
     (2, 0, 0, &BODY, 0),
     (2, 1, 0, &BODY, 0),
     (2, 2, 0, &BODY, 0),
     (2, 3, 0, &BODY, 0),
     (2, 4, 0, &BODY, 0),
-    (2, 133, 0, &BODY, 0),
+    (2, 37, 0, &BODY, 0),
     (3, 0, 0, &BODY, 0),
     (3, 1, 165, &BODY, 1),
     (3, 2, 165, &BODY, 1),
-    (3, 3, 35, &BODY, 0),
-    (3, 4, 36, &BODY, 0),
-    (3, 133, 165, &BODY, 1),
+    (3, 3, 131, &BODY, 0),
+    (3, 4, 132, &BODY, 0),
+    (3, 37, 165, &BODY, 1),
     (4, 0, 165, &BODY, 1),
     (4, 1, 165, &BODY, 1),
     (4, 2, 165, &BODY, 1),
     (4, 3, 165, &BODY, 1),
     (4, 4, 165, &BODY, 1),
-    (4, 133, 165, &BODY, 1),
+    (4, 37, 165, &BODY, 1),
 ];
 
-fn disk(alloc: Global, len: u64, fails: &[u64]) -> Result<MemDisk, Fail> {
+pub(crate) fn disk(alloc: Global, len: u64, fails: &[u64]) -> Result<MemDisk, Fail> {
     Ok(MemDisk::new(alloc, len, fails.to_vec(alloc)?)?)
 }
 
-// A new journal on a disk for three records, whose calls with these numbers fail. It makes five calls: one reads the
-// disk, four lay the header.
-fn created(alloc: Global, fails: &[u64]) -> Result<Journal<MemDisk>, Fail>
+// A new journal on a disk of so many bytes, at most 4,096, whose calls with these numbers fail. It makes five calls: one
+// reads the disk, four begin the first half.
+pub(crate) fn created(alloc: Global, len: u64, fails: &[u64]) -> Result<Journal<MemDisk>, Fail>
     ensures { IfOk result (λ journal. has_failed journal ≡ false) }
 {
-    match Journal::create(disk(alloc, 128, fails)?) {
+    match Journal::create(disk(alloc, len, fails)?) {
         Ok(journal) => Ok(journal),
         Err((_, why)) => Err(Fail::from(why)),
     }
 }
 
+// Opens the journal on a disk.
+pub(crate) fn opened(disk: MemDisk) -> Result<Journal<MemDisk>, Fail>
+    ensures { IfOk result (λ journal. has_failed journal ≡ false) }
+{
+    match Journal::reopen(disk) {
+        Ok((journal, _)) => Ok(journal),
+        Err((_, why)) => Err(Fail::from(why)),
+    }
+}
+
+// Puts a record after the others, and counts it.
+pub(crate) fn put(
+    rt: &impl Abort,
+    journal: &mut Journal<MemDisk>,
+    tally: &mut Tally<'_>,
+    entry: &Record,
+) -> Result<(), Fail>
+    requires whole { has_failed journal.old ≡ false }
+    requires encodable { Encodable entry.now }
+    ensures { OnOk result (has_failed journal.new ≡ false) }
+{
+    assert!(rt; tally.many() == journal.used() && journal.used() < journal.capacity());
+    journal.put(entry, tally.carry())?;
+    tally.add(entry);
+    Ok(())
+}
+
+// The carry of all records of a journal whose current half has none.
+fn carry_of(rt: &impl Abort, journal: &Journal<MemDisk>) -> Carry
+    ensures { IsRightly (used_of journal.now) result }
+{
+    assert!(rt; journal.used() == journal.base());
+    copied(journal.carry())
+}
+
 // The disk after the first calls of a put, or after one that failed.
 fn cut_short(rt: &impl Abort, journal: Journal<MemDisk>, calls: u8) -> Result<MemDisk, Failed> {
+    let carry = carry_of(rt, &journal);
     assert!(rt; calls <= 4 && journal.used() < journal.capacity());
     journal
-        .put_calls(&ENTRY, calls)
+        .put_calls(&ENTRY, &carry, calls)
         .map_err(|(_, failed)| failed)
 }
 
@@ -104,18 +151,23 @@ fn restarted(
     requires { has_failed journal ≡ false }
 {
     let mut journal = journal;
+    let carry = carry_of(rt, &journal);
     assert!(rt; calls <= 4 && journal.used() < journal.capacity());
-    journal.restart(&Some(ENTRY), calls, choice, &mut Shown::default())
+    journal.restart(&Some(ENTRY), &carry, calls, choice, &mut Shown::default())
 }
 
-// How many records were replayed, each at its index.
+// The index after the last record that was replayed, each at its index.
 #[derive(Debug, Default, Drop)]
 struct Shown {
     records: u32,
 }
 
 impl Replay for Shown {
-    ghost replayed = { λ _ _ _ _. Unit {0} };
+    ghost replayed = { λ _ _ _ _ _. Unit {0} };
+
+    fn begin(&mut self, base: u32, _carry: &Carry) {
+        self.records = base;
+    }
 
     fn replay(&mut self, index: u32, _entry: &Record) {
         if index == self.records {
@@ -125,77 +177,68 @@ impl Replay for Shown {
 }
 
 // A new journal with so many records, three at most, on a disk whose calls with these numbers fail.
-fn filled(alloc: Global, records: u32, fails: &[u64]) -> Result<Journal<MemDisk>, Fail>
+fn filled(
+    rt: &impl Abort,
+    alloc: Global,
+    records: u32,
+    fails: &[u64],
+) -> Result<Journal<MemDisk>, Fail>
     ensures { IfOk result (λ journal. has_failed journal ≡ false) }
 {
-    let mut journal = created(alloc, fails)?;
+    let setup = setup();
+    let mut tally = Tally::new(&setup);
+    let mut journal = created(alloc, THREE_EACH, fails)?;
     if records > 0 {
-        journal.put(&ENTRY)?;
+        put(rt, &mut journal, &mut tally, &ENTRY)?;
     }
     if records > 1 {
-        journal.put(&ENTRY)?;
+        put(rt, &mut journal, &mut tally, &ENTRY)?;
     }
     if records > 2 {
-        journal.put(&ENTRY)?;
+        put(rt, &mut journal, &mut tally, &ENTRY)?;
     }
     Ok(journal)
 }
 
 // All that a read gives.
-fn image_of(rt: &impl Abort, disk: &mut MemDisk) -> Result<[u8; 128], Fail> {
-    let mut image = [0; 128];
-    assert_eq!(rt; disk.len(), 128);
+fn image_of(rt: &impl Abort, disk: &mut MemDisk) -> Result<[u8; 2368], Fail> {
+    let mut image = [0; 2368];
+    assert_eq!(rt; disk.len(), 2368);
     disk.read(0, &mut image)?;
     Ok(image)
 }
 
-// The header, one slot with this gate and this body, and bytes 0.
-fn image_with(gate: u8, body: &[u8; 31]) -> [u8; 128] {
-    let mut image = [0; 128];
+// The start of the first half, its only slot with this gate and this body, and bytes 0.
+fn image_with(gate: u8, body: &[u8; 31]) -> [u8; 2368] {
+    let mut image = [0; 2368];
     image[..32].copy_from_slice(&HEADER);
-    image[32] = gate;
-    image[33..64].copy_from_slice(body);
+    image[33] = 9;
+    image[65] = 10;
+    image[97] = 11;
+    image[1152] = gate;
+    image[1153..1184].copy_from_slice(body);
     image
 }
 
 fn found(disk: MemDisk) -> Result<u32, Fail> {
-    let (_, used) = Journal::reopen(disk).map_err(|(_, why)| why)?;
-    Ok(used)
+    Ok(opened(disk)?.used())
 }
 
+// Each way to cut a put short: by the disk that it leaves, and in place.
 #[test]
-fn a_full_journal_takes_no_more(rt: HostRuntime) -> Result<(), Fail> {
-    let alloc = rt.alloc();
-    match Journal::create(disk(alloc, 32, &[])?) {
-        Err((_, CreateNo::Small { len })) => assert_eq!(rt; len, 32),
-        _ => panic!(rt; "32 bytes are enough"),
-    }
-    let mut journal = created(alloc, &[])?;
-    journal.put(&ENTRY)?;
-    journal.put(&ENTRY)?;
-    journal.put(&ENTRY)?;
-    match journal.put(&ENTRY) {
-        Err(JournalNo::Full { used }) => assert_eq!(rt; used, 3),
-        _ => panic!(rt; "a fourth record is taken"),
-    }
-    Ok(())
-}
-
-#[test]
-fn a_loss_of_power_leaves_the_record_or_not(rt: HostRuntime) -> Result<(), Fail> {
+fn a_power_cut_leaves_the_record_or_not(rt: HostRuntime) -> Result<(), Fail> {
     let alloc = rt.alloc();
     for (calls, choice, gate, body, records) in CUTS {
-        let mut disk = cut_short(&rt, created(alloc, &[])?, calls)?;
+        let mut disk = cut_short(&rt, created(alloc, ONE_EACH, &[])?, calls)?;
         disk.power_cut(choice)?;
         let image = image_of(&rt, &mut disk)?;
-        assert_eq!(rt;
-            image,
-            image_with(gate, body),
+        assert!(rt;
+            image == image_with(gate, body),
             "{calls} calls, choice {choice}"
         );
         assert_eq!(rt; found(disk)?, records, "{calls} calls, choice {choice}");
         assert_eq!(rt;
-            restarted(&rt, created(alloc, &[])?, calls, choice)?,
+            restarted(&rt, created(alloc, ONE_EACH, &[])?, calls, choice)?,
             records,
             "in place, {calls} calls, choice {choice}"
         );
@@ -204,26 +247,26 @@ fn a_loss_of_power_leaves_the_record_or_not(rt: HostRuntime) -> Result<(), Fail>
 }
 
 // How many records there are before a power cut in no put, and the number of its last disk call. Five calls make the
-// journal and four put each record; then one cuts the power, one reads the header, and one reads each slot up to the first
-// shut gate.
-const LAST_CALLS: [(u32, u64); 4] = [(0, 8), (1, 13), (2, 18), (3, 22)];
+// journal and four put each record; then one cuts the power, two look at the halves, one reads the start of the current
+// one, and one reads each slot up to the first shut gate.
+const LAST_CALLS: [(u32, u64); 4] = [(0, 10), (1, 15), (2, 20), (3, 24)];
 
 #[test]
-fn a_loss_of_power_costs_one_reading(rt: HostRuntime) -> Result<(), Fail> {
+fn a_power_cut_costs_one_reading(rt: HostRuntime) -> Result<(), Fail> {
     let alloc = rt.alloc();
     for (records, last) in LAST_CALLS {
-        let mut journal = filled(alloc, records, &[last])?;
+        let mut journal = filled(&rt, alloc, records, &[last])?;
         assert!(rt;
             matches!(
-                journal.restart(&None, 0, 1, &mut Shown::default()),
+                journal.restart(&None, &Carry::empty(), 0, 1, &mut Shown::default()),
                 Err(OpenNo::Disk)
             ),
             "{records} records, fewer calls"
         );
         let mut shown = Shown::default();
-        let mut journal = filled(alloc, records, &[last + 1])?;
+        let mut journal = filled(&rt, alloc, records, &[last + 1])?;
         assert_eq!(rt;
-            journal.restart(&None, 0, 1, &mut shown)?,
+            journal.restart(&None, &Carry::empty(), 0, 1, &mut shown)?,
             records,
             "{records} records, more calls"
         );
@@ -233,10 +276,67 @@ fn a_loss_of_power_costs_one_reading(rt: HostRuntime) -> Result<(), Fail> {
 }
 
 #[test]
+fn a_disk_may_be_too_small(rt: HostRuntime) -> Result<(), Fail> {
+    let alloc = rt.alloc();
+    for len in [0, 32, 2367] {
+        match Journal::create(disk(alloc, len, &[])?) {
+            Err((_, CreateNo::Small { len: told })) => assert_eq!(rt; told, len),
+            _ => panic!(rt; "{len} bytes are enough"),
+        }
+        let Err((_, OpenNo::Alien)) = Journal::reopen(disk(alloc, len, &[])?) else {
+            panic!(rt; "a journal on {len} bytes");
+        };
+    }
+    assert!(rt; Journal::create(disk(alloc, ONE_EACH, &[])?).is_ok());
+    Ok(())
+}
+
+// The last base but one that a journal may have, low byte first. Where it stands in the first half.
+const LATE_BASE: [(u64, u8); 4] = [(20, 0xfe), (21, 0xff), (22, 0xff), (23, 0xff)];
+
+// A journal that was new, and has one record less than it takes.
+fn nearly_full(rt: &impl Abort, alloc: Global) -> Result<Journal<MemDisk>, Fail>
+    ensures { IfOk result (λ journal. has_failed journal ≡ false) }
+{
+    let mut disk = created(alloc, ONE_EACH, &[])?.into_disk();
+    for (place, byte) in LATE_BASE {
+        assert!(rt; place < disk.len());
+        disk.poke(place, byte);
+    }
+    opened(disk)
+}
+
+#[test]
+fn a_full_journal_takes_no_more(rt: HostRuntime) -> Result<(), Fail> {
+    let setup = setup();
+    let mut journal = nearly_full(&rt, rt.alloc())?;
+    assert_eq!(rt;
+        (journal.used(), journal.base()),
+        (4_294_967_294, 4_294_967_294)
+    );
+    let Some(mut tally) = Tally::resume(&setup, journal.base(), journal.carry()) else {
+        panic!(rt; "the empty carry fits");
+    };
+    put(&rt, &mut journal, &mut tally, &ENTRY)?;
+    assert_eq!(rt;
+        (journal.used(), journal.base()),
+        (4_294_967_295, 4_294_967_294)
+    );
+    assert!(rt; tally.many() == journal.used());
+    match journal.put(&ENTRY, tally.carry()) {
+        Err(JournalNo::Full { used }) => assert_eq!(rt; used, 4_294_967_295),
+        _ => panic!(rt; "one more record is taken"),
+    }
+    // What was refused changed nothing, and the last record stands.
+    assert_eq!(rt; found(journal.into_disk())?, 4_294_967_295);
+    Ok(())
+}
+
+#[test]
 fn a_failure_is_told_by_create(rt: HostRuntime) -> Result<(), Fail> {
     let alloc = rt.alloc();
     for call in 1..6 {
-        let disk = disk(alloc, 128, &[call])?;
+        let disk = disk(alloc, ONE_EACH, &[call])?;
         assert!(rt;
             matches!(Journal::create(disk), Err((_, CreateNo::Disk))),
             "call {call}"
@@ -250,9 +350,10 @@ fn a_failure_is_told_by_create(rt: HostRuntime) -> Result<(), Fail> {
 
 // A put on a new journal, of whose disk calls one fails, and how many records are found after a power cut that
 // keeps what was written.
-fn put_with_failure(alloc: Global, call: u64) -> Result<(bool, u32), Fail> {
-    let mut journal = created(alloc, &[call])?;
-    let is_told = matches!(journal.put(&ENTRY), Err(JournalNo::Disk));
+fn put_with_failure(rt: &impl Abort, alloc: Global, call: u64) -> Result<(bool, u32), Fail> {
+    let mut journal = created(alloc, ONE_EACH, &[call])?;
+    let carry = carry_of(rt, &journal);
+    let is_told = matches!(journal.put(&ENTRY, &carry), Err(JournalNo::Disk));
     let disk = journal.power_cut(1).map_err(|(_, failed)| failed)?;
     Ok((is_told, found(disk)?))
 }
@@ -262,12 +363,12 @@ fn a_failure_is_told_by_put(rt: HostRuntime) -> Result<(), Fail> {
     let alloc = rt.alloc();
     for (call, records) in [(6, 0), (7, 0), (8, 0), (9, 1)] {
         assert_eq!(rt;
-            put_with_failure(alloc, call)?,
+            put_with_failure(&rt, alloc, call)?,
             (true, records),
             "call {call}"
         );
         assert!(rt;
-            cut_short(&rt, created(alloc, &[call])?, 4).is_err(),
+            cut_short(&rt, created(alloc, ONE_EACH, &[call])?, 4).is_err(),
             "call {call}"
         );
     }
@@ -276,7 +377,7 @@ fn a_failure_is_told_by_put(rt: HostRuntime) -> Result<(), Fail> {
 
 // The record that was put is read back.
 fn is_read(journal: &mut Journal<MemDisk>) -> Option<bool> {
-    if journal.used() == 0 {
+    if journal.base() > 0 || journal.used() == 0 {
         return None;
     }
     match journal.read_at(0) {
@@ -290,12 +391,11 @@ fn is_read(journal: &mut Journal<MemDisk>) -> Option<bool> {
 #[test]
 fn a_failure_is_told_once(rt: HostRuntime) -> Result<(), Fail> {
     let alloc = rt.alloc();
-    let mut journal = created(alloc, &[10, 12, 14])?;
-    journal.put(&ENTRY)?;
+    let mut journal = filled(&rt, alloc, 1, &[10, 12, 14])?;
     assert_eq!(rt; is_read(&mut journal), None);
     assert_eq!(rt; is_read(&mut journal), Some(true));
     let Err((mut disk, Failed)) = journal.power_cut(1) else {
-        panic!(rt; "a loss of power that failed");
+        panic!(rt; "a power cut that failed");
     };
     disk.power_cut(1)?;
     let Err((disk, OpenNo::Disk)) = Journal::reopen(disk) else {

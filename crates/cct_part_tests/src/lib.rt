@@ -1,5 +1,5 @@
 //! Tests of the parts by themselves: a framer, devices that hear byte by byte, a life count, a hopper, the bodies of
-//! records and of a carry, a journal and how one is opened, and a ledger.
+//! records and of a carry, a journal, how it is opened and how it turns, and a ledger.
 #![tactic(auto)]
 
 #[cfg(test)]
@@ -17,6 +17,10 @@ mod ledger;
 #[cfg(test)]
 mod life;
 #[cfg(test)]
+mod machine;
+#[cfg(test)]
 mod opening;
 #[cfg(test)]
 mod record;
+#[cfg(test)]
+mod turns;

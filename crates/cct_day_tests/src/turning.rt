@@ -1,0 +1,120 @@
+//! A machine over a journal each of whose halves takes one record, so that each put but the first turns it: its lines are
+//! those of a machine whose journal doesn't turn.
+ghost use Rattle.std.specs.Prelude.{◌≡◌};
+ghost use Rattle.cct_model.specs.Legal.{is_played};
+ghost use Rattle.cct_model.specs.Setup.{IsSoundSetup};
+
+use arrayvec::ArrayVec;
+use cct_disk::MemDisk;
+use cct_edge::MemSink;
+use cct_journal::Journal;
+use cct_model::{Devices, Setup, Step};
+use cct_script::{add, read_setup_line, read_step_line};
+use cct_text::{TextLine, write_entries};
+use cct_world::World;
+use std::alloc::Global;
+use std::process::Abort;
+use std::test::Fail;
+
+/// How many bytes a disk has if each half takes one record.
+const ONE_EACH: u64 = 2368;
+
+/// The devices of the setup lines of a script.
+fn setup_by(rt: &impl Abort, lines: &str) -> Setup
+    ensures { IsSoundSetup result }
+{
+    let mut setup = Setup {
+        devices: Devices::new(),
+    };
+    for line in lines.lines() {
+        let Ok(said) = read_setup_line(line.as_bytes()) else {
+            panic!(rt; "no setup line: {line}");
+        };
+        assert!(rt; add(&mut setup, &said).is_ok(), "{line}");
+    }
+    setup
+}
+
+/// Whether a step is one of a run, and not the end of its script.
+fn is_played(step: &Step) -> bool
+    ensures { result ≡ is_played step.now }
+{
+    !matches!(step, Step::End)
+}
+
+/// Plays a step, and writes its lines.
+fn play_line<'s>(
+    rt: &impl Abort,
+    world: World<'s, MemDisk>,
+    line: &str,
+    out: &mut MemSink,
+) -> Result<World<'s, MemDisk>, Fail> {
+    let Ok(step) = read_step_line(line.as_bytes()) else {
+        panic!(rt; "no step: {line}");
+    };
+    assert!(rt; world.knows(&step) && is_played(&step), "{line}");
+    let mut report = ArrayVec::new();
+    let world = match world.step(&step, &mut report) {
+        Ok(world) => world,
+        Err((_, why)) => return Err(Fail::from(why)),
+    };
+    write_entries(out, &mut TextLine::new(), report.as_slice())?;
+    Ok(world)
+}
+
+/// Plays a whole script over a journal that turns, and gives what is written, and the journal. A transcript has room where
+/// it is no longer than eight times its script.
+pub(crate) fn played(
+    rt: &impl Abort,
+    alloc: Global,
+    script: &str,
+) -> Result<(String, Journal<MemDisk>), Fail> {
+    let (devices, steps) = script.split_once("begin\n").ok_or("no setup")?;
+    let steps = steps.strip_suffix("end\n").ok_or("no end")?;
+    let setup = setup_by(rt, devices);
+    let disk = MemDisk::new(alloc, ONE_EACH, Vec::new(alloc))?;
+    let journal = match Journal::create(disk) {
+        Ok(journal) => journal,
+        Err((_, why)) => return Err(Fail::from(why)),
+    };
+    assert!(rt; journal.used() == 0);
+    let mut world = match World::build(alloc, &setup, journal) {
+        Ok(world) => world,
+        Err((_, error)) => return Err(Fail::from(error)),
+    };
+    let room = script.len().saturating_mul(8).saturating_add(4096);
+    let mut out = MemSink::new(alloc, room, Vec::new(alloc))?;
+    for line in steps.lines() {
+        world = play_line(rt, world, line, &mut out)?;
+    }
+    let text = String::from_utf8(out.bytes().to_vec(alloc)?)?;
+    match Journal::reopen(world.into_disk()) {
+        Ok((journal, _)) => Ok((text, journal)),
+        Err((_, why)) => Err(Fail::from(why)),
+    }
+}
+
+/// A coin is posted, and a second round finds nothing to post.
+const POSTED: &str =
+    "acceptor 2 simple 1 0\nvalue 2 1 100 XX100A\nvalue 2 2 100 XX100A\nvalue 2 3 100 XX100A\n\
+      value 2 4 100 XX100A\nvalue 2 5 100 XX100A\nvalue 2 6 100 XX100A\nvalue 2 7 100 XX100A\n\
+      value 2 8 100 XX100A\nvalue 2 9 100 XX100A\nvalue 2 10 100 XX100A\nvalue 2 11 100 XX100A\n\
+      value 2 12 100 XX100A\nvalue 2 13 100 XX100A\nvalue 2 14 100 XX100A\nvalue 2 15 100 XX100A\n\
+      value 2 16 100 XX100A\nbegin\nstart 2 ffff\nnext 2\nnext 2\nnext 2\nnext 2\ncoin 2 5\n\
+      round 2\nnext 2\nnext 2\nnext 2\nround 2\nnext 2\nnext 2\nend\n";
+
+const POSTED_TEXT: &str = "ok start 2 ffff\nwire 2 02000101fc 02000101fc01000200fd\n\
+      wire 2 020001e518 020001e518010b02000000000000000000000000f2\nput epoch 2 ffff\n\
+      wire 2 020201e7ffff16 020201e7ffff1601000200fd\nstarted 2\naccepted 2 5 1\nok round 2\n\
+      wire 2 020001e518 020001e518010b02000105010000000000000000eb\nwire 2 020001e617 020001e61701020200fffffd\n\
+      put reading 2 1 0 5/1\nposted 2\nok round 2\n\
+      wire 2 020001e518 020001e518010b02000105010000000000000000eb\nwire 2 020001e617 020001e61701020200fffffd\n\
+      clean 2\n";
+
+#[test]
+fn a_coin_is_posted_by_a_turn(rt: HostRuntime) -> Result<(), Fail> {
+    let (text, journal) = played(&rt, rt.alloc(), POSTED)?;
+    assert_eq!(rt; text.as_str(), POSTED_TEXT);
+    assert_eq!(rt; (journal.used(), journal.base()), (2, 1));
+    Ok(())
+}
