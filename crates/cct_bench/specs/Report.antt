@@ -1,24 +1,26 @@
 -- What a report of the bench leaves: what it wrote, by its status, and what the disk was for it.
 use Rattle.std.specs.Prelude.{◌≡◌, ◌≢◌, ◌⊎◌, ℕ, List, [], ◌∷◌, ◌++◌, Result, Ok, Err}
 use Rattle.cct_edge.specs.declared.fault.Failed.{Failed}
+use Rattle.cct_model.specs.lines.carry.Carry.{Carry}
 use Rattle.cct_model.specs.lines.record.Record.{Record}
 use Rattle.cct_model.specs.lines.entry.Entry.{Entry}
 use Rattle.cct_model.specs.lines.entry.Entry.TheVariants as entry
-use Rattle.cct_journal.specs.Image.{IsAlien, IsBadAt}
+use Rattle.cct_journal.specs.Image.{HasFrom, IsAlien, IsBadAt}
 use Rattle.cct_journal.specs.declared.refusal.OpenNo.TheVariants as opening
-use Rattle.cct_report.specs.Listing.{FindsIn, listed, listing_from}
-use Rattle.cct_report.specs.Sums.{no_sums}
+use Rattle.cct_report.specs.Listing.{listed, listing_from}
+use Rattle.cct_report.specs.Sums.{sums_in}
 use Rattle.cct_report.specs.declared.listing.ReportEnd.{ReportEnd}
 use Rattle.cct_report.specs.declared.listing.ReportEnd.TheVariants as listing
 use Rattle.cct_bench.specs.declared.outcome.Status.{Status}
 use Rattle.cct_bench.specs.declared.outcome.Status.TheVariants as status
 use Rattle.cct_bench.specs.declared.play.TheConstants.{JOURNAL_BYTES}
 
--- What is known of a disk that a report reads: how many bytes it has; for which records it stands; whether it has no
--- journal; whether, with these records listed, that of an index can't be read; and whether a call of it failed.
+-- What is known of a disk that a report reads: how many bytes it has; which records it has after those of which carry,
+-- and how many those are; whether it has no journal; whether, with these records listed, that of an index can't be read; and
+-- whether a call of it failed.
 pub record Known : Type 1 where
   pub size : ℕ
-  pub stands : List Record → Type 0
+  pub has : ℕ → Carry → List Record → Type 0
   pub alien : Type 0
   pub bad : List Record → ℕ → Type 0
   pub failed : Type 0
@@ -27,17 +29,18 @@ pub record Known : Type 1 where
 abbrev pub image_known : ℕ → Type 0 → List ℕ → Known
 image_known size failed image = record {
   size = size;
-  stands = FindsIn image;
+  has = HasFrom image;
   alien = IsAlien image;
   bad = λ first index. (first ≡ []) × IsBadAt image index;
   failed = failed;
 }
 
--- A disk of this size whose reads give an image that stands for these records.
-abbrev pub records_known : ℕ → Type 0 → List Record → Known
-records_known size failed records = record {
+-- A disk of this size whose reads give an image that has these records after those of this carry, of which there are so
+-- many.
+abbrev pub records_known : ℕ → Type 0 → ℕ → Carry → List Record → Known
+records_known size failed base carry rest = record {
   size = size;
-  stands = λ found. found ≡ records;
+  has = λ many c found. (many ≡ base) × (c ≡ carry) × (found ≡ rest);
   alien = ⊥;
   bad = λ first index. ⊥;
   failed = failed;
@@ -47,7 +50,7 @@ records_known size failed records = record {
 abbrev pub size_known : ℕ → Type 0 → Known
 size_known size failed = record {
   size = size;
-  stands = λ found. Unit {0};
+  has = λ base carry rest. Unit {0};
   alien = Unit {0};
   bad = λ first index. Unit {0};
   failed = failed;
@@ -60,18 +63,19 @@ module _ (disk : Known) where
   -- first records and a last line. Any other status is none of a report.
   abbrev pub ReportIs : Status → List Entry → Type 0
   ReportIs status.Done lines =
-      (records : List Record) × (disk.size ≡ JOURNAL_BYTES) × disk.stands records × (lines ≡ listed 0 no_sums records)
+      (base : ℕ) × (carry : Carry) × (rest : List Record) × (disk.size ≡ JOURNAL_BYTES) × disk.has base carry rest
+      × (lines ≡ listed base (sums_in carry) rest)
   ReportIs status.DiskFault lines =
       (disk.size ≡ JOURNAL_BYTES) × disk.failed
       × ((lines ≡ entry.DiskFault ∷ [])
-      ⊎ ((first : List Record) × (behind : List Record) × disk.stands (first ++ behind)
-      × (lines ≡ listing_from 0 first ++ entry.DiskFault ∷ [])))
+      ⊎ ((base : ℕ) × (carry : Carry) × (first : List Record) × (later : List Record)
+      × disk.has base carry (first ++ later) × (lines ≡ listing_from base first ++ entry.DiskFault ∷ [])))
   ReportIs status.DiskSize lines = (disk.size ≢ JOURNAL_BYTES) × (lines ≡ entry.DiskSize disk.size ∷ [])
   ReportIs status.JournalLost lines =
       (disk.size ≡ JOURNAL_BYTES)
       × ((disk.alien × (lines ≡ entry.JournalAlien ∷ []))
-      ⊎ ((first : List Record) × (index : ℕ) × disk.bad first index
-      × (lines ≡ listing_from 0 first ++ entry.JournalBad index ∷ [])))
+      ⊎ ((base : ℕ) × (first : List Record) × (index : ℕ) × disk.bad first index
+      × (lines ≡ listing_from base first ++ entry.JournalBad index ∷ [])))
   ReportIs s lines = ⊥
 
   -- What a report wrote, by its status: all its lines; or, where the sink failed, up to a put that failed, those of a
@@ -88,7 +92,8 @@ IsOrMemory wanted s = (s ≡ wanted) ⊎ (s ≡ status.OutOfMemory)
 
 -- A report over a disk of this size, whose reads give this image, ended as these two decide, but for want of memory.
 pub record IsDecided (size : ℕ) (image : List ℕ) (s : Status) : Type 0 where
-  pub done : size ≡ JOURNAL_BYTES → (records : List Record) → FindsIn image records → IsOrMemory status.Done s
+  pub done : size ≡ JOURNAL_BYTES → (base : ℕ) (carry : Carry) (rest : List Record) → HasFrom image base carry rest
+      → IsOrMemory status.Done s
   pub alien : size ≡ JOURNAL_BYTES → IsAlien image → IsOrMemory status.JournalLost s
   pub bad : size ≡ JOURNAL_BYTES → (index : ℕ) → IsBadAt image index → IsOrMemory status.JournalLost s
   pub other : size ≢ JOURNAL_BYTES → IsOrMemory status.DiskSize s

@@ -6,11 +6,11 @@ ghost use Rattle.std.specs.Prelude.{◌≡◌, ◌≢◌, ◌⊎◌, [], ◌∷�
 ghost use Rattle.cct_edge.specs.Bytes.{Serves};
 ghost use Rattle.cct_edge.specs.declared.fault.Failed.{Failed};
 ghost use Rattle.cct_edge.specs.Faults.{Rose};
+ghost use Rattle.cct_model.specs.lines.carry.Carry.{Carry};
 ghost use Rattle.cct_model.specs.lines.record.Record.{Record};
 ghost use Rattle.cct_model.specs.Script.{script as script_in};
 ghost use Rattle.cct_disk.specs.Disk.{OnlyReads};
-ghost use Rattle.cct_journal.specs.Image.{IsBlank};
-ghost use Rattle.cct_report.specs.Listing.{FindsIn};
+ghost use Rattle.cct_journal.specs.Image.{HasFrom, IsBlank};
 ghost use Rattle.cct_bench.specs.declared.play.TheConstants.{JOURNAL_BYTES};
 ghost use Rattle.cct_bench.specs.Disks.{disks};
 ghost use Rattle.cct_world.specs.Relying.{losses_in};
@@ -74,14 +74,14 @@ pub fn bench<S: Source, K: Sink, D: Disk>(
         (disks D.size D.honest D.seen D.may_leave D.cuts D.cut_to disk result.1)
         (Rose (S.faults script.old) (S.faults script.new)) (Rose (D.faults disk) (D.faults result.1))) }
 
-    // With the word `report`: what was written, by the image of the disk where that is told, by any records that this
-    // stands for, and of any disk; that the disk was only read, and no byte of the script was taken.
+    // With the word `report`: what was written, by the image of the disk where that is told, by any carry and records that
+    // this has, and of any disk; that the disk was only read, and no byte of the script was taken.
     ensures reported { said_in words.now ≡ Some Words.Report → (image : List ℕ) → D.seen disk ≡ Some image
         → Reported (image_known (D.size disk) (Rose (D.faults disk) (D.faults result.1)) image) result.0
         (λ lines answer. Writes K.written K.puts out.old lines answer out.new) }
-    ensures report_every { said_in words.now ≡ Some Words.Report → (image : List ℕ) (records : List Record)
-        → D.seen disk ≡ Some image → FindsIn image records
-        → Reported (records_known (D.size disk) (Rose (D.faults disk) (D.faults result.1)) records) result.0
+    ensures report_every { said_in words.now ≡ Some Words.Report → (image : List ℕ) (base : ℕ) (carry : Carry)
+        (rest : List Record) → D.seen disk ≡ Some image → HasFrom image base carry rest
+        → Reported (records_known (D.size disk) (Rose (D.faults disk) (D.faults result.1)) base carry rest) result.0
         (λ lines answer. Writes K.written K.puts out.old lines answer out.new) }
     ensures report_lines { said_in words.now ≡ Some Words.Report → Reported (size_known (D.size disk) (Rose (D.faults disk) (D.faults result.1))) result.0
         (λ lines answer. Writes K.written K.puts out.old lines answer out.new) }

@@ -3,9 +3,10 @@ ghost use Rattle.std.specs.Prelude.{◌≡◌, ◌⊎◌, ℕ, List, Result, Som
 ghost use Rattle.cct_edge.specs.Bytes.{Serves};
 ghost use Rattle.cct_edge.specs.declared.fault.Failed.{Failed};
 ghost use Rattle.cct_edge.specs.Faults.{Caused, Rose};
+ghost use Rattle.cct_model.specs.lines.carry.Carry.{Carry};
 ghost use Rattle.cct_model.specs.lines.record.Record.{Record};
 ghost use Rattle.cct_disk.specs.Disk.{OnlyReads};
-ghost use Rattle.cct_report.specs.Listing.{FindsIn};
+ghost use Rattle.cct_journal.specs.Image.{HasFrom};
 ghost use Rattle.cct_text.specs.Writing.{Writes};
 ghost use Rattle.cct_bench.specs.Report.{IsDecided, IsOfReport, Reported, image_known, line_behind, records_known, reported_by};
 ghost use Rattle.cct_bench.specs.Report.{size_known};
@@ -23,11 +24,12 @@ use cct_text::TextLine;
 
 /// Lists the journal on a disk, which it gives back, and writes the last line where the status has one.
 pub fn report<K: Sink, D: Disk>(out: &mut K, line: &mut TextLine, disk: D) -> (Status, D)
-    // what was written, by what the image of the disk is, and by the records that it stands for
+    // what was written, by what the image of the disk is, and by the records that it has
     ensures reported { (image : List ℕ) → D.seen disk ≡ Some image → Reported (image_known (D.size disk) (Rose (D.faults disk) (D.faults result.1)) image) result.0
         (λ lines answer. Writes K.written K.puts out.old lines answer out.new) }
-    ensures every { (image : List ℕ) (records : List Record) → D.seen disk ≡ Some image → FindsIn image records
-        → Reported (records_known (D.size disk) (Rose (D.faults disk) (D.faults result.1)) records) result.0
+    ensures every { (image : List ℕ) (base : ℕ) (carry : Carry) (rest : List Record) → D.seen disk ≡ Some image
+        → HasFrom image base carry rest
+        → Reported (records_known (D.size disk) (Rose (D.faults disk) (D.faults result.1)) base carry rest) result.0
         (λ lines answer. Writes K.written K.puts out.old lines answer out.new) }
 
     // what was written, whether or not the disk tells its bytes

@@ -1,8 +1,8 @@
 -- A carry that is safe for some records is safe for one more, with a record more that follows, and as it is.
-use Rattle.std.proofs.Common.{◌≡◌, ℕ, ◌+◌, ◌-◌, ◌*◌, ◌^◌, ◌<◌, ◌≤◌, ◌==◌, ◌&&◌, max, nat_le, not, Bool, true, false, List, [], ◌∷◌, length, map, All, Option, Some, None, IfSome, is_none, is_some, ◌⊎◌, inl, inr, refl, ap, sym, ◌∙◌, subst, arith, eqb-true, leb-true, lit<}
+use Rattle.std.proofs.Common.{◌≡◌, ℕ, ◌+◌, ◌*◌, ◌^◌, ◌<◌, ◌≤◌, max, not, true, List, [], ◌∷◌, length, map, All, Option, Some, None, IfSome, is_none, is_some, ◌⊎◌, inl, inr, refl, ap, sym, ◌∙◌, subst, arith, eqb-true, leb-true, lit<}
 use Rattle.std.specs.Option.{option_map}
 use Rattle.std.proofs.lemmas.Bool.{and_parts}
-use Rattle.std.proofs.lemmas.List.Elements.{All-cons, All-head, All-nil, All-tail, All-weaker}
+use Rattle.std.proofs.lemmas.List.Elements.{All-head, All-nil, All-tail, All-weaker}
 use Rattle.cct_model.specs.terms.coin.TheConstants.{EVENTS}
 use Rattle.cct_model.specs.terms.device.TheConstants.{DEVICES}
 use Rattle.cct_model.specs.terms.device.Setup.{Setup}
@@ -11,10 +11,10 @@ use Rattle.cct_model.specs.lines.record.Record.TheVariants as record_of
 use Rattle.cct_model.specs.lines.carry.Carry.{Carry}
 use Rattle.cct_model.specs.lines.carry.CarryEpoch.{CarryEpoch}
 use Rattle.cct_model.specs.lines.carry.CarryOrder.{CarryOrder}
-use Rattle.cct_model.specs.Carried.{AreSmall, EpochFits, IsBelow, IsRightly, OrderFits, Rise, addr_of_epoch, addr_of_order, empty_carry, first_with, id_of_order, set_with, with_some}
-use Rattle.cct_model.specs.Carry.{AreApart, Fits, IsOther, IsSafe, available_held, carry_with, epoch_entry, epoch_from, epoch_held, epochs_after, follows_carry, odd_more, order_entry, order_from, order_held, order_with, orders_after, owed_by, owner_by}
+use Rattle.cct_model.specs.Carried.{AreSmall, EpochFits, IsRightly, OrderFits, Rise, addr_of_epoch, addr_of_order, empty_carry, first_with, id_of_order, set_with, with_some}
+use Rattle.cct_model.specs.Carry.{AreApart, IsOther, IsSafe, available_held, carry_with, epoch_entry, epoch_from, epoch_held, epochs_after, follows_carry, odd_more, order_entry, order_from, order_held, order_with, orders_after, owed_by, owner_by}
 use Rattle.cct_model.specs.Exchange.{acceptor_there, device_at, hopper_there}
-use Rattle.cct_model.specs.Following.{count_of, has_values, is_running}
+use Rattle.cct_model.specs.Following.{count_of}
 use Rattle.cct_model.specs.Job.{counted, epoch_by}
 use Rattle.cct_model.specs.Money.{amount, coins_of, coins_value}
 use Rattle.cct_model.specs.Order.{order_by}
@@ -23,7 +23,7 @@ use Rattle.cct_model.specs.Setup.{IsSoundSetup}
 use Rattle.cct_model.specs.Sums.{coins_paid, coins_posted, coins_unpaid, events_lost, posts_of, price_sold}
 use Rattle.cct_model.proofs.OpenOrders.{coins_both}
 use Rattle.cct_record.specs.Body.{InRange}
-use Rattle.cct_carry.specs.GoingOn.{CanGoOn, IsInReach}
+use Rattle.cct_carry.specs.GoingOn.{CanGoOn, IsCovered, IsInReach}
 use Rattle.cct_carry.proofs.Coins.{coins_most, values_most, worth_most}
 use Rattle.cct_carry.proofs.Sets.{all_set, by_order, few_in, first_above, first_by_both, first_here, first_holds, first_key, first_past, length_set, none_has, rise_set, set_before, set_found, set_here, set_past}
 
@@ -368,9 +368,6 @@ closes_many : (c : Carry) (id : ℕ) → (at : Closes c id) → count_of (order_
 closes_many c id at = ap (λ found. count_of (option_map order_from found)) at.named
 
 -- what is posted covers what is reserved, paid and sold
-abbrev IsCovered : Setup → Carry → Type 0
-IsCovered setup c = c.paid_value + c.odd_value + c.sold + owed_by setup c.orders ≤ c.value
-
 pub covered_next : (setup : Setup) (many : ℕ) (c : Carry) (r : Record) → IsSafe setup many c
     → follows_carry setup c r ≡ true → IsCovered setup (carry_with setup r c)
 covered_next setup many c (record_of.Opened id addr count life) safe ok =

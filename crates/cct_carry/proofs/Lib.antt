@@ -11,3 +11,5 @@ pub mod Follows
 pub mod Steps
 pub mod Over
 pub mod Resumed
+pub mod Splits
+pub mod Arms

@@ -1,5 +1,5 @@
 -- What is so of the carry of so many records.
-use Rattle.std.proofs.Common.{◌≡◌, ℕ, ◌+◌, ◌*◌, ◌^◌, ◌≤◌, List, [], ◌∷◌, length, refl, arith}
+use Rattle.std.proofs.Common.{◌≡◌, ℕ, List, [], refl, arith}
 use Rattle.std.proofs.lemmas.List.{nil_from_length}
 use Rattle.cct_model.specs.lines.carry.Carry.{Carry}
 use Rattle.cct_model.specs.lines.carry.CarryEpoch.{CarryEpoch}

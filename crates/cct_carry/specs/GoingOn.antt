@@ -1,12 +1,12 @@
 -- What it takes for a carry to go on by one more record.
-use Rattle.std.specs.Prelude.{◌≡◌, ℕ, ◌-◌, ◌^◌, ◌<◌, ◌≤◌, true, length, ⊤}
+use Rattle.std.specs.Prelude.{◌≡◌, ℕ, ◌+◌, ◌-◌, ◌^◌, ◌<◌, ◌≤◌, true, length, ⊤}
 use Rattle.cct_model.specs.terms.coin.TheConstants.{EVENTS}
 use Rattle.cct_model.specs.terms.device.TheConstants.{DEVICES}
 use Rattle.cct_model.specs.terms.device.Setup.{Setup}
 use Rattle.cct_model.specs.lines.record.Record.{Record}
 use Rattle.cct_model.specs.lines.record.Record.TheVariants as record_of
 use Rattle.cct_model.specs.lines.carry.Carry.{Carry}
-use Rattle.cct_model.specs.Carry.{IsSafe, follows_carry}
+use Rattle.cct_model.specs.Carry.{IsSafe, follows_carry, owed_by}
 use Rattle.cct_model.specs.Setup.{IsSoundSetup}
 
 -- The numbers of a record that a carry keeps or adds up fit their bytes, and its coins fit a record.
@@ -19,6 +19,10 @@ IsInReach (record_of.Opened id addr count life) = (id < 2 ^ 32) × (addr < 256) 
 IsInReach (record_of.Closed id paid unpaid) = (paid < 256) × (unpaid < 256)
 IsInReach (record_of.Odd id life_before life_after) = ⊤
 IsInReach (record_of.Sold id price) = (id < 2 ^ 32) × (price < 2 ^ 32)
+
+-- What is posted covers what was paid and sold and what is reserved.
+abbrev pub IsCovered : Setup → Carry → Type 0
+IsCovered setup c = c.paid_value + c.odd_value + c.sold + owed_by setup c.orders ≤ c.value
 
 -- A carry can go on by a record: it is safe for fewer than 2 ^ 32 - 1 records on a sound setup, and the record follows.
 pub record CanGoOn (setup : Setup) (c : Carry) (r : Record) : Type 0 where

@@ -2,11 +2,17 @@
 //! to the whole list of records (`docs/JOURNAL.md`, "The carry").
 #![tactic(auto)]
 
+mod entries;
+mod fits;
+mod following;
+mod going_on;
+mod held;
 mod laws;
 mod tally;
 mod values;
 mod worth;
 
+pub use held::{epoch_held, order_held};
 pub use laws::{
     a_carry_goes_on_by_more_records, a_carry_goes_on_by_one_record, a_carry_of_no_record_is_empty,
     a_carry_tells_what_its_records_tell, a_record_follows_a_carry_as_its_records,

@@ -4,8 +4,13 @@ ghost use Rattle.cct_model.specs.Setup.{IsSoundSetup};
 ghost use Rattle.cct_model.specs.Carried.{IsRightly, empty_carry};
 ghost use Rattle.cct_model.specs.Carry.{Fits, IsSafe, carry_with, follows_carry};
 ghost use Rattle.cct_record.specs.Body.{Encodable};
+ghost use Rattle.cct_carry.specs.Sound.{IsSafe-prop, IsSoundSetup-prop};
 
-use cct_model::{Carry, Record, Setup};
+use crate::fits::fits;
+use crate::following::follows;
+use crate::going_on::go_on;
+use cct_model::{Carry, DEVICES, Record, Setup};
+use std::alloc::AllocError;
 
 /// The carry of all records that a host went over, of which each follows those before it.
 #[derive(Debug, Drop)]
@@ -47,7 +52,7 @@ impl<'s> Tally<'s> {
             Some(Tally {
                 setup,
                 many,
-                carry: carry.clone(),
+                carry: copied(carry),
             })
         } else {
             None
@@ -65,6 +70,8 @@ impl<'s> Tally<'s> {
         ensures next { result ≡ true → carry_in self.new ≡ carry_with (setup_of self.old) entry.now (carry_in self.old) }
         ensures kept { result ≡ false → carry_in self.new ≡ carry_in self.old }
     {
+        // There is room for one more epoch or order: at most one stands at each device.
+        prove!(self.setup.devices.as_slice().len() <= DEVICES);
         let follows = follows(self.setup, &self.carry, entry);
         if follows {
             go_on(self.setup, &mut self.carry, entry);
@@ -94,4 +101,12 @@ impl<'s> Tally<'s> {
     {
         &self.carry
     }
+}
+
+/// The same carry once more. It takes no memory, so it can't fail as `clone` could.
+fn copied(carry: &Carry) -> Carry
+    ensures { result ≡ carry.now }
+{
+    let copy: Result<Carry, AllocError> = carry.clone();
+    copy.unwrap()
 }

@@ -2,10 +2,12 @@
 use Rattle.std.proofs.Common.{◌≡◌, ℕ, ◌+◌, ◌≤◌, Bool, List, ◌∷◌, ◌++◌, length, reverse, refl, sym, ap, ap₂, subst, ◌∙◌, Option, Some, None, arith}
 use Rattle.std.specs.Prelude.{Err, Ok, OnErr, OnOk, Result}
 use Rattle.std.specs.Option.{option_or}
+use Rattle.std.proofs.lemmas.List.{reverse-reverse}
 use Rattle.cct_edge.specs.declared.fault.Failed.{Failed}
 use Rattle.cct_model.specs.lines.command.Command.{Command}
 use Rattle.cct_model.specs.lines.command.CommandNo.{CommandNo}
 use Rattle.cct_model.specs.lines.record.Record.{Record}
+use Rattle.cct_model.specs.Carry.{carry}
 use Rattle.cct_model.specs.lines.entry.Entry.{Entry}
 use Rattle.cct_model.specs.Legal.{EntriesOfNext, command_entry, due_at}
 use Rattle.cct_model.specs.Records.{records}
@@ -15,8 +17,10 @@ use Rattle.cct_disk.specs.declared.disk.Disk.{Ghosts}
 use Rattle.cct_disk.specs.Disk.{IsTrusted}
 use Rattle.cct_journal.specs.declared.journal.Journal.{Journal}
 use Rattle.cct_journal.specs.declared.place.Place.{Place}
-use Rattle.cct_journal.specs.Image.{capacity_of}
+use Rattle.cct_carry.specs.declared.tally.Tally.{Tally}
+use Rattle.cct_carry.specs.Tally as tallies
 use Rattle.cct_journal.specs.Journal as journals
+use Rattle.cct_journal.specs.declared.format.TheConstants.{MOST_RECORDS}
 use Rattle.cct_disk.specs.Disk.{GoesOn}
 use Rattle.cct_ledger.specs.declared.ledger.Ledger.{Ledger}
 use Rattle.cct_ledger.specs.Ledger as ledgers
@@ -60,41 +64,47 @@ command_records c (Some why) past = refl
 module _ {D : Type 0} {g : Ghosts D} where
   next_keeps : (old new : Host D g) (addr : ℕ) (past news : List Entry) (rs : List Record)
       → records (news ++ past) ≡ rs → rs ≡ put_by (due_at (setup_of old) past addr) ++ records past
-      → PutsDue past addr old.desks new.desks old.ledger new.ledger old.journal new.journal
-      → Keeps old past → PutSuits (setup_of old) past addr → all_desks.StandsFor new.desks (news ++ past)
-      → Keeps new (news ++ past)
-  next_keeps old new addr past news rs named is puts keeps suits desks = record {
+      → PutsDue past addr old.desks new.desks old.ledger new.ledger old.tally new.tally old.journal new.journal
+      → setup_of new ≡ setup_of old → Keeps old past → PutSuits (setup_of old) past addr
+      → all_desks.StandsFor new.desks (news ++ past) → Keeps new (news ++ past)
+  next_keeps old new addr past news rs named is puts same keeps suits desks = record {
     desks = desks;
     ledger = subst (λ ls. ledgers.StandsFor new.ledger ls (all_desks.reserved_of new.desks)) (sym (named ∙ is))
         (puts.posts suits.taken keeps.ledger);
+    carry_is = subst (λ ls. tallies.carry_in new.tally ≡ carry (setup_of new) ls) (sym (named ∙ is))
+        (puts.adds suits.follow keeps.carry_is ∙ ap (λ s. carry s (put_by (due_at (setup_of old) past addr) ++ records past))
+        (sym same));
     used = counted_so _ _ (due_at (setup_of old) past addr) (records past) puts.used keeps.used
         ∙ sym (ap length (named ∙ is));
   }
 
   pub next_stands : (hears : List ℕ → List ℕ) (old new : Host D g) (addr : ℕ) (past news : List Entry)
       → GoesOn g.size g.honest g.seen g.cuts (disk_of old) (disk_of new)
-      → PutsDue past addr old.desks new.desks old.ledger new.ledger old.journal new.journal
-      → StandsFor old past → PutSuits (setup_of old) past addr
+      → PutsDue past addr old.desks new.desks old.ledger new.ledger old.tally new.tally old.journal new.journal
+      → setup_of new ≡ setup_of old → StandsFor old past → PutSuits (setup_of old) past addr
       → EntriesOfNext hears (setup_of old) past addr news → all_desks.StandsFor new.desks (news ++ past)
       → StandsFor new (news ++ past)
-  next_stands hears old new addr past news goes puts stands suits entries desks =
+  next_stands hears old new addr past news goes puts same stands suits entries desks =
       let due = due_at (setup_of old) past addr in
       let is = next_records hears (setup_of old) past addr news entries in
       record {
-        keeps = next_keeps old new addr past news _ refl is puts stands.keeps suits desks;
+        keeps = next_keeps old new addr past news _ refl is puts same stands.keeps suits desks;
         on_disk = λ trusted. subst
             (KeepsRecords (setup_of new) g.honest g.seen g.may_leave (disk_of new) (journals.place_of new.journal))
             (sym (put_last due (records past) (records (news ++ past)) is))
+            (subst (λ s. KeepsRecords s g.honest g.seen g.may_leave (disk_of new) (journals.place_of new.journal)
+            (reverse (records past) ++ put_by due)) (sym same)
             (puts.on_disk (stands.on_disk (trusted_before g.size g.honest g.seen g.cuts (disk_of old) (disk_of new) goes
-            trusted)));
+            trusted)) stands.keeps.carry_is));
       }
 
   pub next_goes : {L : Type 0} (gives : L → List ℕ → List ℕ → L → Type 0) (link left : L) (addr : ℕ)
-      (old new : Host D g) (report reported : List Entry)
+      (old new : Host D g) (report reported : List Entry) → setup_of new ≡ setup_of old
       → GoesOn g.size g.honest g.seen g.cuts (disk_of old) (disk_of new)
-      → Advances gives link left addr old.desks new.desks old.ledger new.ledger old.journal new.journal report reported
+      → Advances gives link left addr old.desks new.desks old.ledger new.ledger old.tally new.tally old.journal new.journal
+      report reported
       → Nexts gives link left addr old new report reported
-  next_goes gives link left addr old new report reported goes advances =
+  next_goes gives link left addr old new report reported same goes advances =
       let nexts = advances.nexts in
       record {
         what = nexts.what;
@@ -105,13 +115,14 @@ module _ {D : Type 0} {g : Ghosts D} where
             let turned = nexts.goes hears past heard stands.keeps.desks suits.owned in (
               turned.0,
               next_stands hears old new addr past (news_of addr nexts.what) goes (advances.puts past stands.keeps.desks)
-                  stands suits turned.0 turned.1,
+                  same stands suits turned.0 turned.1,
             );
       }
 
   -- a put that failed
   pub put_failed : (old new : Host D g) (addr : ℕ)
-      → FailsToPut addr old.desks new.desks old.ledger new.ledger old.journal new.journal → Fails old new addr
+      → FailsToPut addr old.desks new.desks old.ledger new.ledger old.tally new.tally old.journal new.journal
+      → Fails old new addr
   put_failed old new addr fails past stands =
       let failed = fails.fails past stands.keeps.desks in
       let desks = subst (λ d. all_desks.StandsFor d past) (sym fails.desks_stay) stands.keeps.desks in
@@ -121,32 +132,39 @@ module _ {D : Type 0} {g : Ghosts D} where
           desks = desks;
           ledger = subst (λ d. ledgers.StandsFor new.ledger (records past) (all_desks.reserved_of d))
               (sym fails.desks_stay) ledger;
+          carry_is = ap tallies.carry_in fails.tally_stays ∙ stands.keeps.carry_is
+              ∙ ap (λ d. carry (all_desks.setup_of d) (records past)) (sym fails.desks_stay);
           used = ap (λ (p : Place). p.used) fails.place ∙ stands.keeps.used;
         },
-        (failed.0, failed.1, λ trusted. failed.2 (reverse (records past)) (stands.on_disk trusted)),
+        (failed.0, failed.1, λ trusted. failed.2 (reverse (records past)) (stands.on_disk trusted)
+        (stands.keeps.carry_is ∙ ap (carry (setup_of old)) (sym (reverse-reverse (records past))))),
       )
 
   -- after a command that had room the parts of a host still belong together
-  pub together_taken : (desks turned : Desks) (ledger posted : Ledger) (journal : Journal D g) (c : Command)
-      (result : Result Unit CommandNo) → BelongTogether desks ledger journal
+  pub together_taken : (desks turned : Desks) (ledger posted : Ledger) (tally : Tally) (journal : Journal D g) (c : Command)
+      (result : Result Unit CommandNo) → BelongTogether desks ledger tally journal
       → GoOnTogether desks turned ledger posted → OnOk result (all_desks.TakesIn c desks turned)
       → OnErr result (all_desks.Stays desks turned × (posted ≡ ledger))
       → (1 ≤ puts_in (rows_begun (all_desks.setup_of desks) c)
       → journals.used_of journal + all_desks.held_of desks + needed (all_desks.setup_of desks) c
-      ≤ capacity_of (g.size (journals.disk_of journal)))
-      → BelongTogether turned posted journal
-  together_taken desks turned ledger posted journal c (Ok taken) together goes takes stays fits = record {
+      ≤ MOST_RECORDS)
+      → BelongTogether turned posted tally journal
+  together_taken desks turned ledger posted tally journal c (Ok taken) together goes takes stays fits = record {
     same = goes.same ∙ together.same ∙ sym goes.setup;
+    same_tally = together.same_tally ∙ sym goes.setup;
+    tallied = together.tallied;
     reserved = goes.reserved;
     counted = omega (arith, goes.counted, together.counted);
     fits = room_kept (puts_in (rows_begun (all_desks.setup_of desks) c)) _ _ _ _ _ _ _ together.fits takes.puts
         (puts_held turned) takes.holds fits;
   }
-  together_taken desks turned ledger posted journal c (Err why) together goes takes stays fits =
+  together_taken desks turned ledger posted tally journal c (Err why) together goes takes stays fits =
       let puts : all_desks.puts_of turned ≡ all_desks.puts_of desks =
       ap₂ (λ ks k. sum_in puts_at ks + puts_at k) stays.0.1 stays.0.3 in
       record {
         same = goes.same ∙ together.same ∙ sym goes.setup;
+        same_tally = together.same_tally ∙ sym goes.setup;
+        tallied = together.tallied;
         reserved = goes.reserved;
         counted = omega (arith, goes.counted, together.counted);
         fits = omega (arith, puts, together.fits);
@@ -159,8 +177,8 @@ module _ {D : Type 0} {g : Ghosts D} where
       → all_desks.Answers old.desks new.desks c result
       → ((before : List Record) → ledgers.StandsFor old.ledger before (all_desks.reserved_of old.desks)
       → ledgers.StandsFor new.ledger before (all_desks.reserved_of new.desks))
-      → new.journal ≡ old.journal → Answers old new c result
-  tried_answers old new c result room desks ledger same past stands =
+      → setup_of new ≡ setup_of old → new.tally ≡ old.tally → new.journal ≡ old.journal → Answers old new c result
+  tried_answers old new c result room desks ledger setup tally same past stands =
       let told = desks past stands.keeps.desks in
       let quiet = command_records c (no_of result) past in (
         told.0 ∙ nothing_behind _ ∙ room past stands.keeps,
@@ -169,12 +187,16 @@ module _ {D : Type 0} {g : Ghosts D} where
             desks = told.1;
             ledger = subst (λ rs. ledgers.StandsFor new.ledger rs (all_desks.reserved_of new.desks)) (sym quiet)
                 (ledger (records past) stands.keeps.ledger);
+            carry_is = ap tallies.carry_in tally ∙ stands.keeps.carry_is
+                ∙ ap₂ carry (sym setup) (sym quiet);
             used = ap journals.used_of same ∙ stands.keeps.used ∙ sym (ap length quiet);
           };
           on_disk = subst (λ journal. IsTrusted g.honest g.seen (journals.disk_of journal)
               → KeepsRecords (setup_of new) g.honest g.seen g.may_leave (journals.disk_of journal) (journals.place_of journal)
               (reverse (records (command_entry c (no_of result) ∷ past)))) (sym same)
-              (λ trusted. subst (λ rs. KeepsRecords (setup_of old) g.honest g.seen g.may_leave (disk_of old)
-              (journals.place_of old.journal) (reverse rs)) (sym quiet) (stands.on_disk trusted));
+              (λ trusted. subst (λ s. KeepsRecords s g.honest g.seen g.may_leave (disk_of old)
+              (journals.place_of old.journal) (reverse (records (command_entry c (no_of result) ∷ past)))) (sym setup)
+              (subst (λ rs. KeepsRecords (setup_of old) g.honest g.seen g.may_leave (disk_of old)
+              (journals.place_of old.journal) (reverse rs)) (sym quiet) (stands.on_disk trusted)));
         },
       )

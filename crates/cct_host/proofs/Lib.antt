@@ -1,4 +1,6 @@
 pub mod Attempts
+pub mod Begun
+pub mod Carried
 pub mod Commands
 pub mod Held
 pub mod Holding
@@ -16,4 +18,5 @@ pub mod Records
 pub mod Standing
 pub mod Starting
 pub mod Talks
+pub mod Tallying
 pub mod Turning

@@ -36,7 +36,7 @@ use Rattle.cct_host.proofs.Lines.{IsQuiet}
 abbrev pub is_at : ℕ → DeviceSetup → Bool
 is_at addr d = d.addr == addr
 
-pub none_here : (same : Bool) (d : DeviceSetup) (rest : Option DeviceSetup) → cond same (Some d) rest ≡ None
+none_here : (same : Bool) (d : DeviceSetup) (rest : Option DeviceSetup) → cond same (Some d) rest ≡ None
     → (same ≡ false) × (rest ≡ None)
 none_here true d rest e = absurd cc
 none_here false d rest e = (refl, e)
@@ -75,7 +75,7 @@ past_all true i e = absurd cc
 past_all false i e = refl
 
 -- no index, no device
-pub absent : (ds : List DeviceSetup) (addr : ℕ) (found : Option ℕ) → found ≡ position (is_at addr) ds → found ≡ None
+absent : (ds : List DeviceSetup) (addr : ℕ) (found : Option ℕ) → found ≡ position (is_at addr) ds → found ≡ None
     → device_at ds addr ≡ None
 absent ds addr found is none =
     let test : nat_lt (position_or_len (is_at addr) ds) (length ds) ≡ false = past_all _ _ (sym is ∙ none) in
@@ -87,7 +87,7 @@ pub found_in : (ds items : List DeviceSetup) (addr : ℕ) (found : Option ℕ) (
 found_in ds items addr found i lent is there = ap (position (is_at addr)) (sym lent) ∙ sym is ∙ there
 
 -- the device at an index
-pub at_this : (ds : List DeviceSetup) (i : ℕ) → i < length ds → (d : DeviceSetup) × (d ≡ get_or ds i d)
+at_this : (ds : List DeviceSetup) (i : ℕ) → i < length ds → (d : DeviceSetup) × (d ≡ get_or ds i d)
 at_this [] i within = absurd (omega arith)
 at_this (e ∷ es) zero within = (e, refl)
 at_this (e ∷ es) (suc i) within = at_this es i (omega arith)
@@ -179,7 +179,7 @@ owns_there setup d addr past there is owns =
     subst (λ a. IfSome (due_of d (lines_of d past) (model.job (lines_of d past))) (ClosesItsOwn past a)) (sym is)
     (subst (λ found. IfSome (due_there past addr found) (ClosesItsOwn past addr)) there owns)
 
-pub other_of : (a b : ℕ) → (a == b) ≡ false → a ≢ b
+other_of : (a b : ℕ) → (a == b) ≡ false → a ≢ b
 other_of a b e = grind (arith, nat_tests)
 
 -- entries of an address without a device
@@ -195,7 +195,7 @@ desks_apart (e ∷ es) (m ∷ ms) addr past news none at all =
           past news parts.1 at all.1,
     )
 
-pub apart : (es : List DeviceSetup) (i : ℕ) (d : DeviceSetup) (addr : ℕ) → i < length es → device_at es addr ≡ None
+apart : (es : List DeviceSetup) (i : ℕ) (d : DeviceSetup) (addr : ℕ) → i < length es → device_at es addr ≡ None
     → (get_or es i d).addr ≢ addr
 apart [] i d addr within none = absurd (omega arith)
 apart (e ∷ es) zero d addr within none = other_of _ _ (none_here (e.addr == addr) e _ none).0

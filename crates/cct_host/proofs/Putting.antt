@@ -1,6 +1,8 @@
 -- The records after a `next`, and what is put of them.
-use Rattle.std.proofs.Common.{◌≡◌, ℕ, ◌==◌, Bool, true, false, cond, List, [], ◌∷◌, ◌++◌, reverse, refl, sym, ap, ◌∙◌, Option, Some, None, arith}
+use Rattle.std.proofs.Common.{◌≡◌, ℕ, ◌==◌, Bool, true, false, cond, List, [], ◌∷◌, ◌++◌, reverse, refl, sym, ap, subst, ◌∙◌, Option, Some, None, arith}
+use Rattle.std.specs.Option.{IfSome}
 use Rattle.std.specs.Prelude.{MatchBool}
+use Rattle.std.proofs.lemmas.Bool.{and_parts}
 use Rattle.std.proofs.lemmas.Bool.Decides.{nat_tests}
 use Rattle.std.proofs.lemmas.List.{reverse-append}
 use Rattle.cct_model.specs.terms.wire.TheConstants.{BROADCAST, HOST}
@@ -12,13 +14,19 @@ use Rattle.cct_model.specs.lines.record.Record.{Record}
 use Rattle.cct_model.specs.lines.entry.End.{End}
 use Rattle.cct_model.specs.lines.entry.Entry.{Entry}
 use Rattle.cct_model.specs.lines.entry.Entry.TheVariants as entry
+use Rattle.cct_model.specs.lines.carry.Carry.{Carry}
+use Rattle.cct_model.specs.Carry.{carry, carry_with, follows_carry}
 use Rattle.cct_model.specs.Exchange.{device_at}
+use Rattle.cct_model.specs.Following.{all_follow}
 use Rattle.cct_model.specs.Job as model
 use Rattle.cct_model.specs.Legal.{BareNext, EntriesOfNext, NextEntries, OfNext, PollEntries, RowEntries, SaleEntries, SaleRowEntries, ScanEntries, due_at, due_of, due_of_sale, due_there, record_due, with_end}
 use Rattle.cct_model.specs.Line.{Line}
 use Rattle.cct_model.specs.Records.{records}
+use Rattle.cct_model.specs.Setup.{IsSoundSetup}
 use Rattle.cct_model.specs.Scan.{scan_row}
 use Rattle.cct_model.specs.Transcript.{lines_of, sale_lines, scan_lines}
+use Rattle.cct_carry.proofs.Follows.{follows_carried}
+use Rattle.cct_carry.proofs.Steps.{carry_next}
 use Rattle.cct_host.specs.Host.{put_by}
 use Rattle.cct_host.proofs.Lines.{wire_records}
 
@@ -114,3 +122,21 @@ pub put_last : (due : Option Record) (before after : List Record) → after ≡ 
     → reverse after ≡ reverse before ++ put_by due
 put_last due before after is =
     ap reverse is ∙ reverse-append (put_by due) before ∙ ap (λ rs. reverse before ++ rs) (one_turned due)
+
+-- the carry goes on by a record that follows
+pub carry_added : (setup : Setup) (r : Record) (before : List Record) (old new : Carry) (taken : Bool)
+    → IsSoundSetup setup → taken ≡ follows_carry setup old r → (taken ≡ true → new ≡ carry_with setup r old)
+    → all_follow setup (r ∷ before) ≡ true → old ≡ carry setup before → new ≡ carry setup (r ∷ before)
+carry_added setup r before old new taken sound tells goes follow is =
+    let parts = and_parts _ _ follow in
+    goes (tells ∙ ap (λ c. follows_carry setup c r) is ∙ follows_carried setup before sound parts.1 r ∙ parts.0)
+    ∙ ap (carry_with setup r) is ∙ carry_next setup before sound r follow
+
+pub due_added : (setup : Setup) (due : Option Record) (r : Record) (before : List Record) (old new : Carry) (taken : Bool)
+    → due ≡ Some r → IsSoundSetup setup → taken ≡ follows_carry setup old r
+    → (taken ≡ true → new ≡ carry_with setup r old) → IfSome due (λ r. all_follow setup (r ∷ before) ≡ true)
+    → old ≡ carry setup before → new ≡ carry setup (put_by due ++ before)
+due_added setup due r before old new taken there sound tells goes follow is =
+    carry_added setup r before old new taken sound tells goes
+    (subst (λ d. IfSome d (λ r. all_follow setup (r ∷ before) ≡ true)) there follow) is
+    ∙ ap (λ d. carry setup (put_by d ++ before)) (sym there)

@@ -3,6 +3,7 @@ use Rattle.std.proofs.Common.{◌≡◌, ◌∙◌, ◌∷◌, List, ap, length,
 use Rattle.cct_model.specs.lines.entry.Entry.{Entry}
 use Rattle.cct_model.specs.lines.entry.Entry.TheVariants as entry
 use Rattle.cct_model.specs.lines.entry.Totals.{Totals}
+use Rattle.cct_model.specs.Carry.{carry}
 use Rattle.cct_model.specs.Job.{epoch, job}
 use Rattle.cct_model.specs.Order.{order}
 use Rattle.cct_disk.specs.declared.disk.Disk.{Ghosts}
@@ -24,6 +25,7 @@ host_quiet {D} {g} host past e quiet stands =
         desks = desks_stand host.desks past e quiet stands.keeps.desks;
         ledger =
             subst (λ rs. ledgers.StandsFor host.ledger rs (all_desks.reserved_of host.desks)) same stands.keeps.ledger;
+        carry_is = stands.keeps.carry_is ∙ ap (carry (hosts.setup_of host)) same;
         used = stands.keeps.used ∙ ap length same;
       };
       on_disk = λ trusted.

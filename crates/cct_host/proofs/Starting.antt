@@ -1,12 +1,18 @@
--- A host that starts over records has all of a past without a job that has these records.
-use Rattle.std.proofs.Common.{◌≡◌, ◌+◌, ◌≤◌, List, [], ◌∷◌, length, refl, reverse, sym, ap, ap₂, subst, ◌∙◌, arith}
+-- A host that starts over a carry of records that follow one another is one that starts over these, and has all of a past
+-- without a job that has these records.
+use Rattle.std.proofs.Common.{◌≡◌, ◌+◌, ◌-◌, ◌<◌, ◌≤◌, ℕ, min, true, List, [], ◌∷◌, length, refl, reverse, sym, ap, ap₂, subst, ◌∙◌, arith}
 use Rattle.std.specs.List.{All}
+use Rattle.std.proofs.Math.Nat.{min-le_right}
+use Rattle.std.proofs.lemmas.List.{length-reverse}
 use Rattle.std.proofs.lemmas.List.Elements.{All-head, All-tail}
 use Rattle.cct_model.specs.terms.device.DeviceSetup.{DeviceSetup}
 use Rattle.cct_model.specs.terms.device.Setup.{Setup}
 use Rattle.cct_model.specs.lines.entry.Entry.{Entry}
 use Rattle.cct_model.specs.lines.record.Record.{Record}
+use Rattle.cct_model.specs.lines.carry.Carry.{Carry}
+use Rattle.cct_model.specs.Carry.{carry, carry_of, known_by}
 use Rattle.cct_model.specs.Exchange.{device_at}
+use Rattle.cct_model.specs.Following.{all_follow, known_in}
 use Rattle.cct_model.specs.Job as model
 use Rattle.cct_model.specs.Money.{coins_of, hopper_value}
 use Rattle.cct_model.specs.Order.{order}
@@ -15,10 +21,16 @@ use Rattle.cct_model.specs.Refusal.{running_id, sale_id}
 use Rattle.cct_model.specs.Transcript.{lines_of, sale_lines, scan_lines}
 use Rattle.cct_disk.specs.declared.disk.Disk.{Ghosts}
 use Rattle.cct_disk.specs.Disk.{IsTrusted}
+use Rattle.cct_journal.specs.Image.{Continues}
 use Rattle.cct_journal.specs.declared.journal.Journal.{Journal}
 use Rattle.cct_journal.specs.Journal as journals
+use Rattle.cct_journal.specs.declared.format.TheConstants.{MOST_RECORDS}
+use Rattle.cct_carry.specs.declared.tally.Tally.{Tally}
+use Rattle.cct_carry.specs.Tally as tallies
+use Rattle.cct_carry.proofs.Carried.{epoch_carried, order_carried}
 use Rattle.cct_ledger.specs.declared.ledger.Ledger.{Ledger}
 use Rattle.cct_ledger.specs.Ledger as ledgers
+use Rattle.cct_ledger.proofs.OverCarry.{resumed_stands}
 use Rattle.cct_laws.specs.Recorded.{HasNoJob}
 use Rattle.cct_laws.proofs.money.Recorded.{epoch_recorded, order_recorded}
 use Rattle.cct_host.specs.declared.desk.JobDesk.{JobDesk}
@@ -33,14 +45,16 @@ use Rattle.cct_host.specs.Host.{Keeps, StandsFor, disk_of, setup_of}
 use Rattle.cct_host.specs.Parts.{BelongTogether}
 use Rattle.cct_host.specs.Place.{device, sales, scans}
 use Rattle.cct_host.specs.Replayed.{AllReplay, AreUnused, IsUnused, Replays, ReplaysAt}
-use Rattle.cct_host.specs.Starting.{HasReplayed}
+use Rattle.cct_host.specs.Starting.{BeginFrom, HasReplayed, HasResumed, WentOver}
+use Rattle.cct_host.proofs.Records.{rest_carry, rest_follow, rest_many}
+use Rattle.cct_host.proofs.Replaying.{replays_same}
 use Rattle.cct_host.proofs.Turning.{no_coins}
 
 -- the desk of a device
-replayed_sits : (d : DeviceSetup) (k : JobDesk) (past : List Entry) (before : List Record)
-    → model.job (lines_of d past) ≡ model.free → records past ≡ before → IsUnused k → ReplaysAt d k before
+replayed_sits : (d : DeviceSetup) (k : JobDesk) (past : List Entry) (setup : Setup) (before : List Record)
+    → model.job (lines_of d past) ≡ model.free → records past ≡ before → IsUnused k → ReplaysAt d k (known_in setup before)
     → Sits past (device d) k
-replayed_sits d k past before free same unused replays = record {
+replayed_sits d k past setup before free same unused replays = record {
   works = subst (λ j. Works (device d) k.job j (model.epoch (lines_of d past)) (order (lines_of d past))) (sym free)
       (subst (λ j. Works (device d) j model.free (model.epoch (lines_of d past)) (order (lines_of d past))) (sym unused)
       tt);
@@ -51,14 +65,15 @@ replayed_sits d k past before free same unused replays = record {
   );
 }
 
-replayed_all : (ds : List DeviceSetup) (ks : List JobDesk) (past : List Entry) (before : List Record)
-    → HasNoJob past → records past ≡ before → All IsUnused ks → AllReplay ds ks before → AllSit past ds ks
-replayed_all [] [] past before none same unused replays = tt
-replayed_all [] (k ∷ ks) past before none same unused replays = absurd replays
-replayed_all (d ∷ ds) [] past before none same unused replays = absurd replays
-replayed_all (d ∷ ds) (k ∷ ks) past before none same unused replays = (
-  replayed_sits d k past before (none.devices d) same (All-head IsUnused k ks unused) replays.0,
-  replayed_all ds ks past before none same (All-tail IsUnused k ks unused) replays.1,
+replayed_all : (ds : List DeviceSetup) (ks : List JobDesk) (past : List Entry) (setup : Setup) (before : List Record)
+    → HasNoJob past → records past ≡ before → All IsUnused ks → AllReplay ds ks (known_in setup before)
+    → AllSit past ds ks
+replayed_all [] [] past setup before none same unused replays = tt
+replayed_all [] (k ∷ ks) past setup before none same unused replays = absurd replays
+replayed_all (d ∷ ds) [] past setup before none same unused replays = absurd replays
+replayed_all (d ∷ ds) (k ∷ ks) past setup before none same unused replays = (
+  replayed_sits d k past setup before (none.devices d) same (All-head IsUnused k ks unused) replays.0,
+  replayed_all ds ks past setup before none same (All-tail IsUnused k ks unused) replays.1,
 )
 
 -- the desk of scans
@@ -84,11 +99,31 @@ pub replayed_stand : (desks : Desks) (past : List Entry) (before : List Record) 
     → Replays desks before → all_desks.StandsFor desks past
 replayed_stand desks past before none same replays = record {
   sound = replays.sound;
-  devices = replayed_all _ _ past before none same replays.unused.devices replays.devices;
+  devices = replayed_all _ _ past (all_desks.setup_of desks) before none same replays.unused.devices replays.devices;
   scan = free_scan desks.scan past none.scan replays.unused.scan;
   sale = free_sale desks.sale past none.sale replays.unused.sale;
-  last = replays.last ∙ ap greatest_id (sym same);
+  last = replays.last_is ∙ ap greatest_id (sym same);
 }
+
+-- desks and a ledger that begin with the carry of records that follow one another are as after these
+pub begun_over : (desks : Desks) (ledger : Ledger) (many : ℕ) (before : List Record)
+    → all_follow (all_desks.setup_of desks) before ≡ true → many ≡ length before
+    → BeginFrom desks ledger many (carry (all_desks.setup_of desks) before) → WentOver desks ledger before
+begun_over desks ledger many before follow count begin =
+    let setup = all_desks.setup_of desks in
+    let resumes = begin.resumes in
+    record {
+      replays = record {
+        sound = resumes.sound;
+        unused = resumes.unused;
+        devices = replays_same _ _ (known_by setup (carry setup before)) (known_in setup before)
+            (epoch_carried setup before resumes.sound follow) (order_carried setup before resumes.sound follow)
+            resumes.devices;
+        last_is = resumes.last_is;
+      };
+      money = resumed_stands setup many (carry setup before) ledger before resumes.sound begin.money (sym count) follow refl;
+      follow = follow;
+    }
 
 -- no job may put anything, and none reserves anything
 unused_put : (ks : List JobDesk) → All IsUnused ks → sum_in puts_at ks ≡ 0
@@ -122,18 +157,49 @@ nothing_reserved desks unused =
 pub nothing_yet : HasNoJob []
 nothing_yet = record { devices = λ d. refl; scan = refl; sale = refl }
 
+within : (used base room : ℕ) → base < MOST_RECORDS → used ≤ base + min room (MOST_RECORDS - base)
+    → used ≤ MOST_RECORDS
+within used base room few fits = omega (arith, few, fits, min-le_right room (MOST_RECORDS - base))
+
 module _ {D : Type 0} {g : Ghosts D} where
+  -- a journal has no more records than it takes
+  room_within : (journal : Journal D g) → journals.used_of journal ≤ MOST_RECORDS
+  room_within journal =
+      within (journals.used_of journal) (journals.base_of journal) _ journal.placed.begins.base_fits journal.placed.fits
+
   -- parts without a job belong together
-  pub free_together : (desks : Desks) (ledger : Ledger) (journal : Journal D g) → AreUnused desks
+  pub free_together : (desks : Desks) (ledger : Ledger) (tally : Tally) (journal : Journal D g) → AreUnused desks
       → ledgers.setup_of ledger ≡ all_desks.setup_of desks → ledgers.reserved_of ledger ≡ 0
-      → ledgers.applied ledger ≤ journals.used_of journal → BelongTogether desks ledger journal
-  free_together desks ledger journal unused same none counted =
+      → ledgers.applied ledger ≤ journals.used_of journal → tallies.setup_of tally ≡ all_desks.setup_of desks
+      → tallies.many_of tally ≡ journals.used_of journal → BelongTogether desks ledger tally journal
+  free_together desks ledger tally journal unused same none counted same_tally tallied =
       let puts = nothing_put desks unused in
       record {
         same = same;
+        same_tally = same_tally;
         reserved = none ∙ sym (nothing_reserved desks unused);
         counted = counted;
-        fits = omega (arith, puts, journal.placed.fits);
+        tallied = tallied;
+        fits = omega (arith, puts, room_within journal);
+      }
+
+  -- a host that starts over a carry and the rest of records is one that starts over all of them, where the first ones
+  -- follow one another
+  pub resumed_replayed : (host : Host D g) (base : ℕ) (c : Carry) (rest records : List Record)
+      → (continues : Continues (carry_of (setup_of host)) base c rest records)
+      → all_follow (setup_of host) (reverse continues.first) ≡ true → HasResumed host base c rest
+      → HasReplayed host (reverse records)
+  resumed_replayed host base c rest records continues first resumed =
+      let setup = setup_of host in
+      let sound = resumed.from_carry.resumes.sound in
+      let follow = rest_follow setup base c rest records sound continues first resumed.follow in
+      let same = resumed.carry_is ∙ rest_carry setup base c rest records sound continues first resumed.follow in
+      let many = rest_many setup base c rest records sound continues ∙ sym (length-reverse records) in
+      record {
+        over = begun_over host.desks host.ledger (base + length rest) (reverse records) follow many
+            (subst (BeginFrom host.desks host.ledger (base + length rest)) same resumed.from_carry);
+        used = resumed.used ∙ many;
+        carry_is = same;
       }
 
   pub started_keeps : (host : Host D g) (past : List Entry) (before : List Record) → HasNoJob past
@@ -143,6 +209,7 @@ module _ {D : Type 0} {g : Ghosts D} where
     ledger = subst (ledgers.StandsFor host.ledger (records past))
         (sym (nothing_reserved host.desks starts.over.replays.unused))
         (subst (λ rs. ledgers.StandsFor host.ledger rs 0) (sym same) starts.over.money);
+    carry_is = starts.carry_is ∙ ap (carry (setup_of host)) (sym same);
     used = starts.used ∙ ap length (sym same);
   }
 

@@ -6,7 +6,9 @@ use Rattle.cct_model.specs.lines.command.Command.{Command}
 use Rattle.cct_model.specs.lines.command.CommandNo.{CommandNo}
 use Rattle.cct_model.specs.lines.record.Record.{Record}
 use Rattle.cct_model.specs.lines.entry.Entry.{Entry}
-use Rattle.cct_model.specs.Following.{is_allowed}
+use Rattle.cct_model.specs.lines.carry.Carry.{Carry}
+use Rattle.cct_model.specs.Carry.{carry, carry_of}
+use Rattle.cct_model.specs.Following.{all_follow, is_allowed}
 use Rattle.cct_model.specs.Legal.{EntriesOfNext, command_entry, due_at}
 use Rattle.cct_model.specs.Money.{freed_by, reserved_at_work}
 use Rattle.cct_model.specs.Records.{records}
@@ -14,8 +16,10 @@ use Rattle.cct_model.specs.Refusal.{refusal}
 use Rattle.cct_disk.specs.declared.disk.Disk.{Ghosts}
 use Rattle.cct_disk.specs.Disk.{IsTrusted}
 use Rattle.cct_journal.specs.declared.journal.Journal.{Journal}
-use Rattle.cct_journal.specs.Image.{capacity_of}
 use Rattle.cct_journal.specs.Journal as journals
+use Rattle.cct_journal.specs.declared.format.TheConstants.{MOST_RECORDS}
+use Rattle.cct_carry.specs.declared.tally.Tally.{Tally}
+use Rattle.cct_carry.specs.Tally as tallies
 use Rattle.cct_ledger.specs.declared.ledger.Ledger.{Ledger}
 use Rattle.cct_ledger.specs.Ledger as ledgers
 use Rattle.cct_host.specs.declared.desks.Desks.{Desks}
@@ -40,10 +44,12 @@ put_by None = []
 put_by (Some r) = r ∷ []
 
 -- What a `next` at an address takes for granted of the past: the record that it puts, if it puts one, closes no order of
--- another address, and the ledger takes it. Every past that is legal is so.
+-- another address, the ledger takes it, and it follows the records of the past, which follow one another. Every past that
+-- is legal is so.
 pub record PutSuits (setup : Setup) (past : List Entry) (addr : ℕ) : Type 0 where
   pub owned : OwnsItsPut setup past addr
   pub taken : TakesItsPut setup past addr
+  pub follow : IfSome (due_at setup past addr) (λ r. all_follow setup (r ∷ records past) ≡ true)
 
 module _ {D : Type 0} {g : Ghosts D} where
   -- The setup of a host.
@@ -64,13 +70,15 @@ module _ {D : Type 0} {g : Ghosts D} where
 
   -- How many records its journal takes.
   abbrev pub capacity_in : Host D g → ℕ
-  capacity_in host = capacity_of (g.size (disk_of host))
+  capacity_in host = MOST_RECORDS
 
   -- A host has all of a transcript, newest entry first, whatever its disk keeps: its desks stand for it, its ledger for the
-  -- records and what the running jobs reserve beside them, and its journal counts so many records.
+  -- records and what the running jobs reserve beside them, its carry is that of the records, and its journal counts so many
+  -- of them.
   pub record Keeps (host : Host D g) (past : List Entry) : Type 0 where
     pub desks : all_desks.StandsFor host.desks past
     pub ledger : ledgers.StandsFor host.ledger (records past) (all_desks.reserved_of host.desks)
+    pub carry_is : tallies.carry_in host.tally ≡ carry (setup_of host) (records past)
     pub used : journals.used_of host.journal ≡ length (records past)
 
   -- A host stands for a transcript, newest entry first: it has all of it, and if its disk is trusted, that keeps just the
@@ -84,7 +92,7 @@ module _ {D : Type 0} {g : Ghosts D} where
   -- Nothing changed.
   abbrev pub Stays : Host D g → Host D g → Type 0
   Stays old new =
-      all_desks.Stays old.desks new.desks × (new.ledger ≡ old.ledger) × (new.journal ≡ old.journal)
+      all_desks.Stays old.desks new.desks × (new.ledger ≡ old.ledger) × (new.tally ≡ old.tally) × (new.journal ≡ old.journal)
 
   -- A command is taken or refused as it has to be after whatever happened, and the host goes on by its entry.
   abbrev pub Answers : Host D g → Host D g → Command → Result Unit CommandNo → Type 0
@@ -117,56 +125,67 @@ module _ {D : Type 0} {g : Ghosts D} where
       × (IsTrusted g.honest g.seen (disk_of old)
       → LeavesRecords (setup_of old) g.honest g.seen g.may_leave (disk_of new) (Some r) (reverse (records past))))
 
-  -- A record that was due, if one was, is put into a journal: so many more does it count, and its disk keeps them.
-  pub record Puts (due : Option Record) (journal written : Journal D g) : Type 0 where
+  -- A record that was due, if one was, is put into a journal with the carry of those before it: so many more does it count,
+  -- and its disk keeps them.
+  pub record Puts (due : Option Record) (so_far : Carry) (journal written : Journal D g) : Type 0 where
     pub whole : journals.has_failed written ≡ false
     pub counted : journals.used_of written ≡ journals.used_of journal + length (put_by due)
-    pub done : (setup : Setup) (before : List Record)
-        → KeepsRecords setup g.honest g.seen g.may_leave (journals.disk_of journal) (journals.place_of journal) before
+    pub done : (setup : Setup) (records : List Record)
+        → KeepsRecords setup g.honest g.seen g.may_leave (journals.disk_of journal) (journals.place_of journal) records
+        → so_far ≡ carry_of setup records
         → KeepsRecords setup g.honest g.seen g.may_leave (journals.disk_of written) (journals.place_of written)
-        (before ++ put_by due)
+        (records ++ put_by due)
 
-  -- A put fails: a record was due, and whatever a power cut leaves on the disk has the records before it, or these and that
-  -- one.
-  pub record PutFails (due : Option Record) (journal written : Journal D g) : Type 0 where
+  -- A put fails: a record was due, and whatever a power cut leaves on the disk has the records before it, of which this is
+  -- the carry, or these and that one.
+  pub record PutFails (due : Option Record) (so_far : Carry) (journal written : Journal D g) : Type 0 where
     pub place : journals.place_of written ≡ journals.place_of journal
-    pub left : (r : Record) × (due ≡ Some r) × ((setup : Setup) (before : List Record)
-        → KeepsRecords setup g.honest g.seen g.may_leave (journals.disk_of journal) (journals.place_of journal) before
-        → LeavesRecords setup g.honest g.seen g.may_leave (journals.disk_of written) (Some r) before)
+    pub left : (r : Record) × (due ≡ Some r) × ((setup : Setup) (records : List Record)
+        → KeepsRecords setup g.honest g.seen g.may_leave (journals.disk_of journal) (journals.place_of journal) records
+        → so_far ≡ carry_of setup records
+        → LeavesRecords setup g.honest g.seen g.may_leave (journals.disk_of written) (Some r) records)
 
   -- After all that happened the record that was due at an address, if one was due, was put: the journal has it, and the
-  -- ledger, beside what is reserved after it.
-  pub record PutsDue (past : List Entry) (addr : ℕ) (desks turned : Desks) (ledger posted : Ledger)
+  -- ledger, beside what is reserved after it, and the tally.
+  pub record PutsDue (past : List Entry) (addr : ℕ) (desks turned : Desks) (ledger posted : Ledger) (tally added : Tally)
       (journal written : Journal D g) : Type 0 where
     pub used : journals.used_of written
         ≡ journals.used_of journal + length (put_by (due_at (all_desks.setup_of desks) past addr))
     pub on_disk : KeepsRecords (all_desks.setup_of desks) g.honest g.seen g.may_leave (journals.disk_of journal)
         (journals.place_of journal) (reverse (records past))
+        → tallies.carry_in tally ≡ carry (all_desks.setup_of desks) (records past)
         → KeepsRecords (all_desks.setup_of desks) g.honest g.seen g.may_leave (journals.disk_of written)
         (journals.place_of written) (reverse (records past) ++ put_by (due_at (all_desks.setup_of desks) past addr))
     pub posts : TakesItsPut (all_desks.setup_of desks) past addr
         → ledgers.StandsFor ledger (records past) (all_desks.reserved_of desks)
         → ledgers.StandsFor posted (put_by (due_at (all_desks.setup_of desks) past addr) ++ records past)
         (all_desks.reserved_of turned)
+    pub adds : IfSome (due_at (all_desks.setup_of desks) past addr)
+        (λ r. all_follow (all_desks.setup_of desks) (r ∷ records past) ≡ true)
+        → tallies.carry_in tally ≡ carry (all_desks.setup_of desks) (records past)
+        → tallies.carry_in added ≡ carry (all_desks.setup_of desks)
+        (put_by (due_at (all_desks.setup_of desks) past addr) ++ records past)
 
   -- The parts of a host make one attempt at an address over a link, and the record that was due there, if one was, is put.
   pub record Advances {L : Type 0} (gives : L → List ℕ → List ℕ → L → Type 0) (old new : L) (addr : ℕ)
-      (desks turned : Desks) (ledger posted : Ledger) (journal written : Journal D g) (report reported : List Entry)
-      : Type 0 where
+      (desks turned : Desks) (ledger posted : Ledger) (tally added : Tally) (journal written : Journal D g)
+      (report reported : List Entry) : Type 0 where
     pub whole : journals.has_failed written ≡ false
     pub nexts : all_desks.Nexts gives old new addr desks turned report reported
     pub counts : journals.used_of written ≡ journals.used_of journal + length (put_by (all_desks.due_on desks addr))
     pub puts : (past : List Entry) → all_desks.StandsFor desks past
-        → PutsDue past addr desks turned ledger posted journal written
+        → PutsDue past addr desks turned ledger posted tally added journal written
 
   -- The put of the record that is due at an address fails, and nothing but the disk changes.
-  pub record FailsToPut (addr : ℕ) (desks turned : Desks) (ledger posted : Ledger) (journal written : Journal D g)
-      : Type 0 where
+  pub record FailsToPut (addr : ℕ) (desks turned : Desks) (ledger posted : Ledger) (tally added : Tally)
+      (journal written : Journal D g) : Type 0 where
     pub desks_stay : turned ≡ desks
     pub ledger_stays : posted ≡ ledger
+    pub tally_stays : added ≡ tally
     pub place : journals.place_of written ≡ journals.place_of journal
     pub fails : (past : List Entry) → all_desks.StandsFor desks past
-        → (r : Record) × (due_at (all_desks.setup_of desks) past addr ≡ Some r) × ((before : List Record)
+        → (r : Record) × (due_at (all_desks.setup_of desks) past addr ≡ Some r) × ((records : List Record)
         → KeepsRecords (all_desks.setup_of desks) g.honest g.seen g.may_leave (journals.disk_of journal)
-        (journals.place_of journal) before
-        → LeavesRecords (all_desks.setup_of desks) g.honest g.seen g.may_leave (journals.disk_of written) (Some r) before)
+        (journals.place_of journal) records
+        → tallies.carry_in tally ≡ carry_of (all_desks.setup_of desks) records
+        → LeavesRecords (all_desks.setup_of desks) g.honest g.seen g.may_leave (journals.disk_of written) (Some r) records)

@@ -1,6 +1,6 @@
 -- The records that the journal of a host has on its disk: what is there, what a power cut may leave of it,
 -- and what is found in an image.
-use Rattle.std.specs.Prelude.{◌≡◌, ◌⊎◌, ℕ, ◌+◌, Bool, true, false, Option, List, ◌∷◌, ◌++◌, length, ⊥}
+use Rattle.std.specs.Prelude.{◌≡◌, ◌⊎◌, ℕ, ◌+◌, Bool, true, false, Option, List, ◌∷◌, ◌++◌, length}
 use Rattle.cct_model.specs.terms.device.Setup.{Setup}
 use Rattle.cct_model.specs.lines.carry.Carry.{Carry}
 use Rattle.cct_model.specs.lines.record.Record.{Record}

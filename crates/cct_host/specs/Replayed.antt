@@ -1,13 +1,12 @@
 -- Desks of a host that starts over a carry or over records, newest first: they have what these tell, and no job.
-use Rattle.std.specs.Prelude.{◌≡◌, ◌&&◌, ◌==◌, not, Bool, ℕ, List, [], ◌∷◌, None, is_none, ⊤}
+use Rattle.std.specs.Prelude.{◌≡◌, ℕ, List, [], ◌∷◌, None, ⊤}
 use Rattle.std.specs.List.{All}
 use Rattle.cct_model.specs.terms.device.DeviceSetup.{DeviceSetup}
+use Rattle.cct_model.specs.lines.carry.Carry.{Carry}
 use Rattle.cct_model.specs.lines.record.Record.{Record}
-use Rattle.cct_model.specs.declared.judging.EpochState.{EpochState}
-use Rattle.cct_model.specs.Device.{is_acceptor}
-use Rattle.cct_model.specs.Following.{is_running}
-use Rattle.cct_model.specs.Records.{epoch_in, greatest_id, order_in}
-use Rattle.cct_model.specs.Refusal.{valueless}
+use Rattle.cct_model.specs.Carry.{known_by}
+use Rattle.cct_model.specs.Following.{Known, known_in}
+use Rattle.cct_model.specs.Records.{greatest_id}
 use Rattle.cct_model.specs.Setup.{IsSoundSetup}
 use Rattle.cct_jobs.specs.Jobs.{order_of}
 use Rattle.cct_host.specs.declared.desk.JobDesk.{JobDesk}

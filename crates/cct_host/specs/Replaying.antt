@@ -1,19 +1,12 @@
 -- What a host replays of the records that are found after a power cut.
-use Rattle.std.specs.Prelude.{◌≡◌, ℕ, ◌+◌, true, Option, Some, None, List, length, reverse}
+use Rattle.std.specs.Prelude.{◌≡◌, ℕ, ◌+◌, Option, Some, None, List, length, reverse}
 use Rattle.cct_model.specs.terms.device.Setup.{Setup}
 use Rattle.cct_model.specs.lines.carry.Carry.{Carry}
 use Rattle.cct_model.specs.lines.record.Record.{Record}
-use Rattle.cct_model.specs.Carry.{Fits, all_follow_carry, carry_over}
-use Rattle.cct_carry.specs.declared.tally.Tally.{Tally}
 use Rattle.cct_carry.specs.Tally as tallies
 use Rattle.cct_host.specs.declared.replay.ReplayState.{ReplayState}
 use Rattle.cct_host.specs.OnDisk.{StopsAt}
-
--- A tally went over a carry that fits its setup, and over records after it, oldest first, each of which follows.
-pub record TalliesOver (setup : Setup) (c : Carry) (rest : List Record) (now : Carry) : Type 0 where
-  pub fits : Fits setup c
-  pub follow : all_follow_carry setup c rest ≡ true
-  pub carry_is : now ≡ carry_over setup c rest
+use Rattle.cct_host.specs.Starting.{TalliesOver}
 
 -- A tally went over a carry of so many records and over those after it, oldest first, or there is an index at which a host
 -- stops that starts over them.

@@ -6,6 +6,8 @@ use Rattle.cct_model.specs.lines.command.CrashAt.{CrashAt}
 use Rattle.cct_model.specs.lines.record.Record.{Record}
 use Rattle.cct_model.specs.lines.entry.Entry.{Entry}
 use Rattle.cct_model.specs.lines.entry.Entry.TheVariants as entry
+use Rattle.cct_model.specs.lines.carry.Carry.{Carry}
+use Rattle.cct_model.specs.Carry.{carry_of}
 use Rattle.cct_edge.specs.Faults.{Caused}
 use Rattle.cct_model.specs.Legal.{EntriesOfRestart}
 use Rattle.cct_model.specs.Records as model_records
@@ -22,10 +24,10 @@ use Rattle.cct_host.specs.declared.host.Host.{Host}
 use Rattle.cct_host.specs.declared.refusal.CrashNo.{CrashNo}
 use Rattle.cct_host.specs.declared.refusal.CrashNo.TheVariants.{Disk, Alien, BadRecord, Lost}
 use Rattle.cct_host.specs.declared.restart.Crashed.{Crashed}
-use Rattle.cct_host.specs.OnDisk.{FindsBad, FindsMany, KeepsRecords, LeavesRecords, ReadsRecords}
+use Rattle.cct_host.specs.OnDisk.{FindsBad, FindsMany, FindsWhole, KeepsRecords, LeavesRecords, ReadsRecords, ReadsRest}
 use Rattle.cct_host.specs.Desks as all_desks
 use Rattle.cct_host.specs.Host.{StandsFor, disk_of, has_failed, journal_of, put_by, setup_of}
-use Rattle.cct_host.specs.Starting.{HasReplayed}
+use Rattle.cct_host.specs.Starting.{FirstFollow, HasReplayed, HasResumed}
 
 -- The record that is due where a power cut comes, if one is.
 abbrev pub due_for : Desks → Option CrashAt → Option Record
@@ -85,46 +87,50 @@ module _ {D : Type 0} {g : Ghosts D} where
       (new : Journal D g) × (journals.disk_of new ≡ disk) × RefusesRestart old new due setup why
 
   -- A journal is restarted after a power cut, by this choice, which came after so many of the four disk calls of a put, where
-  -- this record was due, if one was: that was kept of it, or nothing.
-  pub record JournalRestarts (calls : ℕ) (due : Option Record) (choice : ℕ) (old new : Journal D g) (kept : Option Record)
-      : Type 0 where
+  -- this record was due, if one was, and this was the carry of those before it: that was kept of it, or nothing.
+  pub record JournalRestarts (calls : ℕ) (due : Option Record) (so_far : Carry) (choice : ℕ) (old new : Journal D g)
+      (kept : Option Record) : Type 0 where
     -- what it has
     pub whole : journals.has_failed new ≡ false
     pub kept_is : IfSome kept (λ r. due ≡ Some r)
     pub counts : journals.used_of new ≡ journals.used_of old + length (put_by kept)
-    pub found : (setup : Setup) → Opens setup new
+    pub found : (image : List ℕ) → g.seen (journals.disk_of new) ≡ Some image
+        → (rest : List Record) × ReadsRest g.seen (journals.disk_of new) (journals.place_of new) rest
     pub stands : (setup : Setup) (records : List Record)
         → KeepsRecords setup g.honest g.seen g.may_leave (journals.disk_of old) (journals.place_of old) records
+        → so_far ≡ carry_of setup records
         → KeptBy calls due kept
-        × KeepsRecords setup g.honest g.seen g.may_leave (journals.disk_of new) (journals.place_of new) (records ++ put_by kept)
+        × KeepsRecords setup g.honest g.seen g.may_leave (journals.disk_of new) (journals.place_of new)
+        (records ++ put_by kept)
     -- the disk
     pub cut : CutOnce g.size g.honest g.seen g.cuts g.cut_to choice (journals.disk_of old) (journals.disk_of new)
     pub outlasts : Outlasts g.size g.honest g.seen g.cuts (journals.disk_of old) (journals.disk_of new)
     pub later : g.faults (journals.disk_of old) ≤ g.faults (journals.disk_of new)
 
   -- No host starts over a journal after such a power cut, for this reason.
-  pub record JournalFails (setup : Setup) (due : Option Record) (choice : ℕ) (old new : Journal D g) (why : CrashNo) : Type 0
-    where
-      -- why, and what the disk may then keep
-      pub refused : RefusesRestart old new due setup why
-      pub leaves : (records : List Record)
-          → KeepsRecords setup g.honest g.seen g.may_leave (journals.disk_of old) (journals.place_of old) records
-          → LeavesRecords setup g.honest g.seen g.may_leave (journals.disk_of new) due records
-      pub cause : Caused (g.faults (journals.disk_of old)) (g.faults (journals.disk_of new)) (why ≡ Disk)
-      -- the disk
-      pub cut : why ≢ Disk
-          → CutOnce g.size g.honest g.seen g.cuts g.cut_to choice (journals.disk_of old) (journals.disk_of new)
-      pub outlasts : Outlasts g.size g.honest g.seen g.cuts (journals.disk_of old) (journals.disk_of new)
+  pub record JournalFails (setup : Setup) (due : Option Record) (so_far : Carry) (choice : ℕ) (old new : Journal D g)
+      (why : CrashNo) : Type 0 where
+    -- why, and what the disk may then keep
+    pub refused : RefusesRestart old new due setup why
+    pub leaves : (records : List Record)
+        → KeepsRecords setup g.honest g.seen g.may_leave (journals.disk_of old) (journals.place_of old) records
+        → so_far ≡ carry_of setup records
+        → LeavesRecords setup g.honest g.seen g.may_leave (journals.disk_of new) due records
+    pub cause : Caused (g.faults (journals.disk_of old)) (g.faults (journals.disk_of new)) (why ≡ Disk)
+    -- the disk
+    pub cut : why ≢ Disk
+        → CutOnce g.size g.honest g.seen g.cuts g.cut_to choice (journals.disk_of old) (journals.disk_of new)
+    pub outlasts : Outlasts g.size g.honest g.seen g.cuts (journals.disk_of old) (journals.disk_of new)
 
   -- The record that is due at a host where a power cut comes, if one is.
   abbrev pub due_of : Host D g → Option CrashAt → Option Record
   due_of host at = due_for host.desks at
 
-  -- A power cut is told by its entries after whatever happened, where the disk is trusted, and the host that starts
-  -- again stands for these.
+  -- A power cut is told by its entries after whatever happened, where the disk is trusted and the records follow one
+  -- another, and the host that starts again stands for these.
   abbrev pub TellsRestart : Host D g → Host D g → Option CrashAt → Crashed → Type 0
   TellsRestart old new at crashed =
-      (past : List Entry) → StandsFor old past → IsTrusted g.honest g.seen (disk_of old)
+      (past : List Entry) → StandsFor old past → RestartSuits (setup_of old) past at → IsTrusted g.honest g.seen (disk_of old)
       → EntriesOfRestart (setup_of old) past at (restart_news crashed) × StandsFor new (restart_news crashed ++ past)
 
   -- A host starts again after a power cut, by this choice, over what its disk then keeps.
@@ -132,14 +138,20 @@ module _ {D : Type 0} {g : Ghosts D} where
     pub setup : setup_of new ≡ setup_of old
     pub whole : has_failed new ≡ false
     -- what it tells, and what it then stands for:
-    -- On a trusted disk, after any past: the entries are those of the definitions, with the record that was kept, if
-    -- one was. No job is left, and nothing that only jobs reserved.
+    -- On a trusted disk, after any past whose records follow one another: the entries are those of the definitions, with
+    -- the record that was kept, if one was. No job is left, and nothing that only jobs reserved.
     pub tells : TellsRestart old new at crashed
     pub found : Opens (setup_of new) (journal_of new)
-    -- On any disk that tells its bytes, honest or not, the host is the one that starts over what a read gives.
+    -- On any disk that tells its bytes, honest or not, the host is the one that starts over what a read gives: the carry
+    -- fits the setup, and each record after it follows.
+    pub has_whole : (image : List ℕ) → g.seen (disk_of new) ≡ Some image
+        → FindsWhole (setup_of new) image (journals.used_of (journal_of new))
+    pub resumes : (rest : List Record) → ReadsRest g.seen (disk_of new) (journals.place_of (journal_of new)) rest
+        → HasResumed new (journals.base_of (journal_of new)) (journals.carry_before (journal_of new)) rest
+    -- And where the first ones of the records follow one another, it is the one that starts over all of them.
     pub replays : (records : List Record)
-        → ReadsRecords (setup_of new) g.seen (disk_of new) (journals.place_of (journal_of new)) records
-        → HasReplayed new (reverse records)
+        → (reads : ReadsRecords (setup_of new) g.seen (disk_of new) (journals.place_of (journal_of new)) records)
+        → FirstFollow (setup_of new) reads → HasReplayed new (reverse records)
     pub records : crashed.records ≡ journals.used_of (journal_of new)
     -- As many records as before, or one more if one was due.
     pub counts : crashed.records ≡ journals.used_of (journal_of old) + length (put_by crashed.kept)

@@ -1,5 +1,5 @@
 -- A host that starts over the records of its journal.
-use Rattle.std.specs.Prelude.{◌≡◌, ◌≤◌, ◌+◌, ℕ, true, false, List, ◌∷◌, ◌++◌, length, reverse, ⊤}
+use Rattle.std.specs.Prelude.{◌≡◌, ◌+◌, ℕ, true, false, List, ◌∷◌, ◌++◌, length, reverse, Option, ⊤}
 use Rattle.cct_model.specs.terms.device.Setup.{Setup}
 use Rattle.cct_model.specs.lines.record.Record.{Record}
 use Rattle.cct_model.specs.lines.carry.Carry.{Carry}
@@ -22,6 +22,21 @@ use Rattle.cct_journal.specs.declared.refusal.ReadNo.TheVariants.{Disk, BadRecor
 use Rattle.cct_host.specs.Desks as all_desks
 use Rattle.cct_host.specs.OnDisk.{ReadsRecords, StopsAt}
 use Rattle.cct_host.specs.Replayed.{Replays, Resumes}
+
+-- A tally went over a carry that fits its setup, and over records after it, oldest first, each of which follows.
+pub record TalliesOver (setup : Setup) (c : Carry) (rest : List Record) (now : Carry) : Type 0 where
+  pub fits : Fits setup c
+  pub follow : all_follow_carry setup c rest ≡ true
+  pub carry_is : now ≡ carry_over setup c rest
+
+-- A tally went over a carry of so many records, and over the first of those after it, oldest first, up to an index.
+pub record TalliesFirst (setup : Setup) (base : ℕ) (c : Carry) (rest : List Record) (index : ℕ) (now : Carry) : Type 0
+  where
+    pub first : List Record
+    pub later : List Record
+    pub all : rest ≡ first ++ later
+    pub many : index ≡ base + length first
+    pub over : TalliesOver setup c first now
 
 -- Desks and a ledger went over records, newest first: they have what these tell, and each record follows those before
 -- it.

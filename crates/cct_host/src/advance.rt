@@ -1,13 +1,15 @@
 //! One attempt of a job, over the parts of a host: a record is put before its entry is told.
-ghost use Rattle.std.specs.Prelude.{◌≡◌, ◌≤◌, ◌<◌, ◌+◌, ◌-◌, ◌^◌, ◌++◌, ℕ, List, Option, Some, IfSome, OnErr, OnOk, true, false, length};
+ghost use Rattle.std.specs.Prelude.{◌≡◌, ◌≤◌, ◌<◌, ◌+◌, ◌-◌, ◌^◌, ◌∷◌, ◌++◌, ℕ, List, Option, Some, IfSome, OnErr, OnOk, true, false, length};
 ghost use Rattle.arrayvec.specs.ArrayVec.{array_vec_len};
 ghost use Rattle.cct_edge.specs.Faults.{HasCause};
 ghost use Rattle.cct_model.specs.lines.entry.Entry.{Entry};
 ghost use Rattle.cct_model.specs.lines.record.Record.{Record};
-ghost use Rattle.cct_model.specs.Following.{is_allowed};
+ghost use Rattle.cct_model.specs.Carry.{carry};
+ghost use Rattle.cct_model.specs.Carried.{IsRightly};
+ghost use Rattle.cct_model.specs.Following.{all_follow, is_allowed};
 ghost use Rattle.cct_model.specs.Money.{freed_by, reserved_at_work};
 ghost use Rattle.cct_record.specs.Body.{Encodable};
-ghost use Rattle.cct_journal.specs.Image.{capacity_of};
+ghost use Rattle.cct_carry.specs.Tally as tallies;
 ghost use Rattle.cct_journal.specs.Journal as journals;
 ghost use Rattle.cct_disk.specs.Disk.{GoesOn};
 ghost use Rattle.cct_ledger.specs.Ledger as ledgers;
@@ -17,17 +19,19 @@ ghost use Rattle.cct_host.specs.Parts.{BelongTogether, GoOnTogether};
 
 use crate::Desks;
 use arrayvec::ArrayVec;
+use cct_carry::Tally;
 use cct_disk::Disk;
 use cct_edge::Failed;
-use cct_journal::{Journal, JournalNo};
+use cct_journal::{Journal, JournalNo, MOST_RECORDS};
 use cct_ledger::{Ledger, NotAllowed};
-use cct_model::{Entry, Record};
+use cct_model::{Carry, Entry, Record};
 use cct_wire::Link;
 
 /// The job at an address makes one attempt: what it is about to put stands in the journal before it goes on.
 pub(crate) fn advance<D: Disk, L: Link>(
     desks: &mut Desks<'_>,
     ledger: &mut Ledger<'_>,
+    tally: &mut Tally<'_>,
     journal: &mut Journal<D>,
     addr: u8,
     link: &mut L,
@@ -35,18 +39,19 @@ pub(crate) fn advance<D: Disk, L: Link>(
 ) -> Result<(), Failed>
     requires room { array_vec_len report.old ≤ 6 }
     requires whole { journals.has_failed journal.old ≡ false }
-    requires together { BelongTogether desks.old ledger.old journal.old }
+    requires together { BelongTogether desks.old ledger.old tally.old journal.old }
 
     // what holds of the parts of a host
     ensures setup { all_desks.setup_of desks.new ≡ all_desks.setup_of desks.old }
-    ensures together { BelongTogether desks.new ledger.new journal.new }
+    ensures together { BelongTogether desks.new ledger.new tally.new journal.new }
 
     // the attempt
     ensures advances { OnOk result (Advances L.gives link.old link.new addr desks.old desks.new ledger.old ledger.new
-        journal.old journal.new report.old.items report.new.items) }
+        tally.old tally.new journal.old journal.new report.old.items report.new.items) }
 
     // a put that failed
-    ensures fails { OnErr result (FailsToPut addr desks.old desks.new ledger.old ledger.new journal.old journal.new) }
+    ensures fails { OnErr result (FailsToPut addr desks.old desks.new ledger.old ledger.new tally.old tally.new
+        journal.old journal.new) }
     ensures report { OnErr result (report.new ≡ report.old) }
     ensures link { OnErr result (link.new ≡ link.old) }
 
@@ -57,27 +62,32 @@ pub(crate) fn advance<D: Disk, L: Link>(
 {
     let found = desks.find(addr);
     let due = desks.due_there(addr, found);
-    put(journal, &due)?;
+    put(journal, &due, tally.carry())?;
     go_on(desks, ledger, addr, found, &due, link, report);
     enter(ledger, &due);
+    count(tally, &due);
     Ok(())
 }
 
-/// Puts the record that is due, if one is, into a journal that has room for it.
-fn put<D: Disk>(journal: &mut Journal<D>, due: &Option<Record>) -> Result<(), Failed>
+/// Puts the record that is due, if one is, into a journal that takes it, with the carry of those before it.
+fn put<D: Disk>(
+    journal: &mut Journal<D>,
+    due: &Option<Record>,
+    so_far: &Carry,
+) -> Result<(), Failed>
     requires whole { journals.has_failed journal.old ≡ false }
     requires encodable { IfSome due.now Encodable }
-    requires room { IfSome due.now (λ r. journals.used_of journal.old
-        < capacity_of (D.size (journals.disk_of journal.old))) }
-    ensures puts { OnOk result (Puts due.now journal.old journal.new) }
-    ensures fails { OnErr result (PutFails due.now journal.old journal.new) }
+    requires room { IfSome due.now (λ r. journals.used_of journal.old < MOST_RECORDS) }
+    requires rightly { IsRightly (journals.used_of journal.old) so_far.now }
+    ensures puts { OnOk result (Puts due.now so_far.now journal.old journal.new) }
+    ensures fails { OnErr result (PutFails due.now so_far.now journal.old journal.new) }
     ensures cause { HasCause (D.faults (journals.disk_of journal.old)) (D.faults (journals.disk_of journal.new)) result }
     ensures goes_on { GoesOn D.size D.honest D.seen D.cuts (journals.disk_of journal.old)
         (journals.disk_of journal.new) }
 {
     match due {
         None => Ok(()),
-        Some(entry) => match journal.put(entry) {
+        Some(entry) => match journal.put(entry, so_far) {
             Ok(()) => Ok(()),
             Err(JournalNo::Disk) => Err(Failed),
             Err(JournalNo::Full { .. }) => unreachable!(),
@@ -118,7 +128,7 @@ fn go_on<L: Link>(
 /// The ledger takes the record that was put, if one was. One that doesn't follow those before it would leave the ledger
 /// as it is; a host puts none.
 fn enter(ledger: &mut Ledger<'_>, due: &Option<Record>)
-    requires few { ledgers.applied ledger.old < 2 ^ 32 - 1 }
+    requires few { IfSome due.now (λ r. ledgers.applied ledger.old < 2 ^ 32 - 1) }
     ensures setup { ledgers.setup_of ledger.new ≡ ledgers.setup_of ledger.old }
     ensures reserved { ledgers.reserved_of ledger.new ≡ ledgers.reserved_of ledger.old }
     ensures counted { ledgers.applied ledger.new ≤ ledgers.applied ledger.old + length (put_by due.now) }
@@ -132,5 +142,22 @@ fn enter(ledger: &mut Ledger<'_>, due: &Option<Record>)
             Ok(()) => {}
             Err(NotAllowed) => {}
         }
+    }
+}
+
+/// The tally counts the record that was put, if one was, and goes on by it. One that doesn't follow those before it would be
+/// counted alone; a host puts none.
+fn count(tally: &mut Tally<'_>, due: &Option<Record>)
+    requires few { IfSome due.now (λ r. tallies.many_of tally.old < 2 ^ 32 - 1) }
+    requires encodable { IfSome due.now Encodable }
+    ensures setup { tallies.setup_of tally.new ≡ tallies.setup_of tally.old }
+    ensures counted { tallies.many_of tally.new ≡ tallies.many_of tally.old + length (put_by due.now) }
+    ensures adds { (before : List Record)
+        → IfSome due.now (λ r. all_follow (tallies.setup_of tally.old) (r ∷ before) ≡ true)
+        → tallies.carry_in tally.old ≡ carry (tallies.setup_of tally.old) before
+        → tallies.carry_in tally.new ≡ carry (tallies.setup_of tally.old) (put_by due.now ++ before) }
+{
+    if let Some(entry) = due {
+        tally.add(entry);
     }
 }

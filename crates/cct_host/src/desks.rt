@@ -1,33 +1,31 @@
 //! The host's desks: a job at each address, the epochs of its acceptors, and the open orders of its hoppers.
-ghost use Rattle.std.specs.Prelude.{◌≡◌, ◌==◌, ◌<◌, ◌≤◌, List, [], ◌∷◌, ◌+◌, ◌-◌, ◌*◌, IfSome, OnErr, OnOk, Option, Some, None, false, length, max, true};
+ghost use Rattle.std.specs.Prelude.{◌≡◌, ◌==◌, ◌<◌, ◌≤◌, ℕ, List, [], ◌∷◌, ◌+◌, ◌-◌, ◌*◌, IfSome, OnErr, OnOk, Option, Some, None, false, length, max, true};
 ghost use Rattle.std.specs.List.{All, position};
 ghost use Rattle.arrayvec.specs.ArrayVec.{array_vec_len};
 ghost use Rattle.cct_model.specs.Exchange.{device_at};
-ghost use Rattle.cct_model.specs.Following.{all_follow, follows, is_running};
+ghost use Rattle.cct_model.specs.Carried.{IsRightly};
 ghost use Rattle.cct_model.specs.Job.{address_of};
 ghost use Rattle.cct_model.specs.lines.entry.Entry.{Entry};
-ghost use Rattle.cct_model.specs.lines.record.Record.TheVariants as record_of;
 ghost use Rattle.cct_model.specs.Legal.{due_at};
 ghost use Rattle.cct_model.specs.Money as money;
 ghost use Rattle.cct_model.specs.Money.{freed_by};
-ghost use Rattle.cct_model.specs.Records.{epoch_in, owner_in};
 ghost use Rattle.cct_model.specs.Refusal.{held};
 ghost use Rattle.cct_model.specs.Setup.{IsSoundSetup};
-ghost use Rattle.cct_ledger.specs.Orders.{has_id};
-ghost use Rattle.cct_ledger.specs.Told.{is_of_money};
 ghost use Rattle.cct_record.specs.Body.{Encodable};
-ghost use Rattle.cct_jobs.specs.Jobs.{is_of_device, order_of};
+ghost use Rattle.cct_jobs.specs.Jobs.{is_of_device};
 ghost use Rattle.cct_host.specs.Desk.{IsFree, puts_at};
 ghost use Rattle.cct_host.specs.Held.{sells_only};
 ghost use Rattle.cct_host.specs.Running.{begins_id};
 ghost use Rattle.cct_carry.specs.Sound.{IsSoundSetup-prop};
 
 use crate::desk::JobDesk;
-use crate::recorded::id_of;
+use crate::recorded::resumed_desks;
 use crate::reserves::greater;
 use arrayvec::ArrayVec;
 use cct_carry::coins_of;
-use cct_model::{BROADCAST, Command, CommandNo, DEVICES, DeviceSetup, Entry, HOST, Record, Setup};
+use cct_model::{
+    BROADCAST, Carry, Command, CommandNo, DEVICES, DeviceSetup, Entry, HOST, Record, Setup,
+};
 use cct_wire::Link;
 
 /// The desks of a host: the jobs at all addresses, the epochs of the acceptors, and the open orders of the hoppers.
@@ -52,7 +50,7 @@ pub struct Desks<'s> {
 
 impl<'s> Desks<'s> {
     ghost use Rattle.cct_host.specs.Desks.{Answers, FindsDesk, FreesIn, Nexts, Refuses, StandsFor, Stays, TakesIn, amount_at_desk, amount_on, desk_there, due_at_desk, due_on, held_of, puts_of, setup_of, working_id};
-    ghost use Rattle.cct_host.specs.Replayed.{AreUnused, Replays};
+    ghost use Rattle.cct_host.specs.Replayed.{Replays, Resumes};
 
     /// The desks of a host to which nothing has happened: there is no job, and no epoch runs.
     pub fn new(setup: &'s Setup) -> Self
@@ -67,6 +65,23 @@ impl<'s> Desks<'s> {
             scan: JobDesk::default(),
             sale: JobDesk::default(),
             last: 0,
+        }
+    }
+
+    /// The desks of a host that starts after the records of a carry: there is no job, and there are the epochs that run and
+    /// the orders that are open by the carry.
+    pub fn resume(setup: &'s Setup, carry: &Carry) -> Self
+        requires sound { IsSoundSetup setup.now }
+        requires rightly { (many : ℕ) × IsRightly many carry.now }
+        ensures setup { setup_of result ≡ setup.now }
+        ensures resumes { Resumes result carry.now }
+    {
+        Desks {
+            setup,
+            devices: resumed_desks(setup.devices.as_slice(), carry),
+            scan: JobDesk::default(),
+            sale: JobDesk::default(),
+            last: carry.last_id,
         }
     }
 
@@ -232,90 +247,6 @@ impl<'s> Desks<'s> {
         ensures puts { IfSome result (λ r. 1 ≤ puts_at self.now.sale) }
     {
         if addr == HOST { self.sale.due() } else { None }
-    }
-
-    /// Whether a record of an epoch follows those before it. A record of an order or of a sale is the ledger's to
-    /// judge.
-    pub(crate) fn may_follow(&self, entry: &Record) -> bool
-        ensures epochs { (before : List Record) → Replays self.now before
-            → all_follow (setup_of self.now) before ≡ true → is_of_money entry.now ≡ false
-            → result ≡ follows (setup_of self.now) before entry.now }
-        ensures others { is_of_money entry.now ≡ true → result ≡ true }
-    {
-        match entry {
-            Record::Epoch { addr, mask } => self.epoch_may_begin(*addr, *mask),
-            Record::Reading { addr, .. } => self.epoch_runs(*addr),
-            Record::Broken { addr, .. } => self.epoch_runs(*addr),
-            Record::EpochEnd { addr } => self.epoch_runs(*addr),
-            _ => true,
-        }
-    }
-
-    /// Whether an epoch with a mask may begin at an address.
-    fn epoch_may_begin(&self, addr: u8, mask: u16) -> bool
-        ensures { (before : List Record) → Replays self.now before
-            → result ≡ follows (setup_of self.now) before (record_of.Epoch addr mask) }
-    {
-        let devices = self.setup.devices.as_slice();
-        match self.find(addr) {
-            Some(index) => self.devices[index].epoch_may_begin(&devices[index], mask),
-            None => false,
-        }
-    }
-
-    /// Whether an epoch runs at an address.
-    fn epoch_runs(&self, addr: u8) -> bool
-        ensures { (before : List Record) → Replays self.now before → all_follow (setup_of self.now) before ≡ true
-            → result ≡ is_running (epoch_in addr before) }
-    {
-        match self.find(addr) {
-            Some(index) => self.devices[index].epoch_runs(),
-            None => false,
-        }
-    }
-
-    /// A record that follows those before it is replayed: its device's epoch or open order goes on by it, and its id is
-    /// used.
-    pub(crate) fn replay(&mut self, entry: &Record)
-        requires encodable { Encodable entry.now }
-        ensures setup { setup_of self.new ≡ setup_of self.old }
-        ensures unused { AreUnused self.old → AreUnused self.new }
-        ensures replays { (before : List Record) → Replays self.old before
-            → all_follow (setup_of self.old) before ≡ true → follows (setup_of self.old) before entry.now ≡ true
-            → Replays self.new (entry.now ∷ before) }
-    {
-        let owner = self.owner_of(entry);
-        self.last = greater(id_of(entry), self.last);
-        if let Some(index) = owner {
-            self.devices[index].replay(entry);
-        }
-    }
-
-    /// The index of the device that a record belongs to, or none of a sale.
-    fn owner_of(&self, entry: &Record) -> Option<usize>
-        ensures within { IfSome result (λ index. index < length self.now.devices.items) }
-        ensures owner { (before : List Record) → Replays self.now before
-            → all_follow (setup_of self.now) before ≡ true → follows (setup_of self.now) before entry.now ≡ true
-            → result ≡ position (λ d. d.addr == owner_in before entry.now) (setup_of self.now).devices }
-    {
-        match entry {
-            Record::Epoch { addr, .. } => self.find(*addr),
-            Record::Reading { addr, .. } => self.find(*addr),
-            Record::Broken { addr, .. } => self.find(*addr),
-            Record::EpochEnd { addr } => self.find(*addr),
-            Record::Opened { addr, .. } => self.find(*addr),
-            Record::Closed { id, .. } => self.owing(*id),
-            Record::Odd { id, .. } => self.owing(*id),
-            Record::Sold { .. } => None,
-        }
-    }
-
-    /// The index of the device whose open order has an id, or none.
-    fn owing(&self, id: u32) -> Option<usize>
-        ensures within { IfSome result (λ index. index < length self.now.devices.items) }
-        ensures first { result ≡ position (λ desk. has_id id (order_of desk.orders.order)) self.now.devices.items }
-    {
-        self.devices.iter().position(|desk| desk.owes(id))
     }
 
     /// What the job at an address reserves, in units of value: that of the coins of the order that a payment there is

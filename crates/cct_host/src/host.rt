@@ -11,6 +11,7 @@ ghost use Rattle.cct_model.specs.Refusal as refusals;
 ghost use Rattle.cct_model.specs.Script.{IsCrash};
 ghost use Rattle.cct_model.specs.Setup.{IsSoundSetup};
 ghost use Rattle.cct_disk.specs.Disk.{OnlyReads};
+ghost use Rattle.cct_carry.specs.Tally as tallies;
 ghost use Rattle.cct_journal.specs.Journal as journals;
 ghost use Rattle.cct_disk.specs.Disk.{GoesOn};
 ghost use Rattle.cct_ledger.specs.Ledger as ledgers;
@@ -25,7 +26,7 @@ use crate::refusal::{CrashNo, StartNo};
 use crate::replay::replay_all;
 use crate::restart::{Crashed, restart};
 use arrayvec::ArrayVec;
-use cct_carry::coins_of;
+use cct_carry::{Tally, coins_of};
 use cct_disk::Disk;
 use cct_edge::Failed;
 use cct_journal::Journal;
@@ -33,7 +34,8 @@ use cct_ledger::Ledger;
 use cct_model::{Command, CommandNo, CrashAt, Entry, Setup, Totals};
 use cct_wire::Link;
 
-/// The host: the desks of its jobs, over a journal of its records, with the ledger of what they are worth.
+/// The host: the desks of its jobs, over a journal of its records, with the ledger of what they are worth and the tally of
+/// what it needs of them.
 ///
 /// Each record stands on the disk before the host goes on. Its contracts tell it by the transcript of all that happened,
 /// newest entry first. It takes no memory.
@@ -41,15 +43,16 @@ use cct_wire::Link;
 pub struct Host<'s, D: Disk> {
     desks: Desks<'s>,
     ledger: Ledger<'s>,
+    tally: Tally<'s>,
     journal: Journal<D>,
-    ghost together: { BelongTogether desks ledger journal } by { BelongTogether-prop desks ledger journal },
+    ghost together: { BelongTogether desks ledger tally journal } by { BelongTogether-prop desks ledger tally journal },
 }
 
 impl<'s, D: Disk> Host<'s, D> {
-    ghost use Rattle.cct_host.specs.OnDisk.{KeepsRecords, ReadsRecords};
+    ghost use Rattle.cct_host.specs.OnDisk.{KeepsRecords, ReadsRecords, ReadsRest};
     ghost use Rattle.cct_host.specs.Host.{Answers, Fails, Keeps, Nexts, Stays, capacity_in, disk_of, has_failed, journal_of, setup_of};
     ghost use Rattle.cct_host.specs.Restarting.{RestartFails, Restarts};
-    ghost use Rattle.cct_host.specs.Starting.{HasReplayed, RefusesStart};
+    ghost use Rattle.cct_host.specs.Starting.{FirstFollow, HasReplayed, HasResumed, RefusesResume, RefusesStart};
 
     /// The host over a journal, whose records it goes over, oldest first: it has no job, and the epochs, open orders
     /// and money that they tell. The disk is only read.
@@ -62,14 +65,26 @@ impl<'s, D: Disk> Host<'s, D> {
         ensures setup { IfOk result (λ host. setup_of host ≡ setup.now) }
         ensures whole { IfOk result (λ host. has_failed host ≡ false) }
 
-        // what it knows, and why it isn't started
+        // what it knows, and why it isn't started:
+        // On any disk that tells its bytes it begins with the carry of its journal, which fits the setup, and each record
+        // after that follows.
+        ensures resumes { IfOk result (λ host. (rest : List Record)
+            → ReadsRest D.seen (journals.disk_of journal) (journals.place_of journal) rest
+            → HasResumed host (journals.base_of journal) (journals.carry_before journal) rest) }
+        // Where the first ones of the records follow one another, it is as one that went over all of them.
         ensures knows { IfOk result (λ host. (records : List Record)
-            → ReadsRecords setup.now D.seen (journals.disk_of journal) (journals.place_of journal) records
-            → HasReplayed host (reverse records)) }
-        // Only at the first record that doesn't follow those before it, by its index, or if the disk failed.
+            → (reads : ReadsRecords setup.now D.seen (journals.disk_of journal) (journals.place_of journal) records)
+            → FirstFollow setup.now reads → HasReplayed host (reverse records)) }
+        // Only where the carry doesn't fit the setup, by the index of the first record after it; or at the first record
+        // that doesn't follow, by its index; or if the disk failed.
+        ensures stops { IfErr result (λ e. (rest : List Record)
+            → ReadsRest D.seen (journals.disk_of journal) (journals.place_of journal) rest
+            → RefusesResume e.1 setup.now (journals.base_of journal) (journals.carry_before journal) rest) }
+        // Where the first ones of the records follow one another, only at the first record that doesn't follow those before
+        // it, by its index, or if the disk failed.
         ensures refused { IfErr result (λ e. (records : List Record)
-            → ReadsRecords setup.now D.seen (journals.disk_of journal) (journals.place_of journal) records
-            → RefusesStart e.1 setup.now records) }
+            → (reads : ReadsRecords setup.now D.seen (journals.disk_of journal) (journals.place_of journal) records)
+            → FirstFollow setup.now reads → RefusesStart e.1 setup.now records) }
         ensures cause { MatchResult result (λ host. D.faults (journals.disk_of journal) ≤ D.faults (disk_of host))
             (λ e. Caused (D.faults (journals.disk_of journal)) (D.faults e.0) (e.1 ≡ StartNo.Disk)) }
 
@@ -90,13 +105,12 @@ impl<'s, D: Disk> Host<'s, D> {
             (λ e. OnlyReads D.size D.honest D.seen D.may_leave D.moment D.left_since D.cuts
             (journals.disk_of journal) e.0) }
     {
-        let mut desks = Desks::new(setup);
-        let mut ledger = Ledger::new(setup);
         let mut journal = journal;
-        match replay_all(&mut desks, &mut ledger, &mut journal) {
-            Ok(()) => Ok(Host {
-                desks,
-                ledger,
+        match replay_all(setup, &mut journal) {
+            Ok(tally) => Ok(Host {
+                desks: Desks::resume(setup, tally.carry()),
+                ledger: Ledger::resume(setup, journal.used(), tally.carry()),
+                tally,
                 journal,
             }),
             Err(why) => Err((journal.into_disk(), why)),
@@ -221,6 +235,7 @@ impl<'s, D: Disk> Host<'s, D> {
         advance(
             &mut self.desks,
             &mut self.ledger,
+            &mut self.tally,
             &mut self.journal,
             addr,
             link,
@@ -245,6 +260,7 @@ impl<'s, D: Disk> Host<'s, D> {
         restart(
             &mut self.desks,
             &mut self.ledger,
+            &mut self.tally,
             &mut self.journal,
             at,
             choice,
@@ -284,6 +300,7 @@ impl<'s, D: Disk> Host<'s, D> {
         let Host {
             desks: _,
             ledger: _,
+            tally: _,
             journal,
         } = self;
         journal.into_disk()

@@ -1,61 +1,66 @@
-//! What is recorded of a desk's device, the epoch or the open order, and how it goes on by a record.
-ghost use Rattle.std.specs.Prelude.{◌≡◌};
-ghost use Rattle.cct_model.specs.Following as following;
+//! What is recorded of a desk's device, the epoch or the open order, by a carry, and how the epoch goes on by a record.
+ghost use Rattle.std.specs.Prelude.{◌≡◌, ◌≤◌, ℕ, None, length};
+ghost use Rattle.std.specs.List.{All};
+ghost use Rattle.cct_model.specs.terms.device.Setup.{Setup};
+ghost use Rattle.cct_model.specs.Carried.{IsRightly};
+ghost use Rattle.cct_model.specs.Carry as carries;
+ghost use Rattle.cct_model.specs.Carry.{known_by};
 ghost use Rattle.cct_model.specs.Job.{counted, epoch_by};
-ghost use Rattle.cct_model.specs.Order.{order_by};
 ghost use Rattle.cct_model.specs.Records.{id_of};
-ghost use Rattle.cct_record.specs.Body.{Encodable};
 ghost use Rattle.cct_jobs.specs.Jobs.{order_of};
-ghost use Rattle.cct_ledger.specs.Orders.{has_id};
-ghost use Rattle.cct_host.specs.Replayed.{may_begin};
+ghost use Rattle.cct_host.specs.Replayed.{AllReplay, IsUnused};
 
 use crate::desk::JobDesk;
-use cct_carry::valueless;
+use crate::orders::OrderState;
+use arrayvec::ArrayVec;
+use cct_carry::{epoch_held, order_held};
 use cct_jobs::Owed;
-use cct_model::{DeviceSetup, EpochState, OpenOrder, Record};
+use cct_model::{Carry, DEVICES, DeviceSetup, EpochState, Record};
+
+/// The desk of each device by a carry: no job is there.
+pub(crate) fn resumed_desks(devices: &[DeviceSetup], carry: &Carry) -> ArrayVec<JobDesk, DEVICES>
+    requires few { length devices.now ≤ DEVICES }
+    requires rightly { (many : ℕ) × IsRightly many carry.now }
+    ensures many { length result.items ≡ length devices.now }
+    ensures unused { All IsUnused result.items }
+    ensures resumed { (setup : Setup) → AllReplay devices.now result.items (known_by setup carry.now) }
+{
+    let mut desks = ArrayVec::new();
+    for device in devices {
+        desks.push(JobDesk::resume(device.addr, carry));
+    }
+    desks
+}
 
 impl JobDesk {
-    /// Whether an epoch with a mask may begin at the acceptor of this desk: none runs, and each place of the mask, which
-    /// isn't 0, has a value.
-    pub(crate) fn epoch_may_begin(&self, device: &DeviceSetup, mask: u16) -> bool
-        ensures { result ≡ may_begin device.now self.now.epoch mask }
+    /// The desk of the device at an address by a carry: no job is there.
+    pub(crate) fn resume(addr: u8, carry: &Carry) -> Self
+        requires rightly { (many : ℕ) × IsRightly many carry.now }
+        ensures job { result.job ≡ None }
+        ensures epoch { result.epoch ≡ carries.epoch_held addr carry.now }
+        ensures order { order_of result.orders.order ≡ carries.order_held addr carry.now }
+        ensures id { result.orders.id ≡ 0 }
     {
-        device.body.is_acceptor()
-            && !self.epoch_runs()
-            && mask != 0
-            && valueless(&device.body, mask).is_none()
-    }
-
-    /// Whether an epoch runs.
-    pub(crate) fn epoch_runs(&self) -> bool
-        ensures { result ≡ following.is_running self.now.epoch }
-    {
-        match self.epoch {
-            EpochState::Idle => false,
-            EpochState::Running { .. } => true,
+        JobDesk {
+            job: None,
+            epoch: epoch_held(carry, addr),
+            orders: OrderState {
+                order: owed_held(carry, addr),
+                id: 0,
+            },
         }
     }
+}
 
-    /// Whether the open order has this id.
-    pub(crate) fn owes(&self, id: u32) -> bool
-        ensures { result ≡ has_id id (order_of self.now.orders.order) }
-    {
-        match &self.orders.order {
-            Some(owed) => owed.order.id == id,
-            None => false,
-        }
-    }
-
-    /// A record of this desk's device is replayed: the epoch or the open order goes on by it.
-    pub(crate) fn replay(&mut self, entry: &Record)
-        requires encodable { Encodable entry.now }
-        ensures job { self.new.job ≡ self.old.job }
-        ensures epoch { self.new.epoch ≡ epoch_by entry.now self.old.epoch }
-        ensures order { order_of self.new.orders.order ≡ order_by entry.now (order_of self.old.orders.order) }
-        ensures id { self.new.orders.id ≡ self.old.orders.id }
-    {
-        self.epoch = epoch_by(entry, self.epoch);
-        self.orders.order = order_by(entry, self.orders.order);
+/// The open order at an address by a carry, or none.
+#[tactic(auto, using(crate::proofs::Replaying::held_life))]
+fn owed_held(carry: &Carry, addr: u8) -> Option<Owed>
+    requires rightly { (many : ℕ) × IsRightly many carry.now }
+    ensures { order_of result ≡ carries.order_held addr carry.now }
+{
+    match order_held(carry, addr) {
+        Some(order) => Some(Owed { order }),
+        None => None,
     }
 }
 
@@ -83,31 +88,6 @@ pub(crate) fn epoch_by(entry: &Record, before: EpochState) -> EpochState
         Record::Reading { counter, .. } => counted(*counter, before),
         Record::Broken { .. } => EpochState::Idle,
         Record::EpochEnd { .. } => EpochState::Idle,
-        _ => before,
-    }
-}
-
-/// The open order after a record: it is opened, closed, or as before.
-fn order_by(entry: &Record, before: Option<Owed>) -> Option<Owed>
-    requires encodable { Encodable entry.now }
-    ensures { order_of result ≡ order_by entry.now (order_of before) }
-{
-    match entry {
-        Record::Opened {
-            id,
-            addr,
-            count,
-            life,
-        } => Some(Owed {
-            order: OpenOrder {
-                id: *id,
-                addr: *addr,
-                count: *count,
-                life: *life,
-            },
-        }),
-        Record::Closed { .. } => None,
-        Record::Odd { .. } => None,
         _ => before,
     }
 }

@@ -1,141 +1,135 @@
-//! A host that starts goes over the records of its journal: it reads them, or is shown them as they are found.
-ghost use Rattle.std.specs.Prelude.{◌≡◌, ◌≤◌, ◌<◌, ◌+◌, ◌-◌, ◌^◌, List, [], ◌∷◌, Err, IfErr, IsTrue, OnErr, OnOk, false, is_ok, reverse};
+//! A host that starts goes over the carry and the records of its journal: it reads them, or is shown them as they are
+//! found.
+ghost use Rattle.std.specs.Prelude.{◌≡◌, ◌≤◌, ◌<◌, ◌+◌, List, Err, IfErr, IfOk, IsTrue, OnOk, Ok, is_ok};
 ghost use Rattle.cct_model.specs.lines.record.Record.{Record};
-ghost use Rattle.cct_model.specs.Following.{follows};
+ghost use Rattle.cct_model.specs.lines.carry.Carry.{Carry};
+ghost use Rattle.cct_model.specs.Carried.{empty_carry};
+ghost use Rattle.cct_model.specs.Carry.{Fits};
 ghost use Rattle.cct_model.specs.Setup.{IsSoundSetup};
-ghost use Rattle.cct_record.specs.Body.{Encodable};
+ghost use Rattle.cct_carry.specs.Tally as tallies;
 ghost use Rattle.cct_journal.specs.Journal as journals;
-ghost use Rattle.cct_ledger.specs.Ledger as ledgers;
-ghost use Rattle.cct_host.specs.OnDisk.{ReadsRecords};
-ghost use Rattle.cct_host.specs.Desks as all_desks;
-ghost use Rattle.cct_host.specs.Parts.{BelongTogether};
-ghost use Rattle.cct_host.specs.Replayed.{Replays};
-ghost use Rattle.cct_host.specs.Starting.{OnlyReadIn, RefusesStart, ReplaysOne, WentOver, WentOverFirst};
+ghost use Rattle.cct_host.specs.OnDisk.{ReadsRest};
+ghost use Rattle.cct_host.specs.Starting.{OnlyReadIn, RefusesResume, TalliesFirst, TalliesOver};
 
-use crate::Desks;
 use crate::refusal::StartNo;
+use cct_carry::Tally;
 use cct_disk::Disk;
 use cct_journal::{Journal, Replay};
-use cct_ledger::{Ledger, NotAllowed};
-use cct_model::{Record, Setup};
+use cct_model::{Carry, Record, Setup};
 
-/// Desks and a ledger without records go over the records of a journal, oldest first.
+/// A tally of all records of a journal: it begins with the carry of those before the current half, and goes over the
+/// others, oldest first.
 ///
-/// [`StartNo::BadRecord`] comes at the first record that can't be read or doesn't follow those before it.
-pub(crate) fn replay_all<D: Disk>(
-    desks: &mut Desks<'_>,
-    ledger: &mut Ledger<'_>,
+/// [`StartNo::BadRecord`] comes at the first record of the current half where the carry doesn't fit the setup, and at the
+/// first one there that can't be read or doesn't follow.
+pub(crate) fn replay_all<'s, D: Disk>(
+    setup: &'s Setup,
     journal: &mut Journal<D>,
-) -> Result<(), StartNo>
-    requires desks { Replays desks.old [] }
-    requires ledger { ledgers.StandsFor ledger.old [] 0 }
-    requires same { ledgers.setup_of ledger.old ≡ all_desks.setup_of desks.old }
+) -> Result<Tally<'s>, StartNo>
+    requires sound { IsSoundSetup setup.now }
 
-    // what holds of the parts of a host
-    ensures setup { all_desks.setup_of desks.new ≡ all_desks.setup_of desks.old }
-    ensures together { BelongTogether desks.new ledger.new journal.new }
-
-    // what they tell
-    ensures over { OnOk result ((records : List Record)
-        → ReadsRecords (all_desks.setup_of desks.old) D.seen (journals.disk_of journal.old)
-        (journals.place_of journal.old) records
-        → WentOver desks.new ledger.new (reverse records)) }
+    // what it tells
+    ensures setup { IfOk result (λ tally. tallies.setup_of tally ≡ setup.now) }
+    ensures counted { IfOk result (λ tally. tallies.many_of tally ≡ journals.used_of journal.old) }
+    ensures over { IfOk result (λ tally. (rest : List Record)
+        → ReadsRest D.seen (journals.disk_of journal.old) (journals.place_of journal.old) rest
+        → TalliesOver setup.now (journals.carry_before journal.old) rest (tallies.carry_in tally)) }
     ensures starts { journals.used_of journal.old ≡ 0 → IsTrue (is_ok result) }
-    ensures fresh { journals.used_of journal.old ≡ 0 → WentOver desks.new ledger.new [] }
-    ensures refused { IfErr result (λ why. (records : List Record)
-        → ReadsRecords (all_desks.setup_of desks.old) D.seen (journals.disk_of journal.old)
-        (journals.place_of journal.old) records
-        → RefusesStart why (all_desks.setup_of desks.old) records) }
+    ensures fresh { IfOk result (λ tally. journals.used_of journal.old ≡ 0 → tallies.carry_in tally ≡ empty_carry) }
+    ensures refused { IfErr result (λ why. (rest : List Record)
+        → ReadsRest D.seen (journals.disk_of journal.old) (journals.place_of journal.old) rest
+        → RefusesResume why setup.now (journals.base_of journal.old) (journals.carry_before journal.old) rest) }
 
     // the journal
     ensures reads { OnlyReadIn journal.old journal.new (result ≡ Err StartNo.Disk) }
     ensures untouched { journals.used_of journal.old ≡ 0 → journal.new ≡ journal.old }
 {
-    for index in 0..journal.used() {
-        replay_next(desks, ledger, journal, index)?;
+    let base = journal.base();
+    match Tally::resume(setup, base, journal.carry()) {
+        Some(tally) => replay_rest(tally, journal),
+        None => Err(StartNo::BadRecord { index: base }),
     }
-    Ok(())
 }
 
-/// The record of an index is read, and replayed after those before it.
+/// A tally of the records before the current half of a journal goes over those in it, oldest first.
+fn replay_rest<'s, D: Disk>(
+    before: Tally<'s>,
+    journal: &mut Journal<D>,
+) -> Result<Tally<'s>, StartNo>
+    requires counted { tallies.many_of before ≡ journals.base_of journal.old }
+    ensures setup { IfOk result (λ tally. tallies.setup_of tally ≡ tallies.setup_of before.entry) }
+    ensures counted { IfOk result (λ tally. tallies.many_of tally ≡ journals.used_of journal.old) }
+    ensures over { IfOk result (λ tally. (rest : List Record)
+        → ReadsRest D.seen (journals.disk_of journal.old) (journals.place_of journal.old) rest
+        → Fits (tallies.setup_of before.entry) (tallies.carry_in before.entry)
+        → TalliesOver (tallies.setup_of before.entry) (tallies.carry_in before.entry) rest (tallies.carry_in tally)) }
+    ensures refused { IfErr result (λ why. (rest : List Record)
+        → ReadsRest D.seen (journals.disk_of journal.old) (journals.place_of journal.old) rest
+        → Fits (tallies.setup_of before.entry) (tallies.carry_in before.entry)
+        → RefusesResume why (tallies.setup_of before.entry) (journals.base_of journal.old) (tallies.carry_in before.entry) rest) }
+    ensures none { journals.used_of journal.old ≡ journals.base_of journal.old
+        → (result ≡ Ok before.entry) × (journal.new ≡ journal.old) }
+    ensures reads { OnlyReadIn journal.old journal.new (result ≡ Err StartNo.Disk) }
+{
+    let mut tally = before;
+    for index in journal.base()..journal.used() {
+        replay_next(&mut tally, journal, index)?;
+    }
+    Ok(tally)
+}
+
+/// The record of an index is read, and a tally goes over it, where it follows.
 fn replay_next<D: Disk>(
-    desks: &mut Desks<'_>,
-    ledger: &mut Ledger<'_>,
+    tally: &mut Tally<'_>,
     journal: &mut Journal<D>,
     index: u32,
 ) -> Result<(), StartNo>
+    requires from { journals.base_of journal.old ≤ index }
     requires within { index < journals.used_of journal.old }
-    requires counted { ledgers.applied ledger.old ≤ index }
-    requires same { ledgers.setup_of ledger.old ≡ all_desks.setup_of desks.old }
-    ensures replays { ReplaysOne desks.old desks.new ledger.old ledger.new }
-    ensures over { OnOk result ((records : List Record)
-        → ReadsRecords (all_desks.setup_of desks.old) D.seen (journals.disk_of journal.old)
-        (journals.place_of journal.old) records
-        → WentOverFirst desks.old ledger.old records index
-        → WentOverFirst desks.new ledger.new records (index + 1)) }
-    ensures refused { IfErr result (λ why. (records : List Record)
-        → ReadsRecords (all_desks.setup_of desks.old) D.seen (journals.disk_of journal.old)
-        (journals.place_of journal.old) records
-        → WentOverFirst desks.old ledger.old records index
-        → RefusesStart why (all_desks.setup_of desks.old) records) }
+    requires counted { tallies.many_of tally.old ≡ index }
+    ensures setup { tallies.setup_of tally.new ≡ tallies.setup_of tally.old }
+    ensures counted { OnOk result (tallies.many_of tally.new ≡ index + 1) }
+    ensures over { OnOk result ((rest : List Record)
+        → ReadsRest D.seen (journals.disk_of journal.old) (journals.place_of journal.old) rest
+        → (c : Carry)
+        → TalliesFirst (tallies.setup_of tally.old) (journals.base_of journal.old) c rest index
+        (tallies.carry_in tally.old)
+        → TalliesFirst (tallies.setup_of tally.old) (journals.base_of journal.old) c rest (index + 1)
+        (tallies.carry_in tally.new)) }
+    ensures refused { IfErr result (λ why. (rest : List Record)
+        → ReadsRest D.seen (journals.disk_of journal.old) (journals.place_of journal.old) rest
+        → (c : Carry)
+        → TalliesFirst (tallies.setup_of tally.old) (journals.base_of journal.old) c rest index
+        (tallies.carry_in tally.old)
+        → RefusesResume why (tallies.setup_of tally.old) (journals.base_of journal.old) c rest) }
     ensures reads { OnlyReadIn journal.old journal.new (result ≡ Err StartNo.Disk) }
 {
     let entry = journal.read_at(index)?;
-    match replay_entry(desks, ledger, &entry) {
-        Ok(()) => Ok(()),
-        Err(NotAllowed) => Err(StartNo::BadRecord { index }),
+    if tally.add(&entry) {
+        Ok(())
+    } else {
+        Err(StartNo::BadRecord { index })
     }
 }
 
-/// A record is replayed after those before it, or refused where it doesn't follow them.
-fn replay_entry(
-    desks: &mut Desks<'_>,
-    ledger: &mut Ledger<'_>,
-    entry: &Record,
-) -> Result<(), NotAllowed>
-    requires few { ledgers.applied ledger.old < 2 ^ 32 - 1 }
-    requires encodable { Encodable entry.now }
-    requires same { ledgers.setup_of ledger.old ≡ all_desks.setup_of desks.old }
-    ensures replays { ReplaysOne desks.old desks.new ledger.old ledger.new }
-    ensures over { OnOk result ((before : List Record) → WentOver desks.old ledger.old before
-        → WentOver desks.new ledger.new (entry.now ∷ before)) }
-    ensures refused { OnErr result ((before : List Record) → WentOver desks.old ledger.old before
-        → follows (all_desks.setup_of desks.old) before entry.now ≡ false) }
-{
-    if !desks.may_follow(entry) {
-        return Err(NotAllowed);
-    }
-    match ledger.apply(entry) {
-        Ok(()) => {
-            desks.replay(entry);
-            Ok(())
-        }
-        Err(NotAllowed) => Err(NotAllowed),
-    }
-}
-
-/// What is replayed of the records that are found after a power cut: desks and a ledger, up to the first record
-/// that doesn't follow those before it.
+/// What goes over the carry and the records that are found after a power cut: a tally, up to the first record that doesn't
+/// follow.
 #[derive(Drop)]
 pub(crate) struct ReplayState<'s> {
-    pub(crate) desks: Desks<'s>,
-    pub(crate) ledger: Ledger<'s>,
-    /// The index of that record. Nothing is replayed from it on.
+    pub(crate) tally: Tally<'s>,
+    /// The index of that record, or of the first one after a carry that doesn't fit the setup. The tally goes over none
+    /// from it on.
     pub(crate) bad: Option<u32>,
 }
 
 impl<'s> ReplayState<'s> {
-    ghost use Rattle.cct_host.specs.Replaying.{ReplaysTo};
-
-    /// Before the first record.
+    /// Before any record.
     pub(crate) fn new(setup: &'s Setup) -> Self
         requires sound { IsSoundSetup setup.now }
-        ensures setup { all_desks.setup_of result.desks ≡ setup.now }
-        ensures starts { ReplaysTo 0 result [] result }
+        ensures setup { tallies.setup_of result.tally ≡ setup.now }
     {
         ReplayState {
-            desks: Desks::new(setup),
-            ledger: Ledger::new(setup),
+            tally: Tally::new(setup),
             bad: None,
         }
     }
@@ -146,11 +140,21 @@ impl Replay for ReplayState<'_> {
 
     ghost replayed = { ReplaysTo };
 
+    fn begin(&mut self, base: u32, carry: &Carry) {
+        match Tally::resume(self.tally.setup(), base, carry) {
+            Some(tally) => {
+                self.tally = tally;
+                self.bad = None;
+            }
+            None => self.bad = Some(base),
+        }
+    }
+
     fn replay(&mut self, index: u32, entry: &Record) {
         if self.bad.is_some() {
             return;
         }
-        if let Err(NotAllowed) = replay_entry(&mut self.desks, &mut self.ledger, entry) {
+        if !self.tally.add(entry) {
             self.bad = Some(index);
         }
     }

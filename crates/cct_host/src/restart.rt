@@ -3,28 +3,33 @@ ghost use Rattle.std.specs.Prelude.{◌≡◌, ◌≤◌, ◌<◌, ◌+◌, List
 ghost use Rattle.cct_model.specs.lines.entry.Entry.{Entry};
 ghost use Rattle.cct_model.specs.terms.device.Setup.{Setup};
 ghost use Rattle.cct_model.specs.lines.record.Record.{Record};
+ghost use Rattle.cct_model.specs.Carry.{carry_of};
+ghost use Rattle.cct_model.specs.Carried.{IsRightly};
 ghost use Rattle.cct_model.specs.Following.{all_follow, follows};
 ghost use Rattle.cct_model.specs.Script.{IsCrash};
+ghost use Rattle.cct_model.specs.Setup.{IsSoundSetup};
 ghost use Rattle.cct_record.specs.Body.{Encodable};
-ghost use Rattle.cct_journal.specs.Image.{capacity_of};
 ghost use Rattle.cct_journal.specs.Journal as journals;
 ghost use Rattle.cct_journal.specs.Opening.{ReplaysAll};
+ghost use Rattle.cct_carry.specs.Tally as tallies;
 ghost use Rattle.cct_ledger.specs.Ledger as ledgers;
 ghost use Rattle.cct_laws.specs.Restart.{calls_in, due_in};
-ghost use Rattle.cct_host.specs.OnDisk.{KeepsRecords, ReadsRecords};
+ghost use Rattle.cct_host.specs.OnDisk.{KeepsRecords, ReadsRest};
 ghost use Rattle.cct_host.specs.Desks as all_desks;
 ghost use Rattle.cct_host.specs.Host.{put_by};
 ghost use Rattle.cct_host.specs.Parts.{BelongTogether};
+ghost use Rattle.cct_host.specs.Replayed.{AreUnused};
 ghost use Rattle.cct_host.specs.Restarting.{IsLost, JournalFails, JournalRestarts, due_for};
-ghost use Rattle.cct_host.specs.Starting.{WentOver};
+ghost use Rattle.cct_host.specs.Starting.{BeginFrom, TalliesOver};
 
 use crate::Desks;
 use crate::refusal::CrashNo;
 use crate::replay::ReplayState;
+use cct_carry::Tally;
 use cct_disk::Disk;
-use cct_journal::{Journal, OpenNo, Replay};
+use cct_journal::{Journal, MOST_RECORDS, OpenNo, Replay};
 use cct_ledger::Ledger;
-use cct_model::{CrashAt, Record};
+use cct_model::{Carry, CrashAt, Record, Setup};
 
 /// What a power cut left.
 #[derive(Debug, Drop)]
@@ -40,35 +45,39 @@ pub struct Crashed {
 pub(crate) fn restart<'s, D: Disk>(
     desks: &mut Desks<'s>,
     ledger: &mut Ledger<'s>,
+    tally: &mut Tally<'s>,
     journal: &mut Journal<D>,
     at: Option<CrashAt>,
     choice: u64,
 ) -> Result<Crashed, CrashNo>
     requires whole { journals.has_failed journal.old ≡ false }
     requires few { IsCrash at }
-    requires together { BelongTogether desks.old ledger.old journal.old }
+    requires together { BelongTogether desks.old ledger.old tally.old journal.old }
 
     // what holds of the parts of a host
     ensures setup { all_desks.setup_of desks.new ≡ all_desks.setup_of desks.old }
-    ensures together { BelongTogether desks.new ledger.new journal.new }
+    ensures together { BelongTogether desks.new ledger.new tally.new journal.new }
 
     // what is restarted, and what it tells
     ensures due { (past : List Entry) → all_desks.StandsFor desks.old past
         → due_for desks.old at ≡ due_in (all_desks.setup_of desks.old) past at }
-    ensures restarts { IfOk result (λ crashed. JournalRestarts (calls_in at) (due_for desks.old at) choice journal.old
-        journal.new crashed.kept) }
+    ensures restarts { IfOk result (λ crashed. JournalRestarts (calls_in at) (due_for desks.old at)
+        (tallies.carry_in tally.old) choice journal.old journal.new crashed.kept) }
     ensures records { IfOk result (λ crashed. crashed.records ≡ journals.used_of journal.new) }
-    ensures over { OnOk result ((records : List Record)
-        → ReadsRecords (all_desks.setup_of desks.old) D.seen (journals.disk_of journal.new)
-        (journals.place_of journal.new) records
-        → WentOver desks.new ledger.new (reverse records)) }
+    ensures over { OnOk result ((rest : List Record)
+        → ReadsRest D.seen (journals.disk_of journal.new) (journals.place_of journal.new) rest
+        → TalliesOver (all_desks.setup_of desks.old) (journals.carry_before journal.new) rest
+        (tallies.carry_in tally.new)) }
+    ensures begins { OnOk result (BeginFrom desks.new ledger.new (journals.used_of journal.new)
+        (tallies.carry_in tally.new)) }
 
     // why it isn't
-    ensures fails { IfErr result (JournalFails (all_desks.setup_of desks.old) (due_for desks.old at) choice journal.old
-        journal.new) }
+    ensures fails { IfErr result (JournalFails (all_desks.setup_of desks.old) (due_for desks.old at)
+        (tallies.carry_in tally.old) choice journal.old journal.new) }
     ensures never { IfErr result (λ why. (records : List Record)
         → KeepsRecords (all_desks.setup_of desks.old) D.honest D.seen D.may_leave (journals.disk_of journal.old)
         (journals.place_of journal.old) records
+        → tallies.carry_in tally.old ≡ carry_of (all_desks.setup_of desks.old) records
         → all_follow (all_desks.setup_of desks.old) (reverse records) ≡ true
         → IfSome (due_for desks.old at) (λ r. follows (all_desks.setup_of desks.old) (reverse records) r ≡ true)
         → why ≡ CrashNo.Disk) }
@@ -76,23 +85,53 @@ pub(crate) fn restart<'s, D: Disk>(
     let due = due_for(desks, at);
     let setup = desks.setup();
     let mut replayed = ReplayState::new(setup);
-    match lose(journal, due, calls_in(at), choice, &mut replayed) {
-        Ok(kept) => {
-            *desks = replayed.desks;
-            *ledger = replayed.ledger;
-            match replayed.bad {
-                None => Ok(Crashed {
-                    records: journal.used(),
-                    kept,
-                }),
-                Some(index) => Err(CrashNo::BadRecord { index }),
-            }
-        }
+    let kept = match lose(journal, due, tally.carry(), calls_in(at), choice, &mut replayed) {
+        Ok(kept) => kept,
         Err(why) => {
-            *desks = Desks::new(setup);
-            *ledger = Ledger::new(setup);
-            Err(why)
+            clear(desks, ledger, tally, journal.used());
+            return Err(why);
         }
+    };
+    match replayed.bad {
+        None => {
+            let records = journal.used();
+            *desks = Desks::resume(setup, replayed.tally.carry());
+            *ledger = Ledger::resume(setup, records, replayed.tally.carry());
+            *tally = replayed.tally;
+            Ok(Crashed { records, kept })
+        }
+        Some(index) => {
+            clear(desks, ledger, tally, journal.used());
+            Err(CrashNo::BadRecord { index })
+        }
+    }
+}
+
+/// Parts of a host that isn't started again: they have no job, and no records but their number.
+fn clear<'s>(desks: &mut Desks<'s>, ledger: &mut Ledger<'s>, tally: &mut Tally<'s>, many: u32)
+    ensures setup { all_desks.setup_of desks.new ≡ all_desks.setup_of desks.old }
+    ensures unused { AreUnused desks.new }
+    ensures same { ledgers.setup_of ledger.new ≡ all_desks.setup_of desks.old }
+    ensures reserved { ledgers.reserved_of ledger.new ≡ 0 }
+    ensures none { ledgers.applied ledger.new ≡ 0 }
+    ensures same_tally { tallies.setup_of tally.new ≡ all_desks.setup_of desks.old }
+    ensures tallied { tallies.many_of tally.new ≡ many }
+{
+    let setup = desks.setup();
+    *desks = Desks::new(setup);
+    *ledger = Ledger::new(setup);
+    *tally = only_counted(setup, many);
+}
+
+/// The tally of so many records that are not known.
+fn only_counted(setup: &Setup, many: u32) -> Tally<'_>
+    requires sound { IsSoundSetup setup.now }
+    ensures setup { tallies.setup_of result ≡ setup.now }
+    ensures many { tallies.many_of result ≡ many }
+{
+    match Tally::resume(setup, many, &Carry::empty()) {
+        Some(tally) => tally,
+        None => unreachable!(),
     }
 }
 
@@ -120,32 +159,33 @@ fn calls_in(at: Option<CrashAt>) -> u8
     }
 }
 
-/// A journal has a power cut in a put of the record that is due, or in none, and is opened on what is left, whose
-/// records are replayed. It tells which record was kept beside those that were put.
+/// A journal has a power cut in a put of the record that is due, after those of this carry, or in none, and is opened on what
+/// is left, whose records are replayed. It tells which record was kept beside those that were put.
 fn lose<D: Disk, R: Replay>(
     journal: &mut Journal<D>,
     due: Option<Record>,
+    so_far: &Carry,
     calls: u8,
     choice: u64,
     replay: &mut R,
 ) -> Result<Option<Record>, CrashNo>
     requires whole { journals.has_failed journal.old ≡ false }
     requires few { calls ≤ 4 }
-    requires room { IfSome due (λ _. journals.used_of journal.old
-        < capacity_of (D.size (journals.disk_of journal.old))) }
+    requires room { IfSome due (λ _. journals.used_of journal.old < MOST_RECORDS) }
     requires encodable { IfSome due Encodable }
-    requires starts { R.replayed 0 replay.old [] replay.old }
+    requires rightly { IfSome due (λ _. IsRightly (journals.used_of journal.old) so_far.now) }
 
-    ensures restarts { IfOk result (JournalRestarts calls due choice journal.old journal.new) }
+    ensures restarts { IfOk result (JournalRestarts calls due so_far.now choice journal.old journal.new) }
     ensures replayed { OnOk result (ReplaysAll D.seen R.replayed (journals.disk_of journal.new)
         (journals.place_of journal.new) replay.old replay.new) }
-    ensures fails { IfErr result (λ why. (setup : Setup) → JournalFails setup due choice journal.old journal.new why) }
+    ensures fails { IfErr result (λ why. (setup : Setup)
+        → JournalFails setup due so_far.now choice journal.old journal.new why) }
     ensures never { IfErr result (λ why. (setup : Setup) (records : List Record)
         → KeepsRecords setup D.honest D.seen D.may_leave (journals.disk_of journal.old) (journals.place_of journal.old) records
-        → why ≡ CrashNo.Disk) }
+        → so_far.now ≡ carry_of setup records → why ≡ CrashNo.Disk) }
 {
     let put = journal.used();
-    match journal.restart(&due, calls, choice, replay) {
+    match journal.restart(&due, so_far, calls, choice, replay) {
         Ok(found) => kept_in(found, put, due),
         Err(OpenNo::Disk) => Err(CrashNo::Disk),
         Err(OpenNo::Alien) => Err(CrashNo::Alien),

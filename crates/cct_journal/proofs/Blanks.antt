@@ -1,19 +1,26 @@
 -- A blank image, and the header that is laid on it.
-use Rattle.std.proofs.Common.{◌≡◌, inl, inr, true, Option, Some, None, ℕ, ◌+◌, ◌-◌, ◌*◌, ◌<◌, ◌≤◌, List, [], ◌∷◌, ◌++◌}
-use Rattle.std.proofs.Common.{length, take, drop, slice_index, refl, sym, ◌∙◌, ap, arith}
+use Rattle.std.proofs.Common.{◌≡◌, ◌≢◌, inl, inr, true, false, Bool, Option, Some, None, ℕ, ◌+◌, ◌-◌, ◌*◌, ◌<◌, ◌≤◌, List, [], ◌∷◌}
+use Rattle.std.proofs.Common.{length, take, drop, slice_index, refl, sym, ◌∙◌, ap, arith, rules, subst}
 use Rattle.std.specs.Option.{MatchOption, is_some}
-use Rattle.std.proofs.lemmas.Bool.{cases_eq, cases_lt}
-use Rattle.std.proofs.lemmas.List.{drop_more, take_at, drop_at, get_or-take, get_or-drop}
+use Rattle.std.proofs.lemmas.Bool.{cases_eq, cases_lt, ne_eqb}
+use Rattle.std.proofs.lemmas.List.{get_or-take, get_or-drop}
 use Rattle.std.proofs.lemmas.List.Elements.{All-nil}
-use Rattle.cct_record.specs.Body.{InRange}
-use Rattle.cct_disk.specs.Disk.{SameOutside}
-use Rattle.cct_journal.specs.Image.{IsAlien, IsBlank, IsBlankBetween, IsFirstByteFrom, Keeps, bodies, capacity_of}
-use Rattle.cct_journal.specs.Image.{header, least_size, open_gate}
-use Rattle.cct_journal.specs.Creating.{IsCreated}
-use Rattle.cct_journal.specs.Gated.{IsBegun, behind_gate, behind_open_gate}
+use Rattle.cct_lines.specs.Carried.{EpochFits, IsRightly, OrderFits, empty_carry}
+use Rattle.cct_lines.specs.declared.carry.Carry.{Carry}
+use Rattle.cct_lines.specs.declared.record.Record.{Record}
+use Rattle.cct_disk.specs.Disk.{Holds, SameOutside}
 use Rattle.cct_disk.proofs.Ranges.{outside, put_outside}
+use Rattle.cct_journal.specs.Half.{half, has_open_gate, open_gate, slots_in, start_at}
+use Rattle.cct_journal.specs.Image.{IsAlien, IsBlank, IsBlankBetween, IsFirstByteFrom, least_size}
+use Rattle.cct_journal.specs.Creating.{IsCreated, IsEmpty}
+use Rattle.cct_journal.specs.Gated.{IsBegun, behind_open_gate}
+use Rattle.cct_journal.specs.Places.{behind_start}
+use Rattle.cct_journal.specs.Stands.{Stands}
+use Rattle.cct_journal.specs.Start.{MayBegin, start_of}
+use Rattle.cct_journal.specs.declared.format.TheConstants.{START}
+use Rattle.cct_journal.proofs.Begun.{begun_has, gate_byte, many, other_stays, staged, staged_long}
 use Rattle.cct_journal.proofs.Bytes.{first_byte, put_there}
-use Rattle.cct_journal.proofs.Rooms.{closed}
+use Rattle.cct_journal.proofs.Sides.{half_byte, open_gate_first, other_same, own_same, start_fits}
 
 -- a byte of a block is one of the image
 block_byte : (room image : List ℕ) (at : ℕ) → room ≡ take (length room) (drop at image) → (p : ℕ) → at ≤ p
@@ -57,81 +64,147 @@ blank_first image at place blank first = record {
   not_zero = first.not_zero;
 }
 
--- the header after its gate
-abbrev pub title : List ℕ
-title = drop 1 header
+-- The carry of no record may be one.
+pub empty_rightly : IsRightly 0 empty_carry
+empty_rightly = record {
+  epochs_rise = tt;
+  orders_rise = tt;
+  epochs_fit = All-nil EpochFits;
+  orders_fit = All-nil OrderFits;
+  epochs_few = omega arith;
+  orders_few = omega arith;
+  few = omega arith;
+  each = omega arith;
+  small = search rules;
+  last = omega arith;
+  none_used = λ _. refl;
+}
 
-module _ (image : List ℕ) (blank : IsBlank image) (long : least_size ≤ length image) where
-  -- whatever stands after a gate of 0 is no journal
-  torn_alien : (c : List ℕ) → SameOutside 1 31 image c → IsAlien c
-  torn_alien c torn = inr (λ is.
-      let zero : slice_index c 0 ≡ 0 = outside 1 31 image c 0 torn (inl (omega arith))
-      ∙ blank 0 (omega arith) (omega arith) in
-      let gate : slice_index c 0 ≡ open_gate = sym (get_or-take 32 c 0 0 (omega arith))
-      ∙ ap (λ (l : List ℕ). slice_index l 0) is in
-      absurd (omega arith))
+-- The first half may begin with it.
+pub empty_may : MayBegin false 0 0 empty_carry
+empty_may = record { parity = refl; turned = omega arith; base_fits = omega arith; rightly = empty_rightly }
 
-  titled : List ℕ
-  titled = behind_gate 0 title image
+-- An image of which no half has an open gate is that of no journal.
+alien_by : (c : List ℕ) → ((second : Bool) → slice_index (half c second) 0 ≢ open_gate) → IsAlien c
+alien_by c shut second generation base carry headed =
+    shut second (open_gate_first (half c second) headed.current.is_open)
 
-  titled_same : SameOutside 1 31 image titled
-  unfolding titled
-  titled_same = put_outside 1 image title (omega arith)
+module _ (image : List ℕ) (blank : IsBlank image) (long : least_size ≤ length image)
+    (whole : length (start_of 0 0 empty_carry) ≡ START) where
+  -- What is written lies within the first half.
+  many_bytes : 1 + length (behind_start 0 0 empty_carry) ≤ 32 * slots_in (length image)
+  many_bytes = omega (arith, long, many image false 0 0 empty_carry empty_may long whole)
 
-  titled_there : drop 1 titled ≡ title ++ drop 32 image
-  unfolding titled
-  titled_there = put_there 1 title image (omega arith)
+  -- The first bytes of the halves are 0.
+  blank_first_byte : (second : Bool) → slice_index (half image second) 0 ≡ 0
+  blank_first_byte second =
+      half_byte image image second (start_at (length image) second) 0 (omega arith) refl (omega (arith, long))
+      ∙ blank (start_at (length image) second) (omega arith) (omega (arith, long, start_fits (length image) second))
 
-  -- a byte after the header is 0
-  behind_blank : (c : List ℕ) → SameOutside 0 1 titled c → (p : ℕ) → 32 ≤ p → p < length c → slice_index c p ≡ 0
-  behind_blank c gated p behind before =
-      outside 0 1 titled c p gated (inr (omega arith))
-      ∙ outside 1 31 image titled p titled_same (inr (omega arith))
-      ∙ blank p (omega arith) (omega (arith, gated.size, titled_same.size))
+  -- Whatever stands after the gate of the first half is no journal.
+  torn_alien : (c : List ℕ) → SameOutside (0 + 1) (length (behind_start 0 0 empty_carry)) image c → IsAlien c
+  torn_alien c torn = alien_by c (gates c torn)
+    where
+      -- No gate is open.
+      gates : (c : List ℕ) → SameOutside (0 + 1) (length (behind_start 0 0 empty_carry)) image c → (second : Bool)
+          → slice_index (half c second) 0 ≢ open_gate
+      gates c torn false is_open =
+          let own = own_same image false 1 1 refl (length (behind_start 0 0 empty_carry)) c torn many_bytes in
+          let zero : slice_index (half c false) 0 ≡ 0 =
+          outside 1 (length (behind_start 0 0 empty_carry)) (half image false) (half c false) 0 own (inl (omega arith))
+          ∙ blank_first_byte false in
+          omega (arith, zero, is_open)
+      gates c torn true is_open =
+          let zero : slice_index (half c true) 0 ≡ 0 =
+          ap (λ (l : List ℕ). slice_index l 0)
+          (other_same image false 1 1 refl (length (behind_start 0 0 empty_carry)) c torn many_bytes)
+          ∙ blank_first_byte true in
+          omega (arith, zero, is_open)
 
-  -- the open gate makes it a journal without records
-  opened_keeps : (c : List ℕ) → SameOutside 0 1 titled c → slice_index c 0 ≡ open_gate → Keeps c []
-  opened_keeps c gated is_open =
-      let size : length c ≡ length image = gated.size ∙ titled_same.size in
-      let rest : drop 1 c ≡ title ++ drop 32 image = gated.after ∙ titled_there in
-      let whole : c ≡ header ++ drop 32 image =
-      drop_more c 0 0 (omega arith) ∙ ap (λ gate. gate ∷ drop 1 c) is_open ∙ ap (λ (l : List ℕ). open_gate ∷ l) rest in
-      let records : drop 32 c ≡ drop 32 image = ap (λ (l : List ℕ). drop 32 l) whole
-      ∙ drop_at header (drop 32 image) 32 refl in
-      let first : bodies (capacity_of (length c)) (drop 32 c) ≡ [] =
-      ap (λ (l : List ℕ). bodies (capacity_of (length c)) l) (drop_more c 32 0 (omega arith))
-      ∙ closed (capacity_of (length c)) (slice_index c 32) (drop 33 c)
-      (λ is. absurd (omega (arith, behind_blank c gated 32 (omega arith) (omega arith)))) in
-      record {
-        stands = record {
-          long = omega arith;
-          header_is = ap (λ (l : List ℕ). take 32 l) whole ∙ take_at header (drop 32 image) 32 refl;
-          records_are = first;
-          in_range = All-nil InRange;
-        };
-        shut = λ i above below is. absurd
-            (omega (arith, behind_blank c gated (32 * (i + 1)) (omega arith) (omega arith)));
-      }
+  module _ (c : List ℕ) (gated : SameOutside 0 1 (staged image false 0 0 empty_carry empty_may long whole) c) where
+    -- The second half stays blank.
+    second_shut : slice_index (half c true) 0 ≡ 0
+    second_shut =
+        ap (λ (l : List ℕ). slice_index l 0)
+        (other_stays image false 0 0 empty_carry empty_may long whole c gated) ∙ blank_first_byte true
 
-  -- at each moment there is no journal, or one without records
-  pub begun_created : (c : List ℕ) → IsBegun 0 title image c → IsCreated image c
-  unfolding titled
+    -- With an open gate it is a journal without records.
+    opened_empty : slice_index c 0 ≡ open_gate → IsEmpty c
+    opened_empty is_open =
+        begun_has image false 0 0 empty_carry empty_may long whole c gated is_open
+        (λ other_open. absurd (omega (arith, second_shut, open_gate_first (half c true) other_open)))
+
+    -- Without one it is none.
+    shut_alien : slice_index c 0 ≢ open_gate → IsAlien c
+    shut_alien shut = alien_by c gates
+      where
+        -- No gate is open.
+        gates : (second : Bool) → slice_index (half c second) 0 ≢ open_gate
+        gates false is_open =
+            shut (sym (gate_byte image false 0 0 empty_carry empty_may long whole c gated) ∙ is_open)
+        gates true is_open = omega (arith, second_shut, is_open)
+
+  -- At each moment there is no journal, or one without records.
+  pub begun_created : (c : List ℕ) → IsBegun 0 (behind_start 0 0 empty_carry) image c → IsCreated image c
   begun_created c (inl torn) = inr (inl (torn_alien c torn))
   begun_created c (inr gated) = elim (cases_eq (slice_index c 0) open_gate) [
-    | inl is_open ↦ inr (inr (opened_keeps c gated is_open))
-    | inr shut ↦ inr (inl (inr
-        (λ is. shut (sym (get_or-take 32 c 0 0 (omega arith)) ∙ ap (λ (l : List ℕ). slice_index l 0) is))))
+    | inl is_open ↦ inr (inr (opened_empty c gated is_open))
+    | inr shut ↦ inr (inl (shut_alien c gated shut))
   ]
 
-  -- at the end there is one
-  pub laid_keeps : Keeps (behind_open_gate 0 title image) []
-  unfolding titled
-  laid_keeps =
-      let one : 0 + 1 ≤ length titled = omega (arith, titled_same.size) in
-      opened_keeps (behind_open_gate 0 title image) (put_outside 0 titled (open_gate ∷ []) one)
-      (first_byte (behind_open_gate 0 title image) 0 open_gate _ (put_there 0 (open_gate ∷ []) titled one))
+  -- The image at the end.
+  abbrev laid : List ℕ
+  laid = behind_open_gate 0 (behind_start 0 0 empty_carry) image
+
+  -- The last write is one of the gate.
+  laid_gated : SameOutside 0 1 (staged image false 0 0 empty_carry empty_may long whole) laid
+  laid_gated = put_outside 0 (staged image false 0 0 empty_carry empty_may long whole) (open_gate ∷ [])
+      (staged_long image false 0 0 empty_carry empty_may long whole)
+
+  -- At the end there is one.
+  pub laid_empty : IsEmpty (behind_open_gate 0 (behind_start 0 0 empty_carry) image)
+  laid_empty =
+      opened_empty laid laid_gated
+      (first_byte laid 0 open_gate _
+      (put_there 0 (open_gate ∷ []) (staged image false 0 0 empty_carry empty_may long whole)
+      (staged_long image false 0 0 empty_carry empty_may long whole)))
+
+  -- The gate of its second half is shut.
+  pub laid_other : has_open_gate (half (behind_open_gate 0 (behind_start 0 0 empty_carry) image) true) ≡ false
+  laid_other = ne_eqb (slice_index (half laid true) 0) open_gate
+      (λ is. absurd (omega (arith, is, second_shut laid laid_gated)))
 
 -- what is told is told of some image
 pub told_image : (seen : Option (List ℕ)) → is_some seen ≡ true → (image : List ℕ) × (seen ≡ Some image)
 told_image None told = absurd cc
 told_image (Some image) told = (image, refl)
+
+-- The same with a carry that is the empty one.
+pub begun_created_by : (image : List ℕ) → IsBlank image → least_size ≤ length image → (carry : Carry)
+    → carry ≡ empty_carry → length (start_of 0 0 carry) ≡ START → (c : List ℕ)
+    → IsBegun 0 (behind_start 0 0 carry) image c → IsCreated image c
+begun_created_by image blank long carry is whole c begun =
+    begun_created image blank long (subst (λ k. length (start_of 0 0 k) ≡ START) is whole) c
+    (subst (λ k. IsBegun 0 (behind_start 0 0 k) image c) is begun)
+
+-- A journal without records stands on what is laid.
+pub created_stands : {D : Type 0} (honest : D → Bool) (seen : D → Option (List ℕ)) (may_leave : D → List ℕ → Type 0)
+    (disk : D) (image : List ℕ) → IsBlank image → least_size ≤ length image → (carry : Carry) → carry ≡ empty_carry
+    → length (start_of 0 0 carry) ≡ START
+    → Holds honest seen may_leave disk (behind_open_gate 0 (behind_start 0 0 carry) image)
+    → (carry_of : List Record → Carry) → carry_of [] ≡ empty_carry
+    → Stands carry_of honest seen may_leave disk
+    (record { used = 0; second = false; generation = 0; base = 0; carry = carry; other_open = false }) []
+created_stands honest seen may_leave disk image blank long carry is whole held carry_of none =
+    let long_start = subst (λ k. length (start_of 0 0 k) ≡ START) is whole in
+    subst (λ k. Stands carry_of honest seen may_leave disk
+    (record { used = 0; second = false; generation = 0; base = 0; carry = k; other_open = false }) []) (sym is)
+    (record {
+      image = behind_open_gate 0 (behind_start 0 0 empty_carry) image;
+      held = subst (λ k. Holds honest seen may_leave disk (behind_open_gate 0 (behind_start 0 0 k) image)) is held;
+      rest = [];
+      has = laid_empty image blank long long_start;
+      continues = record { first = []; all = refl; many = refl; carry_is = sym none };
+      count = refl;
+      other_gate = laid_other image blank long long_start;
+    })

@@ -1,173 +1,202 @@
 -- What the calls of a put make of a disk on which a journal stands.
-use Rattle.std.proofs.Common.{◌≡◌, ◌⊎◌, inl, inr, ⊎_elim, ◌≤◌, true, is_some, ℕ, ◌+◌, ◌*◌, ◌<◌, Bool, Option, None}
-use Rattle.std.proofs.Common.{Some, List, [], ◌∷◌, ◌++◌, length, sym, ◌∙◌, ap, subst, arith, length-append}
+use Rattle.std.proofs.Common.{◌≡◌, ◌⊎◌, inl, inr, ⊎_elim, ℕ, ◌+◌, ◌-◌, ◌*◌, ◌<◌, ◌≤◌, Bool, not, Option, Some, is_some, List, [], ◌∷◌}
+use Rattle.std.proofs.Common.{◌++◌, length, take, refl, sym, ◌∙◌, ap, subst, arith, append_assoc, length-append}
+use Rattle.std.proofs.lemmas.List.{append-nil, take_at, length-take-le}
+use Rattle.cct_lines.specs.declared.carry.Carry.{Carry}
 use Rattle.cct_lines.specs.declared.record.Record.{Record}
 use Rattle.cct_record.specs.Body.{InRange, body_of}
-use Rattle.cct_disk.specs.Disk.{Holds, IsCutBy, LeavesOnly, SameOutside}
+use Rattle.cct_disk.specs.Disk.{Holds, LeavesOnly, SameOutside}
+use Rattle.cct_journal.specs.declared.format.TheConstants.{FIRST_SLOT}
 use Rattle.cct_journal.specs.declared.place.Place.{Place}
-use Rattle.cct_journal.specs.Image.{Keeps, KeepsOneOf, capacity_of}
+use Rattle.cct_journal.specs.Half.{half, has_open_gate, slots_in, start_at}
+use Rattle.cct_journal.specs.Image.{Continues, HasHalf, StandsFor, StandsForOneOf, room_of}
 use Rattle.cct_journal.specs.Gated.{IsBegun, behind_open_gate}
-use Rattle.cct_journal.specs.PowerCuts.{KeepsWith, LeavesBy, LeavesWith, LeftBy}
-use Rattle.cct_journal.specs.Stands.{Leaves, LeavesOneOf, Outlasts, Puts, Reads, Settled, Stands}
-use Rattle.cct_journal.proofs.Moments.{now_too, weaker}
-use Rattle.cct_journal.proofs.Puts.{begun_keeps, body_torn, written_keeps}
-use Rattle.cct_journal.proofs.Blanks.{told_image}
+use Rattle.cct_journal.specs.Places.{after_put}
+use Rattle.cct_journal.specs.Stands.{IsPlaced, Leaves, Settled, Stands}
+use Rattle.cct_journal.proofs.Moments.{weaker}
+use Rattle.cct_journal.proofs.Puts.{begun_has, body_torn, gate_in, written_has, written_other}
+use Rattle.cct_journal.proofs.Slotted.{PutBytes, gate_place}
+
+-- An image whose current half has these records stands for them and those before.
+pub stands_for : {carry_of : List Record → Carry} {image : List ℕ} {second : Bool} {generation base : ℕ}
+    {carry : Carry} {rest records : List Record} → HasHalf image second generation base carry rest
+    → Continues carry_of base carry rest records → StandsFor carry_of image records
+stands_for {carry_of} {image} {second} {generation} {base} {carry} {rest} {records} has continues = record {
+  base = base;
+  carry = carry;
+  rest = rest;
+  has = record { second = second; generation = generation; current = has };
+  continues = continues;
+}
+
+-- One more record is one more of the half.
+pub one_more : {carry_of : List Record → Carry} {base : ℕ} {carry : Carry} {rest records : List Record}
+    (entry : Record) → Continues carry_of base carry rest records
+    → Continues carry_of base carry (rest ++ entry ∷ []) (records ++ entry ∷ [])
+one_more {carry_of} {base} {carry} {rest} {records} entry continues = record {
+  first = continues.first;
+  all = ap (λ (l : List Record). l ++ entry ∷ []) continues.all ∙ append_assoc continues.first rest (entry ∷ []);
+  many = continues.many;
+  carry_is = continues.carry_is;
+}
+
+-- So many bytes are written after the gate of a slot: with the gate of the next one, if there is one.
+abbrev pub IsCount : ℕ → ℕ → ℕ → Type 0
+IsCount slots slot count = ((count ≡ 32) × (slot + 1 < slots)) ⊎ ((count ≡ 31) × (slots ≤ slot + 1))
+
+-- What is written so.
+put_bytes : (slots n many count : ℕ) (body spelt : List ℕ) → length body ≡ 31 → spelt ≡ body ++ 0 ∷ []
+    → IsCount slots (FIRST_SLOT + many) count → n ≤ slots - FIRST_SLOT → PutBytes n many body (take count spelt)
+put_bytes slots n many count body spelt whole is which few = record {
+  whole = whole;
+  are = elim which [
+    | inl more ↦ inl (ap (λ k. take k spelt) more.0 ∙ ap (λ (l : List ℕ). take 32 l)
+        (is ∙ sym (append-nil (body ++ 0 ∷ [])))
+        ∙ take_at (body ++ 0 ∷ []) [] 32 (omega (arith, whole, length-append body (0 ∷ []))))
+    | inr last ↦ inr (
+      ap (λ k. take k spelt) last.0 ∙ ap (λ (l : List ℕ). take 31 l) is ∙ take_at body (0 ∷ []) 31 whole,
+      omega (arith, last.1, few),
+    )
+  ];
+}
+
+-- It lies within the half.
+put_within : (slots many count : ℕ) (spelt : List ℕ) → length spelt ≡ 32 → FIRST_SLOT + many < slots
+    → IsCount slots (FIRST_SLOT + many) count → gate_place many + 1 + length (take count spelt) ≤ 32 * slots
+put_within slots many count spelt long few which = elim which [
+  | inl more ↦ omega (arith, more.1, length-take-le count spelt (omega (arith, long, more.0)), more.0)
+  | inr last ↦ omega (arith, few, length-take-le count spelt (omega (arith, long, last.0)), last.0)
+]
 
 module _ {D : Type 0} (size : D → ℕ) (honest : D → Bool) (seen : D → Option (List ℕ)) (may_leave : D → List ℕ → Type 0)
     (moment : D → ℕ) (left_since : D → ℕ → List ℕ → Type 0)
     (fits : (disk : D) (s : List ℕ) → seen disk ≡ Some s → length s ≡ size disk)
-    (old : D) (place : Place) (entry : Record) (body : List ℕ) (room : place.used < capacity_of (size old))
-    (in_range : InRange entry) (spelt : body ≡ body_of entry) (whole : length body ≡ 31) (gate : ℕ)
-    (gate_is : gate ≡ 32 * (place.used + 1)) where
-  few : (records : List Record) (stands : Stands honest seen may_leave old place records)
-      → length records < capacity_of (length stands.image)
-  few records stands =
-      subst (λ k. k < capacity_of (length stands.image)) stands.count
-      (subst (λ n. place.used < capacity_of n) (sym (fits old stands.image stands.held.tells)) room)
+    (old : D) (place : Place) (entry : Record) (placed : IsPlaced (size old) place)
+    (room : place.used < place.base + room_of (size old) place.base) (in_range : InRange entry) (spelt : List ℕ)
+    (long : length spelt ≡ 32) (spelt_is : spelt ≡ body_of entry ++ 0 ∷ []) (count : ℕ)
+    (len : ℕ) (len_is : len ≡ size old) (index : ℕ) (index_is : index ≡ place.used - place.base) (start : ℕ)
+    (start_is : start ≡ start_at len place.second) (slots : ℕ) (slots_is : slots ≡ slots_in len)
+    (which : IsCount slots (FIRST_SLOT + index) count) where
+  -- A body has 31 bytes.
+  whole : length (body_of entry) ≡ 31
+  whole = omega (arith, long, ap length spelt_is, length-append (body_of entry) (0 ∷ []))
 
-  place_is : (records : List Record) (stands : Stands honest seen may_leave old place records)
-      → 32 * (length records + 1) ≡ gate
-  place_is records stands = ap (λ k. 32 * (k + 1)) (sym stands.count) ∙ sym gate_is
+  module _ (carry_of : List Record → Carry) (records : List Record)
+      (stands : Stands carry_of honest seen may_leave old place records) where
+    -- The image is as long as the disk.
+    size_is : length stands.image ≡ size old
+    size_is = fits old stands.image stands.held.tells
 
-  -- at each moment an image stands for the records, or for these and the new one
-  slot_moments : (new : D) (records : List Record) → Stands honest seen may_leave old place records
-      → ((image : List ℕ) → Holds honest seen may_leave old image
-      → LeavesOnly moment left_since old new (IsBegun gate body image))
-      → LeavesOnly moment left_since old new (KeepsOneOf records entry)
-  slot_moments new records stands run =
-      weaker moment left_since old new (IsBegun gate body stands.image) (KeepsOneOf records entry)
-      (subst (λ g. (c : List ℕ) → IsBegun g body stands.image c → KeepsOneOf records entry c) (place_is records stands)
-      (begun_keeps stands.image records entry body stands.keeps (few records stands) in_range spelt whole))
-      (run stands.image stands.held)
+    -- So many records are in the half.
+    many : place.used - place.base ≡ length stands.rest
+    many = omega (
+      arith,
+      stands.count,
+      stands.continues.many,
+      ap length stands.continues.all,
+      length-append stands.continues.first stands.rest,
+    )
 
-  -- and for the records alone while the gate isn't written
-  slot_early : (new : D) (records : List Record) → Stands honest seen may_leave old place records
-      → ((image : List ℕ) → Holds honest seen may_leave old image
-      → LeavesOnly moment left_since old new (SameOutside (gate + 1) (length body) image))
-      → LeavesOnly moment left_since old new (λ c. Keeps c records)
-  slot_early new records stands run =
-      weaker moment left_since old new (SameOutside (gate + 1) (length body) stands.image) (λ c. Keeps c records)
-      (λ c torn. body_torn stands.image records stands.keeps (few records stands) c
-      (subst (λ n. SameOutside (32 * (length records + 1) + 1) n stands.image c) whole
-      (subst (λ g. SameOutside (g + 1) (length body) stands.image c) (sym (place_is records stands)) torn)))
-      (run stands.image stands.held)
+    -- The half has room.
+    few : length stands.rest < room_of (length stands.image) place.base
+    few = subst (λ n. length stands.rest < room_of n place.base) (sym size_is) (omega (arith, many, room))
 
-  -- both, by how many calls were made
-  pub slot_puts : (calls : ℕ) (new : D)
-      → ((image : List ℕ) → Holds honest seen may_leave old image
-      → LeavesOnly moment left_since old new (IsBegun gate body image))
-      → (calls ≤ 2 → (image : List ℕ) → Holds honest seen may_leave old image
-      → LeavesOnly moment left_since old new (SameOutside (gate + 1) (length body) image))
-      → Puts honest seen may_leave moment left_since place entry calls old new
-  slot_puts calls new run brief = record {
-    each = λ records stands. slot_moments new records stands run;
-    early = λ at_most records stands. slot_early new records stands (brief at_most);
-  }
+    -- The gate is that of the slot after them.
+    gate_here : gate_in (length stands.image) place.second (length stands.rest) ≡ start + 32 * (FIRST_SLOT + index)
+    gate_here =
+        let there : gate_place (length stands.rest) ≡ 32 * (FIRST_SLOT + index) = omega (arith, many, index_is) in
+        ap (λ n. start_at n place.second + gate_place (length stands.rest)) (size_is ∙ sym len_is)
+        ∙ ap (λ k. start_at len place.second + k) there ∙ ap (λ k. k + 32 * (FIRST_SLOT + index)) (sym start_is)
 
-  -- at the end for these and the new one
-  pub slot_done : (new : D) (records : List Record) → Stands honest seen may_leave old place records
-      → ((image : List ℕ) → Holds honest seen may_leave old image
-      → Holds honest seen may_leave new (behind_open_gate gate body image))
-      → Stands honest seen may_leave new (record { used = place.used + 1 }) (records ++ entry ∷ [])
-  slot_done new records stands run = record {
-    image = behind_open_gate gate body stands.image;
-    held = run stands.image stands.held;
-    keeps = subst (λ g. Keeps (behind_open_gate g body stands.image) (records ++ entry ∷ [])) (place_is records stands)
-        (written_keeps stands.image records entry body stands.keeps (few records stands) in_range spelt whole);
-    count = omega (arith, stands.count, length-append records (entry ∷ []));
-  }
+    -- So many bytes are written after it.
+    count_here : IsCount (slots_in (length stands.image)) (FIRST_SLOT + length stands.rest) count
+    count_here =
+        subst (λ n. IsCount (slots_in n) (FIRST_SLOT + length stands.rest) count) (len_is ∙ sym size_is)
+        (subst (λ k. IsCount (slots_in len) (FIRST_SLOT + k) count) (index_is ∙ many)
+        (subst (λ n. IsCount n (FIRST_SLOT + index) count) slots_is which))
 
--- What a power cut may leave after a run on a disk on which a journal stands.
-module _ {D : Type 0} {honest : D → Bool} {seen : D → Option (List ℕ)} {may_leave : D → List ℕ → Type 0}
-    {moment : D → ℕ} {left_since : D → ℕ → List ℕ → Type 0} {old new : D} {place : Place} {records : List Record}
-    (counts_now : (disk : D) (t : ℕ) (c : List ℕ) → t ≤ moment disk → may_leave disk c → left_since disk t c)
-    (same_honest : honest new ≡ honest old) (same_telling : is_some (seen new) ≡ is_some (seen old))
-    (stands : Stands honest seen may_leave old place records) where
-  -- where the run adds no record
-  pub leaves_same : LeavesOnly moment left_since old new (λ c. Keeps c records)
-      → Leaves honest seen may_leave new records
-  leaves_same run = record {
-    keeps_synced = same_honest ∙ stands.held.keeps_synced;
-    tells = same_telling ∙ ap is_some stands.held.tells;
-    each = now_too moment left_since old new (λ c. Keeps c records) (may_leave new) (counts_now new) run;
-  }
+    -- What a put writes first.
+    bytes_are : PutBytes (room_of (length stands.image) place.base) (length stands.rest) (body_of entry)
+        (take count spelt)
+    bytes_are =
+        put_bytes (slots_in (length stands.image)) (room_of (length stands.image) place.base) (length stands.rest) count
+        (body_of entry) spelt whole spelt_is count_here (omega arith)
 
-  -- where it may add one
-  pub leaves_one_of : (entry : Record) → LeavesOnly moment left_since old new (KeepsOneOf records entry)
-      → LeavesOneOf honest seen may_leave new records entry
-  leaves_one_of entry run = record {
-    keeps_synced = same_honest ∙ stands.held.keeps_synced;
-    tells = same_telling ∙ ap is_some stands.held.tells;
-    each = now_too moment left_since old new (KeepsOneOf records entry) (may_leave new) (counts_now new) run;
-  }
+    -- It lies within the half.
+    within : gate_place (length stands.rest) + 1 + length (take count spelt) ≤ 32 * slots_in (length stands.image)
+    within = put_within (slots_in (length stands.image)) (length stands.rest) count spelt long (omega (arith, few))
+        count_here
 
-  -- where a record is put in it, or none
-  pub leaves_with : (put : Option Record) → LeavesOnly moment left_since old new (KeepsWith put records)
-      → LeavesWith honest seen may_leave new put records
-  leaves_with None run = leaves_same run
-  leaves_with (Some r) run = leaves_one_of r run
+    -- At each moment an image stands for the records, or for these and the new one.
+    pub slot_moments : (new : D)
+        → ((image : List ℕ) → Holds honest seen may_leave old image
+        → LeavesOnly moment left_since old new (IsBegun (start + 32 * (FIRST_SLOT + index)) (take count spelt) image))
+        → LeavesOnly moment left_since old new (StandsForOneOf carry_of records entry)
+    slot_moments new run =
+        weaker moment left_since old new (IsBegun (start + 32 * (FIRST_SLOT + index)) (take count spelt) stands.image)
+        (StandsForOneOf carry_of records entry)
+        (subst (λ g. (c : List ℕ) → IsBegun g (take count spelt) stands.image c
+        → StandsForOneOf carry_of records entry c) gate_here
+        (λ c begun. ⊎_elim (λ has. inl (stands_for has stands.continues))
+        (λ has. inr (stands_for has (one_more entry stands.continues)))
+        (begun_has stands.image place.second place.generation place.base place.carry stands.rest entry stands.has few
+        in_range (body_of entry) (take count spelt) refl bytes_are within c begun)))
+        (run stands.image stands.held)
 
--- An honest disk whose power was cut keeps one of the images that this might leave.
-module _ {D : Type 0} {size : D → ℕ} {honest : D → Bool} {seen : D → Option (List ℕ)}
-    {may_leave : D → List ℕ → Type 0} {cuts : D → ℕ} {cut_to : D → ℕ → D → Type 0} {choice : ℕ} {old new : D}
-    (outlasts : Outlasts size honest seen cuts old new) (cut : IsCutBy honest seen may_leave cut_to choice old new)
-  where
-    cut_holds : honest old ≡ true → is_some (seen old) ≡ true
-        → (image : List ℕ) × Holds honest seen may_leave new image × may_leave old image
-    cut_holds is_honest told =
-        let found = told_image (seen new) (outlasts.same_telling ∙ told) in (
-          found.0,
-          record {
-            keeps_synced = outlasts.same_honest ∙ is_honest;
-            tells = found.1;
-            only = cut.kept is_honest found.0 found.1;
-          },
-          cut.left is_honest found.0 found.1,
-        )
+    -- And for the records alone while the gate isn't written.
+    pub slot_early : (new : D)
+        → ((image : List ℕ) → Holds honest seen may_leave old image
+        → LeavesOnly moment left_since old new (SameOutside (start + 32 * (FIRST_SLOT + index) + 1) (length (take count spelt)) image))
+        → LeavesOnly moment left_since old new (λ c. StandsFor carry_of c records)
+    slot_early new run =
+        weaker moment left_since old new (SameOutside (start + 32 * (FIRST_SLOT + index) + 1) (length (take count spelt)) stands.image)
+        (λ c. StandsFor carry_of c records)
+        (subst (λ g. (c : List ℕ) → SameOutside (g + 1) (length (take count spelt)) stands.image c
+        → StandsFor carry_of c records) gate_here
+        (λ c torn. stands_for
+        (body_torn stands.image place.second place.generation place.base place.carry stands.rest entry stands.has few
+        in_range (body_of entry) (take count spelt) refl bytes_are within c torn) stands.continues))
+        (run stands.image stands.held)
 
-    pub cut_settled : (records : List Record) → Leaves honest seen may_leave old records
-        → Settled honest seen may_leave new records
-    cut_settled records leaves =
-        let found = cut_holds leaves.keeps_synced leaves.tells in
-        record { image = found.0; held = found.1; keeps = leaves.each found.0 found.2 }
-
-    pub cut_by : (calls : ℕ) (put : Option Record) (records : List Record)
-        → LeavesBy honest seen may_leave old calls put records
-        → (left : List Record) × LeftBy calls put records left × Settled honest seen may_leave new left
-    cut_by calls put records leaves =
-        let found = cut_holds leaves.keeps_synced leaves.tells in
-        let which = leaves.each found.0 found.2 in
-        (which.0, which.1, record { image = found.0; held = found.1; keeps = which.2 })
-
-    pub cut_one_of : (records : List Record) (entry : Record) → LeavesOneOf honest seen may_leave old records entry
-        → Settled honest seen may_leave new records ⊎ Settled honest seen may_leave new (records ++ entry ∷ [])
-    cut_one_of records entry leaves =
-        let found = cut_holds leaves.keeps_synced leaves.tells in
-        ⊎_elim (λ keeps. inl (record { image = found.0; held = found.1; keeps = keeps }))
-        (λ keeps. inr (record { image = found.0; held = found.1; keeps = keeps })) (leaves.each found.0 found.2)
+    -- At the end it stands for the latter, and the journal too.
+    pub slot_done : (new : D)
+        → ((image : List ℕ) → Holds honest seen may_leave old image
+        → Holds honest seen may_leave new (behind_open_gate (start + 32 * (FIRST_SLOT + index)) (take count spelt) image))
+        → Stands carry_of honest seen may_leave new (after_put place) (records ++ entry ∷ [])
+    slot_done new run =
+        let written = behind_open_gate (start + 32 * (FIRST_SLOT + index)) (take count spelt) stands.image in
+        record {
+          image = written;
+          held = run stands.image stands.held;
+          rest = stands.rest ++ entry ∷ [];
+          has = subst (λ g. HasHalf (behind_open_gate g (take count spelt) stands.image) place.second place.generation
+              place.base place.carry (stands.rest ++ entry ∷ [])) gate_here
+              (written_has stands.image place.second place.generation place.base place.carry stands.rest entry
+              stands.has few in_range (body_of entry) (take count spelt) refl bytes_are within);
+          continues = one_more entry stands.continues;
+          count = omega (arith, stands.count, length-append records (entry ∷ []));
+          other_gate = subst (λ g. has_open_gate (half (behind_open_gate g (take count spelt) stands.image)
+              (not place.second)) ≡ place.other_open) gate_here
+              (ap has_open_gate
+              (written_other stands.image place.second place.generation place.base place.carry stands.rest entry
+              stands.has few in_range (body_of entry) (take count spelt) refl bytes_are within)
+              ∙ stands.other_gate);
+        }
 
 -- A journal's disk keeps just one image, and a power cut leaves that.
 pub stands_settled : {D : Type 0} {honest : D → Bool} {seen : D → Option (List ℕ)} {may_leave : D → List ℕ → Type 0}
-    {disk : D} {place : Place} {records : List Record}
-    → Stands honest seen may_leave disk place records → Settled honest seen may_leave disk records
-stands_settled stands = record { image = stands.image; held = stands.held; keeps = stands.keeps }
+    {disk : D} {place : Place} {carry_of : List Record → Carry} {records : List Record}
+    → Stands carry_of honest seen may_leave disk place records → Settled carry_of honest seen may_leave disk records
+stands_settled stands =
+    record { image = stands.image; held = stands.held; stands = stands_for stands.has stands.continues }
 
+-- A disk that keeps just one image leaves that.
 pub settled_leaves : {D : Type 0} {honest : D → Bool} {seen : D → Option (List ℕ)} {may_leave : D → List ℕ → Type 0}
-    {disk : D} {records : List Record}
-    → Settled honest seen may_leave disk records → Leaves honest seen may_leave disk records
-settled_leaves settled = record {
+    {disk : D} {carry_of : List Record → Carry} {records : List Record}
+    → Settled carry_of honest seen may_leave disk records → Leaves carry_of honest seen may_leave disk records
+settled_leaves {D} {honest} {seen} {may_leave} {disk} {carry_of} {records} settled = record {
   keeps_synced = settled.held.keeps_synced;
   tells = ap is_some settled.held.tells;
-  each = λ c left. subst (λ (image : List ℕ). Keeps image _) (sym (settled.held.only c left)) settled.keeps;
-}
-
--- What a read gives of a journal's disk stands for its records.
-pub stands_reads : {D : Type 0} {honest : D → Bool} {seen : D → Option (List ℕ)} {may_leave : D → List ℕ → Type 0}
-    {disk : D} {place : Place} {records : List Record} → Stands honest seen may_leave disk place records
-    → Reads seen disk place records
-stands_reads stands = record {
-  image = stands.image;
-  tells = stands.held.tells;
-  stands = stands.keeps.stands;
-  count = stands.count;
+  each = λ c left. subst (λ (image : List ℕ). StandsFor carry_of image records) (sym (settled.held.only c left))
+      settled.stands;
 }

@@ -40,7 +40,7 @@ pub one_beginning : (second : Bool) (generation later base after : ℕ) (carry n
     → Begins second generation base carry bytes → Begins second later after next bytes
     → OneHead second second generation later base after carry next
 one_beginning second generation later base after carry next bytes first other =
-    let same = one_start second second generation base later after carry next first.may other.may
+    let same = one_start second second generation later base after carry next first.may other.may
     (sym first.starts ∙ other.starts) in
     record { half_is = refl; generation_is = same.0; base_is = same.1; carry_is = same.2 }
 

@@ -1,22 +1,22 @@
 -- What is left of the records when the power is cut, and of the disk.
-use Rattle.std.proofs.Common.{◌≡◌, inl, inr, ⊎_elim, ℕ, ◌≤◌, Bool, Option, Some, List, [], ◌∷◌, ◌++◌, refl, ap, ◌∙◌, is_some, arith}
+use Rattle.std.proofs.Common.{◌≡◌, inl, inr, ⊎_elim, ℕ, ◌≤◌, Bool, Option, Some, List, [], ◌∷◌, ◌++◌, refl, sym, ap, ◌∙◌, is_some, arith}
 use Rattle.std.proofs.lemmas.Bool.{cases_lt}
 use Rattle.cct_edge.specs.Faults.{next_count}
+use Rattle.cct_lines.specs.declared.carry.Carry.{Carry}
 use Rattle.cct_lines.specs.declared.record.Record.{Record}
-use Rattle.cct_disk.specs.Disk.{OnlyReads}
+use Rattle.cct_disk.specs.Disk.{GoesOn, OnlyReads}
 use Rattle.cct_journal.specs.declared.place.Place.{Place}
-use Rattle.cct_journal.specs.Image.{StandsFor}
+use Rattle.cct_journal.specs.Opening.{Finds}
 use Rattle.cct_journal.specs.PowerCuts.{LeavesBy}
-use Rattle.cct_journal.specs.Stands.{CutOnce, GoesOn, Leaves, LeavesOneOf, Reads, Settled, Stands}
-use Rattle.cct_journal.proofs.Moments.{reads_hold}
+use Rattle.cct_journal.specs.Stands.{CutOnce, Leaves, LeavesOneOf}
 
 -- What a power cut may leave after so many calls of a put.
 pub put_leaves : {D : Type 0} {honest : D → Bool} {seen : D → Option (List ℕ)} {may_leave : D → List ℕ → Type 0}
-    {disk : D} (calls : ℕ) (r : Record) (records : List Record) → calls ≤ 4
-    → (calls ≤ 2 → Leaves honest seen may_leave disk records)
-    → LeavesOneOf honest seen may_leave disk records r
-    → (calls ≡ 4 → Leaves honest seen may_leave disk (records ++ r ∷ []))
-    → LeavesBy honest seen may_leave disk calls (Some r) records
+    {disk : D} {carry_of : List Record → Carry} (calls : ℕ) (r : Record) (records : List Record) → calls ≤ 4
+    → (calls ≤ 2 → Leaves carry_of honest seen may_leave disk records)
+    → LeavesOneOf carry_of honest seen may_leave disk records r
+    → (calls ≡ 4 → Leaves carry_of honest seen may_leave disk (records ++ r ∷ []))
+    → LeavesBy carry_of honest seen may_leave disk calls (Some r) records
 put_leaves calls r records few early one_of done = record {
   keeps_synced = one_of.keeps_synced;
   tells = one_of.tells;
@@ -28,20 +28,6 @@ put_leaves calls r records few early one_of done = record {
       | inr all ↦ (records ++ r ∷ [], inr (behind, refl), (done (omega arith)).each c left)
     ]
   ];
-}
-
--- The place that is found on a disk which keeps just one image is that of the records for which this stands.
-pub found_stands : {D : Type 0} {size : D → ℕ} {honest : D → Bool} {seen : D → Option (List ℕ)}
-    {may_leave : D → List ℕ → Type 0} {moment : D → ℕ} {left_since : D → ℕ → List ℕ → Type 0} {cuts : D → ℕ}
-    {old new : D} {place : Place} (records : List Record)
-    → OnlyReads size honest seen may_leave moment left_since cuts old new
-    → ((image : List ℕ) (told : List Record) → seen old ≡ Some image → StandsFor image told → Reads seen new place told)
-    → Settled honest seen may_leave old records → Stands honest seen may_leave new place records
-found_stands records run every settled = record {
-  image = settled.image;
-  held = reads_hold run settled.image settled.held;
-  keeps = settled.keeps;
-  count = (every settled.image records settled.held.tells settled.keeps.stands).count;
 }
 
 -- The power of a disk was cut, and then it was only read.
@@ -59,6 +45,7 @@ cut_here size honest seen cuts cut_to choice old before behind on is_cut count =
   count = count ∙ ap next_count on.same_cuts;
 }
 
+-- It was only read after the cut.
 pub cut_read : {D : Type 0} (size : D → ℕ) (honest : D → Bool) (seen : D → Option (List ℕ))
     (may_leave : D → List ℕ → Type 0) (moment : D → ℕ) (left_since : D → ℕ → List ℕ → Type 0) (cuts : D → ℕ)
     (cut_to : D → ℕ → D → Type 0) (choice : ℕ) (old mid new : D) → CutOnce size honest seen cuts cut_to choice old mid
@@ -77,4 +64,14 @@ cut_read size honest seen may_leave moment left_since cuts cut_to choice old mid
   };
   same_seen = reads.same_seen ∙ cut.same_seen;
   count = reads.same_cuts ∙ cut.count;
+}
+
+-- A place that was found on a disk which was only read is one of the disk after it.
+pub found_again : {D : Type 0} {size : D → ℕ} {honest : D → Bool} {seen : D → Option (List ℕ)}
+    {may_leave : D → List ℕ → Type 0} {moment : D → ℕ} {left_since : D → ℕ → List ℕ → Type 0} {cuts : D → ℕ}
+    {old new : D} {place : Place} → OnlyReads size honest seen may_leave moment left_since cuts old new
+    → Finds seen old new place → Finds seen new new place
+found_again reads finds = record {
+  found = λ image told. finds.found image (sym reads.same_seen ∙ told);
+  every = λ carry_of image records told stands. finds.every carry_of image records (sym reads.same_seen ∙ told) stands;
 }

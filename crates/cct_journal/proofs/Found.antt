@@ -1,6 +1,6 @@
 -- What the place that is found on an image is to it.
-use Rattle.std.proofs.Common.{◌≡◌, inl, inr, ℕ, Bool, true, false, not, Option, Some, ◌+◌, ◌≤◌, ◌==◌, List, [], ◌∷◌, ◌++◌, length}
-use Rattle.std.proofs.Common.{None, MatchOption, ◌⊎◌, refl, reverse, sym, ◌∙◌, ap, subst, arith, length-append}
+use Rattle.std.proofs.Common.{◌≡◌, inl, inr, ℕ, Bool, true, false, not, Option, Some, ◌+◌, List, length}
+use Rattle.std.proofs.Common.{None, MatchOption, ◌⊎◌, reverse, sym, ◌∙◌, ap, subst, arith, length-append}
 use Rattle.std.proofs.lemmas.List.{reverse-reverse}
 use Rattle.cct_lines.specs.declared.carry.Carry.{Carry}
 use Rattle.cct_lines.specs.declared.record.Record.{Record}
@@ -10,7 +10,7 @@ use Rattle.cct_journal.specs.Start.{Begins}
 use Rattle.cct_journal.specs.Fronts.{IsFront}
 use Rattle.cct_journal.specs.Image.{Continues, HasFrom, IsAlien, StandsFor}
 use Rattle.cct_journal.specs.Opening.{CountsIn, ReplaysAll, Replayed}
-use Rattle.cct_journal.specs.Stands.{HasPlace, Reads, ReadsFrom, Settled, Stands}
+use Rattle.cct_journal.specs.Stands.{HasPlace, Reads, ReadsFrom, Stands}
 use Rattle.cct_journal.specs.declared.opening.Front.{Front}
 use Rattle.cct_journal.specs.declared.place.Place.{Place}
 use Rattle.cct_journal.specs.declared.start.Start.{Start}

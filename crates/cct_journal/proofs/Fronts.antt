@@ -1,12 +1,11 @@
 -- What is read of the first bytes of a half.
-use Rattle.std.proofs.Common.{◌≡◌, ℕ, Bool, true, false, ◌+◌, ◌-◌, ◌<◌, ◌≤◌, ◌==◌, List, [], ◌∷◌, length, take, drop, slice_index}
-use Rattle.std.proofs.Common.{not, refl, sym, ◌∙◌, ap, subst, arith, get_or-take}
+use Rattle.std.proofs.Common.{◌≡◌, ℕ, Bool, ◌+◌, ◌≤◌, ◌==◌, List, [], ◌∷◌, length, take, drop, slice_index}
+use Rattle.std.proofs.Common.{sym, ◌∙◌, ap, subst, arith, get_or-take}
 use Rattle.std.proofs.Common.{Option, Some, None, IfSome, IfNone, MatchOption}
-use Rattle.std.specs.Bool.{IsTrue}
 use Rattle.std.specs.Int.{w32, from_le_bytes}
 use Rattle.std.proofs.lemmas.List.{drop-take, drop_more, take-take}
 use Rattle.cct_lines.specs.declared.carry.Carry.{Carry}
-use Rattle.cct_journal.specs.Half.{IsCurrent, half, open_gate, title, window}
+use Rattle.cct_journal.specs.Half.{open_gate, window}
 use Rattle.cct_journal.specs.Start.{Begins}
 use Rattle.cct_journal.specs.Fronts.{IsFront}
 use Rattle.cct_journal.specs.declared.format.TheConstants.{START}

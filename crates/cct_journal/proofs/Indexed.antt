@@ -1,5 +1,5 @@
 -- The record of an index is spelt by the body of its slot.
-use Rattle.std.proofs.Common.{◌≡◌, inl, inr, Some, ℕ, zero, suc, Bool, ◌+◌, ◌-◌, ◌*◌, ◌<◌, ◌≤◌, List, [], ◌∷◌, ◌++◌, length, take}
+use Rattle.std.proofs.Common.{◌≡◌, inl, inr, Some, ℕ, zero, suc, ◌+◌, ◌-◌, ◌*◌, ◌<◌, ◌≤◌, List, [], ◌∷◌, ◌++◌, length, take}
 use Rattle.std.proofs.Common.{Option, drop, map, refl, sym, ◌∙◌, ap, subst, arith}
 use Rattle.std.specs.List.{All, slice_get}
 use Rattle.std.proofs.lemmas.Bool.{cases_eq}
@@ -10,7 +10,7 @@ use Rattle.cct_lines.specs.declared.record.Record.{Record}
 use Rattle.cct_record.specs.Body.{InRange, IsRefused, Spells, body_of}
 use Rattle.cct_record.proofs.Spellings.{encodable, one_spelling}
 use Rattle.cct_journal.specs.Half.{half, open_gate}
-use Rattle.cct_journal.specs.Image.{bodies, body_at, room_of}
+use Rattle.cct_journal.specs.Image.{bodies, room_of}
 use Rattle.cct_journal.specs.Opening.{GivesRecord, RefusesRecord}
 use Rattle.cct_journal.specs.Stands.{HasPlace, Reads, ReadsFrom, body_in}
 use Rattle.cct_journal.specs.declared.format.TheConstants.{FIRST_SLOT, START}

@@ -1,8 +1,17 @@
 pub mod Moments
 mod Bytes
+mod Windows
 mod Rooms
+mod Slotted
+mod Sides
 mod Puts
 pub mod Calls
+pub mod Heads
+mod Beginnings
+mod Begun
+mod Turns
+mod TurnCalls
+mod Leaving
 mod Walks
 mod Fronts
 mod Currents
@@ -12,4 +21,3 @@ mod Indexed
 mod Found
 mod Gathered
 mod Cuts
-pub mod Heads

@@ -1,5 +1,5 @@
 -- What an image is to a journal that is opened on it: one thing at most.
-use Rattle.std.proofs.Common.{◌≡◌, ℕ, suc, Bool, ◌+◌, List, [], ◌∷◌, ◌++◌, length, map, refl, sym, ◌∙◌, ap, ap₂, subst, arith}
+use Rattle.std.proofs.Common.{◌≡◌, ℕ, suc, Bool, ◌+◌, List, [], ◌∷◌, ◌++◌, length, map, refl, sym, ◌∙◌, ap, ap₂, subst}
 use Rattle.std.specs.List.{All}
 use Rattle.std.proofs.lemmas.List.Elements.{All-head, All-tail}
 use Rattle.cct_lines.specs.declared.carry.Carry.{Carry}
@@ -8,7 +8,7 @@ use Rattle.cct_record.specs.Body.{InRange, IsRefused, body_of}
 use Rattle.cct_record.proofs.Spellings.{one_spelling}
 use Rattle.cct_journal.specs.declared.refusal.OpenNo.{OpenNo}
 use Rattle.cct_journal.specs.declared.refusal.OpenNo.TheVariants.{Disk, Alien, BadRecord}
-use Rattle.cct_journal.specs.Image.{HasFrom, HasHalf, IsAlien, IsBadAt, IsHeaded, IsRefusedIn, StandsFor, bodies_in}
+use Rattle.cct_journal.specs.Image.{HasFrom, HasHalf, IsAlien, IsBadAt, IsHeaded, IsRefusedIn, StandsFor}
 use Rattle.cct_journal.specs.Opening.{CountsIn, RefusesOpen, StopsCount}
 use Rattle.cct_journal.proofs.Currents.{one_head, over_head}
 

@@ -9,9 +9,9 @@ use Rattle.cct_lines.specs.declared.carry.Carry.{Carry}
 use Rattle.cct_lines.specs.declared.record.Record.{Record}
 use Rattle.cct_record.specs.Body.{InRange, IsRefused, Spells, body_of}
 use Rattle.cct_journal.specs.Half.{half, open_gate, slots_in, start_at, window}
-use Rattle.cct_journal.specs.Image.{IsRefusedIn, bodies, bodies_in, body_at, gate_at, least_size, room_of}
+use Rattle.cct_journal.specs.Image.{IsRefusedIn, bodies, body_at, gate_at, room_of}
 use Rattle.cct_journal.specs.Opening.{CountsIn, Replayed, Walked}
-use Rattle.cct_journal.specs.declared.format.TheConstants.{FIRST_SLOT, MOST_RECORDS, START}
+use Rattle.cct_journal.specs.declared.format.TheConstants.{FIRST_SLOT, START}
 use Rattle.cct_journal.proofs.Rooms.{closed, opened}
 
 -- A half has all its slots.

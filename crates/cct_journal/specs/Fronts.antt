@@ -1,7 +1,6 @@
 -- What the fronts of the two halves say.
-use Rattle.std.specs.Prelude.{◌≡◌, ℕ, Bool, true, false, not, Option, Some, List}
+use Rattle.std.specs.Prelude.{◌≡◌, ℕ, not, List}
 use Rattle.std.specs.Bool.{IsTrue}
-use Rattle.cct_lines.specs.declared.carry.Carry.{Carry}
 use Rattle.cct_journal.specs.Half.{IsOpen, generation_in, half, has_open_gate}
 use Rattle.cct_journal.specs.Image.{IsHeaded}
 use Rattle.cct_journal.specs.declared.opening.Front.{Front}

@@ -4,6 +4,7 @@ pub mod Image
 pub mod Fronts
 pub mod Gated
 pub mod Stands
+pub mod Places
 pub mod PowerCuts
 pub mod Opening
 pub mod Creating

@@ -2,17 +2,18 @@
 ghost use Rattle.std.specs.Prelude.{◌≡◌, ◌≢◌, ℕ, ◌+◌, ◌<◌, ◌≤◌, true, Err, Some, List, length};
 ghost use Rattle.std.specs.Prelude.{IfErr, IfOk, IfSome, MatchOption, OnOk};
 ghost use Rattle.cct_edge.specs.Faults.{Caused, HasCause};
-ghost use Rattle.cct_disk.specs.Disk.{Holds, LeavesOnly, OnlyReads};
+ghost use Rattle.cct_disk.specs.Disk.{GoesOn, Holds, LeavesOnly, OnlyReads};
 ghost use Rattle.cct_journal.specs.Image.{IsBlank, IsBlankBetween, IsFirstByteFrom};
 ghost use Rattle.cct_journal.specs.Creating.{Creates, IsCreated, IsNotBlank, RefusesCreate};
-ghost use Rattle.cct_journal.specs.Stands.{GoesOn, IsPlaced};
+ghost use Rattle.cct_journal.specs.Stands.{IsPlaced};
 
 use crate::CreateNo;
-use crate::format::{BLOCK, HEADER, LEAST};
+use crate::format::{BLOCK, LEAST};
 use crate::place::Place;
-use crate::range::{GATED_CALLS, write_gated};
+use crate::turning::write_start;
 use cct_disk::Disk;
 use cct_edge::Failed;
+use cct_lines::Carry;
 
 /// The first byte that isn't 0.
 fn first_byte(bytes: &[u8]) -> Option<usize>
@@ -69,10 +70,10 @@ fn check_blank<D: Disk>(disk: &mut D) -> Result<(), CreateNo>
     Ok(())
 }
 
-/// Lays the header of a journal on a blank disk, and gives the place of its first record.
+/// Begins the first half of a blank disk with no record and no carry, and gives the place of its first record.
 pub(crate) fn lay_header<D: Disk>(disk: &mut D) -> Result<Place, CreateNo>
     ensures placed { IfOk result (IsPlaced (D.size disk.old)) }
-    ensures created { IfOk result (Creates D.size D.honest D.seen D.may_leave disk.old disk.new) }
+    ensures created { IfOk result (λ place. Creates D.size D.honest D.seen D.may_leave disk.old disk.new place) }
     ensures refused { IfErr result (RefusesCreate (D.size disk.old) (D.seen disk.old)) }
     ensures unchanged { IfErr result (λ why. why ≢ CreateNo.Disk → OnlyReads D.size D.honest D.seen D.may_leave
         D.moment D.left_since D.cuts disk.old disk.new) }
@@ -88,6 +89,14 @@ pub(crate) fn lay_header<D: Disk>(disk: &mut D) -> Result<Place, CreateNo>
         return Err(CreateNo::Small { len });
     }
     check_blank(disk)?;
-    write_gated(disk, 0, &HEADER[1..], GATED_CALLS)?;
-    Ok(Place { used: 0 })
+    let carry = Carry::empty();
+    write_start(disk, 0, 0, 0, &carry)?;
+    Ok(Place {
+        used: 0,
+        second: false,
+        generation: 0,
+        base: 0,
+        carry,
+        other_open: false,
+    })
 }

@@ -18,7 +18,7 @@ use crate::cutting::cut_power;
 use crate::format::MOST_RECORDS;
 use crate::opening::find_place;
 use crate::place::Place;
-use crate::putting::put_record;
+use crate::putting::{go_on, put_record};
 use crate::range::GATED_CALLS;
 use crate::reading::read_record;
 use crate::replay::OnlyCounted;
@@ -246,10 +246,7 @@ impl<D: Disk> Journal<D> {
         }
         match put_record(&mut self.disk, &self.place, carry, entry, GATED_CALLS) {
             Ok(turned) => {
-                if let Some(place) = turned {
-                    self.place = place;
-                }
-                self.place.used += 1;
+                go_on(&mut self.place, turned);
                 Ok(())
             }
             Err(Failed) => {

@@ -1,14 +1,14 @@
 //! The journal that stands on a disk is found.
-ghost use Rattle.std.specs.Prelude.{◌≡◌, ℕ, ◌<◌, ◌≤◌, true, false, not, Bool, Err, Some, List};
+ghost use Rattle.std.specs.Prelude.{◌≡◌, ℕ, ◌<◌, ◌≤◌, true, false, Bool, Err, Some, List};
 ghost use Rattle.std.specs.Prelude.{IfErr, IfOk, IfSome, MatchOption};
 ghost use Rattle.cct_edge.specs.Faults.{Caused, HasCause};
 ghost use Rattle.cct_lines.specs.declared.carry.Carry.{Carry};
 ghost use Rattle.cct_lines.specs.declared.record.Record.{Record};
 ghost use Rattle.cct_disk.specs.Disk.{OnlyReads};
-ghost use Rattle.cct_journal.specs.Half.{IsCurrent, half, window};
+ghost use Rattle.cct_journal.specs.Half.{IsCurrent, half};
 ghost use Rattle.cct_journal.specs.Start.{Begins, MayBegin};
 ghost use Rattle.cct_journal.specs.Fronts.{BeginsAt, IsFront};
-ghost use Rattle.cct_journal.specs.Image.{IsAlien, least_size};
+ghost use Rattle.cct_journal.specs.Image.{least_size};
 ghost use Rattle.cct_journal.specs.Opening.{Finds, RefusesOpen, ReplaysAll};
 ghost use Rattle.cct_journal.specs.Stands.{IsPlaced, Settled, Stands};
 

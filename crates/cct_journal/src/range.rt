@@ -1,9 +1,8 @@
 //! One write and one sync, and two of them with a gate: the units of all that is written to the disk.
 ghost use Rattle.std.specs.Prelude.{◌≡◌, ℕ, ◌+◌, ◌^◌, ◌<◌, ◌≤◌, true, Some, List, [], ◌∷◌, length, OnOk};
 ghost use Rattle.cct_edge.specs.Faults.{HasCause};
-ghost use Rattle.cct_disk.specs.Disk.{Holds, LeavesOnly, SameOutside, put_at};
+ghost use Rattle.cct_disk.specs.Disk.{GoesOn, Holds, LeavesOnly, SameOutside, put_at};
 ghost use Rattle.cct_journal.specs.Gated.{IsBegun, behind_open_gate};
-ghost use Rattle.cct_journal.specs.Stands.{GoesOn};
 
 use crate::format::OPEN;
 use cct_disk::Disk;

@@ -7,7 +7,7 @@ use thiserror::Error;
 /// Why no journal was created.
 #[derive(Debug, Drop, Error)]
 pub enum CreateNo {
-    /// The disk is shorter than a header and one slot: it has `len` bytes.
+    /// The disk is too short for two halves with a record each: it has `len` bytes.
     #[error("a disk of {len} bytes is too small for a journal")]
     Small { len: u64 },
     /// The disk failed.
@@ -34,10 +34,10 @@ pub enum OpenNo {
     /// The disk failed.
     #[error("the disk failed")]
     Disk,
-    /// The disk has no header of a journal of this version.
+    /// The disk has no half that counts, or it begins with no header and carry of this version.
     #[error("the disk has no journal")]
     Alien,
-    /// The body after so many records spells none, though its gate is open.
+    /// The body after so many records, with those before the half, spells none, though its gate is open.
     #[error("record {index} of the journal is spelt wrongly")]
     BadRecord { index: u32 },
 }

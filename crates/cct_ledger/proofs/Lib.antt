@@ -6,3 +6,4 @@ pub mod Orders
 pub mod Closing
 pub mod Opening
 pub mod Following
+pub mod OverCarry

@@ -1,17 +1,14 @@
 -- The devices of a setup by their places in it.
-use Rattle.std.proofs.Common.{◌≡◌, ◌≢◌, ℕ, zero, suc, ◌+◌, ◌-◌, ◌≤◌, ◌==◌, ◌&&◌, Bool, true, false, cond, List, [], ◌∷◌, map, set, get_or, sum_by, refl, ap, ap₂, sym, ◌∙◌, Some, None, All, arith, eq-eqb, eqb-true, true≢false}
+use Rattle.std.proofs.Common.{◌≡◌, ◌≢◌, ℕ, zero, suc, ◌+◌, ◌==◌, ◌&&◌, Bool, true, false, cond, List, [], ◌∷◌, map, set, sum_by, refl, ap, ap₂, sym, ◌∙◌, Some, None, eq-eqb, eqb-true, true≢false}
 use Rattle.std.specs.Prelude.{slice_get}
 use Rattle.std.specs.List.{list_any, position}
 use Rattle.std.proofs.lemmas.Bool.{and_parts, ne_eqb, or_parts}
-use Rattle.std.proofs.lemmas.List.Elements.{All-head, All-tail}
 use Rattle.std.proofs.lemmas.List.Sums.{sum_by-cons}
-use Rattle.cct_model.specs.terms.device.DeviceBody.{DeviceBody}
-use Rattle.cct_model.specs.terms.device.DeviceBody.TheVariants.{Acceptor, Hopper}
 use Rattle.cct_model.specs.terms.device.DeviceSetup.{DeviceSetup}
-use Rattle.cct_model.specs.Device.{IsSound, IsSoundBody, is_hopper, value_at}
+use Rattle.cct_model.specs.Device.{is_hopper}
 use Rattle.cct_model.specs.Exchange.{device_at, hopper_there}
 use Rattle.cct_model.specs.Setup.{AreDistinct}
-use Rattle.cct_model.specs.Money.{place_value, sum_over}
+use Rattle.cct_model.specs.Money.{sum_over}
 use Rattle.cct_ledger.proofs.Positions.{at_position, none_passes}
 
 -- a device has no address that no device has

@@ -2,19 +2,23 @@
 ghost use Rattle.std.specs.Prelude.{◌≡◌, ◌+◌, ◌-◌, ◌*◌, ◌^◌, ◌<◌, ◌≤◌, ◌==◌, ◌&&◌, nat_le, not, true, false};
 ghost use Rattle.std.specs.Prelude.{ℕ, List, [], None, length, sum_by, is_ok, is_none, slice_index_or};
 ghost use Rattle.std.specs.List.{list_any};
-ghost use Rattle.cct_model.specs.terms.coin.TheConstants.{EVENTS};
 ghost use Rattle.cct_model.specs.lines.record.Record.{Record};
 ghost use Rattle.cct_model.specs.lines.record.Record.TheVariants as record_of;
 ghost use Rattle.cct_model.specs.Exchange.{device_at};
 ghost use Rattle.cct_model.specs.Setup.{IsSoundSetup};
 ghost use Rattle.cct_model.specs.Money.{available_beside, place_value, amount, posted_in};
 ghost use Rattle.cct_ledger.specs.Told.{totals_beside, is_of_money};
+ghost use Rattle.cct_model.specs.Carried.{IsRightly};
+ghost use Rattle.cct_model.specs.Carry.{Fits};
+ghost use Rattle.cct_model.specs.Carry as carries;
+ghost use Rattle.cct_model.specs.Following.{all_follow};
 ghost use Rattle.cct_ledger.specs.Orders.{has_id};
 
 use crate::lookup::{hopper_place, none_open, opened, put_order};
+use crate::resumed::{open_orders, worth_of};
 use arrayvec::ArrayVec;
 use cct_carry::{coins_of, coins_value};
-use cct_model::{Coins, DEVICES, OpenOrder, Record, Setup, Totals};
+use cct_model::{Carry, Coins, DEVICES, OpenOrder, Record, Setup, Totals};
 use thiserror::Error;
 
 /// A record of an order or of a sale that doesn't follow those applied before, or that takes more than is available.
@@ -29,7 +33,8 @@ pub struct NotAllowed;
 #[derive(Debug, Drop)]
 pub struct Ledger<'s> {
     setup: &'s Setup,
-    /// How many records were applied. Each posts five coins at most, so their number bounds every sum.
+    /// How many records were applied. Each posts five coins at most, of less than 2^32 together, so their number bounds
+    /// every sum.
     records: u32,
     /// The open order of each device of the setup, in its order.
     orders: ArrayVec<Option<OpenOrder>, DEVICES>,
@@ -43,10 +48,11 @@ pub struct Ledger<'s> {
     ghost places: { length orders.items ≡ length setup.now.devices },
     ghost values: { (addr place : ℕ) → place_value (device_at setup.now.devices addr) place ≤ 1000000 },
     ghost owes: { sum_by (amount setup.now) orders.items ≤ owed },
-    ghost fits: { available + owed + reserved + paid + sold ≤ EVENTS * 1000000 * records },
+    ghost fits: { available + owed + reserved + paid + sold ≤ 2 ^ 32 * records },
 }
 
 impl<'s> Ledger<'s> {
+    ghost use Rattle.cct_ledger.specs.Resumed.{IsResumed};
     ghost use Rattle.cct_ledger.specs.Ledger.{StandsFor, GoesOn, Reserves, Takes, setup_of, applied, available_of, reserved_of};
 
     /// The ledger over a setup before any record.
@@ -66,6 +72,30 @@ impl<'s> Ledger<'s> {
             reserved: 0,
             paid: 0,
             sold: 0,
+        }
+    }
+
+    /// The ledger over a setup after `base` records, by their carry. They count as applied, and nothing is reserved beside
+    /// them.
+    pub fn resume(setup: &'s Setup, base: u32, carry: &Carry) -> Ledger<'s>
+        requires sound { IsSoundSetup setup.now }
+        requires rightly { IsRightly base carry.now }
+        requires fits { Fits setup.now carry.now }
+        ensures resumed { IsResumed setup.now base carry.now result }
+        // If each of the records followed those before it, the ledger stands for them.
+        ensures stands { (before : List Record) → length before ≡ base → all_follow setup.now before ≡ true
+            → carry.now ≡ carries.carry setup.now before → StandsFor result before 0 }
+    {
+        let owed = worth_of(setup, carry.orders.as_slice()) + carry.odd_value;
+        Ledger {
+            setup,
+            records: base,
+            orders: open_orders(setup, carry),
+            available: carry.value - owed - carry.paid_value - carry.sold,
+            owed,
+            reserved: 0,
+            paid: carry.paid_value,
+            sold: carry.sold,
         }
     }
 

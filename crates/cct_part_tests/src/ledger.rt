@@ -1,13 +1,18 @@
-//! A ledger over one acceptor and one hopper: records in turn, with the totals after each, worked out by hand; and a
-//! whole journal of readings of the dearest coins.
-ghost use Rattle.std.specs.Prelude.{◌≡◌, ◌≤◌};
+//! A ledger over one acceptor and one hopper: records in turn, with the totals after each, worked out by hand; one that
+//! begins with a carry, worked out by hand; and a whole journal of readings of the dearest coins.
+ghost use Rattle.std.specs.Prelude.{◌≡◌, ◌≤◌, true};
+ghost use Rattle.cct_model.specs.Carried.{IsRightly};
+ghost use Rattle.cct_model.specs.Carry.{Fits};
 ghost use Rattle.cct_model.specs.Device.{IsSound, IsSoundBody, IsWord};
+ghost use Rattle.cct_model.specs.Exchange.{acceptor_there, device_at, hopper_there};
+ghost use Rattle.cct_model.specs.Money.{hopper_value};
 ghost use Rattle.cct_model.specs.Setup.{IsSoundSetup};
+ghost use Rattle.cct_model.specs.terms.device.Setup.{Setup};
 
 use cct_ledger::Ledger;
 use cct_model::{
-    COIN_PLACES, CheckKind, Coin, Coins, DeviceBody, DeviceSetup, Devices, Name, Record, Setup,
-    Texts, Totals,
+    COIN_PLACES, Carry, CarryEpoch, CarryEpochs, CarryOrder, CarryOrders, CheckKind, Coin, Coins,
+    DeviceBody, DeviceSetup, Devices, Name, Record, Setup, Texts, Totals,
 };
 use std::test::Fail;
 
@@ -53,6 +58,37 @@ const TABLE: [Row; 17] = [
     (Opened(45, 8), false, [70, 30, 20, 80]),
 ];
 
+/// Records that follow one another, by the same setup.
+const FIRST: [Puts; 9] = [
+    Epoch,
+    Reading(2, 5),
+    Reading(2, 5),
+    Opened(41, 4),
+    Closed(41, 2, 2),
+    Sold(42, 50),
+    Opened(43, 3),
+    Odd(43),
+    Opened(44, 5),
+];
+
+/// What these leave available, reserved, paid and sold.
+const FIRST_TOTALS: [u64; 4] = [50, 80, 20, 50];
+
+/// What is put after them.
+const LATER: [Row; 10] = [
+    // The hopper has an open order, which has another id and another number of coins, and more isn't available.
+    (Opened(45, 1), false, [50, 80, 20, 50]),
+    (Closed(43, 2, 1), false, [50, 80, 20, 50]),
+    (Odd(43), false, [50, 80, 20, 50]),
+    (Closed(44, 2, 2), false, [50, 80, 20, 50]),
+    (Sold(46, 51), false, [50, 80, 20, 50]),
+    (Closed(44, 3, 2), true, [70, 30, 50, 50]),
+    (Opened(47, 8), false, [70, 30, 50, 50]),
+    (Opened(47, 7), true, [0, 100, 50, 50]),
+    (Reading(2, 5), true, [100, 100, 50, 50]),
+    (Sold(48, 100), true, [0, 100, 50, 150]),
+];
+
 /// A text of one character.
 fn name() -> Name
     ensures { IsWord result }
@@ -68,6 +104,7 @@ fn device(addr: u8, body: DeviceBody) -> DeviceSetup
     requires body { IsSoundBody body }
     ensures sound { IsSound result }
     ensures addr { result.addr ≡ addr }
+    ensures body { result.body ≡ body }
 {
     DeviceSetup {
         addr,
@@ -89,7 +126,10 @@ fn setup(coin: u32, paid: u32) -> Setup
     requires coin { coin ≤ 1000000 }
     requires low { 1 ≤ paid }
     requires high { paid ≤ 1000000 }
-    ensures { IsSoundSetup result }
+    ensures sound { IsSoundSetup result }
+    ensures acceptor { acceptor_there (device_at result.devices 2) ≡ true }
+    ensures hopper { hopper_there (device_at result.devices 3) ≡ true }
+    ensures worth { hopper_value (device_at result.devices 3) ≡ paid }
 {
     let acceptor = device(
         2,
@@ -129,6 +169,52 @@ fn five_coins() -> Coins {
     coins.push(coin);
     coins.push(coin);
     coins
+}
+
+/// The carry of the first records.
+fn carry_of_first() -> Carry
+    ensures rightly { IsRightly 9 result }
+    ensures fits { (setup : Setup) → acceptor_there (device_at setup.devices 2) ≡ true
+        → hopper_there (device_at setup.devices 3) ≡ true → hopper_value (device_at setup.devices 3) ≡ 10
+        → Fits setup result }
+{
+    let mut epochs = CarryEpochs::new();
+    epochs.push(CarryEpoch {
+        addr: 2,
+        mask: 0xffff,
+        counter: 1,
+    });
+    let mut orders = CarryOrders::new();
+    orders.push(CarryOrder {
+        id: 44,
+        addr: 3,
+        count: 5,
+        life: 0,
+    });
+    Carry {
+        last_id: 44,
+        value: 200,
+        paid_value: 20,
+        odd_value: 30,
+        posted: 2,
+        lost: 0,
+        paid: 2,
+        unpaid: 2,
+        sold: 50,
+        epochs,
+        orders,
+    }
+}
+
+/// The totals of a row.
+fn totals_of(totals: [u64; 4]) -> Totals {
+    let [available, reserved, paid, sold] = totals;
+    Totals {
+        available,
+        reserved,
+        paid,
+        sold,
+    }
 }
 
 /// The record of a row.
@@ -174,14 +260,42 @@ fn records_in_turn(rt: HostRuntime) -> Result<(), Fail> {
     for (row, (puts, taken, totals)) in TABLE.iter().enumerate() {
         let is_taken = ledger.apply(&record_of(*puts)).is_ok();
         assert_eq!(rt; is_taken, *taken, "whether row {row} is taken");
-        let [available, reserved, paid, sold] = *totals;
-        let wanted = Totals {
-            available,
-            reserved,
-            paid,
-            sold,
-        };
-        assert_eq!(rt; ledger.totals(), wanted, "the totals behind row {row}");
+        let wanted = totals_of(*totals);
+        assert_eq!(rt; ledger.totals(), wanted, "the totals after row {row}");
+    }
+    Ok(())
+}
+
+#[test]
+fn a_ledger_that_begins_with_a_carry(rt: HostRuntime) -> Result<(), Fail> {
+    let setup = setup(100, 10);
+    let mut whole = Ledger::new(&setup);
+    for puts in &FIRST {
+        whole.apply(&record_of(*puts))?;
+    }
+    let mut resumed = Ledger::resume(&setup, 9, &carry_of_first());
+    let wanted = totals_of(FIRST_TOTALS);
+    assert_eq!(rt; whole.totals(), wanted);
+    assert_eq!(rt; resumed.totals(), wanted);
+    for (row, (puts, taken, totals)) in LATER.iter().enumerate() {
+        let entry = record_of(*puts);
+        let wanted = totals_of(*totals);
+        assert_eq!(rt;
+            whole.apply(&entry).is_ok(),
+            *taken,
+            "whether the whole takes row {row}"
+        );
+        assert_eq!(rt;
+            whole.totals(),
+            wanted,
+            "the totals of the whole after row {row}"
+        );
+        assert_eq!(rt;
+            resumed.apply(&entry).is_ok(),
+            *taken,
+            "whether row {row} is taken"
+        );
+        assert_eq!(rt; resumed.totals(), wanted, "the totals after row {row}");
     }
     Ok(())
 }

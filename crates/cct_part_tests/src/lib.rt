@@ -1,5 +1,5 @@
 //! Tests of the parts by themselves: a framer, devices that hear byte by byte, a life count, a hopper, the bodies of
-//! records and of a carry, a journal and a ledger.
+//! records and of a carry, a journal and how one is opened, and a ledger.
 #![tactic(auto)]
 
 #[cfg(test)]
@@ -16,5 +16,7 @@ mod journal;
 mod ledger;
 #[cfg(test)]
 mod life;
+#[cfg(test)]
+mod opening;
 #[cfg(test)]
 mod record;

@@ -1,5 +1,6 @@
 -- What the records of a journal sum up to.
-use Rattle.std.specs.Prelude.{ℕ, ◌+◌, List, [], ◌∷◌}
+use Rattle.std.specs.Prelude.{ℕ, ◌+◌, ◌*◌, ◌^◌, ◌≤◌, List, [], ◌∷◌}
+use Rattle.cct_lines.specs.declared.carry.Carry.{Carry}
 use Rattle.cct_lines.specs.declared.record.Record.{Record}
 use Rattle.cct_lines.specs.Sums.{coins_posted, events_lost, coins_paid, coins_unpaid, price_sold}
 use Rattle.cct_report.specs.declared.sums.Sums.{Sums}
@@ -14,14 +15,14 @@ with_record entry sums = record {
   sold = sums.sold + price_sold entry;
 }
 
--- The sums over no record.
-abbrev pub no_sums : Sums
-no_sums = record {
-  posted = 0;
-  lost = 0;
-  paid = 0;
-  unpaid = 0;
-  sold = 0;
+-- The sums over the records of a carry.
+abbrev pub sums_in : Carry → Sums
+sums_in carry = record {
+  posted = carry.posted;
+  lost = carry.lost;
+  paid = carry.paid;
+  unpaid = carry.unpaid;
+  sold = carry.sold;
 }
 
 -- These sums with those over records, the oldest first.
@@ -29,6 +30,10 @@ abbrev pub sums_over : Sums → List Record → Sums
 sums_over sums [] = sums
 sums_over sums (r ∷ records) = sums_over (with_record r sums) records
 
--- All sums together.
-abbrev pub together : Sums → ℕ
-together sums = sums.posted + sums.lost + sums.paid + sums.unpaid + sums.sold
+-- No sum is above 2 ^ 32 times so many records.
+pub record AreWithin (many : ℕ) (sums : Sums) : Type 0 where
+  pub posted : sums.posted ≤ 2 ^ 32 * many
+  pub lost : sums.lost ≤ 2 ^ 32 * many
+  pub paid : sums.paid ≤ 2 ^ 32 * many
+  pub unpaid : sums.unpaid ≤ 2 ^ 32 * many
+  pub sold : sums.sold ≤ 2 ^ 32 * many

@@ -1,15 +1,15 @@
 //! A journal is listed, record by record.
-ghost use Rattle.std.specs.Prelude.{◌≡◌, ◌<◌, ◌≤◌, ◌+◌, ◌*◌, ◌^◌, ℕ, List, Err, Some};
+ghost use Rattle.std.specs.Prelude.{◌≡◌, ◌<◌, ◌≤◌, ◌+◌, ℕ, List, Err, Some};
 ghost use Rattle.cct_edge.specs.Bytes.{Serves};
 ghost use Rattle.cct_edge.specs.Faults.{Caused, Rose};
+ghost use Rattle.cct_lines.specs.declared.carry.Carry.{Carry};
 ghost use Rattle.cct_lines.specs.declared.record.Record.{Record};
 ghost use Rattle.cct_disk.specs.Disk.{OnlyReads};
-ghost use Rattle.cct_journal.specs.Image.{least_size};
+ghost use Rattle.cct_journal.specs.Image.{HasFrom, least_size};
 ghost use Rattle.cct_journal.specs.Journal as journals;
-ghost use Rattle.cct_journal.specs.Stands.{Reads};
 ghost use Rattle.cct_text.specs.Writing.{Writes};
-ghost use Rattle.cct_report.specs.Sums.{together, with_record};
-ghost use Rattle.cct_report.specs.Listing.{Decides, Finds, FindsIn, Lists, ListsOne, ListsSome};
+ghost use Rattle.cct_report.specs.Sums.{AreWithin, with_record};
+ghost use Rattle.cct_report.specs.Listing.{Decides, Finds, Lists, ListsOne, ListsSome};
 
 use crate::sums::Sums;
 use cct_disk::Disk;
@@ -25,24 +25,26 @@ pub enum ReportEnd {
     Done,
     /// Writing failed. What was written is a front of the listing.
     Unwritten,
-    /// The journal wasn't read to its end: the disk has none, the body of the record of this index, 0 to 65,534, spells
-    /// none, or a call of the disk failed. What was written are the lines of the first records, or none.
+    /// The journal wasn't read to its end: the disk has none, the body of the record of this index spells none, or a call
+    /// of the disk failed. What was written are the lines of the first records that the journal keeps one by one, or none.
     Unread(OpenNo),
 }
 
-/// Lists the journal on a disk, which is only read: a line for each record, numbered from 0, and then the line of their
-/// sums, each by one put. The disk is given back.
+/// Lists the journal on a disk, which is only read: a line for each record that it keeps one by one, numbered from how
+/// many stood before them, and then the line of the sums over these and those, each by one put. The disk is given back.
 ///
-/// [`OpenNo::Alien`] comes if the disk has fewer than 64 bytes or doesn't begin with the header of a journal, and
-/// [`OpenNo::BadRecord`] at the first body after an open gate that spells no record, if no shut gate stands before it.
-/// Then nothing is written, unless a later read of the disk gives other bytes than an earlier one.
+/// [`OpenNo::Alien`] comes where the disk has fewer than 2,368 bytes, no half of it is open, or the current one begins with
+/// no header and carry, and [`OpenNo::BadRecord`] at the first body after an open gate of it that spells no record, where no
+/// shut gate stands before it. Then nothing is written, unless a later read of the disk gives other bytes than an earlier
+/// one.
 pub fn list_journal<K: Sink, D: Disk>(out: &mut K, line: &mut TextLine, disk: D) -> (ReportEnd, D)
-    // what the image of the disk stands for, and what was written of it
+    // what the image of the disk has, and what was written of it
     ensures found { (image : List ℕ) → D.seen disk ≡ Some image → Finds result.0 image (out.new ≡ out.old) }
     // Each line by one put. If a put fails, a front of the listing is written, and if the disk fails, whole lines of
     // the first records.
-    ensures every { (image : List ℕ) (records : List Record) → D.seen disk ≡ Some image → FindsIn image records
-        → Lists result.0 records (λ entries answer. Writes K.written K.puts out.old entries answer out.new) }
+    ensures every { (image : List ℕ) (base : ℕ) (carry : Carry) (rest : List Record) → D.seen disk ≡ Some image
+        → HasFrom image base carry rest
+        → Lists result.0 base carry rest (λ entries answer. Writes K.written K.puts out.old entries answer out.new) }
 
     // what was written, whether or not the disk tells its bytes:
     // Of a disk that tells no bytes the lines are the listing of some records, or of the first of some.
@@ -67,24 +69,24 @@ pub fn list_journal<K: Sink, D: Disk>(out: &mut K, line: &mut TextLine, disk: D)
     }
 }
 
-/// Lists the records of a journal, and then their sums.
+/// Lists the records of a journal that it keeps one by one, and then the sums over all.
 fn list_records<K: Sink, D: Disk>(
     out: &mut K,
     line: &mut TextLine,
     journal: &mut Journal<D>,
 ) -> ReportEnd
     ensures lines { ListsSome result (λ entries answer. Writes K.written K.puts out.old entries answer out.new) }
-    ensures every { (records : List Record)
-        → Reads D.seen (journals.disk_of journal.old) (journals.place_of journal.old) records
-        → Lists result records (λ entries answer. Writes K.written K.puts out.old entries answer out.new) }
+    ensures every { (rest : List Record) → journals.JournalReadsFrom journal.old rest
+        → Lists result (journals.base_of journal.old) (journals.carry_before journal.old) rest
+        (λ entries answer. Writes K.written K.puts out.old entries answer out.new) }
     ensures reads { OnlyReads D.size D.honest D.seen D.may_leave D.moment D.left_since D.cuts
         (journals.disk_of journal.old) (journals.disk_of journal.new) }
     ensures disk_cause { Caused (D.faults (journals.disk_of journal.old)) (D.faults (journals.disk_of journal.new))
         (result ≡ ReportEnd.Unread OpenNo.Disk) }
     ensures sink { Serves K.written K.faults out.old out.new (result ≡ ReportEnd.Unwritten) }
 {
-    let mut sums = Sums::default();
-    for index in 0..journal.used() {
+    let mut sums = Sums::of(journal.carry());
+    for index in journal.base()..journal.used() {
         match list_record(out, line, journal, index, &mut sums) {
             Ok(()) => {}
             Err(how) => return how,
@@ -104,18 +106,18 @@ fn list_record<K: Sink, D: Disk>(
     index: u32,
     sums: &mut Sums,
 ) -> Result<(), ReportEnd>
+    requires from { journals.base_of journal.old ≤ index }
     requires within { index < journals.used_of journal.old }
     requires few { index < MOST_RECORDS }
-    requires small { together sums.old ≤ index * 2 ^ 32 }
-    ensures lists { ListsOne (Reads D.seen (journals.disk_of journal.old) (journals.place_of journal.old)) index
+    requires small { AreWithin index sums.old }
+    ensures lists { ListsOne (journals.JournalReadsFrom journal.old) (journals.base_of journal.old) index
         (λ entry. sums.new ≡ with_record entry sums.old)
         (λ entries answer. Writes K.written K.puts out.old entries answer out.new) (out.new ≡ out.old) result }
-    ensures small { together sums.new ≤ (index + 1) * 2 ^ 32 }
+    ensures small { AreWithin (index + 1) sums.new }
 
     // the journal stays as it is
-    ensures told { (records : List Record)
-        → Reads D.seen (journals.disk_of journal.old) (journals.place_of journal.old) records
-        → Reads D.seen (journals.disk_of journal.new) (journals.place_of journal.new) records }
+    ensures told { (rest : List Record) → journals.JournalReadsFrom journal.old rest
+        → journals.JournalReadsFrom journal.new rest }
     ensures place { journals.place_of journal.new ≡ journals.place_of journal.old }
     ensures reads { OnlyReads D.size D.honest D.seen D.may_leave D.moment D.left_since D.cuts
         (journals.disk_of journal.old) (journals.disk_of journal.new) }

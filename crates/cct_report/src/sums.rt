@@ -1,12 +1,12 @@
 //! What the records of a journal sum up to.
-ghost use Rattle.std.specs.Prelude.{◌≡◌, ◌+◌, ◌<◌, ◌≤◌, ◌^◌};
-ghost use Rattle.cct_report.specs.Sums.{together, with_record};
+ghost use Rattle.std.specs.Prelude.{◌≡◌, ◌+◌, ◌-◌, ◌^◌, ℕ};
+ghost use Rattle.cct_report.specs.Sums.{AreWithin, sums_in, with_record};
 ghost use Rattle.cct_report.specs.Listing.{total_in};
 
-use cct_lines::{Entry, Record};
+use cct_lines::{Carry, Entry, Record};
 
 /// Sums over records: coins posted, events lost, coins paid and unpaid, and prices.
-#[derive(Clone, Copy, Debug, Default, PartialEq, Eq)]
+#[derive(Clone, Copy, Debug, PartialEq, Eq)]
 pub struct Sums {
     pub posted: u64,
     pub lost: u64,
@@ -16,11 +16,24 @@ pub struct Sums {
 }
 
 impl Sums {
-    /// One record more, by which all sums together grow by 2^32 at most.
+    /// The sums over the records of a carry.
+    pub fn of(carry: &Carry) -> Sums
+        ensures { result ≡ sums_in carry.now }
+    {
+        Sums {
+            posted: carry.posted,
+            lost: carry.lost,
+            paid: carry.paid,
+            unpaid: carry.unpaid,
+            sold: carry.sold,
+        }
+    }
+
+    /// One record more, by which no sum grows by more than 2^32.
     pub fn add(&mut self, entry: &Record)
-        requires { together self.old + 2 ^ 32 < 2 ^ 64 }
+        requires room { AreWithin (2 ^ 32 - 1) self.old }
         ensures added { self.new ≡ with_record entry.now self.old }
-        ensures grows { together self.new ≤ together self.old + 2 ^ 32 }
+        ensures within { (many : ℕ) → AreWithin many self.old → AreWithin (many + 1) self.new }
     {
         self.posted += entry.posted().len() as u64;
         self.lost += u64::from(entry.lost());

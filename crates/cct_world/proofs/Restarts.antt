@@ -153,7 +153,7 @@ module _ {D : Type 0} {g : Ghosts D} where
     all = record { kept = crashed.kept; kept_is = restarts.kept; count = sym restarts.records ∙ restarts.counts };
     news_are = told ∙ ap (λ n. told_by n crashed.kept) restarts.records;
     whole = λ image tells. subst (λ setup. FindsWhole setup image (journals.used_of (hosts.journal_of new))) restarts.setup
-        (restarts.whole image tells);
+        (restarts.has_whole image tells);
   }
 
 module _ {D : Type 0} (size : D → ℕ) (honest : D → Bool) (seen : D → Option (List ℕ)) (cuts : D → ℕ)

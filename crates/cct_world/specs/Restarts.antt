@@ -17,8 +17,7 @@ use Rattle.cct_host.specs.declared.refusal.CrashNo.{CrashNo}
 use Rattle.cct_host.specs.declared.refusal.CrashNo.TheVariants as crash_no
 use Rattle.cct_world.specs.Step.{count_after, crashes}
 
--- An image has so many records of which none is missing, and the one of this index is the first that doesn't follow those
--- before it.
+-- An image has so many records of which none is missing, and a host that starts over them stops at this index.
 abbrev pub HasBad : Setup → ℕ → Option Record → List ℕ → ℕ → Type 0
 HasBad setup put due image index = (many : ℕ) × HasAll due many put × FindsBad setup image many index
 
@@ -33,13 +32,14 @@ Loses setup put due seen (crash_no.BadRecord index) =
 Loses setup put due seen (crash_no.Lost found many) =
     (many ≡ put) × IsLost due found put × ((image : List ℕ) → seen ≡ Some image → FindsMany setup image found)
 
--- What a read gives, where that is told, has so many records, and each follows those before it.
+-- What a read gives, where that is told, has so many records: the carry of those before its half fits the setup, and each of
+-- the others follows.
 abbrev pub IsWhole : Setup → Option (List ℕ) → ℕ → Type 0
 IsWhole setup seen many = (image : List ℕ) → seen ≡ Some image → FindsWhole setup image many
 
 -- A host starts again after a power cut, where so many records were put and this one was due, if one was: these are
 -- its entries, newest first; none of the records is missing; so many does its journal then count; and a read of the
--- disk gives just so many, each of which follows.
+-- disk gives just so many, over which a host starts.
 pub record Restarts (setup : Setup) (due : Option Record) (put many : ℕ) (seen : Option (List ℕ)) (news : List Entry)
     : Type 0 where
   pub all : HasAll due many put

@@ -18,12 +18,12 @@ returns-then-len-ne-JOURNAL_BYTES-clause-reported g c image told =
     (λ is. c.if-len-ne-JOURNAL_BYTES.true (c.len-len.ensures ∙ is)) closed.1 closed.2
 
 pub returns-then-len-ne-JOURNAL_BYTES-clause-every : goal.returns-then-len-ne-JOURNAL_BYTES-clause-every
-returns-then-len-ne-JOURNAL_BYTES-clause-every g c image records told stands =
+returns-then-len-ne-JOURNAL_BYTES-clause-every g c image base carry rest told has =
     let sink = g.K.Sink in
     let closed = c.close-status.ensures.writes in
     other_reported
-    (records_known (g.D.Disk.size c.args.disk) (Rose (g.D.Disk.faults c.args.disk) (g.D.Disk.faults c.args.disk))
-    records) c.len-len.result c.close-status.result closed.0
+    (records_known (g.D.Disk.size c.args.disk) (Rose (g.D.Disk.faults c.args.disk) (g.D.Disk.faults c.args.disk)) base
+    carry rest) c.len-len.result c.close-status.result closed.0
     (λ lines r. Writes sink.written sink.puts c.args.out.now lines r c.close-status.new.out) c.len-len.ensures
     (λ is. c.if-len-ne-JOURNAL_BYTES.true (c.len-len.ensures ∙ is)) closed.1 closed.2
 
@@ -50,10 +50,10 @@ returns-clause-reported g c image told =
     c.finish_report.result closed.0 (sym c.len-len.ensures ∙ c.if-len-ne-JOURNAL_BYTES.false)
     (image_lists size failed image how (listed ≡ out) (λ lines r. Writes sink.written sink.puts out lines r listed)
     (λ same. subst (λ k. Wrote sink.written sink.puts out k []) (sym same) (wrote_none sink.written sink.puts out))
-    list.disk_cause.rose (list.found image told) (λ records. list.every image records told)) closed.1 closed.2
+    list.disk_cause.rose (list.found image told) (λ base carry rest. list.every image base carry rest told)) closed.1 closed.2
 
 pub returns-clause-every : goal.returns-clause-every
-returns-clause-every g c image records told stands =
+returns-clause-every g c image base carry rest told has =
     let sink = g.K.Sink in
     let size = g.D.Disk.size c.args.disk in
     let failed = Rose (g.D.Disk.faults c.args.disk) (g.D.Disk.faults c.list_journal-how.result.1) in
@@ -61,11 +61,11 @@ returns-clause-every g c image records told stands =
     let listed = c.list_journal-how.new.out in
     let how = c.list_journal-how.result.0 in
     let closed = c.finish_report.ensures.writes in
-    reported_behind sink.written sink.puts (records_known size failed records) out listed c.finish_report.new.out how
+    reported_behind sink.written sink.puts (records_known size failed base carry rest) out listed c.finish_report.new.out how
     c.finish_report.result closed.0 (sym c.len-len.ensures ∙ c.if-len-ne-JOURNAL_BYTES.false)
-    (records_lists size failed records how (λ lines r. Writes sink.written sink.puts out lines r listed)
+    (records_lists size failed base carry rest how (λ lines r. Writes sink.written sink.puts out lines r listed)
     c.list_journal-how.ensures.disk_cause.rose
-    (c.list_journal-how.ensures.every image records told stands)) closed.1 closed.2
+    (c.list_journal-how.ensures.every image base carry rest told has)) closed.1 closed.2
 
 pub returns-clause-lines : goal.returns-clause-lines
 returns-clause-lines g c =

@@ -1,9 +1,13 @@
-use Rattle.std.proofs.Common.{◌≡◌, ◌+◌, ◌-◌, ◌≤◌, ◌++◌, ◌∙◌, Option, ap, length, refl, reverse, subst, sym, true}
+use Rattle.std.proofs.Common.{◌≡◌, ◌+◌, ◌-◌, ◌≤◌, ◌∷◌, ◌++◌, ◌∙◌, Option, ap, length, refl, reverse, subst, sym, true}
 use Rattle.std.specs.Option.{IfSome}
+use Rattle.std.proofs.lemmas.List.{reverse-reverse}
 use Rattle.cct_model.specs.lines.record.Record.{Record}
-use Rattle.cct_model.specs.Following.{is_allowed}
+use Rattle.cct_model.specs.Carry.{carry}
+use Rattle.cct_model.specs.Following.{all_follow, is_allowed}
+use Rattle.cct_model.specs.Legal.{due_at}
 use Rattle.cct_model.specs.Money.{freed_by, reserved_at_work}
 use Rattle.cct_model.specs.Records.{records}
+use Rattle.cct_carry.specs.Tally as tallies
 use Rattle.cct_journal.specs.Journal as journals
 use Rattle.cct_ledger.specs.Ledger as ledgers
 use Rattle.cct_host.specs.OnDisk.{KeepsRecords}
@@ -21,6 +25,8 @@ returns-clause-advances g c =
     let setup = setup_of c.args.desks.now in
     let put = c.in_ok-put.ensures.puts in
     let goes = c.go_on.ensures.together in
+    let tallied = tallies.setup_of c.args.tally.now in
+    let same = c.requires.together.same_tally in
     let counted = λ (d : Option Record). journals.used_of c.args.journal.now + length (put_by d) in
     record {
       whole = put.whole;
@@ -30,10 +36,11 @@ returns-clause-advances g c =
           let due_is = c.due_there-due.ensures.stands past stands in
           record {
             used = put.counted ∙ ap counted due_is;
-            on_disk = λ stood. subst
+            on_disk = λ stood so_far. subst
                 (λ d. KeepsRecords setup disk.honest disk.seen disk.may_leave (journals.disk_of written)
                 (journals.place_of written) (reverse (records past) ++ put_by d)) due_is
-                (put.done setup (reverse (records past)) stood);
+                (put.done setup (reverse (records past)) stood
+                (c.carry.ensures.value ∙ so_far ∙ ap (carry setup) (sym (reverse-reverse (records past)))));
             posts = λ takes stood.
                 let allowed = allowed_is c.due_there-due.result _ setup (records past) (reserved_at_work setup past)
                 (reserved_of turned) (goes.same ∙ c.requires.together.same)
@@ -44,6 +51,14 @@ returns-clause-advances g c =
                 takes) in
                 subst (λ d. ledgers.StandsFor c.enter.new.ledger (put_by d ++ records past) (reserved_of turned)) due_is
                 (c.enter.ensures.posts (records past) (reserved_of turned) allowed (goes.stands (records past) stood));
+            adds = λ follow so_far. subst
+                (λ s. tallies.carry_in c.count.new.tally ≡ carry s (put_by (due_at setup past c.args.addr) ++ records past))
+                same
+                (subst (λ d. tallies.carry_in c.count.new.tally ≡ carry tallied (put_by d ++ records past)) due_is
+                (c.count.ensures.adds (records past)
+                (subst (λ s. IfSome c.due_there-due.result (λ r. all_follow s (r ∷ records past) ≡ true)) (sym same)
+                (subst (λ d. IfSome d (λ r. all_follow setup (r ∷ records past) ≡ true)) (sym due_is) follow))
+                (so_far ∙ ap (λ s. carry s (records past)) (sym same))));
           };
     }
 
@@ -54,10 +69,12 @@ returns-in_err-put-clause-fails g c =
     (record {
       desks_stay = refl;
       ledger_stays = refl;
+      tally_stays = refl;
       place = failed.place;
       fails = λ past stands. (
         failed.left.0,
         sym (c.due_there-due.ensures.stands past stands) ∙ failed.left.1,
-        failed.left.2 (setup_of c.args.desks.now),
+        λ records stood so_far.
+            failed.left.2 (setup_of c.args.desks.now) records stood (c.carry.ensures.value ∙ so_far),
       );
     })

@@ -1,69 +1,66 @@
-use Rattle.std.proofs.Common.{◌∙◌, ◌++◌, ◌≡◌, Some, arith, reverse, subst, sym}
+use Rattle.std.proofs.Common.{◌∙◌, ◌++◌, ◌≡◌, Some, arith, refl, subst, sym}
 use Rattle.std.specs.Option.{IfSome}
+use Rattle.cct_journal.specs.Journal as journals
 use Rattle.cct_host.specs.Desks.{setup_of}
 use Rattle.cct_host.specs.Host.{put_by}
-use Rattle.cct_host.specs.Replaying.{GoesOver}
-use Rattle.cct_host.specs.Restarting.{JournalFails, due_for}
-use Rattle.cct_host.proofs.Losses.{bad_fails, first_bad, kept_follow, none_bad, restarts_at, stands_read}
+use Rattle.cct_host.specs.Restarting.{due_for}
+use Rattle.cct_host.proofs.Losses.{bad_fails, fails_at, kept_follow, none_stops, restarts_at, stops_at, tallies_over}
 use Rattle.cct_host.proofs.Starting.{free_together}
 use Rattle.cct_host.proofs.restart.restart.Goals as goal
 
 pub returns-in-None-clause-together : goal.returns-in-None-clause-together
 returns-in-None-clause-together g c =
     let over = c.in-Ok.ensures.replayed.each in
-    free_together c.lose.new.replay.desks c.lose.new.replay.ledger c.lose.new.journal over.2.unused over.2.same
-    over.2.reserved (omega (arith, over.1, over.2.counted))
-
-pub returns-in-None-clause-restarts : goal.returns-in-None-clause-restarts
-returns-in-None-clause-restarts g c =
-    restarts_at _ _ _ _ _ _ _ c.in-Ok.kept c.calls_in.ensures c.due_for-due.ensures.value c.in-Ok.ensures.restarts
+    let desks = c.resume.ensures in
+    let ledger = c.resume-in-None.ensures.resumed in
+    free_together c.resume.result c.resume-in-None.result c.lose.new.replay.tally c.lose.new.journal desks.resumes.unused
+    (ledger.setup_is ∙ sym desks.setup) ledger.reserved (omega (arith, ledger.counted, c.used-records.ensures.value))
+    (over.2.setup ∙ c.new-replayed.ensures.setup ∙ sym desks.setup) (over.2.counted c.in-None.is ∙ sym over.1)
 
 pub returns-in-None-clause-over : goal.returns-in-None-clause-over
-returns-in-None-clause-over g c records reads =
-    let now = c.lose.new.replay in
-    subst (λ bad. GoesOver 0 bad (setup_of now.desks) now.desks now.ledger (reverse records)) c.in-None.is
-    (c.in-Ok.ensures.replayed.told records reads).over
+returns-in-None-clause-over g c rest reads =
+    tallies_over c.new-replayed.result c.lose.new.replay (setup_of c.args.desks.now) _ _ rest c.in-None.is
+    (c.new-replayed.ensures.setup ∙ c.setup-setup.ensures) (c.in-Ok.ensures.replayed.told rest reads)
 
 pub returns-in-Some-clause-together : goal.returns-in-Some-clause-together
 returns-in-Some-clause-together g c =
-    let over = c.in-Ok.ensures.replayed.each in
-    free_together c.lose.new.replay.desks c.lose.new.replay.ledger c.lose.new.journal over.2.unused over.2.same
-    over.2.reserved (omega (arith, over.1, over.2.counted))
+    let parts = c.clear-in-Some.ensures in
+    free_together c.clear-in-Some.new.desks c.clear-in-Some.new.ledger c.clear-in-Some.new.tally c.lose.new.journal
+    parts.unused (parts.same ∙ sym parts.setup) parts.reserved (omega (arith, parts.none))
+    (parts.same_tally ∙ sym parts.setup) (parts.tallied ∙ c.used-in-Some.ensures.value)
 
 pub returns-in-Some-clause-fails : goal.returns-in-Some-clause-fails
 returns-in-Some-clause-fails g c =
-    let restarts = restarts_at _ _ _ _ _ _ _ c.in-Ok.kept c.calls_in.ensures c.due_for-due.ensures.value
-    c.in-Ok.ensures.restarts in
     let setup = setup_of c.args.desks.now in
-    bad_fails setup _ _ c.args.choice c.args.journal.now c.lose.new.journal c.in-Ok.kept c.in-Some.index restarts
-    (λ records reads.
-    first_bad c.new-replayed.result c.lose.new.replay setup c.in-Some.index records c.in-Some.is
-    (c.new-replayed.ensures.setup ∙ c.setup-setup.ensures) (c.in-Ok.ensures.replayed.told records reads))
+    bad_fails setup _ _ _ c.args.choice c.args.journal.now c.lose.new.journal c.in-Ok.kept c.in-Some.index
+    (restarts_at _ _ _ _ _ _ _ _ _ c.in-Ok.kept c.calls_in.ensures c.due_for-due.ensures.value c.carry.ensures.value
+    c.in-Ok.ensures.restarts)
+    (λ rest reads.
+    stops_at c.new-replayed.result c.lose.new.replay setup _ c.in-Some.index _ rest c.in-Some.is
+    (c.new-replayed.ensures.setup ∙ c.setup-setup.ensures) (c.in-Ok.ensures.replayed.told rest reads))
 
 pub returns-in-Some-clause-never : goal.returns-in-Some-clause-never
-returns-in-Some-clause-never g c records stands follow fits =
+returns-in-Some-clause-never g c records stands so_far follow fits =
     let setup = setup_of c.args.desks.now in
     let kept = c.in-Ok.kept in
-    let rs = records ++ put_by kept in
-    let reads = stands_read g.D.Disk setup _ _ rs (c.in-Ok.ensures.restarts.stands setup records stands).1 in
-    let bad = first_bad c.new-replayed.result c.lose.new.replay setup c.in-Some.index rs c.in-Some.is
-    (c.new-replayed.ensures.setup ∙ c.setup-setup.ensures) (c.in-Ok.ensures.replayed.told rs reads) in
-    absurd (none_bad setup rs c.in-Some.index
+    let restarts = c.in-Ok.ensures.restarts in
+    absurd (none_stops setup c.lose.new.journal (records ++ put_by kept) c.in-Some.index c.args.desks.now.sound
+    (restarts.stands setup records stands (c.carry.ensures.value ∙ so_far)).1
     (kept_follow setup (due_for c.args.desks.now c.args.at) kept records follow
-    (subst (λ d. IfSome kept (λ r. d ≡ Some r)) c.due_for-due.ensures.value c.in-Ok.ensures.restarts.kept_is) fits) bad)
+    (subst (λ d. IfSome kept (λ r. d ≡ Some r)) c.due_for-due.ensures.value restarts.kept_is) fits)
+    (λ rest reads.
+    stops_at c.new-replayed.result c.lose.new.replay setup _ c.in-Some.index _ rest c.in-Some.is
+    (c.new-replayed.ensures.setup ∙ c.setup-setup.ensures) (c.in-Ok.ensures.replayed.told rest reads)))
 
 pub returns-in-Err-clause-together : goal.returns-in-Err-clause-together
 returns-in-Err-clause-together g c =
-    free_together c.new.result c.new-in-Err.result c.lose.new.journal c.new.ensures.replays.unused
-    (c.new-in-Err.ensures.setup ∙ sym c.new.ensures.setup) c.new-in-Err.ensures.reserved
-    (omega (arith, c.new-in-Err.ensures.counted))
+    let parts = c.clear.ensures in
+    free_together c.clear.new.desks c.clear.new.ledger c.clear.new.tally c.lose.new.journal
+    parts.unused (parts.same ∙ sym parts.setup) parts.reserved (omega (arith, parts.none))
+    (parts.same_tally ∙ sym parts.setup) (parts.tallied ∙ c.used.ensures.value)
 
 pub returns-in-Err-clause-fails : goal.returns-in-Err-clause-fails
 returns-in-Err-clause-fails g c =
     let setup = setup_of c.args.desks.now in
-    subst (λ due. JournalFails setup due c.args.choice c.args.journal.now c.lose.new.journal c.in-Err.why)
-    c.due_for-due.ensures.value (c.in-Err.ensures.fails setup)
-
-pub returns-in-Err-clause-never : goal.returns-in-Err-clause-never
-returns-in-Err-clause-never g c records stands follow fits =
-    c.in-Err.ensures.never (setup_of c.args.desks.now) records stands
+    fails_at setup _ _ _ _ c.args.choice c.args.journal.now c.lose.new.journal c.in-Err.why c.due_for-due.ensures.value
+    c.carry.ensures.value (c.in-Err.ensures.fails setup)

@@ -1,25 +1,25 @@
 use Rattle.std.proofs.Common.{◌∙◌}
-use Rattle.cct_journal.proofs.Calls.{cut_by}
 use Rattle.cct_journal.proofs.Cuts.{cut_here}
+use Rattle.cct_journal.proofs.Leaving.{cut_by}
 use Rattle.cct_journal.proofs.Moments.{then_elapses}
 use Rattle.cct_journal.proofs.cutting.cut_power.Goals as goal
 
 pub returns-in_err-power_cut-clause-moments : goal.returns-in_err-power_cut-clause-moments
-returns-in_err-power_cut-clause-moments g c records stands =
+returns-in_err-power_cut-clause-moments g c carry_of records before =
     then_elapses g.met.D.Disk.counts_now g.met.D.Disk.only_now
-    (c.power_cut.ensures.images (c.begin_put.ensures.goes_on.same_honest ∙ stands.held.keeps_synced))
-    c.power_cut.ensures.time (c.begin_put.ensures.moments records stands)
+    (c.power_cut.ensures.images (c.begin_put.ensures.goes_on.same_honest ∙ before.stands.held.keeps_synced))
+    c.power_cut.ensures.time (c.begin_put.ensures.moments carry_of records before)
 
 pub returns-clause-moments : goal.returns-clause-moments
-returns-clause-moments g c records stands =
+returns-clause-moments g c carry_of records before =
     then_elapses g.met.D.Disk.counts_now g.met.D.Disk.only_now
-    (c.power_cut.ensures.images (c.begin_put.ensures.goes_on.same_honest ∙ stands.held.keeps_synced))
-    c.power_cut.ensures.time (c.begin_put.ensures.moments records stands)
+    (c.power_cut.ensures.images (c.begin_put.ensures.goes_on.same_honest ∙ before.stands.held.keeps_synced))
+    c.power_cut.ensures.time (c.begin_put.ensures.moments carry_of records before)
 
 pub returns-clause-left : goal.returns-clause-left
-returns-clause-left g c records stands =
+returns-clause-left g c carry_of records before =
     cut_by c.power_cut.ensures.outlasts c.in_ok-power_cut.ensures.cut
-    c.args.calls c.args.put.now records (c.in_ok-begin_put.ensures.left records stands)
+    c.args.calls c.args.put.now carry_of records (c.in_ok-begin_put.ensures.left carry_of records before)
 
 pub returns-clause-cut : goal.returns-clause-cut
 returns-clause-cut g c =

@@ -1,9 +1,4 @@
-use Rattle.std.proofs.Common.{◌≡◌, ◌∙◌, ◌⊎◌, inl, inr, true, false, subst, length, arith, ℕ, List}
-use Rattle.std.proofs.Common.{MatchOption, Some}
-use Rattle.cct_lines.specs.declared.carry.Carry.{Carry}
-use Rattle.cct_journal.specs.Half.{half, IsCurrent}
-use Rattle.cct_journal.specs.Image.{least_size}
-use Rattle.cct_journal.specs.Start.{Begins}
+use Rattle.std.proofs.Common.{◌∙◌, inl, inr, arith}
 use Rattle.cct_journal.proofs.Found.{begins_nowhere, begins_there, other_gate}
 use Rattle.cct_journal.proofs.opening.find_half.Goals as goal
 use Rattle.cct_journal.proofs.opening.find_half.Goals.{then-second, else-second}

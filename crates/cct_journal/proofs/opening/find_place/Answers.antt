@@ -1,4 +1,4 @@
-use Rattle.std.proofs.Common.{◌∙◌, ◌≡◌, ◌+◌, Some, List, ℕ, length, refl, reverse, sym, ap, arith, rules}
+use Rattle.std.proofs.Common.{◌∙◌, ◌≡◌, ◌+◌, length, refl, reverse, sym, arith}
 use Rattle.std.proofs.lemmas.List.{length-reverse}
 use Rattle.std.proofs.lemmas.Result.{err_from_is_err_and}
 use Rattle.cct_journal.proofs.Found.{found_reads, place_stands, reads_records, replays_all}

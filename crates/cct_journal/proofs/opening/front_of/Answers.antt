@@ -1,4 +1,4 @@
-use Rattle.std.proofs.Common.{◌≡◌, ◌∙◌, refl, sym, ap, rules, arith, length}
+use Rattle.std.proofs.Common.{◌∙◌, refl, sym, ap, rules, arith}
 use Rattle.std.specs.Int.{w32, from_le_bytes}
 use Rattle.cct_journal.proofs.Fronts.{four}
 use Rattle.cct_journal.proofs.opening.front_of.Goals as goal

@@ -1,40 +1,65 @@
-use Rattle.std.proofs.Common.{◌≡◌, ◌∙◌, Ok, Err, arith}
-use Rattle.cct_journal.specs.Journal.{disk_of, place_of}
-use Rattle.cct_journal.specs.Stands.{Reads}
+use Rattle.std.proofs.Common.{◌≡◌, ◌∙◌, Ok, Err, ap, refl, sym, subst, arith, rules}
+use Rattle.cct_journal.specs.Journal.{JournalReadsFrom, base_of, carry_before}
+use Rattle.cct_journal.specs.declared.place.Place.{Place}
 use Rattle.cct_journal.proofs.Moments.{reads_then}
 use Rattle.cct_text.proofs.Writing.{writes_one}
-use Rattle.cct_report.specs.Sums.{with_record}
-use Rattle.cct_report.proofs.Going.{going_ends, going_ends_within, going_on, sums_told, sums_told_of}
+use Rattle.cct_report.specs.Sums.{AreWithin, sums_in, with_record}
+use Rattle.cct_report.proofs.Going.{Going, carry_within, going_starts, going_ends, going_ends_within, going_on, sums_told, sums_told_of}
 use Rattle.cct_report.proofs.listing.list_records.Goals as goal
 
 pub returns-in-Err-clause-lines : goal.returns-in-Err-clause-lines
 returns-in-Err-clause-lines g c =
     let sink = g.K.Sink in
-    let start = Reads g.D.Disk.seen (disk_of c.args.journal.now) (place_of c.args.journal.now) in
-    let here = Reads g.D.Disk.seen (disk_of c.loop-index.journal) (place_of c.loop-index.journal) in
+    let start = JournalReadsFrom c.args.journal.now in
+    let here = JournalReadsFrom c.loop-index.journal in
     let before = c.loop-index.invariant in
     going_ends sink.written sink.puts {holds = start} before.going c.list_record.new.out here
-    (λ entry. c.list_record.new.sums ≡ with_record entry c.loop-index.sums) c.in-Err.how c.in-Err.ensures.lists
+    (base_of c.loop-index.journal) (λ entry. c.list_record.new.sums ≡ with_record entry c.loop-index.sums) c.in-Err.how c.in-Err.ensures.lists
 
 pub returns-in-Err-clause-every : goal.returns-in-Err-clause-every
 returns-in-Err-clause-every g c records held =
     let sink = g.K.Sink in
-    let start = Reads g.D.Disk.seen (disk_of c.args.journal.now) (place_of c.args.journal.now) in
-    let here = Reads g.D.Disk.seen (disk_of c.loop-index.journal) (place_of c.loop-index.journal) in
+    let start = JournalReadsFrom c.args.journal.now in
+    let here = JournalReadsFrom c.loop-index.journal in
     let before = c.loop-index.invariant in
     going_ends_within sink.written sink.puts {holds = start} before.going c.list_record.new.out here
-    (λ entry. c.list_record.new.sums ≡ with_record entry c.loop-index.sums) records held (before.told records held)
+    (base_of c.loop-index.journal) (λ entry. c.list_record.new.sums ≡ with_record entry c.loop-index.sums) records
+    (ap (λ (place : Place). place.base) before.place) held (before.told records held)
     c.in-Err.how c.in-Err.ensures.lists
+
+pub loop-index-init : goal.loop-index-init
+loop-index-init g c =
+    let sink = g.K.Sink in
+    let journal = c.args.journal.now in
+    let start = JournalReadsFrom journal in
+    let is = c.of-sums.ensures ∙ ap sums_in c.carry.ensures.value in
+    let starts =
+    going_starts sink.written sink.puts c.args.out.now start (base_of journal) (carry_before journal) c.of-sums.result is in
+    let small =
+    carry_within (base_of journal) c.carry.result.now c.of-sums.result c.of-sums.ensures c.carry.ensures.rightly.small in
+    let first = c.base-index.ensures.value in record {
+      going = subst (Going sink.written sink.puts c.args.out.now c.args.out.now start (base_of journal)
+          (carry_before journal) c.of-sums.result) (sym first) starts;
+      from = omega arith;
+      small = subst (λ n. AreWithin n c.of-sums.result) (sym first) small;
+      told = λ rest held. held;
+      place = refl;
+      reads = search rules;
+      later = omega arith;
+      sink = search rules;
+    }
 
 pub loop-index-preserved : goal.loop-index-preserved
 loop-index-preserved g c =
     let sink = g.K.Sink in
-    let start = Reads g.D.Disk.seen (disk_of c.args.journal.now) (place_of c.args.journal.now) in
-    let here = Reads g.D.Disk.seen (disk_of c.loop-index.journal) (place_of c.loop-index.journal) in
+    let start = JournalReadsFrom c.args.journal.now in
+    let here = JournalReadsFrom c.loop-index.journal in
     let before = c.loop-index.invariant in
     let one = c.in-Ok.ensures in record {
       going = going_on sink.written sink.puts {holds = start} before.going c.list_record.new.out here
-          c.list_record.new.sums before.told one.lists;
+          (base_of c.loop-index.journal) c.list_record.new.sums (ap (λ (place : Place). place.base) before.place)
+          before.told one.lists;
+      from = omega (arith, before.from);
       small = one.small;
       told = λ records held. one.told records (before.told records held);
       place = one.place ∙ before.place;
@@ -50,12 +75,14 @@ loop-index-preserved g c =
 pub returns-in-Ok-write_entry-clause-lines : goal.returns-in-Ok-write_entry-clause-lines
 returns-in-Ok-write_entry-clause-lines g c =
     let sink = g.K.Sink in
-    let start = Reads g.D.Disk.seen (disk_of c.args.journal.now) (place_of c.args.journal.now) in
+    let start = JournalReadsFrom c.args.journal.now in
     let going = c.loop-index.invariant.going in
     let put = c.in-Ok-write_entry.ensures in
     let out1 = c.loop-index.out in
     let out2 = c.write_entry.new.out in
     let total = c.total.result in (
+      base_of c.args.journal.now,
+      carry_before c.args.journal.now,
       going.read,
       sums_told sink.written sink.puts {holds = start} going out2 total (Ok tt) c.total.ensures
           (writes_one sink.written sink.puts out1 out2 total (Ok tt) put.puts),
@@ -64,7 +91,7 @@ returns-in-Ok-write_entry-clause-lines g c =
 pub returns-in-Ok-write_entry-clause-every : goal.returns-in-Ok-write_entry-clause-every
 returns-in-Ok-write_entry-clause-every g c records held =
     let sink = g.K.Sink in
-    let start = Reads g.D.Disk.seen (disk_of c.args.journal.now) (place_of c.args.journal.now) in
+    let start = JournalReadsFrom c.args.journal.now in
     let going = c.loop-index.invariant.going in
     let put = c.in-Ok-write_entry.ensures in
     let out1 = c.loop-index.out in
@@ -77,13 +104,15 @@ returns-in-Ok-write_entry-clause-every g c records held =
 pub returns-in-Err-write_entry-clause-lines : goal.returns-in-Err-write_entry-clause-lines
 returns-in-Err-write_entry-clause-lines g c =
     let sink = g.K.Sink in
-    let start = Reads g.D.Disk.seen (disk_of c.args.journal.now) (place_of c.args.journal.now) in
+    let start = JournalReadsFrom c.args.journal.now in
     let going = c.loop-index.invariant.going in
     let put = c.in-Err-write_entry.ensures in
     let failed = c.in-Err-write_entry.field-0 in
     let out1 = c.loop-index.out in
     let out2 = c.write_entry.new.out in
     let total = c.total.result in (
+      base_of c.args.journal.now,
+      carry_before c.args.journal.now,
       going.read,
       failed,
       sums_told sink.written sink.puts {holds = start} going out2 total (Err failed) c.total.ensures
@@ -93,7 +122,7 @@ returns-in-Err-write_entry-clause-lines g c =
 pub returns-in-Err-write_entry-clause-every : goal.returns-in-Err-write_entry-clause-every
 returns-in-Err-write_entry-clause-every g c records held =
     let sink = g.K.Sink in
-    let start = Reads g.D.Disk.seen (disk_of c.args.journal.now) (place_of c.args.journal.now) in
+    let start = JournalReadsFrom c.args.journal.now in
     let going = c.loop-index.invariant.going in
     let put = c.in-Err-write_entry.ensures in
     let failed = c.in-Err-write_entry.field-0 in

@@ -11,9 +11,9 @@ returns-clause-replays c = record {
     scan = c.default.ensures;
     sale = c.default-2.ensures;
   };
-  devices = none_replayed _ _ (c.free_desks.ensures.many ∙ ap length c.as_slice.ensures.value)
+  devices = none_replayed c.args.setup.now _ _ (c.free_desks.ensures.many ∙ ap length c.as_slice.ensures.value)
       c.free_desks.ensures.free;
-  last = refl;
+  last_is = refl;
 }
 
 pub returns-clause-fresh : goal.returns-clause-fresh

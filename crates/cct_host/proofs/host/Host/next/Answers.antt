@@ -6,7 +6,8 @@ pub returns-clause-nexts : goal.returns-clause-nexts
 returns-clause-nexts g c =
     on_ok_weaker c.advance.result
     (λ advances.
-    next_goes g.L.Link.gives _ _ c.args.addr c.args.self.now _ _ _ c.advance.ensures.goes_on advances)
+    next_goes g.L.Link.gives _ _ c.args.addr c.args.self.now _ _ _ c.advance.ensures.setup c.advance.ensures.goes_on
+    advances)
     c.advance.ensures.advances
 
 pub returns-clause-fails : goal.returns-clause-fails

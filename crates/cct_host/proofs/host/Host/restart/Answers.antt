@@ -3,10 +3,11 @@ use Rattle.cct_host.proofs.host.Host.restart.Goals as goal
 
 pub returns-clause-restarts : goal.returns-clause-restarts
 returns-clause-restarts g c =
-    if_each c.restart.result _ _ _ _ c.restart.ensures.restarts c.restart.ensures.records c.restart.ensures.over
-    (λ crashed restarts records over.
+    if_each c.restart.result _ _ _ _ _ c.restart.ensures.restarts c.restart.ensures.records c.restart.ensures.over
+    c.restart.ensures.begins
+    (λ crashed restarts records over begins.
     restarts_by c.args.self.now _ c.args.at c.args.choice crashed c.restart.ensures.setup c.restart.ensures.due restarts
-    records over)
+    records over begins)
 
 pub returns-clause-fails : goal.returns-clause-fails
 returns-clause-fails g c =

@@ -1,4 +1,4 @@
-use Rattle.cct_journal.proofs.Calls.{cut_one_of, cut_settled}
+use Rattle.cct_journal.proofs.Leaving.{cut_one_of, cut_settled}
 use Rattle.cct_journal.proofs.journal.Journal.power_cut.Goals as goal
 
 pub returns-in-Ok-clause-stands : goal.returns-in-Ok-clause-stands

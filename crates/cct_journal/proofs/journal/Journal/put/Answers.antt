@@ -1,7 +1,26 @@
-use Rattle.cct_journal.proofs.Calls.{leaves_one_of}
+use Rattle.std.proofs.Common.{[], ◌∷◌, ◌++◌, inl, refl, sym, subst}
+use Rattle.cct_journal.specs.Image.{StandsFor, StandsForOneOf}
+use Rattle.cct_journal.specs.Stands.{Stands}
+use Rattle.cct_journal.proofs.Leaving.{leaves_one_of}
+use Rattle.cct_journal.proofs.Moments.{weaker}
+use Rattle.cct_journal.proofs.TurnCalls.{same_moments}
 use Rattle.cct_journal.proofs.journal.Journal.put.Goals as goal
 
+pub returns-then-used-capacity-clause-moments : goal.returns-then-used-capacity-clause-moments
+returns-then-used-capacity-clause-moments g c carry_of records stands =
+    weaker g.D.Disk.moment g.D.Disk.left_since c.args.self.now.disk c.args.self.now.disk
+    (λ image. StandsFor carry_of image records) (StandsForOneOf carry_of records c.args.entry.now)
+    (λ image has. inl has) (same_moments g.met.D.Disk.only_now stands.stands)
+
+pub returns-in-Ok-clause-done : goal.returns-in-Ok-clause-done
+returns-in-Ok-clause-done g c carry_of records stands =
+    let disk = g.D.Disk in
+    subst (λ place. Stands carry_of disk.honest disk.seen disk.may_leave c.put_record.new.disk place
+    (records ++ c.args.entry.now ∷ [])) (sym c.go_on.ensures)
+    (c.in-Ok.ensures.done refl carry_of records stands)
+
 pub returns-in-Err-clause-left : goal.returns-in-Err-clause-left
-returns-in-Err-clause-left g c records stands =
-    leaves_one_of g.met.D.Disk.counts_now c.put_slot.ensures.goes_on.same_honest
-    c.put_slot.ensures.goes_on.same_telling stands c.args.entry.now (c.put_slot.ensures.moments.each records stands)
+returns-in-Err-clause-left g c carry_of records stands =
+    leaves_one_of g.met.D.Disk.counts_now c.put_record.ensures.goes_on.same_honest
+    c.put_record.ensures.goes_on.same_telling stands.stands c.args.entry.now
+    (c.put_record.ensures.moments.each carry_of records stands)

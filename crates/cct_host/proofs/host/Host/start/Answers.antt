@@ -1,0 +1,44 @@
+use Rattle.std.proofs.Common.{◌∙◌, ap, arith, sym}
+use Rattle.cct_journal.specs.declared.place.Place.{Place}
+use Rattle.cct_host.proofs.Begun.{begin_from, begun_empty, resumed_all, resumed_by}
+use Rattle.cct_host.proofs.Records.{refuses_start}
+use Rattle.cct_host.proofs.Starting.{free_together}
+use Rattle.cct_host.proofs.host.Host.start.Goals as goal
+
+pub invariant_of-result : goal.invariant_of-result
+invariant_of-result g c =
+    let desks = c.resume.ensures in
+    let ledger = c.resume-in-Ok.ensures.resumed in
+    let used = ap (λ (p : Place). p.used) c.replay_all.ensures.reads.place in
+    record {
+      together = free_together c.resume.result c.resume-in-Ok.result c.in-Ok.tally c.replay_all.new.journal
+          desks.resumes.unused (ledger.setup_is ∙ sym desks.setup) ledger.reserved
+          (omega (arith, ledger.counted, c.used.ensures.value)) (c.in-Ok.ensures.setup ∙ sym desks.setup)
+          (c.in-Ok.ensures.counted ∙ sym used);
+    }
+
+pub returns-in-Ok-clause-resumes : goal.returns-in-Ok-clause-resumes
+returns-in-Ok-clause-resumes g c rest reads =
+    let used = ap (λ (p : Place). p.used) c.replay_all.ensures.reads.place in
+    resumed_by _ c.args.setup.now _ _ rest c.resume.ensures.setup (c.in-Ok.ensures.over rest reads)
+    (begin_from c.resume.result c.resume-in-Ok.result c.args.setup.now c.used.result _ _ _ _ c.resume.ensures.setup
+    c.used.ensures.value c.carry.ensures.value c.carry-in-Ok.ensures.value c.resume.ensures.resumes
+    c.resume-in-Ok.ensures.resumed) (used ∙ reads.count)
+
+pub returns-in-Ok-clause-knows : goal.returns-in-Ok-clause-knows
+returns-in-Ok-clause-knows g c records reads first =
+    resumed_all _ c.args.setup.now g.D.Disk.seen _ _ records c.resume.ensures.setup reads first
+    (returns-in-Ok-clause-resumes g c)
+
+pub returns-in-Ok-clause-fresh : goal.returns-in-Ok-clause-fresh
+returns-in-Ok-clause-fresh g c none =
+    let used = ap (λ (p : Place). p.used) c.replay_all.ensures.reads.place in
+    begun_empty _ (c.in-Ok.ensures.fresh none)
+    (begin_from c.resume.result c.resume-in-Ok.result c.args.setup.now c.used.result _ _ _ _ c.resume.ensures.setup
+    c.used.ensures.value c.carry.ensures.value c.carry-in-Ok.ensures.value c.resume.ensures.resumes
+    c.resume-in-Ok.ensures.resumed) (used ∙ none)
+
+pub returns-in-Err-clause-refused : goal.returns-in-Err-clause-refused
+returns-in-Err-clause-refused g c records reads first =
+    refuses_start c.args.setup.now _ _ reads.rest records c.requires.sound reads.continues c.in-Err.why first
+    (c.in-Err.ensures.refused reads.rest reads.reads)

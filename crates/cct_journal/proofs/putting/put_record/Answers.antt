@@ -1,0 +1,40 @@
+use Rattle.std.proofs.Common.{[], ◌∷◌, ◌++◌, sym, subst}
+use Rattle.cct_journal.specs.Places.{after_put}
+use Rattle.cct_journal.specs.Stands.{Stands}
+use Rattle.cct_journal.proofs.TurnCalls.{puts_after, turned_puts}
+use Rattle.cct_journal.proofs.putting.put_record.Goals as goal
+
+pub returns-in_err-turned-clause-moments : goal.returns-in_err-turned-clause-moments
+returns-in_err-turned-clause-moments g c =
+    turned_puts g.D.Disk.moment g.D.Disk.left_since c.args.disk.now c.turn_if_full.new.disk c.args.place.now
+    c.args.carry.now c.args.entry.now c.args.calls c.turn_if_full.ensures.moments
+
+pub returns-in_err-put_slot-clause-moments : goal.returns-in_err-put_slot-clause-moments
+returns-in_err-put_slot-clause-moments g c =
+    let disk = g.D.Disk in
+    puts_after disk.moment disk.left_since c.args.disk.now c.turn_if_full.new.disk c.args.place.now c.args.carry.now
+    c.args.entry.now c.args.calls c.turn_if_full.ensures.moments c.put_slot.new.disk c.place_after.result.now
+    (λ carry_of records stands. subst (λ place. Stands carry_of disk.honest disk.seen disk.may_leave
+    c.turn_if_full.new.disk place records) (sym c.place_after.ensures)
+    (c.in_ok-turned.ensures.done carry_of records stands))
+    c.put_slot.ensures.moments c.put_slot.ensures.early
+
+pub returns-clause-moments : goal.returns-clause-moments
+returns-clause-moments g c =
+    let disk = g.D.Disk in
+    puts_after disk.moment disk.left_since c.args.disk.now c.turn_if_full.new.disk c.args.place.now c.args.carry.now
+    c.args.entry.now c.args.calls c.turn_if_full.ensures.moments c.put_slot.new.disk c.place_after.result.now
+    (λ carry_of records stands. subst (λ place. Stands carry_of disk.honest disk.seen disk.may_leave
+    c.turn_if_full.new.disk place records) (sym c.place_after.ensures)
+    (c.in_ok-turned.ensures.done carry_of records stands))
+    c.put_slot.ensures.moments c.put_slot.ensures.early
+
+pub returns-clause-done : goal.returns-clause-done
+returns-clause-done g c all carry_of records stands =
+    let disk = g.D.Disk in
+    subst (λ place. Stands carry_of disk.honest disk.seen disk.may_leave c.put_slot.new.disk (after_put place)
+    (records ++ c.args.entry.now ∷ []))
+    c.place_after.ensures
+    (c.in_ok-put_slot.ensures.done all carry_of records
+    (subst (λ place. Stands carry_of disk.honest disk.seen disk.may_leave c.turn_if_full.new.disk place records)
+    (sym c.place_after.ensures) (c.in_ok-turned.ensures.done carry_of records stands)))
