@@ -1,5 +1,5 @@
 //! A disk of bytes in memory that counts its calls and keeps no trace of them, so it takes any number.
-ghost use Rattle.std.specs.Prelude.{◌≡◌, None, false, length, replicate, IfOk};
+ghost use Rattle.std.specs.Prelude.{◌≡◌, None, false, length};
 ghost use Rattle.cct_edge.specs.Faults.{next_count};
 ghost use Rattle.cct_disk.specs.Laws.{untold_fits};
 

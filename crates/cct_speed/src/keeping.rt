@@ -1,5 +1,4 @@
 //! Records, one a pass: gone over by a tally, put into a journal, and found again.
-ghost use Rattle.std.specs.Prelude.{◌≡◌, All, true};
 ghost use Rattle.cct_model.specs.Setup.{IsSoundSetup};
 ghost use Rattle.cct_record.specs.Body.{Encodable};
 
