@@ -17,7 +17,7 @@ from pathlib import Path
 
 import markdown
 
-# What no example brings about: a journal is full after 65,535 records, each of which is synced to a file twice.
+# What no example brings about: a journal is full after 4,294,967,295 records.
 WITHOUT_EXAMPLE = {"no COMMAND journalfull USED HELD NEED"}
 
 
