@@ -1,5 +1,5 @@
 -- What a load leaves, by how its steps came to their end, and its last line.
-use Rattle.std.proofs.Common.{◌≡◌, ◌⊎◌, ℕ, true, List, [], ◌∷◌, ◌++◌, Option, None, Some, Result, Ok, Err, All}
+use Rattle.std.proofs.Common.{◌≡◌, ◌⊎◌, ℕ, Bool, true, List, [], ◌∷◌, ◌++◌, Option, None, Some, Result, Ok, Err, All}
 use Rattle.std.proofs.Common.{refl, sym, ap, subst, ◌∙◌, inl, inr, append_assoc, arith}
 use Rattle.std.specs.Prelude.{IfSome, is_some}
 use Rattle.std.proofs.lemmas.List.{append-nil}
@@ -36,7 +36,8 @@ use Rattle.cct_gen.proofs.Lines.{lines_in_range}
 use Rattle.cct_load.specs.declared.load.Load.{Load}
 use Rattle.cct_load.specs.declared.load.LoadEnd.{LoadEnd}
 use Rattle.cct_load.specs.declared.load.LoadEnd.TheVariants as load_end
-use Rattle.cct_load.specs.Played.{PlaysLoad, Relies, first_line}
+use Rattle.cct_world.specs.Serving.{DiskServes}
+use Rattle.cct_load.specs.Played.{LosesJournal, PlaysLoad, Relies, first_line}
 use Rattle.cct_load.specs.Played as loads
 use Rattle.cct_bench.specs.declared.outcome.Status.{Status}
 use Rattle.cct_bench.specs.declared.outcome.Status.TheVariants as status
@@ -396,3 +397,40 @@ load_completes seed rounds s Written Breaks disks Write Disk Honest (Some image)
     λ sized blank kept w d. load_done seed rounds s Written Breaks disks image Disk told sized blank
     (kept_by Honest disks.trusted (losses_in (load_steps seed rounds) ≡ 0) (λ honest. trusts honest refl) kept)
     (λ is. w (write is)) (λ is. d (disk is)) h
+
+-- what a load that was played says of its disk, by its end
+
+disk_status : (how : LoadEnd) → status_of (load_ending how) ≡ status.DiskFault → how ≡ load_end.Unplayed crash_no.Disk
+disk_status load_end.Done is = absurd cc
+disk_status load_end.Unwritten is = absurd cc
+disk_status (load_end.Unplayed crash_no.Disk) is = refl
+disk_status (load_end.Unplayed crash_no.Alien) is = absurd cc
+disk_status (load_end.Unplayed (crash_no.BadRecord index)) is = absurd cc
+disk_status (load_end.Unplayed (crash_no.Lost found put)) is = absurd cc
+
+lost_status : (how : LoadEnd) → status_of (load_ending how) ≡ status.JournalLost → LosesJournal how
+lost_status load_end.Done is = absurd cc
+lost_status load_end.Unwritten is = absurd cc
+lost_status (load_end.Unplayed crash_no.Disk) is = absurd cc
+lost_status (load_end.Unplayed crash_no.Alien) is = (crash_no.Alien, λ same. cc same, refl)
+lost_status (load_end.Unplayed (crash_no.BadRecord index)) is = (crash_no.BadRecord index, λ same. cc same, refl)
+lost_status (load_end.Unplayed (crash_no.Lost found put)) is = (crash_no.Lost found put, λ same. cc same, refl)
+
+pub load_serves : {D : Type 0} (size : D → ℕ) (honest : D → Bool) (seen : D → Option (List ℕ)) (cuts faults : D → ℕ)
+    (given old new : D) (how : LoadEnd) (ended : Ending) → old ≡ given → ended ≡ load_ending how
+    → DiskServes size honest seen cuts faults old new (how ≡ load_end.Unplayed crash_no.Disk) (LosesJournal how)
+    → DiskServes size honest seen cuts faults given new (status_of ended ≡ status.DiskFault)
+    (status_of ended ≡ status.JournalLost)
+load_serves size honest seen cuts faults given old new how ended same is serves =
+    subst
+    (λ disk. DiskServes size honest seen cuts faults disk new (status_of ended ≡ status.DiskFault)
+    (status_of ended ≡ status.JournalLost)) same
+    (subst
+    (λ e. DiskServes size honest seen cuts faults old new (status_of e ≡ status.DiskFault)
+    (status_of e ≡ status.JournalLost)) (sym is)
+    (record {
+      outlasts = serves.outlasts;
+      later = serves.later;
+      rose = λ fault. serves.rose (disk_status how fault);
+      lost = λ loss. serves.lost (lost_status how loss);
+    }))

@@ -62,9 +62,9 @@ sums_written written puts a b c load told (Err failed) first last = (b, failed, 
 module _ {D : Type 0} {g : Ghosts D} (world : World D g) (load : Load) (left : D) (Written : List Entry → Type 0)
     (Breaks : List Entry → List Entry → Type 0) where
   -- no step was played, since the first line wasn't written whole
-  pub broke_first : StandsFor world [] → left ≡ disk_of world → Breaks [] (first_line load ∷ [])
-      → PlaysLoad world load load_end.Unwritten left Written Breaks
-  broke_first fresh is breaks = record {
+  pub broke_first : setup_of world ≡ load_setup → StandsFor world [] → left ≡ disk_of world
+      → Breaks [] (first_line load ∷ []) → PlaysLoad world load load_end.Unwritten left Written Breaks
+  broke_first same fresh is breaks = record {
     played = [];
     unplayed = load_steps load.seed load.rounds;
     transcript = [];
@@ -72,7 +72,8 @@ module _ {D : Type 0} {g : Ghosts D} (world : World D g) (load : Load) (left : D
     legal = λ relies. refl;
     early = early_none (capacity_in world) load_setup;
     ends = inl (refl, breaks);
-    book = λ trusted. world_leaves world left [] is fresh trusted;
+    book = λ trusted. subst (λ setup. LeavesRecords setup g.honest g.seen g.may_leave left None []) same
+        (world_leaves world left [] is fresh trusted);
     survived = no_step;
     cut = rose_just 0 (g.cuts (disk_of world)) (g.cuts left) (ap g.cuts is);
     just = λ quiet. ap g.cuts is;
@@ -132,8 +133,9 @@ module _ {D : Type 0} {g : Ghosts D} (world : World D g) (load : Load) (left : D
     leaves_all : HasTrusted world
         → LeavesRecords load_setup g.honest g.seen g.may_leave left None (reverse (records past))
     leaves_all trusted =
-        world_leaves next left past is (lines.holds.so.stands (inl trusted))
-        (trusted_on g.size g.honest g.seen g.cuts (disk_of world) (disk_of next) lasts trusted)
+        subst (λ setup. LeavesRecords setup g.honest g.seen g.may_leave left None (reverse (records past))) same
+        (world_leaves next left past is (lines.holds.so.stands (inl trusted))
+        (trusted_on g.size g.honest g.seen g.cuts (disk_of world) (disk_of next) lasts trusted))
 
     tells_all : (Wrote : List Entry → Type 0) → Wrote (sums_of steps past ++ entry.Balance told ∷ [])
         → Told world steps past Wrote

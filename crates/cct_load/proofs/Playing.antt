@@ -180,7 +180,9 @@ module _ {D : Type 0} {g : Ghosts D} (world : World D g) where
         let due = breaks past (holds.stands (inl given)) in
         let is : due_at load_setup past addr ≡ Some due.0 =
         subst (λ setup. due_at setup past addr ≡ Some due.0) same due.1.0 in
-        subst (λ r. LeavesRecords load_setup g.honest g.seen g.may_leave left r (reverse (records past))) (sym is) (due.1.1 trusted)
+        subst (λ r. LeavesRecords load_setup g.honest g.seen g.may_leave left r (reverse (records past))) (sym is)
+        (subst (λ setup. LeavesRecords setup g.honest g.seen g.may_leave left (Some due.0) (reverse (records past))) same
+        (due.1.1 trusted))
     disk_leaves (step.Crash at choice) given trusted breaks =
         subst (λ setup. LeavesRecords setup g.honest g.seen g.may_leave left (due_in setup past at) (reverse (records past)))
         same (breaks past (holds.stands (inl given)) trusted)

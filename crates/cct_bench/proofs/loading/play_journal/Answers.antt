@@ -4,7 +4,7 @@ use Rattle.cct_text.specs.Writing.{Broke, Wrote}
 use Rattle.cct_text.proofs.Writing.{wrote_none}
 use Rattle.cct_bench.specs.Disks.{disks}
 use Rattle.cct_bench.specs.Load.{LoadPlayed}
-use Rattle.cct_bench.proofs.LoadEnds.{load_no_memory, load_played}
+use Rattle.cct_bench.proofs.LoadEnds.{load_no_memory, load_played, load_serves}
 use Rattle.cct_bench.proofs.loading.play_journal.Goals as goal
 
 pub returns-in-Ok-clause-played : goal.returns-in-Ok-clause-played
@@ -24,6 +24,12 @@ returns-in-Ok-clause-played g c given ready on =
     (subst (GoesOn disk.size disk.honest disk.seen disk.cuts given) (sym c.in-Ok.ensures.disk) on) load.seed load.rounds
     W B c.play_load-how.result.0 c.play_load-how.ensures.played
     )
+
+pub returns-in-Ok-clause-disk : goal.returns-in-Ok-clause-disk
+returns-in-Ok-clause-disk g c =
+    let disk = g.D.Disk in
+    load_serves disk.size disk.honest disk.seen disk.cuts disk.faults _ _ c.play_load-how.result.1 c.play_load-how.result.0
+    _ c.in-Ok.ensures.disk c.load_ending.ensures c.play_load-how.ensures.disk
 
 pub returns-in-Err-clause-played : goal.returns-in-Err-clause-played
 returns-in-Err-clause-played g c given ready on =

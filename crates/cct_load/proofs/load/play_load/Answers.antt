@@ -19,7 +19,7 @@ returns-in-Err-clause-played g c =
     let broke =
     subst (λ answer. Writes sink.written sink.puts out (first_line c.args.load ∷ []) answer out1) c.in-Err.is
     c.write_first.ensures.writes in
-    broke_first c.args.world c.args.load c.into_disk.result W B c.requires.fresh c.into_disk.ensures
+    broke_first c.args.world c.args.load c.into_disk.result W B c.requires.setup c.requires.fresh c.into_disk.ensures
     (out, c.in-Err.field-0, wrote_none sink.written sink.puts out, broke)
 
 pub returns-in-Err-play_lines-clause-played : goal.returns-in-Err-play_lines-clause-played
