@@ -52,19 +52,19 @@ none_worth : (setup : Setup) (addr : ℕ) (n : ℕ) → coins_of setup addr 0 + 
 none_worth setup addr n = omega arith
 
 module _ (setup : Setup) (c : Carry) where
-  pub with_epoch : (addr mask : ℕ) → CanGoOn setup c (record_of.Epoch addr mask)
-      → carry_with setup (record_of.Epoch addr mask) c
+  pub with_epoch : (addr mask : ℕ) → CanGoOn setup c (record_of.Epoch addr mask accepts)
+      → carry_with setup (record_of.Epoch addr mask accepts) c
       ≡ record c {
         epochs = set_with addr_of_epoch addr (Some (record { addr = addr; mask = mask; counter = 0 })) c.epochs;
       }
   with_epoch addr mask can =
-      same_carry (carry_with setup (record_of.Epoch addr mask) c) _ (omega arith) (omega arith) (omega arith)
+      same_carry (carry_with setup (record_of.Epoch addr mask accepts) c) _ (omega arith) (omega arith) (omega arith)
       (omega arith) (omega arith) (omega arith) (omega arith) (omega arith) (omega arith) refl
       (same_orders addr c can.safe.rightly.orders_rise)
 
   pub with_reading : (addr counter lost : ℕ) (posted : List Coin)
-      → CanGoOn setup c (record_of.Reading addr counter lost posted)
-      → carry_with setup (record_of.Reading addr counter lost posted) c
+      → CanGoOn setup c (record_of.Reading addr counter lost accepts posted)
+      → carry_with setup (record_of.Reading addr counter lost accepts posted) c
       ≡ record c {
         value = c.value + coins_value (device_at setup.devices addr) posted;
         posted = c.posted + length posted;
@@ -72,20 +72,20 @@ module _ (setup : Setup) (c : Carry) where
         epochs = set_with addr_of_epoch addr (epoch_entry addr (counted counter (epoch_held addr c))) c.epochs;
       }
   with_reading addr counter lost posted can =
-      same_carry (carry_with setup (record_of.Reading addr counter lost posted) c) _ (omega arith) (omega arith)
+      same_carry (carry_with setup (record_of.Reading addr counter lost accepts posted) c) _ (omega arith) (omega arith)
       (omega arith) (omega arith) (omega arith) (omega arith) (omega arith) (omega arith) (omega arith) refl
       (same_orders addr c can.safe.rightly.orders_rise)
 
   pub with_broken : (addr seen counter : ℕ) (posted : List Coin)
-      → CanGoOn setup c (record_of.Broken addr seen counter posted)
-      → carry_with setup (record_of.Broken addr seen counter posted) c
+      → CanGoOn setup c (record_of.Broken addr seen counter lost accepts posted)
+      → carry_with setup (record_of.Broken addr seen counter lost accepts posted) c
       ≡ record c {
         value = c.value + coins_value (device_at setup.devices addr) posted;
         posted = c.posted + length posted;
         epochs = set_with addr_of_epoch addr None c.epochs;
       }
   with_broken addr seen counter posted can =
-      same_carry (carry_with setup (record_of.Broken addr seen counter posted) c) _ (omega arith) (omega arith)
+      same_carry (carry_with setup (record_of.Broken addr seen counter lost accepts posted) c) _ (omega arith) (omega arith)
       (omega arith) (omega arith) (omega arith) (omega arith) (omega arith) (omega arith) (omega arith) refl
       (same_orders addr c can.safe.rightly.orders_rise)
 

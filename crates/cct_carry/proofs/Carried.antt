@@ -40,12 +40,12 @@ idle_runs state idle is = true≢false (sym is ∙ ap is_running idle)
 own_idle : (setup : Setup) (before : List Record) (r : Record) (addr : ℕ) →
     acceptor_there (device_at setup.devices addr) ≡ false → owner_in before r ≡ addr → follows setup before r ≡ true →
     epoch_in addr before ≡ Idle → epoch_by r (epoch_in addr before) ≡ Idle
-own_idle setup before (record_of.Epoch a mask) addr none own follow idle =
+own_idle setup before (record_of.Epoch a mask accepts) addr none own follow idle =
     absurd (true≢false (sym (and_parts _ _ (and_parts _ _ (and_parts _ _ follow).0).0).0
     ∙ ap (λ x. acceptor_there (device_at setup.devices x)) own ∙ none))
-own_idle setup before (record_of.Reading a counter lost posted) addr none own follow idle =
+own_idle setup before (record_of.Reading a counter lost accepts posted) addr none own follow idle =
     absurd (idle_runs (epoch_in a before) (ap (λ x. epoch_in x before) own ∙ idle) follow)
-own_idle setup before (record_of.Broken a seen counter posted) addr none own follow idle = refl
+own_idle setup before (record_of.Broken a seen counter lost accepts posted) addr none own follow idle = refl
 own_idle setup before (record_of.EpochEnd a) addr none own follow idle = refl
 own_idle setup before r addr none own follow idle = idle
 
@@ -79,7 +79,7 @@ unowed_beside setup before addr belongs none =
 
 pub epoch_back : (addr : ℕ) (state : EpochState) → epoch_from (epoch_entry addr state) ≡ state
 epoch_back addr Idle = refl
-epoch_back addr (Running mask counter) = refl
+epoch_back addr (Running mask counter accepts) = refl
 
 pub order_back : (owed : Option OpenOrder) → option_map order_from (option_map order_entry owed) ≡ owed
 order_back None = refl
@@ -89,7 +89,7 @@ order_back (Some o) = refl
 
 entry_addr : (addr : ℕ) (state : EpochState) (x : CarryEpoch) → epoch_entry addr state ≡ Some x → x.addr ≡ addr
 entry_addr addr Idle x is = absurd cc
-entry_addr addr (Running mask counter) x is =
+entry_addr addr (Running mask counter accepts) x is =
     ap (λ (y : CarryEpoch). y.addr) (sym (same_some (record { addr = addr; mask = mask; counter = counter }) x is))
 
 pub epoch_keys : (before : List Record) → HasAddress addr_of_epoch (epoch_at before)

@@ -30,13 +30,13 @@ counts_same false many held named same = refl
 -- a record follows the carry where it follows the records
 pub follows_carried : (setup : Setup) (before : List Record) → IsSoundSetup setup → all_follow setup before ≡ true →
     (r : Record) → follows_carry setup (carry setup before) r ≡ follows setup before r
-follows_carried setup before sound follow (record_of.Epoch addr mask) =
+follows_carried setup before sound follow (record_of.Epoch addr mask accepts) =
     ap (λ state. acceptor_there (device_at setup.devices addr) && not (is_running state) && not (mask == 0)
     && has_values (device_at setup.devices addr) mask)
     (epoch_carried setup before sound follow addr)
-follows_carried setup before sound follow (record_of.Reading addr counter lost posted) =
+follows_carried setup before sound follow (record_of.Reading addr counter lost accepts posted) =
     ap is_running (epoch_carried setup before sound follow addr)
-follows_carried setup before sound follow (record_of.Broken addr seen counter posted) =
+follows_carried setup before sound follow (record_of.Broken addr seen counter lost accepts posted) =
     ap is_running (epoch_carried setup before sound follow addr)
 follows_carried setup before sound follow (record_of.EpochEnd addr) =
     ap is_running (epoch_carried setup before sound follow addr)

@@ -20,7 +20,7 @@ use Rattle.cct_model.specs.Money.{amount, coins_of, coins_value}
 use Rattle.cct_model.specs.Order.{order_by}
 use Rattle.cct_model.specs.Records.{hopper_of, id_of}
 use Rattle.cct_model.specs.Setup.{IsSoundSetup}
-use Rattle.cct_model.specs.Sums.{coins_paid, coins_posted, coins_unpaid, events_lost, posts_of, price_sold}
+use Rattle.cct_model.specs.Sums.{coins_paid, coins_posted, coins_unpaid, coins_lost, posts_of, price_sold}
 use Rattle.cct_model.proofs.OpenOrders.{coins_both}
 use Rattle.cct_record.specs.Body.{InRange}
 use Rattle.cct_carry.specs.GoingOn.{CanGoOn, IsCovered, IsInReach}
@@ -88,12 +88,12 @@ kept_epoch setup many addr c safe =
 next_epoch : (setup : Setup) (many : ℕ) (c : Carry) (r : Record) → IsSafe setup many c
     → follows_carry setup c r ≡ true → IsInReach r
     → IfSome (new_epoch c (owner_by c r) r) (IsEpochAt setup (owner_by c r))
-next_epoch setup many c (record_of.Epoch addr mask) safe ok fits =
+next_epoch setup many c (record_of.Epoch addr mask accepts) safe ok fits =
     epoch_made setup addr mask 0 fits.0 fits.1 (lit< tt) (and_parts _ _ (and_parts _ _ (and_parts _ _ ok).0).0).0
-next_epoch setup many c (record_of.Reading addr counter lost posted) safe ok fits =
+next_epoch setup many c (record_of.Reading addr counter lost accepts posted) safe ok fits =
     epoch_counted setup addr counter (first_with addr_of_epoch addr c.epochs) fits.0
     (held_epoch setup many addr c safe)
-next_epoch setup many c (record_of.Broken addr seen counter posted) safe ok fits = tt
+next_epoch setup many c (record_of.Broken addr seen counter lost accepts posted) safe ok fits = tt
 next_epoch setup many c (record_of.EpochEnd addr) safe ok fits = tt
 next_epoch setup many c (record_of.Opened id addr count life) safe ok fits = kept_epoch setup many addr c safe
 next_epoch setup many c (record_of.Closed id paid unpaid) safe ok fits =
@@ -425,24 +425,24 @@ record AddsFew (setup : Setup) (c : Carry) (r : Record) : Type 0 where
   pub paid_value : coins_of setup (owner_by c r) (coins_paid r) ≤ 2 ^ 32
   pub odd_value : odd_more setup c r ≤ 2 ^ 32
   pub posted : coins_posted r ≤ 2 ^ 32
-  pub lost : events_lost r ≤ 2 ^ 32
+  pub lost : coins_lost r ≤ 2 ^ 32
   pub paid : coins_paid r ≤ 2 ^ 32
   pub unpaid : coins_unpaid r ≤ 2 ^ 32
   pub sold : price_sold r ≤ 2 ^ 32
   pub id : id_of r < 2 ^ 32
 
 posts_few : (r : Record) → IsInReach r → length (posts_of r) ≤ EVENTS
-posts_few (record_of.Reading addr counter lost posted) fits = fits.2
-posts_few (record_of.Broken addr seen counter posted) fits = fits
-posts_few (record_of.Epoch addr mask) fits = omega arith
+posts_few (record_of.Reading addr counter lost accepts posted) fits = fits.2
+posts_few (record_of.Broken addr seen counter lost accepts posted) fits = fits
+posts_few (record_of.Epoch addr mask accepts) fits = omega arith
 posts_few (record_of.EpochEnd addr) fits = omega arith
 posts_few (record_of.Opened id addr count life) fits = omega arith
 posts_few (record_of.Closed id paid unpaid) fits = omega arith
 posts_few (record_of.Odd id life_before life_after) fits = omega arith
 posts_few (record_of.Sold id price) fits = omega arith
 
-lost_few : (r : Record) → IsInReach r → events_lost r < 256
-lost_few (record_of.Reading addr counter lost posted) fits = fits.1
+lost_few : (r : Record) → IsInReach r → coins_lost r < 256
+lost_few (record_of.Reading addr counter lost accepts posted) fits = fits.1
 lost_few r fits = lit< tt
 
 paid_few : (r : Record) → IsInReach r → coins_paid r < 256
@@ -566,9 +566,9 @@ safe_next setup many c r sound devices safe ok fits =
 
 -- a record that can be spelt is in reach
 pub in_reach : (r : Record) → InRange r → IsInReach r
-in_reach (record_of.Epoch addr mask) fits = fits
-in_reach (record_of.Reading addr counter lost posted) fits = (fits.1, fits.2, fits.3.few)
-in_reach (record_of.Broken addr seen counter posted) fits = fits.3.few
+in_reach (record_of.Epoch addr mask accepts) fits = fits
+in_reach (record_of.Reading addr counter lost accepts posted) fits = (fits.1, fits.2, fits.3.few)
+in_reach (record_of.Broken addr seen counter lost accepts posted) fits = fits.3.few
 in_reach (record_of.EpochEnd addr) fits = tt
 in_reach (record_of.Opened id addr count life) fits = fits
 in_reach (record_of.Closed id paid unpaid) fits = (fits.1, fits.2)

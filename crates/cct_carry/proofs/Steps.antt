@@ -17,7 +17,7 @@ use Rattle.cct_model.specs.Money.{amount, coins_of, coins_value, odd_by}
 use Rattle.cct_model.specs.Order.{order_by}
 use Rattle.cct_model.specs.Records.{hopper_of, id_of, owner_in}
 use Rattle.cct_model.specs.Setup.{IsSoundSetup}
-use Rattle.cct_model.specs.Sums.{coins_paid, coins_posted, coins_unpaid, events_lost, posts_of, price_sold}
+use Rattle.cct_model.specs.Sums.{coins_paid, coins_posted, coins_unpaid, coins_lost, posts_of, price_sold}
 use Rattle.cct_model.proofs.OpenOrders.{order_else, order_own}
 use Rattle.cct_laws.proofs.Rising.{devices_rise}
 use Rattle.cct_laws.proofs.money.Replaying.{epoch_else, epoch_own}
@@ -29,9 +29,9 @@ use Rattle.cct_carry.proofs.Gathered.{set_gathered}
 -- whose a record is that follows
 owner_follows : (setup : Setup) (before : List Record) → IsSoundSetup setup → all_follow setup before ≡ true →
     (r : Record) → follows setup before r ≡ true → owner_by (carry setup before) r ≡ owner_in before r
-owner_follows setup before sound earlier (record_of.Epoch addr mask) follow = refl
-owner_follows setup before sound earlier (record_of.Reading addr counter lost posted) follow = refl
-owner_follows setup before sound earlier (record_of.Broken addr seen counter posted) follow = refl
+owner_follows setup before sound earlier (record_of.Epoch addr mask accepts) follow = refl
+owner_follows setup before sound earlier (record_of.Reading addr counter lost accepts posted) follow = refl
+owner_follows setup before sound earlier (record_of.Broken addr seen counter lost accepts posted) follow = refl
 owner_follows setup before sound earlier (record_of.EpochEnd addr) follow = refl
 owner_follows setup before sound earlier (record_of.Opened id addr count life) follow = refl
 owner_follows setup before sound earlier (record_of.Closed id paid unpaid) follow =
@@ -55,7 +55,7 @@ goes_on setup r c owner odd epochs orders = record {
   paid_value = coins_of setup owner (coins_paid r) + c.paid_value;
   odd_value = odd + c.odd_value;
   posted = coins_posted r + c.posted;
-  lost = events_lost r + c.lost;
+  lost = coins_lost r + c.lost;
   paid = coins_paid r + c.paid;
   unpaid = coins_unpaid r + c.unpaid;
   sold = price_sold r + c.sold;

@@ -20,7 +20,7 @@ use Rattle.cct_model.specs.Line.{Line}
 use Rattle.cct_model.specs.Line as line
 use Rattle.cct_model.specs.Job as model
 use Rattle.cct_model.specs.Rows as table
-use Rattle.cct_model.specs.Job.{Payment, payment_in}
+use Rattle.cct_model.specs.Job.{Noted, noted_in}
 use Rattle.cct_model.specs.Rows.{row_of_sale, rows_of_sale, after, done, first}
 use Rattle.cct_model.specs.Order.{order, order_by}
 use Rattle.cct_model.specs.Legal.{PollEntries, RowEntries, SaleRowEntries, due_of, record_due, with_end}
@@ -81,7 +81,7 @@ has_exchanges scans c since n owed asks = tt
 has_exchanges sales c since n owed asks = absurd asks
 
 -- what a sale puts is one
-vend_sold : (id price rows : ℕ) (p : Payment) (r : Record)
+vend_sold : (id price rows : ℕ) (p : Noted) (r : Record)
     → first HOST Nothing p (after (rows_of_sale (command.Vend id price)) rows) ≡ model.puts r → record_of.Sold id price ≡ r
 vend_sold id price zero p r is = cc
 vend_sold id price (suc rows) p r is = absurd cc
@@ -89,7 +89,7 @@ vend_sold id price (suc rows) p r is = absurd cc
 row_sold : (c : Command) (since : List Line) (r : Record) (past : List Entry) → row_of_sale c since ≡ model.puts r
     → (owner past r ≡ HOST) × (sold_line r ≡ line.put r ∷ [])
 row_sold (command.Vend id price) since r past is =
-    subst (λ x. (owner past x ≡ HOST) × (sold_line x ≡ line.put x ∷ [])) (vend_sold id price (done (rows_of_sale (command.Vend id price)) since) (payment_in since None) r is)
+    subst (λ x. (owner past x ≡ HOST) × (sold_line x ≡ line.put x ∷ [])) (vend_sold id price (done (rows_of_sale (command.Vend id price)) since) (noted_in since None) r is)
     (refl, refl)
 row_sold c since r past is = absurd cc
 

@@ -141,7 +141,7 @@ owed_where_free (Some o) free = refl
 
 runs_where_free : (state : EpochState) → running_refusal state ≡ None → IsRunning state
 runs_where_free Idle free = absurd cc
-runs_where_free (Running mask counter) free = tt
+runs_where_free (Running mask counter accepts) free = tt
 
 pub may_begin : (devices : List DeviceSetup) (d : DeviceSetup) (job : Option Job) (state : EpochState)
     (owed : OrderState) (last : ℕ) (c : Command) → is_halt c ≡ false → is_of_device c ≡ true

@@ -12,7 +12,7 @@ use Rattle.cct_model.specs.declared.judging.OpenOrder.{OpenOrder}
 use Rattle.cct_model.specs.Exchange.{device_at}
 use Rattle.cct_model.specs.Line.{Line}
 use Rattle.cct_model.specs.Job as model
-use Rattle.cct_model.specs.Job.{Payment, payment_in}
+use Rattle.cct_model.specs.Job.{Noted, noted_in}
 use Rattle.cct_model.specs.Rows.{row_of_sale, rows_of_sale, after, done, first}
 use Rattle.cct_model.specs.Legal.{due_of, due_of_sale, due_there, record_due}
 use Rattle.cct_model.specs.Order.{order}
@@ -36,7 +36,7 @@ device_owns past addr d model.free opened = tt
 device_owns past addr d (model.works c since) opened = row_owns past addr d c since _ _ opened
 
 -- nor does a sale
-vend_owns : (past : List Entry) (addr id price rows : ℕ) (p : Payment)
+vend_owns : (past : List Entry) (addr id price rows : ℕ) (p : Noted)
     → IfSome (record_due (first HOST Nothing p (after (rows_of_sale (command.Vend id price)) rows)))
     (ClosesItsOwn past addr)
 vend_owns past addr id price zero p = tt
@@ -45,7 +45,7 @@ vend_owns past addr id price (suc rows) p = tt
 sale_row_owns : (past : List Entry) (addr : ℕ) (c : Command) (since : List Line)
     → IfSome (record_due (row_of_sale c since)) (ClosesItsOwn past addr)
 sale_row_owns past addr (command.Vend id price) since =
-    vend_owns past addr id price (done (rows_of_sale (command.Vend id price)) since) (payment_in since None)
+    vend_owns past addr id price (done (rows_of_sale (command.Vend id price)) since) (noted_in since None)
 sale_row_owns past addr c since = tt
 
 sale_owns : (past : List Entry) (addr : ℕ) (j : model.Job) → IfSome (due_of_sale j) (ClosesItsOwn past addr)

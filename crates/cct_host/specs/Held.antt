@@ -54,9 +54,9 @@ FitsIn (Some job) = PutsFit job
 
 -- Each of these facts has one proof at most.
 pub Encodable-prop : (r : Record) → IsProp (Encodable r)
-Encodable-prop (record_of.Epoch addr mask) = hlevel props
-Encodable-prop (record_of.Reading addr counter lost posted) = hlevel props
-Encodable-prop (record_of.Broken addr seen counter posted) = hlevel props
+Encodable-prop (record_of.Epoch addr mask accepts) = hlevel props
+Encodable-prop (record_of.Reading addr counter lost accepts posted) = hlevel props
+Encodable-prop (record_of.Broken addr seen counter lost accepts posted) = hlevel props
 Encodable-prop (record_of.EpochEnd addr) = hlevel props
 Encodable-prop (record_of.Opened id addr count life) = hlevel props
 Encodable-prop (record_of.Closed id paid unpaid) = hlevel props

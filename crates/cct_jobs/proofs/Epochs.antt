@@ -13,7 +13,7 @@ use Rattle.cct_model.specs.lines.command.Command.{Command}
 use Rattle.cct_model.specs.lines.entry.End.{End}
 use Rattle.cct_model.specs.lines.entry.End.TheVariants.{Broke, Posted, Stopped, Unquiet}
 use Rattle.cct_model.specs.Line.{Line, exchange, put}
-use Rattle.cct_model.specs.Job.{puts, Payment, payment_in, judged_in, judged_by, address_of, credits_read, end_of_credits, end_of_reading}
+use Rattle.cct_model.specs.Job.{puts, Noted, noted_in, judged_in, judged_by, address_of, credits_read, end_of_credits, end_of_reading}
 use Rattle.cct_model.specs.Rows.{epoch_end, ends_as, TableRow, end_answered, end_kept, after, first, from, left, puts_due, rest, reading, if_posted}
 use Rattle.cct_model.specs.Order.{order_by}
 use Rattle.cct_model.specs.Reading.{judge}
@@ -57,7 +57,7 @@ module _ {d : DeviceSetup} {device : Target} {mask failed : ℕ} {c : Command} {
           is_here = at.is_here;
           ahead_is = left_is;
           row_is = start_row d device mask c (line ∷ since) state owed at.is_here left_is;
-          ends = ap (λ rows. end_kept rows (Epoch d.addr mask)) rest_is;
+          ends = ap (λ rows. end_kept rows (Epoch d.addr mask accepts)) rest_is;
           goes_on = read_end ∙ ap (λ b. cond b None (Some (Unquiet read.counter))) quiet;
         },
       )
@@ -137,12 +137,12 @@ module _ {d : DeviceSetup} {device : Target} {read_by : ReadBy} {recorded : Reco
   -- a record that is put
   put_at : (job : Job) (entry : Record) (end : Option End)
       → from (but_first (after (reading_ahead device read_by) 1)) means ≡ ahead job
-      → ((p : Payment) → first d.addr means p (ahead job) ≡ puts entry) → end_of_looking read_by means ≡ None
+      → ((p : Noted) → first d.addr means p (ahead job) ≡ puts entry) → end_of_looking read_by means ≡ None
       → end_kept (but_first (after (reading_ahead device read_by) 1)) entry ≡ end
       → Putting d job entry end c (looked seen ∷ since) state owed
   put_at job entry end rows_are is_row on ends =
       let left_is : left d c (looked seen ∷ since) state ≡ ahead job = ap₂ from looked_rest judged_is ∙ rows_are in
-      let p = payment_in (looked seen ∷ since) owed in
+      let p = noted_in (looked seen ∷ since) owed in
       record {
         is_here = at.is_here;
         ahead_is = left_is;
@@ -191,11 +191,11 @@ stop_judges {d} {device} {read = read} at seen (Broken entry) e = (
 
 start_sets : (d : DeviceSetup) (device : Target) (mask : ℕ) (c : Command) (since : List Line) (state after : EpochState)
     (owed owed_after : Option OpenOrder) → Stands d (StartPuts device mask) c since state owed
-    → Asking d device (StartSets mask) 0 c (put (Epoch d.addr mask) ∷ since) after owed_after
+    → Asking d device (StartSets mask) 0 c (put (Epoch d.addr mask accepts) ∷ since) after owed_after
 start_sets d device mask c since state after owed owed_after (device_is, rest_is, at) = record {
   device_is = device_is;
   is_here = at.is_here;
-  ahead_is = put_moves d c since (Epoch d.addr mask) _ rest_is;
+  ahead_is = put_moves d c since (Epoch d.addr mask accepts) _ rest_is;
   suits = tt;
   knows = tt;
   trying = record { counted = refl; few = omega arith };
@@ -246,7 +246,7 @@ pub put_leaves : (d : DeviceSetup) (job : Job) (c : Command) (since : List Line)
     → Stands d (after_put job) c (put entry ∷ since) after (order_by entry owed)
 put_leaves d (StartPuts device mask) c since state after owed entry e at =
     subst (λ r. Asking d device (StartSets mask) 0 c (put r ∷ since) after (order_by entry owed))
-    (own_record d device (λ a. Epoch a mask) entry at.0 e) (start_sets d device mask c since state after owed _ at)
+    (own_record d device (λ a. Epoch a mask accepts) entry at.0 e) (start_sets d device mask c since state after owed _ at)
 put_leaves d (RoundPuts own end) c since state after owed entry e at =
     let same : own ≡ entry = cc in
     subst (λ r. newest_end d c (put r ∷ since) after ≡ Some end) same

@@ -49,8 +49,8 @@ posted_placed : (n : ℕ) (pairs : List Pair) → All IsPlaced (posted_of n pair
 posted_placed n pairs = reversed_placed (coins_among (take (min n EVENTS) pairs)) (among_placed (take (min n EVENTS) pairs))
 
 judged_by : (breaks none : Bool) (addr seen read lost : ℕ) (posted : List Coin) → All IsPlaced posted
-    → JudgedFits (cond breaks (Broken (record_of.Broken addr seen read posted))
-    (cond none Nothing (Reading (record_of.Reading addr read lost posted))))
+    → JudgedFits (cond breaks (Broken (record_of.Broken addr seen read lost accepts posted))
+    (cond none Nothing (Reading (record_of.Reading addr read lost accepts posted))))
 judged_by true none addr seen read lost posted placed = placed
 judged_by false true addr seen read lost posted placed = tt
 judged_by false false addr seen read lost posted placed = placed

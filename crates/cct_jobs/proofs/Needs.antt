@@ -44,7 +44,7 @@ needs_by d (Asks device stage failed) c since state owed at = record {
 }
 needs_by d (StartPuts device mask) c since state owed (device_is, rest_is, at) = record {
   is_here = at.is_here;
-  row_is = at.row_is ∙ ap (λ (t : Target). puts (Epoch t.addr mask)) (sym device_is);
+  row_is = at.row_is ∙ ap (λ (t : Target). puts (Epoch t.addr mask accepts)) (sym device_is);
   owned = λ past owns. ap (λ (t : Target). t.addr) device_is;
 }
 needs_by d (RoundPuts entry end) c since state owed at = record {

@@ -20,7 +20,7 @@ owes_by : (d : DeviceSetup) (job : Job) (c : Command) (since : List Line) (state
     (entry : Record) → need_of job ≡ need.Put entry → Stands d job c since state (order_of before)
     → order_of (owed_after job before) ≡ order_by entry (order_of before)
 owes_by d (StartPuts device mask) c since state before entry e at =
-    let same : Epoch device.addr mask ≡ entry = cc in
+    let same : Epoch device.addr mask accepts ≡ entry = cc in
     ap (λ r. order_by r (order_of before)) same
 owes_by d (RoundPuts own end) c since state before entry e at =
     let same : own ≡ entry = cc in

@@ -15,7 +15,7 @@ use Rattle.cct_model.specs.declared.judging.OpenOrder.{OpenOrder}
 use Rattle.cct_model.specs.declared.judging.EpochState.{EpochState}
 use Rattle.cct_model.specs.declared.judging.Judged.{Judged}
 use Rattle.cct_model.specs.declared.judging.Judged.TheVariants.{Nothing, Reading, Broken}
-use Rattle.cct_model.specs.Job.{Row, address_of, credits_read, judged_by, judged_in, mask_read, no_row, payment_in, put_or, puts}
+use Rattle.cct_model.specs.Job.{Row, address_of, credits_read, judged_by, judged_in, mask_read, no_row, noted_in, put_or, puts}
 use Rattle.cct_model.specs.Rows.{done, rows_of, row, Due, reading, epoch_end, new_epoch, new_order, sale, order_end}
 use Rattle.cct_model.specs.Legal.{record_due}
 use Rattle.cct_model.specs.Line.{Line}
@@ -27,8 +27,8 @@ use Rattle.cct_model.proofs.Rows.{JudgedHolds, RowHolds, is_at_device, DueHolds,
 
 -- a fact of all records that a reading at an address may mean
 pub record OfEpochs (P : Record → Type 0) (addr : ℕ) : Type 0 where
-  broken : (seen counter : ℕ) (posted : List Coin) → P (record_of.Broken addr seen counter posted)
-  reading : (counter lost : ℕ) (posted : List Coin) → P (record_of.Reading addr counter lost posted)
+  broken : (seen counter : ℕ) (posted : List Coin) → P (record_of.Broken addr seen counter lost accepts posted)
+  reading : (counter lost : ℕ) (posted : List Coin) → P (record_of.Reading addr counter lost accepts posted)
 
 -- what was judged of a reading is such a record
 of_reading : {P : Record → Type 0} (addr : ℕ) (state : EpochState) (credits : Option Credits) (seen : Option ℕ) (e : Record)
@@ -130,11 +130,11 @@ pub row_owns : (past : List Entry) (addr : ℕ) (d : DeviceSetup) (c : Command) 
     → IfSome (record_due (row d c since state owed)) (ClosesItsOwn past addr)
 row_owns past addr d c since state owed opened =
     if_due (ClosesItsOwn past addr) (row d c since state owed)
-    (each_put (ClosesItsOwn past addr) is_at_device d c (done (rows_of d c) since) (judged_in c since state) (payment_in since owed)
+    (each_put (ClosesItsOwn past addr) is_at_device d c (done (rows_of d c) since) (judged_in c since state) (noted_in since owed)
     (device_puts d c) due_owns)
   where
     due_owns : (due : Due) → is_at_device due ≡ true
-        → DueHolds (ClosesItsOwn past addr) (address_of c) (judged_in c since state) (payment_in since owed) due
+        → DueHolds (ClosesItsOwn past addr) (address_of c) (judged_in c since state) (noted_in since owed) due
     due_owns (new_epoch mask) here = tt
     due_owns reading here =
         judged_holds (ClosesItsOwn past addr) (address_of c) state (credits_read since) (mask_read since)

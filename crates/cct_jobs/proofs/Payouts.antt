@@ -7,7 +7,7 @@ use Rattle.cct_model.specs.declared.judging.OpenOrder.{OpenOrder}
 use Rattle.cct_model.specs.Reply.{Reply}
 use Rattle.cct_model.specs.Line.{Line, exchange}
 use Rattle.cct_model.specs.Order.{is_marked}
-use Rattle.cct_model.specs.Job.{Payment, sends, state_row}
+use Rattle.cct_model.specs.Job.{Noted, sends, state_row}
 use Rattle.cct_model.specs.Rows.{end_answered, first, from}
 use Rattle.cct_msg.specs.Forms.{FitsItsBytes}
 use Rattle.cct_jobs.specs.declared.payout.Payout.{Payout}
@@ -30,7 +30,7 @@ marked_for (Stops closing own) since owed knows = knows.0
 marked_for row since owed knows = tt
 
 -- the first of the rows that a payment or a settlement has ahead is its own
-pub first_of_payout : (row : Payout) (device : Target) (addr : ℕ) (means : Judged) (p : Payment)
+pub first_of_payout : (row : Payout) (device : Target) (addr : ℕ) (means : Judged) (p : Noted)
     → SuitsPayout row device → MarkedFor row p.is_marked
     → first addr means p (from (payout_ahead device row) means) ≡ sends (payout_request row)
 first_of_payout (Dispenses serial own halted) device addr means p suits marked =

@@ -8,7 +8,7 @@ use Rattle.cct_model.specs.terms.device.DeviceSetup.{DeviceSetup}
 use Rattle.cct_model.specs.declared.judging.EpochState.{EpochState}
 use Rattle.cct_model.specs.declared.judging.OpenOrder.{OpenOrder}
 use Rattle.cct_model.specs.Line.{Line}
-use Rattle.cct_model.specs.Job.{address_of, close_row, judged_in, no_row, open_row, payment_in, put_or, puts}
+use Rattle.cct_model.specs.Job.{address_of, close_row, judged_in, no_row, open_row, noted_in, put_or, puts}
 use Rattle.cct_model.specs.Order.{close, life_read}
 use Rattle.cct_model.specs.Rows.{first, left, row}
 use Rattle.cct_jobs.specs.declared.job.Job.{Job}
@@ -21,8 +21,8 @@ use Rattle.cct_jobs.specs.Jobs.{Putting, opened_by}
 -- the row of a job is the first of those that it has ahead
 pub row_ahead : (d : DeviceSetup) (job : Job) (c : Command) (since : List Line) (state : EpochState)
     (owed : Option OpenOrder) → left d c since state ≡ ahead job
-    → row d c since state owed ≡ first (address_of c) (judged_in c since state) (payment_in since owed) (ahead job)
-row_ahead d job c since state owed at = ap (first (address_of c) (judged_in c since state) (payment_in since owed)) at
+    → row d c since state owed ≡ first (address_of c) (judged_in c since state) (noted_in since owed) (ahead job)
+row_ahead d job c since state owed at = ap (first (address_of c) (judged_in c since state) (noted_in since owed)) at
 
 -- a round and a stop put what was judged
 pub stop_row : (d : DeviceSetup) (device : Target) (entry : Record) (end : Option End) (c : Command) (since : List Line)
@@ -39,9 +39,9 @@ round_row d entry end c since state owed at = sym (row_ahead d (RoundPuts entry 
 -- a start puts its epoch, and a stop the end of one
 pub start_row : (d : DeviceSetup) (device : Target) (mask : ℕ) (c : Command) (since : List Line) (state : EpochState)
     (owed : Option OpenOrder) → address_of c ≡ d.addr → left d c since state ≡ ahead (StartPuts device mask)
-    → row d c since state owed ≡ puts (record_of.Epoch d.addr mask)
+    → row d c since state owed ≡ puts (record_of.Epoch d.addr mask accepts)
 start_row d device mask c since state owed here at =
-    row_ahead d (StartPuts device mask) c since state owed at ∙ ap (λ a. puts (record_of.Epoch a mask)) here
+    row_ahead d (StartPuts device mask) c since state owed at ∙ ap (λ a. puts (record_of.Epoch a mask accepts)) here
 
 pub end_row : (d : DeviceSetup) (device : Target) (c : Command) (since : List Line) (state : EpochState)
     (owed : Option OpenOrder) → address_of c ≡ d.addr → left d c since state ≡ ahead (StopEnds device)

@@ -14,7 +14,7 @@ use Rattle.cct_model.specs.lines.entry.End.TheVariants.{NoAnswer, Told}
 use Rattle.cct_model.specs.Request.{header_of}
 use Rattle.cct_model.specs.Reply.{Reply}
 use Rattle.cct_model.specs.Line.{Line, exchange}
-use Rattle.cct_model.specs.Job.{sends, Payment, address_of, payment_in, judged_in, end_of_tries, tries}
+use Rattle.cct_model.specs.Job.{sends, Noted, address_of, noted_in, judged_in, end_of_tries, tries}
 use Rattle.cct_model.specs.Rows.{after, end_answered, end_failed, first, from, left, rest, row, telling, sent_once}
 use Rattle.cct_msg.specs.Forms.{FitsItsBytes}
 use Rattle.cct_jobs.specs.declared.job.Job.{Job}
@@ -37,16 +37,16 @@ use Rattle.cct_model.proofs.Rows.{after_next, but_first, told_first, told_end}
 
 -- the row of a stage
 
-abbrev RowKnows : Stage → Payment → Type 0
+abbrev RowKnows : Stage → Noted → Type 0
 RowKnows (Pays row) p = MarkedFor row p.is_marked
 RowKnows stage p = ⊤
 
 row_knows : (stage : Stage) (since : List Line) (state : EpochState) (owed : Option OpenOrder)
-    → Knows stage since state owed → RowKnows stage (payment_in since owed)
+    → Knows stage since state owed → RowKnows stage (noted_in since owed)
 row_knows (Pays row) since state owed knows = marked_for row since owed knows
 row_knows stage since state owed knows = tt
 
-pub first_of_stage : (stage : Stage) (device : Target) (addr : ℕ) (means : Judged) (p : Payment) → RowKnows stage p
+pub first_of_stage : (stage : Stage) (device : Target) (addr : ℕ) (means : Judged) (p : Noted) → RowKnows stage p
     → Suits stage device → first addr means p (from (stage_ahead device stage) means) ≡ sends (request_of stage)
 first_of_stage (Reads Round recorded) device addr means p knows suits = refl
 first_of_stage (Reads Stop recorded) device addr means p knows suits = refl
@@ -112,8 +112,8 @@ module _ {d : DeviceSetup} {device : Target} {stage : Stage} {failed : ℕ} {c :
   -- what a stage sends
   pub stage_row : row d c since state owed ≡ sends (request_of stage)
   stage_row =
-      ap (first (address_of c) (judged_in c since state) (payment_in since owed)) left_is
-      ∙ first_of_stage stage device (address_of c) (judged_in c since state) (payment_in since owed)
+      ap (first (address_of c) (judged_in c since state) (noted_in since owed)) left_is
+      ∙ first_of_stage stage device (address_of c) (judged_in c since state) (noted_in since owed)
       (row_knows stage since state owed at.knows) at.suits
 
   pub stage_fits : FitsItsBytes (request_of stage)

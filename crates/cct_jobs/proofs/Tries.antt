@@ -9,7 +9,7 @@ use Rattle.cct_model.specs.terms.request.Request.{Request}
 use Rattle.cct_model.specs.terms.request.Request.TheVariants.{SetMask}
 use Rattle.cct_model.specs.declared.judging.EpochState.{EpochState}
 use Rattle.cct_model.specs.declared.judging.Judged.{Judged}
-use Rattle.cct_model.specs.Job.{end_of_tries, ident_requests, path_set, path_read, judged_in, tries, Payment, sends, address_of, state_row, payment_in}
+use Rattle.cct_model.specs.Job.{end_of_tries, ident_requests, path_set, path_read, judged_in, tries, Noted, sends, address_of, state_row, noted_in}
 use Rattle.cct_model.specs.Rows.{end_of, TableRow, Then, asks_for, rows_of, first, row, goes_on, asks_once, path_told, end_failed, end_bare, puts_due, left, sent_once, waits_for_coins}
 use Rattle.cct_model.specs.Line.{Line, exchange}
 use Rattle.cct_model.specs.Reply.{Reply}
@@ -61,7 +61,7 @@ masks_end d (command.Path addr place path) = (
 )
 masks_end d c = search rules
 
-first_unsure : (addr : ℕ) (means : Judged) (p : Payment) (rows : List TableRow) (mask failed : ℕ) → EachRow MasksEnd rows
+first_unsure : (addr : ℕ) (means : Judged) (p : Noted) (rows : List TableRow) (mask failed : ℕ) → EachRow MasksEnd rows
     → first addr means p rows ≡ sends (SetMask mask) → end_failed rows failed ≡ Some StartUnsure
 first_unsure addr means p [] mask failed each is = absurd cc
 first_unsure addr means p (asks_for x behind ∷ rows) mask failed each is =
@@ -80,7 +80,7 @@ pub mask_unsure : (d : DeviceSetup) (c : Command) (mask : ℕ) (since : List Lin
     (owed : Option OpenOrder) → row d c since state owed ≡ sends (SetMask mask)
     → end_of d c (exchange (Some (SetMask mask)) None) since state ≡ Some StartUnsure
 mask_unsure d c mask since state owed is =
-    first_unsure (address_of c) (judged_in c since state) (payment_in since owed) (left d c since state) mask _
+    first_unsure (address_of c) (judged_in c since state) (noted_in since owed) (left d c since state) mask _
     (each_left MasksEnd d c since state (masks_end d c)) is
 
 -- a wanted reply doesn't

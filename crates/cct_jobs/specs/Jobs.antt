@@ -116,7 +116,7 @@ opened_by o = record_of.Opened o.id o.addr o.count o.life
 
 -- What a job needs next: it puts a record, or is done, or else it sends a request.
 abbrev pub need_of : Job → Need
-need_of (StartPuts device mask) = need.Put (record_of.Epoch device.addr mask)
+need_of (StartPuts device mask) = need.Put (record_of.Epoch device.addr mask accepts)
 need_of (RoundPuts entry end) = need.Put entry
 need_of (StopPuts device entry end) = need.Put entry
 need_of (StopEnds device) = need.Put (record_of.EpochEnd device.addr)
@@ -215,7 +215,7 @@ runs recorded = Running recorded.mask recorded.counter
 -- An epoch runs.
 abbrev pub IsRunning : EpochState → Type 0
 IsRunning Idle = ⊥
-IsRunning (Running mask counter) = ⊤
+IsRunning (Running mask counter accepts) = ⊤
 
 -- The row of a payment or a settlement after a halt: the hopper is to be stopped before it is asked how the payout
 -- goes.
@@ -395,7 +395,7 @@ abbrev pub Stands : DeviceSetup → Job → Command → List Line → EpochState
 Stands d (Asks device stage failed) c since state owed = Asking d device stage failed c since state owed
 Stands d (StartPuts device mask) c since state owed =
     (device ≡ target_of d) × (rest d c since ≡ ahead (StartPuts device mask))
-    × Putting d (StartPuts device mask) (record_of.Epoch d.addr mask) None c since state owed
+    × Putting d (StartPuts device mask) (record_of.Epoch d.addr mask accepts) None c since state owed
 Stands d (RoundPuts entry end) c since state owed =
     Putting d (RoundPuts entry end) entry (Some end) c since state owed
 Stands d (StopPuts device entry end) c since state owed =

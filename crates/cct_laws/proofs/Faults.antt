@@ -15,7 +15,7 @@ use Rattle.cct_model.specs.Setup.{IsSoundSetup}
 use Rattle.cct_model.specs.Exchange.{ask, asked, after_echo}
 use Rattle.cct_model.specs.Line.{Line, exchange}
 use Rattle.cct_model.specs.Order.{order}
-use Rattle.cct_model.specs.Job.{job, sends, epoch, judged_in, payment_in}
+use Rattle.cct_model.specs.Job.{job, sends, epoch, judged_in, noted_in}
 use Rattle.cct_model.specs.Rows.{done, rows_of}
 use Rattle.cct_model.specs.Scan.{poll_of}
 use Rattle.cct_model.specs.Legal.{Legal, LegalFrom}
@@ -180,7 +180,7 @@ legal_fails capacity setup steps transcript d sound own accepting in_range legal
     each_unexcused d (onto [] transcript)
     (fails_but (λ asks. false) capacity setup steps transcript d sound own
     (λ past c since q works is_row clear other. undisturbed_accepting setup past d c (done (rows_of d c) since)
-    (judged_in c since (epoch (lines_of d past))) (payment_in since (order (lines_of d past))) q sound own accepting
+    (judged_in c since (epoch (lines_of d past))) (noted_in since (order (lines_of d past))) q sound own accepting
     works.suited works.in_range clear is_row)
     in_range legal)
 

@@ -25,7 +25,7 @@ use Rattle.cct_laws.specs.DeviceJobs.{Fate, IsForOthers, is_for_acceptor, with_e
 
 -- What a device met since a record: nothing, where the record begins an epoch at its address.
 abbrev pub since_record : DeviceSetup → Record → List Met → List Met
-since_record d (record_of.Epoch addr mask) before = if addr == d.addr then [] else before
+since_record d (record_of.Epoch addr mask accepts) before = if addr == d.addr then [] else before
 since_record d r before = before
 
 -- What a device met since the newest record that begins an epoch at its address, newest first; all that it met, where
@@ -92,7 +92,7 @@ MayBreak since = (was_reset since ≡ true) ⊎ (was_masked since ≡ false)
 
 -- A record is no break of a device, or its epoch might break.
 abbrev pub HasCause : DeviceSetup → List Entry → Record → Type 0
-HasCause d past (record_of.Broken addr seen counter posted) = addr ≡ d.addr → MayBreak (since_epoch d past)
+HasCause d past (record_of.Broken addr seen counter lost accepts posted) = addr ≡ d.addr → MayBreak (since_epoch d past)
 HasCause d past r = ⊤
 
 -- An entry is no break of a device that is put, or its epoch might break.

@@ -42,7 +42,7 @@ ghost use Rattle.cct_model.specs.Acceptor.{accepts, events, credits_of};
 ghost use Rattle.cct_model.specs.Claims.{AllPast, InOrder, Covers, Pace};
 ghost use Rattle.cct_model.specs.Device.{IsAcceptor};
 ghost use Rattle.cct_model.specs.Exchange.{ask, by_address};
-ghost use Rattle.cct_model.specs.Job.{works, job, epoch, sends, puts, Payment};
+ghost use Rattle.cct_model.specs.Job.{works, job, epoch, sends, puts, Noted};
 ghost use Rattle.cct_model.specs.Rows.{row, row_at};
 ghost use Rattle.cct_model.specs.Legal.{EntriesOfRestart, Legal, LegalFrom, due_at};
 ghost use Rattle.cct_model.specs.Line.{Line};
@@ -84,8 +84,8 @@ ghost use Rattle.cct_laws.specs.Tries.{TriesAt, ScanTriesAt, HasFewTries, failed
 /// the devices that a scan polls.
 pub fn an_undisturbed_exchange_is_answered()
     ensures { (setup : Setup) (past : List Entry) (d : DeviceSetup) (command : Command) (rows : ℕ) (judged : Judged)
-        (payment : Payment) (q : Request)
-        → IsCommandFor setup d command → pending past ≡ Clear → row_at d command rows judged payment ≡ sends q
+        (noted : Noted) (q : Request)
+        → IsCommandFor setup d command → pending past ≡ Clear → row_at d command rows judged noted ≡ sends q
         → IsAnswered setup d past q ⊎ (IsRefused d (met d past) q × IsUnanswered setup d past q) }
 {}
 
@@ -101,9 +101,9 @@ pub fn an_honest_fault_does_honest_damage()
 /// hopper refuses gets nothing.
 pub fn an_honest_exchange_gets_the_reply_or_nothing()
     ensures { (setup : Setup) (past : List Entry) (d : DeviceSetup) (command : Command) (rows : ℕ) (judged : Judged)
-        (payment : Payment) (q : Request)
+        (noted : Noted) (q : Request)
         → IsCommandFor setup d command → IsHonestFault (pending past) (ask d.kind d.addr q)
-        → row_at d command rows judged payment ≡ sends q
+        → row_at d command rows judged noted ≡ sends q
         → IsUnanswered setup d past q ⊎ IsAnswered setup d past q }
 {}
 
@@ -280,7 +280,7 @@ pub fn no_coin_is_accepted_without_an_epoch()
 /// the acceptor heard the epoch's own header 231 since the Epoch record, and was not reset after that. It doesn't say
 /// that a start whose 231 was sent is answered.
 pub fn a_running_epoch_sets_its_mask_or_none()
-    ensures { EachAcceptor (λ d transcript. (mask counter : ℕ) → epoch (lines_in d transcript) ≡ Running mask counter
+    ensures { EachAcceptor (λ d transcript. (mask counter : ℕ) → epoch (lines_in d transcript) ≡ Running mask counter accepts
         → IsMaskedBy mask (since_epoch_in d transcript) (met d (onto [] transcript))) }
 {}
 
@@ -288,10 +288,10 @@ pub fn a_running_epoch_sets_its_mask_or_none()
 /// after that, none of its events since its last reset is a credit. So no pair of its credit buffer is one.
 pub fn after_a_reset_no_event_is_a_credit()
     ensures events { EachAcceptor (λ d transcript. (mask counter : ℕ)
-        → epoch (lines_in d transcript) ≡ Running mask counter → mask_set_in (since_epoch_in d transcript) ≡ None
+        → epoch (lines_in d transcript) ≡ Running mask counter accepts → mask_set_in (since_epoch_in d transcript) ≡ None
         → coins_among (events (met d (onto [] transcript))) ≡ []) }
     ensures pairs { EachAcceptor (λ d transcript. (mask counter : ℕ)
-        → epoch (lines_in d transcript) ≡ Running mask counter → mask_set_in (since_epoch_in d transcript) ≡ None
+        → epoch (lines_in d transcript) ≡ Running mask counter accepts → mask_set_in (since_epoch_in d transcript) ≡ None
         → coins_among (credits_of (met d (onto [] transcript))).pairs ≡ []) }
 {}
 
@@ -304,7 +304,7 @@ pub fn a_break_has_its_cause()
         (posted : List Coin)
         → job (lines_in d transcript) ≡ works command since
         → row d command since (epoch (lines_in d transcript)) (order (lines_in d transcript))
-        ≡ puts (Broken addr seen counter posted)
+        ≡ puts (Broken addr seen counter lost accepts posted)
         → MayBreak (since_epoch_in d transcript)) }
     ensures put { EachAcceptor (λ d transcript. HaveCauses d (onto [] transcript)) }
 {}

@@ -200,9 +200,9 @@ impl<'s> Ledger<'s> {
         ensures reserved { reserved_of self.new ≡ reserved_of self.old }
         ensures counted { applied self.new ≡ applied self.old + 1 }
         ensures reading { (counter lost : ℕ)
-            → GoesOn self.old self.new (record_of.Reading addr counter lost coins.now) }
+            → GoesOn self.old self.new (record_of.Reading addr counter lost accepts coins.now) }
         ensures broken { (seen counter : ℕ)
-            → GoesOn self.old self.new (record_of.Broken addr seen counter coins.now) }
+            → GoesOn self.old self.new (record_of.Broken addr seen counter lost accepts coins.now) }
     {
         self.available += coins_value(self.setup, addr, coins.as_slice());
         self.records += 1;

@@ -60,16 +60,16 @@ two_coins = record { place = 16; path = 8 } ∷ record { place = 1; path = 2 } �
 
 records :
     map (λ r. line_of (entry.Listing 9 r)) (
-    record_of.Reading 2 7 1 two_coins
-    ∷ record_of.Broken 2 256 3 []
+    record_of.Reading 2 7 1 70000 two_coins
+    ∷ record_of.Broken 2 256 3 4 5 []
     ∷ record_of.Opened 1 3 5 16777215
     ∷ record_of.Closed 1 4 1
     ∷ record_of.Odd 1 5 4
     ∷ record_of.Sold 8 100
     ∷ [])
     ≡ map ended (
-    codes "record 9 reading 2 7 1 16/8,1/2"
-    ∷ codes "record 9 broken 2 0100 3 -"
+    codes "record 9 reading 2 7 1 70000 16/8,1/2"
+    ∷ codes "record 9 broken 2 0100 3 4 5 -"
     ∷ codes "record 9 opened 1 3 5 16777215"
     ∷ codes "record 9 closed 1 4 1"
     ∷ codes "record 9 odd 1 5 4"

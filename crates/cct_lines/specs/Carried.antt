@@ -74,11 +74,12 @@ pub record AreSmall (many : ℕ) (c : Carry) : Type 0 where
   pub unpaid : c.unpaid ≤ 2 ^ 32 * many
   pub sold : c.sold ≤ 2 ^ 32 * many
 
--- The numbers of an epoch fit their bytes.
+-- The numbers of an epoch fit their bytes; of an accept counter these are three.
 pub record EpochFits (e : CarryEpoch) : Type 0 where
   pub addr : e.addr < 256
   pub mask : e.mask < 2 ^ 16
   pub counter : e.counter < 256
+  pub accepts : e.accepts < 2 ^ 24
 
 -- The numbers of an order fit their bytes; of a life count these are three.
 pub record OrderFits (o : CarryOrder) : Type 0 where

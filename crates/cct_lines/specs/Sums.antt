@@ -6,26 +6,27 @@ use Rattle.cct_lines.specs.declared.record.Record.TheVariants as record_of
 
 -- Whether a record is one of an acceptor, which is an item; any other is one of an order or of a sale.
 abbrev pub is_item : Record → Bool
-is_item (record_of.Epoch addr mask) = true
-is_item (record_of.Reading addr counter lost posted) = true
-is_item (record_of.Broken addr seen counter posted) = true
+is_item (record_of.Epoch addr mask accepts) = true
+is_item (record_of.Reading addr counter lost accepts posted) = true
+is_item (record_of.Broken addr seen counter lost accepts posted) = true
 is_item (record_of.EpochEnd addr) = true
 is_item r = false
 
 -- The coins that a record posts, oldest first.
 abbrev pub posts_of : Record → List Coin
-posts_of (record_of.Reading addr counter lost posted) = posted
-posts_of (record_of.Broken addr seen counter posted) = posted
+posts_of (record_of.Reading addr counter lost accepts posted) = posted
+posts_of (record_of.Broken addr seen counter lost accepts posted) = posted
 posts_of r = []
 
 -- How many coins a record posts.
 abbrev pub coins_posted : Record → ℕ
 coins_posted r = length (posts_of r)
 
--- How many events a record tells to be lost.
-abbrev pub events_lost : Record → ℕ
-events_lost (record_of.Reading addr counter lost posted) = lost
-events_lost r = 0
+-- How many coins a record tells to be lost.
+abbrev pub coins_lost : Record → ℕ
+coins_lost (record_of.Reading addr counter lost accepts posted) = lost
+coins_lost (record_of.Broken addr seen counter lost accepts posted) = lost
+coins_lost r = 0
 
 -- How many orders a record closes with counts of life that fit: one, or none.
 abbrev pub orders_closed : Record → ℕ

@@ -71,11 +71,14 @@ listed_field listed = list_field (filter_map (listed_text listed) all_addresses)
 
 -- The fields of a record.
 abbrev pub record_fields : Record → List (List ℕ)
-record_fields (record_of.Epoch addr mask) = codes "epoch" ∷ number_text addr ∷ mask_field mask ∷ []
-record_fields (record_of.Reading addr counter lost posted) =
-    codes "reading" ∷ number_text addr ∷ number_text counter ∷ number_text lost ∷ coins_field posted ∷ []
-record_fields (record_of.Broken addr seen counter posted) =
-    codes "broken" ∷ number_text addr ∷ mask_field seen ∷ number_text counter ∷ coins_field posted ∷ []
+record_fields (record_of.Epoch addr mask accepts) =
+    codes "epoch" ∷ number_text addr ∷ mask_field mask ∷ number_text accepts ∷ []
+record_fields (record_of.Reading addr counter lost accepts posted) =
+    codes "reading" ∷ number_text addr ∷ number_text counter ∷ number_text lost ∷ number_text accepts ∷ coins_field posted
+    ∷ []
+record_fields (record_of.Broken addr seen counter lost accepts posted) =
+    codes "broken" ∷ number_text addr ∷ mask_field seen ∷ number_text counter ∷ number_text lost ∷ number_text accepts
+    ∷ coins_field posted ∷ []
 record_fields (record_of.EpochEnd addr) = codes "epochend" ∷ number_text addr ∷ []
 record_fields (record_of.Opened id addr count life) =
     codes "opened" ∷ number_text id ∷ number_text addr ∷ number_text count ∷ number_text life ∷ []
@@ -130,6 +133,7 @@ end_fields addr (end_of.Unquiet counter) = codes "unquiet" ∷ number_text addr 
 end_fields addr end_of.Clean = codes "clean" ∷ number_text addr ∷ []
 end_fields addr end_of.Posted = codes "posted" ∷ number_text addr ∷ []
 end_fields addr end_of.Broke = codes "broke" ∷ number_text addr ∷ []
+end_fields addr end_of.Moved = codes "moved" ∷ number_text addr ∷ []
 end_fields addr end_of.Stopped = codes "stopped" ∷ number_text addr ∷ []
 end_fields addr end_of.Closed = codes "closed" ∷ number_text addr ∷ []
 end_fields addr end_of.OddLife = codes "oddlife" ∷ number_text addr ∷ []

@@ -8,12 +8,14 @@ use arrayvec::ArrayVec;
 use std::alloc::AllocError;
 use std::marker::Model;
 
-/// An epoch that runs: its acceptor, its inhibit mask, and the event counter of the last reading recorded in it, or 0.
+/// An epoch that runs: its acceptor, its inhibit mask, the event counter of the last reading recorded in it, or 0, and
+/// the accept counter of the last record in it, below 2^24.
 #[derive(Clone, Copy, Debug, Default, PartialEq, Eq)]
 pub struct CarryEpoch {
     pub addr: u8,
     pub mask: u16,
     pub counter: u8,
+    pub accepts: u32,
 }
 
 /// An order that is open: its id, its hopper, how many coins it is for, and the life count of the hopper that was read
@@ -168,7 +170,7 @@ pub struct Carry {
     pub odd_value: u64,
     /// How many coins were posted.
     pub posted: u64,
-    /// How many events were lost.
+    /// How many coins were lost.
     pub lost: u64,
     /// How many coins were paid.
     pub paid: u64,

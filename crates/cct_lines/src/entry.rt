@@ -29,12 +29,14 @@ pub enum End {
     StartUnsure,
     /// The acceptor's event counter wasn't 0 after its reset; no epoch began.
     Unquiet { counter: u8 },
-    /// The event counter that was read is the recorded one.
+    /// No event came and no coin was accepted since the last record.
     Clean,
     /// A reading was put.
     Posted,
     /// A broken reading was put.
     Broke,
+    /// A coin was accepted while the acceptor was being read, so nothing was put: it has to be read again.
+    Moved,
     /// The epoch was ended.
     Stopped,
     /// The order was closed.
@@ -100,7 +102,7 @@ pub enum SumOf {
     Accepted,
     /// Coins posted.
     Posted,
-    /// Events lost.
+    /// Coins lost.
     Lost,
     /// Coins that fell out of hoppers.
     Fell,

@@ -1,6 +1,6 @@
 //! The records of the host's journal.
 ghost use Rattle.std.specs.Prelude.{◌≡◌, ◌≤◌, length};
-ghost use Rattle.cct_lines.specs.Sums.{events_lost, posts_of};
+ghost use Rattle.cct_lines.specs.Sums.{coins_lost, posts_of};
 
 use crate::{Coin, Coins, EVENTS};
 use std::alloc::AllocError;
@@ -8,25 +8,32 @@ use std::alloc::AllocError;
 /// A record of the host's journal. A record is the post: the coins in it are those that the machine counts.
 #[derive(Clone, Debug, Drop)]
 pub enum Record {
-    /// An epoch begins at acceptor `addr`: it is to accept the coin places of this inhibit mask.
+    /// An epoch begins at acceptor `addr`: it is to accept the coin places of this inhibit mask. Until then it had
+    /// accepted so many coins, modulo 2^24.
     Epoch {
         addr: u8,
         mask: u16,
+        accepts: u32,
     },
-    /// A reading of acceptor `addr`: the event counter that was read, how many events it tells to be overrun and so
-    /// lost, and the coins that are posted, oldest first.
+    /// A reading of acceptor `addr`: the event counter that was read, how many of the coins accepted since the last
+    /// record are lost, the accept counter that was read, and the coins that are posted, oldest first. The two numbers
+    /// of coins are below 2^24.
     Reading {
         addr: u8,
         counter: u8,
-        lost: u8,
+        lost: u32,
+        accepts: u32,
         posted: Coins,
     },
     /// A reading that shows that acceptor `addr` was reset or isn't set as it was: the inhibit mask and the event
-    /// counter that were read, and the coins that are posted, oldest first. It ends the epoch.
+    /// counter that were read, how many coins are lost, the accept counter that was read, and the coins that are posted,
+    /// oldest first. It ends the epoch.
     Broken {
         addr: u8,
         mask_seen: u16,
         counter: u8,
+        lost: u32,
+        accepts: u32,
         posted: Coins,
     },
     /// The epoch of acceptor `addr` ends.
@@ -80,12 +87,13 @@ impl Record {
         }
     }
 
-    /// How many events it tells to be lost.
-    pub fn lost(&self) -> u8
-        ensures { result ≡ events_lost self.now }
+    /// How many coins it tells to be lost.
+    pub fn lost(&self) -> u32
+        ensures { result ≡ coins_lost self.now }
     {
         match self {
             Record::Reading { lost, .. } => *lost,
+            Record::Broken { lost, .. } => *lost,
             _ => 0,
         }
     }

@@ -5,7 +5,7 @@ use Rattle.cct_model.specs.lines.entry.Entry.{Entry}
 use Rattle.cct_model.specs.lines.entry.Entry.TheVariants as entry
 use Rattle.cct_model.specs.lines.entry.SumOf.TheVariants as sum_of
 use Rattle.cct_model.specs.Records.{records}
-use Rattle.cct_model.specs.Sums.{coins_posted, events_lost, orders_closed, sum_in}
+use Rattle.cct_model.specs.Sums.{coins_posted, coins_lost, orders_closed, sum_in}
 use Rattle.cct_load.specs.declared.sums.LoadSums.{LoadSums}
 
 -- How many coins acceptors took.
@@ -24,7 +24,7 @@ coins_fallen (e ∷ past) = coins_fallen past
 pub record Counts (sums : LoadSums) (past : List Entry) : Type 0 where
   pub accepted : sums.accepted ≡ coins_accepted past
   pub posted : sums.posted ≡ sum_in coins_posted (records past)
-  pub lost : sums.lost ≡ sum_in events_lost (records past)
+  pub lost : sums.lost ≡ sum_in coins_lost (records past)
   pub fell : sums.fell ≡ coins_fallen past
   pub closed : sums.closed ≡ sum_in orders_closed (records past)
 
@@ -39,7 +39,7 @@ sums_of played past =
     entry.Sum sum_of.Steps (length played)
     ∷ entry.Sum sum_of.Accepted (coins_accepted past)
     ∷ entry.Sum sum_of.Posted (sum_in coins_posted (records past))
-    ∷ entry.Sum sum_of.Lost (sum_in events_lost (records past))
+    ∷ entry.Sum sum_of.Lost (sum_in coins_lost (records past))
     ∷ entry.Sum sum_of.Fell (coins_fallen past)
     ∷ entry.Sum sum_of.Closed (sum_in orders_closed (records past))
     ∷ []

@@ -23,7 +23,7 @@ pub struct LoadSums {
 }
 
 impl LoadSums {
-    ghost use Rattle.cct_model.specs.Sums.{coins_posted, events_lost, orders_closed};
+    ghost use Rattle.cct_model.specs.Sums.{coins_posted, coins_lost, orders_closed};
     ghost use Rattle.cct_load.specs.Sums.{Counts, SumsUp, sums_of, together};
 
     /// The sums before the first step.
@@ -75,7 +75,7 @@ impl LoadSums {
         requires few { together self.old + 512 ≤ 4096 * self.old.steps }
         requires steps { self.old.steps ≤ 2 ^ 32 }
         ensures posted { self.new.posted ≡ coins_posted entry.now + self.old.posted }
-        ensures lost { self.new.lost ≡ events_lost entry.now + self.old.lost }
+        ensures lost { self.new.lost ≡ coins_lost entry.now + self.old.lost }
         ensures closed { self.new.closed ≡ orders_closed entry.now + self.old.closed }
         ensures accepted { self.new.accepted ≡ self.old.accepted }
         ensures fell { self.new.fell ≡ self.old.fell }

@@ -24,7 +24,7 @@ put_all records = map Put records
 
 -- a coin of value 100 was posted
 abbrev posted : List Record
-posted = Reading 2 1 0 (coin 5 1 ∷ []) ∷ Epoch 2 65535 ∷ []
+posted = Reading 2 1 0 1 (coin 5 1 ∷ []) ∷ Epoch 2 65535 0 ∷ []
 
 -- an order for four coins of value 10 is open
 abbrev owing : List Record
@@ -43,65 +43,65 @@ abbrev sparse : Setup
 sparse = record { devices = acceptor_of (100 ∷ 100 ∷ 0 ∷ replicate 13 100) ∷ hopper ∷ [] }
 
 -- an epoch begins at an acceptor where none runs; its mask isn't 0, and each of its places has a value
-epoch_first : follows setup [] (Epoch 2 65535) ≡ true
+epoch_first : follows setup [] (Epoch 2 65535 0) ≡ true
 unfolding has_place
 epoch_first = refl
 
-epoch_at_hopper : follows setup [] (Epoch 3 65535) ≡ false
+epoch_at_hopper : follows setup [] (Epoch 3 65535 0) ≡ false
 unfolding has_place
 epoch_at_hopper = refl
 
-epoch_nowhere : follows setup [] (Epoch 9 65535) ≡ false
+epoch_nowhere : follows setup [] (Epoch 9 65535 0) ≡ false
 unfolding has_place
 epoch_nowhere = refl
 
-epoch_twice : follows setup posted (Epoch 2 1) ≡ false
+epoch_twice : follows setup posted (Epoch 2 1 0) ≡ false
 unfolding has_place
 epoch_twice = refl
 
-epoch_empty : follows setup [] (Epoch 2 0) ≡ false
+epoch_empty : follows setup [] (Epoch 2 0 0) ≡ false
 unfolding has_place
 epoch_empty = refl
 
-epoch_without_value : follows sparse [] (Epoch 2 4) ≡ false
+epoch_without_value : follows sparse [] (Epoch 2 4 0) ≡ false
 unfolding has_place
 epoch_without_value = refl
 
-epoch_beside_it : follows sparse [] (Epoch 2 65531) ≡ true
+epoch_beside_it : follows sparse [] (Epoch 2 65531 0) ≡ true
 unfolding has_place
 epoch_beside_it = refl
 
-epoch_after_end : follows setup (EpochEnd 2 ∷ posted) (Epoch 2 1) ≡ true
+epoch_after_end : follows setup (EpochEnd 2 ∷ posted) (Epoch 2 1 0) ≡ true
 unfolding has_place
 epoch_after_end = refl
 
-epoch_after_break : follows setup (Broken 2 0 0 [] ∷ posted) (Epoch 2 1) ≡ true
+epoch_after_break : follows setup (Broken 2 0 0 0 0 [] ∷ posted) (Epoch 2 1 0) ≡ true
 unfolding has_place
 epoch_after_break = refl
 
 -- where an epoch runs
-reading_in_epoch : follows setup posted (Reading 2 2 0 (coin 5 1 ∷ [])) ≡ true
+reading_in_epoch : follows setup posted (Reading 2 2 0 2 (coin 5 1 ∷ [])) ≡ true
 reading_in_epoch = refl
 
-reading_without_epoch : follows setup [] (Reading 2 2 0 (coin 5 1 ∷ [])) ≡ false
+reading_without_epoch : follows setup [] (Reading 2 2 0 2 (coin 5 1 ∷ [])) ≡ false
 reading_without_epoch = refl
 
-reading_behind_end : follows setup (EpochEnd 2 ∷ posted) (Reading 2 2 0 (coin 5 1 ∷ [])) ≡ false
+reading_behind_end : follows setup (EpochEnd 2 ∷ posted) (Reading 2 2 0 2 (coin 5 1 ∷ [])) ≡ false
 reading_behind_end = refl
 
-reading_behind_break : follows setup (Broken 2 0 0 [] ∷ posted) (Reading 2 2 0 (coin 5 1 ∷ [])) ≡ false
+reading_behind_break : follows setup (Broken 2 0 0 0 0 [] ∷ posted) (Reading 2 2 0 2 (coin 5 1 ∷ [])) ≡ false
 reading_behind_break = refl
 
-broken_in_epoch : follows setup posted (Broken 2 0 0 []) ≡ true
+broken_in_epoch : follows setup posted (Broken 2 0 0 0 0 []) ≡ true
 broken_in_epoch = refl
 
-broken_without_epoch : follows setup [] (Broken 2 0 0 []) ≡ false
+broken_without_epoch : follows setup [] (Broken 2 0 0 0 0 []) ≡ false
 broken_without_epoch = refl
 
-broken_behind_end : follows setup (EpochEnd 2 ∷ posted) (Broken 2 0 0 []) ≡ false
+broken_behind_end : follows setup (EpochEnd 2 ∷ posted) (Broken 2 0 0 0 0 []) ≡ false
 broken_behind_end = refl
 
-broken_behind_break : follows setup (Broken 2 0 0 [] ∷ posted) (Broken 2 0 0 []) ≡ false
+broken_behind_break : follows setup (Broken 2 0 0 0 0 [] ∷ posted) (Broken 2 0 0 0 0 []) ≡ false
 broken_behind_break = refl
 
 end_in_epoch : follows setup posted (EpochEnd 2) ≡ true
@@ -113,10 +113,10 @@ end_without_epoch = refl
 end_behind_end : follows setup (EpochEnd 2 ∷ posted) (EpochEnd 2) ≡ false
 end_behind_end = refl
 
-end_behind_break : follows setup (Broken 2 0 0 [] ∷ posted) (EpochEnd 2) ≡ false
+end_behind_break : follows setup (Broken 2 0 0 0 0 [] ∷ posted) (EpochEnd 2) ≡ false
 end_behind_break = refl
 
-reading_of_other : follows setup posted (Reading 4 2 0 []) ≡ false
+reading_of_other : follows setup posted (Reading 4 2 0 2 []) ≡ false
 reading_of_other = refl
 
 -- an order is opened at a hopper that has none open, with an id that isn't 0 and isn't that of an open order, for at least one coin, and for no more than is available
@@ -216,11 +216,11 @@ worth_odd = refl
 worth_sold : totals setup (put_all (Sold 5 30 ∷ settled)) ≡ amounts 50 0 20 30
 worth_sold = refl
 
-worth_broken : totals setup (put_all (Broken 2 0 2 (coin 1 1 ∷ coin 2 1 ∷ []) ∷ posted)) ≡ amounts 300 0 0 0
+worth_broken : totals setup (put_all (Broken 2 0 2 0 0 (coin 1 1 ∷ coin 2 1 ∷ []) ∷ posted)) ≡ amounts 300 0 0 0
 worth_broken = refl
 
 -- a coin of a place without a value is worth nothing, and so is one of a place that an acceptor doesn't have
-worth_valueless : totals sparse (put_all (Reading 2 2 0 (coin 3 1 ∷ coin 0 1 ∷ coin 17 1 ∷ []) ∷ posted)) ≡ amounts 100 0 0 0
+worth_valueless : totals sparse (put_all (Reading 2 2 0 2 (coin 3 1 ∷ coin 0 1 ∷ coin 17 1 ∷ []) ∷ posted)) ≡ amounts 100 0 0 0
 worth_valueless = refl
 
 -- five coins, oldest first
@@ -245,16 +245,16 @@ day =
     ∷ Opened 2 5 4 0
     ∷ Closed 1 10 0
     ∷ Opened 1 3 10 16777214
-    ∷ Reading 4 20 0 five
-    ∷ Reading 2 20 0 five
-    ∷ Reading 4 15 0 five
-    ∷ Reading 2 15 0 five
-    ∷ Reading 4 10 0 five
-    ∷ Reading 2 10 0 five
-    ∷ Reading 4 5 0 five
-    ∷ Reading 2 5 0 five
-    ∷ Epoch 4 65535
-    ∷ Epoch 2 65535
+    ∷ Reading 4 20 0 20 five
+    ∷ Reading 2 20 0 20 five
+    ∷ Reading 4 15 0 15 five
+    ∷ Reading 2 15 0 15 five
+    ∷ Reading 4 10 0 10 five
+    ∷ Reading 2 10 0 10 five
+    ∷ Reading 4 5 0 5 five
+    ∷ Reading 2 5 0 5 five
+    ∷ Epoch 4 65535 0
+    ∷ Epoch 2 65535 0
     ∷ []
 
 day_follows : all_follow house day ≡ true

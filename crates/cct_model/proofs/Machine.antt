@@ -112,7 +112,8 @@ starting =
     one (step.Command (command.Start 2 65535)) (entry.Taken (command.Start 2 65535))
     ∷ one (step.Next 2) (wire 2 "02000101fc" "02000101fc01000200fd")
     ∷ one (step.Next 2) (wire 2 "020001e518" "020001e518010b02000000000000000000000000f2")
-    ∷ one (step.Next 2) (entry.Put (record_of.Epoch 2 65535))
+    ∷ one (step.Next 2) (wire 2 "020001e11c" "020001e11c01030200000000fa")
+    ∷ one (step.Next 2) (entry.Put (record_of.Epoch 2 65535 0))
     ∷ both (step.Next 2) (wire 2 "020201e7ffff16" "020201e7ffff1601000200fd") (entry.Ended 2 end_of.Started)
     ∷ []
 
@@ -121,15 +122,17 @@ abbrev pub coin_read : List Row
 coin_read =
     one (step.Coin 2 5) (entry.Accepted 2 (coin 5 1))
     ∷ one (step.Command (command.Round 2)) (entry.Taken (command.Round 2))
+    ∷ one (step.Next 2) (wire 2 "020001e11c" "020001e11c01030200010000f9")
     ∷ one (step.Next 2) (wire 2 "020001e518" "020001e518010b02000105010000000000000000eb")
     ∷ one (step.Next 2) (wire 2 "020001e617" "020001e61701020200fffffd")
+    ∷ one (step.Next 2) (wire 2 "020001e11c" "020001e11c01030200010000f9")
     ∷ []
 
 -- it is started, takes that coin, and is read
 abbrev pub funding : List Row
 funding =
     starting ++ coin_read
-    ++ both (step.Next 2) (entry.Put (record_of.Reading 2 1 0 (coin 5 1 ∷ []))) (entry.Ended 2 end_of.Posted)
+    ++ both (step.Next 2) (entry.Put (record_of.Reading 2 1 0 1 (coin 5 1 ∷ []))) (entry.Ended 2 end_of.Posted)
     ∷ []
 
 abbrev pub funded : List Entry

@@ -9,7 +9,7 @@ use Rattle.cct_model.specs.Hopper.{hopper_reply}
 use Rattle.cct_model.specs.Device.{common_reply, reply_of}
 use Rattle.cct_model.specs.Exchange.{ask, asked, asks_of, asker, after_echo, got}
 use Rattle.cct_model.specs.Transcript.{heard_after, got_by}
-use Rattle.cct_model.specs.Reading.{distance, judge}
+use Rattle.cct_model.specs.Reading.{distance, judge, accepted_between}
 use Rattle.cct_model.specs.Order.{life_between, close}
 use Rattle.cct_model.specs.lines.command.Step.TheVariants as step
 use Rattle.cct_model.specs.lines.command.Command.TheVariants as command
@@ -22,7 +22,7 @@ use Rattle.cct_model.proofs.Machine.{Row, Plays, AllPlay, setup, funding, funded
 
 funding_plays : Plays 65535 setup [] funding
 unfolding message spelling data_of request_of requests_with form_of reply_data reply_in has_place acceptor_reply
-    hopper_reply common_reply reply_of ask asked asks_of asker after_echo got heard_after got_by distance judge
+    hopper_reply common_reply reply_of ask asked asks_of asker after_echo got heard_after got_by distance judge accepted_between
     life_between close
 funding_plays = search
 
@@ -281,6 +281,6 @@ sold =
 -- each of these runs is played
 payments_play : AllPlay setup funded (paid ∷ lost_ack ∷ lost_dispense ∷ given_up ∷ halted ∷ halted_twice ∷ halted_at_once ∷ halted_early ∷ tries_anew ∷ stop_given_up ∷ tries_go_on ∷ jammed ∷ refused_dispense ∷ one_after_another ∷ sold ∷ [])
 unfolding message spelling data_of request_of requests_with form_of reply_data reply_in has_place acceptor_reply
-    hopper_reply common_reply reply_of ask asked asks_of asker after_echo got heard_after got_by distance judge
+    hopper_reply common_reply reply_of ask asked asks_of asker after_echo got heard_after got_by distance judge accepted_between
     life_between close
 payments_play = (search, (search, (search, (search, (search, (search, (search, (search, (search, (search, (search, (search, (search, (search, (search, tt)))))))))))))))

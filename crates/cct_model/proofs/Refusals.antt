@@ -13,13 +13,13 @@ use Rattle.cct_model.specs.Reply.{reply_in}
 use Rattle.cct_model.specs.Setting.{has_place}
 use Rattle.cct_model.specs.Exchange.{asked, asks_of, after_echo, got}
 use Rattle.cct_model.specs.Transcript.{got_by}
-use Rattle.cct_model.specs.Reading.{distance, judge}
+use Rattle.cct_model.specs.Reading.{distance, judge, accepted_between}
 use Rattle.cct_model.specs.Refusal.{refusal, held}
 use Rattle.cct_model.proofs.Machine.{setup, acceptor_of, coin, wire}
 
 -- an epoch runs and a coin of value 100 was posted, no job is running, and two records are used
 abbrev posted : List Entry
-posted = Ended 2 end_of.Posted ∷ Put (Reading 2 1 0 (coin 5 1 ∷ [])) ∷ Put (Epoch 2 65535) ∷ []
+posted = Ended 2 end_of.Posted ∷ Put (Reading 2 1 0 1 (coin 5 1 ∷ [])) ∷ Put (Epoch 2 65535 0) ∷ []
 
 -- an order is open that no job is to close
 abbrev owing : List Entry
@@ -336,25 +336,25 @@ holds_all = refl
 holds_start : held setup (Taken (Start 2 65535) ∷ []) ≡ 1
 holds_start = refl
 
-holds_start_put : held setup (wire 2 "020001e518" "020001e518010b02000000000000000000000000f2" ∷ wire 2 "02000101fc" "02000101fc01000200fd" ∷ Taken (Start 2 65535) ∷ []) ≡ 1
+holds_start_put : held setup (wire 2 "020001e11c" "020001e11c01030200000000fa" ∷ wire 2 "020001e518" "020001e518010b02000000000000000000000000f2" ∷ wire 2 "02000101fc" "02000101fc01000200fd" ∷ Taken (Start 2 65535) ∷ []) ≡ 1
 unfolding message spelling request_of requests_with form_of reply_in asked asks_of after_echo got got_by
 holds_start_put = refl
 
-holds_started : held setup (Put (Epoch 2 65535) ∷ wire 2 "020001e518" "020001e518010b02000000000000000000000000f2" ∷ wire 2 "02000101fc" "02000101fc01000200fd" ∷ Taken (Start 2 65535) ∷ []) ≡ 0
+holds_started : held setup (Put (Epoch 2 65535 0) ∷ wire 2 "020001e11c" "020001e11c01030200000000fa" ∷ wire 2 "020001e518" "020001e518010b02000000000000000000000000f2" ∷ wire 2 "02000101fc" "02000101fc01000200fd" ∷ Taken (Start 2 65535) ∷ []) ≡ 0
 unfolding message spelling request_of requests_with form_of reply_in asked asks_of after_echo got got_by
 holds_started = refl
 
 holds_stop : held setup (Taken (Stop 2) ∷ posted) ≡ 2
 holds_stop = refl
 
-holds_stop_quiet : held setup (wire 2 "020001e617" "020001e61701020200fffffd" ∷ wire 2 "020001e518" "020001e518010b02000105010000000000000000eb" ∷ wire 2 "020101e40018" "020101e4001801000200fd" ∷ Taken (Stop 2) ∷ posted) ≡ 1
-unfolding message spelling request_of requests_with form_of reply_in asked asks_of after_echo got got_by distance judge
+holds_stop_quiet : held setup (wire 2 "020001e11c" "020001e11c01030200010000f9" ∷ wire 2 "020001e617" "020001e61701020200fffffd" ∷ wire 2 "020001e518" "020001e518010b02000105010000000000000000eb" ∷ wire 2 "020001e11c" "020001e11c01030200010000f9" ∷ wire 2 "020101e40018" "020101e4001801000200fd" ∷ Taken (Stop 2) ∷ posted) ≡ 1
+unfolding message spelling request_of requests_with form_of reply_in asked asks_of after_echo got got_by distance judge accepted_between
 holds_stop_quiet = refl
 
-holds_stop_reading : held setup (wire 2 "020001e617" "020001e61701020200fffffd" ∷ wire 2 "020001e518" "020001e518010b02000105010000000000000000eb" ∷ wire 2 "020101e40018" "020101e4001801000200fd" ∷ Taken (Stop 2) ∷ Put (Epoch 2 65535) ∷ []) ≡ 2
-unfolding message spelling request_of requests_with form_of reply_in asked asks_of after_echo got got_by distance judge
+holds_stop_reading : held setup (wire 2 "020001e11c" "020001e11c01030200010000f9" ∷ wire 2 "020001e617" "020001e61701020200fffffd" ∷ wire 2 "020001e518" "020001e518010b02000105010000000000000000eb" ∷ wire 2 "020001e11c" "020001e11c01030200010000f9" ∷ wire 2 "020101e40018" "020101e4001801000200fd" ∷ Taken (Stop 2) ∷ Put (Epoch 2 65535 0) ∷ []) ≡ 2
+unfolding message spelling request_of requests_with form_of reply_in asked asks_of after_echo got got_by distance judge accepted_between
 holds_stop_reading = refl
 
-holds_stop_read : held setup (Put (Reading 2 1 0 (coin 5 1 ∷ [])) ∷ wire 2 "020001e617" "020001e61701020200fffffd" ∷ wire 2 "020001e518" "020001e518010b02000105010000000000000000eb" ∷ wire 2 "020101e40018" "020101e4001801000200fd" ∷ Taken (Stop 2) ∷ Put (Epoch 2 65535) ∷ []) ≡ 1
-unfolding message spelling request_of requests_with form_of reply_in asked asks_of after_echo got got_by distance judge
+holds_stop_read : held setup (Put (Reading 2 1 0 1 (coin 5 1 ∷ [])) ∷ wire 2 "020001e11c" "020001e11c01030200010000f9" ∷ wire 2 "020001e617" "020001e61701020200fffffd" ∷ wire 2 "020001e518" "020001e518010b02000105010000000000000000eb" ∷ wire 2 "020001e11c" "020001e11c01030200010000f9" ∷ wire 2 "020101e40018" "020101e4001801000200fd" ∷ Taken (Stop 2) ∷ Put (Epoch 2 65535 0) ∷ []) ≡ 1
+unfolding message spelling request_of requests_with form_of reply_in asked asks_of after_echo got got_by distance judge accepted_between
 holds_stop_read = refl

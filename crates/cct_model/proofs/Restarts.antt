@@ -13,7 +13,7 @@ use Rattle.cct_model.specs.Hopper.{hopper_reply}
 use Rattle.cct_model.specs.Device.{common_reply, reply_of}
 use Rattle.cct_model.specs.Exchange.{ask, asked, asks_of, asker, after_echo, got}
 use Rattle.cct_model.specs.Transcript.{heard_after, got_by}
-use Rattle.cct_model.specs.Reading.{distance, judge}
+use Rattle.cct_model.specs.Reading.{distance, judge, accepted_between}
 use Rattle.cct_model.specs.Order.{life_between, close}
 use Rattle.cct_model.specs.lines.command.Step.TheVariants as step
 use Rattle.cct_model.specs.lines.command.Command.TheVariants as command
@@ -37,7 +37,7 @@ wide = record { devices = acceptor ∷ hopper ∷ other_hopper ∷ [] }
 
 funding_wide : Plays 65535 wide [] funding
 unfolding message spelling data_of request_of requests_with form_of reply_data reply_in has_place acceptor_reply
-    hopper_reply common_reply reply_of ask asked asks_of asker after_echo got heard_after got_by distance judge
+    hopper_reply common_reply reply_of ask asked asks_of asker after_echo got heard_after got_by distance judge accepted_between
     life_between close
 funding_wide = search
 
@@ -47,9 +47,11 @@ two_calls =
     coin_read
     ++ one (step.Crash (Some (record { addr = 2; calls = 2 })) 0) (entry.Crash 1)
     ∷ one (step.Command (command.Round 2)) (entry.Taken (command.Round 2))
+    ∷ one (step.Next 2) (wire 2 "020001e11c" "020001e11c01030200010000f9")
     ∷ one (step.Next 2) (wire 2 "020001e518" "020001e518010b02000105010000000000000000eb")
     ∷ one (step.Next 2) (wire 2 "020001e617" "020001e61701020200fffffd")
-    ∷ both (step.Next 2) (entry.Put (record_of.Reading 2 1 0 (coin 5 1 ∷ []))) (entry.Ended 2 end_of.Posted)
+    ∷ one (step.Next 2) (wire 2 "020001e11c" "020001e11c01030200010000f9")
+    ∷ both (step.Next 2) (entry.Put (record_of.Reading 2 1 0 1 (coin 5 1 ∷ []))) (entry.Ended 2 end_of.Posted)
     ∷ []
 
 -- after three it may be lost
@@ -58,9 +60,11 @@ three_calls_lost =
     coin_read
     ++ one (step.Crash (Some (record { addr = 2; calls = 3 })) 0) (entry.Crash 1)
     ∷ one (step.Command (command.Round 2)) (entry.Taken (command.Round 2))
+    ∷ one (step.Next 2) (wire 2 "020001e11c" "020001e11c01030200010000f9")
     ∷ one (step.Next 2) (wire 2 "020001e518" "020001e518010b02000105010000000000000000eb")
     ∷ one (step.Next 2) (wire 2 "020001e617" "020001e61701020200fffffd")
-    ∷ both (step.Next 2) (entry.Put (record_of.Reading 2 1 0 (coin 5 1 ∷ []))) (entry.Ended 2 end_of.Posted)
+    ∷ one (step.Next 2) (wire 2 "020001e11c" "020001e11c01030200010000f9")
+    ∷ both (step.Next 2) (entry.Put (record_of.Reading 2 1 0 1 (coin 5 1 ∷ []))) (entry.Ended 2 end_of.Posted)
     ∷ []
 
 abbrev three_calls_lost_too : List Row
@@ -68,19 +72,23 @@ three_calls_lost_too =
     coin_read
     ++ one (step.Crash (Some (record { addr = 2; calls = 3 })) 3) (entry.Crash 1)
     ∷ one (step.Command (command.Round 2)) (entry.Taken (command.Round 2))
+    ∷ one (step.Next 2) (wire 2 "020001e11c" "020001e11c01030200010000f9")
     ∷ one (step.Next 2) (wire 2 "020001e518" "020001e518010b02000105010000000000000000eb")
     ∷ one (step.Next 2) (wire 2 "020001e617" "020001e61701020200fffffd")
-    ∷ both (step.Next 2) (entry.Put (record_of.Reading 2 1 0 (coin 5 1 ∷ []))) (entry.Ended 2 end_of.Posted)
+    ∷ one (step.Next 2) (wire 2 "020001e11c" "020001e11c01030200010000f9")
+    ∷ both (step.Next 2) (entry.Put (record_of.Reading 2 1 0 1 (coin 5 1 ∷ []))) (entry.Ended 2 end_of.Posted)
     ∷ []
 
 -- after three it may be kept: the next round is clean
 abbrev three_calls_kept : List Row
 three_calls_kept =
     coin_read
-    ++ both (step.Crash (Some (record { addr = 2; calls = 3 })) 1) (entry.Crash 2) (entry.Kept (record_of.Reading 2 1 0 (coin 5 1 ∷ [])))
+    ++ both (step.Crash (Some (record { addr = 2; calls = 3 })) 1) (entry.Crash 2) (entry.Kept (record_of.Reading 2 1 0 1 (coin 5 1 ∷ [])))
     ∷ one (step.Command (command.Round 2)) (entry.Taken (command.Round 2))
+    ∷ one (step.Next 2) (wire 2 "020001e11c" "020001e11c01030200010000f9")
     ∷ one (step.Next 2) (wire 2 "020001e518" "020001e518010b02000105010000000000000000eb")
-    ∷ both (step.Next 2) (wire 2 "020001e617" "020001e61701020200fffffd") (entry.Ended 2 end_of.Clean)
+    ∷ one (step.Next 2) (wire 2 "020001e617" "020001e61701020200fffffd")
+    ∷ both (step.Next 2) (wire 2 "020001e11c" "020001e11c01030200010000f9") (entry.Ended 2 end_of.Clean)
     ∷ one (step.Next 2) (entry.Idle 2)
     ∷ []
 
@@ -88,10 +96,12 @@ three_calls_kept =
 abbrev pub four_calls : List Row
 four_calls =
     coin_read
-    ++ both (step.Crash (Some (record { addr = 2; calls = 4 })) 0) (entry.Crash 2) (entry.Kept (record_of.Reading 2 1 0 (coin 5 1 ∷ [])))
+    ++ both (step.Crash (Some (record { addr = 2; calls = 4 })) 0) (entry.Crash 2) (entry.Kept (record_of.Reading 2 1 0 1 (coin 5 1 ∷ [])))
     ∷ one (step.Command (command.Round 2)) (entry.Taken (command.Round 2))
+    ∷ one (step.Next 2) (wire 2 "020001e11c" "020001e11c01030200010000f9")
     ∷ one (step.Next 2) (wire 2 "020001e518" "020001e518010b02000105010000000000000000eb")
-    ∷ both (step.Next 2) (wire 2 "020001e617" "020001e61701020200fffffd") (entry.Ended 2 end_of.Clean)
+    ∷ one (step.Next 2) (wire 2 "020001e617" "020001e61701020200fffffd")
+    ∷ both (step.Next 2) (wire 2 "020001e11c" "020001e11c01030200010000f9") (entry.Ended 2 end_of.Clean)
     ∷ one (step.Next 2) (entry.Idle 2)
     ∷ []
 
@@ -224,13 +234,16 @@ epoch_kept =
     one (step.Command (command.Start 2 65535)) (entry.Taken (command.Start 2 65535))
     ∷ one (step.Next 2) (wire 2 "02000101fc" "02000101fc01000200fd")
     ∷ one (step.Next 2) (wire 2 "020001e518" "020001e518010b02000000000000000000000000f2")
-    ∷ both (step.Crash (Some (record { addr = 2; calls = 4 })) 0) (entry.Crash 1) (entry.Kept (record_of.Epoch 2 65535))
+    ∷ one (step.Next 2) (wire 2 "020001e11c" "020001e11c01030200000000fa")
+    ∷ both (step.Crash (Some (record { addr = 2; calls = 4 })) 0) (entry.Crash 1) (entry.Kept (record_of.Epoch 2 65535 0))
     ∷ one (step.Coin 2 5) (entry.Inhibited 2 5)
     ∷ one (step.Command (command.Start 2 65535)) (entry.No (command.Start 2 65535) command_no.EpochRuns)
     ∷ one (step.Command (command.Round 2)) (entry.Taken (command.Round 2))
+    ∷ one (step.Next 2) (wire 2 "020001e11c" "020001e11c01030200000000fa")
     ∷ one (step.Next 2) (wire 2 "020001e518" "020001e518010b02000100020000000000000000ef")
     ∷ one (step.Next 2) (wire 2 "020001e617" "020001e617010202000000fb")
-    ∷ both (step.Next 2) (entry.Put (record_of.Broken 2 0 1 [])) (entry.Ended 2 end_of.Broke)
+    ∷ one (step.Next 2) (wire 2 "020001e11c" "020001e11c01030200000000fa")
+    ∷ both (step.Next 2) (entry.Put (record_of.Broken 2 0 1 0 0 [])) (entry.Ended 2 end_of.Broke)
     ∷ []
 
 -- an epoch is not kept, and none runs
@@ -239,6 +252,7 @@ epoch_not_kept =
     one (step.Command (command.Start 2 65535)) (entry.Taken (command.Start 2 65535))
     ∷ one (step.Next 2) (wire 2 "02000101fc" "02000101fc01000200fd")
     ∷ one (step.Next 2) (wire 2 "020001e518" "020001e518010b02000000000000000000000000f2")
+    ∷ one (step.Next 2) (wire 2 "020001e11c" "020001e11c01030200000000fa")
     ∷ one (step.Crash (Some (record { addr = 2; calls = 1 })) 0) (entry.Crash 0)
     ∷ one (step.Command (command.Round 2)) (entry.No (command.Round 2) command_no.NoEpoch)
     ∷ one (step.Command (command.Start 2 65535)) (entry.Taken (command.Start 2 65535))
@@ -250,7 +264,8 @@ fault_stays =
     one (step.Fault (fault.HostHears [])) (entry.Fault (fault.HostHears []))
     ∷ one (step.Crash None 0) (entry.Crash 2)
     ∷ one (step.Command (command.Round 2)) (entry.Taken (command.Round 2))
-    ∷ one (step.Next 2) (wire 2 "020001e518" "020001e518")
+    ∷ one (step.Next 2) (wire 2 "020001e11c" "020001e11c")
+    ∷ one (step.Next 2) (wire 2 "020001e11c" "020001e11c01030200010000f9")
     ∷ one (step.Next 2) (wire 2 "020001e518" "020001e518010b02000105010000000000000000eb")
     ∷ []
 
@@ -271,24 +286,24 @@ two_hoppers =
 
 two_hoppers_plays : Plays 65535 wide funded two_hoppers
 unfolding message spelling data_of request_of requests_with form_of reply_data reply_in has_place acceptor_reply
-    hopper_reply common_reply reply_of ask asked asks_of asker after_echo got heard_after got_by distance judge
+    hopper_reply common_reply reply_of ask asked asks_of asker after_echo got heard_after got_by distance judge accepted_between
     life_between close
 two_hoppers_plays = search
 
 -- each of the runs over a started acceptor is played
 started_play : AllPlay setup started (two_calls ∷ three_calls_lost ∷ three_calls_lost_too ∷ three_calls_kept ∷ four_calls ∷ [])
 unfolding message spelling data_of request_of requests_with form_of reply_data reply_in has_place acceptor_reply
-    hopper_reply common_reply reply_of ask asked asks_of asker after_echo got heard_after got_by distance judge
+    hopper_reply common_reply reply_of ask asked asks_of asker after_echo got heard_after got_by distance judge accepted_between
     life_between close
 started_play = (
-  (refl, (refl, ((refl, refl), ((refl, refl), (inl (omega arith, refl), (refl, ((refl, refl), ((refl, refl), ((refl, refl), tt))))))))),
+  (search, (search, (search, (search, (search, (search, (inl (omega arith, refl), search))))))),
   (
-    (refl, (refl, ((refl, refl), ((refl, refl), (inl (omega arith, refl), (refl, ((refl, refl), ((refl, refl), ((refl, refl), tt))))))))),
+    (search, (search, (search, (search, (search, (search, (inl (omega arith, refl), search))))))),
     (
-      (refl, (refl, ((refl, refl), ((refl, refl), (inl (omega arith, refl), (refl, ((refl, refl), ((refl, refl), ((refl, refl), tt))))))))),
+      (search, (search, (search, (search, (search, (search, (inl (omega arith, refl), search))))))),
       (
-        (refl, (refl, ((refl, refl), ((refl, refl), (inr (omega arith, refl), (refl, ((refl, refl), ((refl, refl), ((refl, refl), tt))))))))),
-        ((refl, (refl, ((refl, refl), ((refl, refl), (inr (omega arith, refl), (refl, ((refl, refl), ((refl, refl), ((refl, refl), tt))))))))), tt),
+        (search, (search, (search, (search, (search, (search, (inr (omega arith, refl), search))))))),
+        ((search, (search, (search, (search, (search, (search, (inr (omega arith, refl), search))))))), tt),
       ),
     ),
   ),
@@ -297,7 +312,7 @@ started_play = (
 -- each of those of payments and sales, and of a fault
 funded_play : AllPlay setup funded (settled_after ∷ still_open ∷ order_not_kept ∷ order_kept ∷ goes_on_falling ∷ close_not_kept ∷ close_kept ∷ calls_of_nothing ∷ sale_kept ∷ sale_not_kept ∷ fault_stays ∷ [])
 unfolding message spelling data_of request_of requests_with form_of reply_data reply_in has_place acceptor_reply
-    hopper_reply common_reply reply_of ask asked asks_of asker after_echo got heard_after got_by distance judge
+    hopper_reply common_reply reply_of ask asked asks_of asker after_echo got heard_after got_by distance judge accepted_between
     life_between close
 funded_play = (
   search,
@@ -334,9 +349,9 @@ funded_play = (
 -- and each of those of a first epoch
 unstarted_play : AllPlay setup [] (epoch_kept ∷ epoch_not_kept ∷ [])
 unfolding message spelling data_of request_of requests_with form_of reply_data reply_in has_place acceptor_reply
-    hopper_reply common_reply reply_of ask asked asks_of asker after_echo got heard_after got_by distance judge
+    hopper_reply common_reply reply_of ask asked asks_of asker after_echo got heard_after got_by distance judge accepted_between
     life_between close
 unstarted_play = (
-  (refl, ((refl, refl), ((refl, refl), (inr (omega arith, refl), (refl, (refl, (refl, ((refl, refl), ((refl, refl), ((refl, refl), tt)))))))))),
-  ((refl, ((refl, refl), ((refl, refl), (inl (omega arith, refl), (refl, (refl, tt)))))), tt),
+  (search, (search, (search, (search, (inr (omega arith, refl), search))))),
+  ((search, (search, (search, (search, (inl (omega arith, refl), search))))), tt),
 )

@@ -12,7 +12,7 @@ use Rattle.cct_model.specs.Reply.{Reply}
 use Rattle.cct_model.specs.Reply as reply
 use Rattle.cct_model.specs.Line.{Line, exchange}
 use Rattle.cct_model.specs.Order.{is_marked}
-use Rattle.cct_model.specs.Job.{sends, Payment, payment_in, judged_in, address_of, state_row}
+use Rattle.cct_model.specs.Job.{sends, Noted, noted_in, judged_in, address_of, state_row}
 use Rattle.cct_model.specs.Rows.{TableRow, asks_for, asks_once, waits_for_coins, puts_due, after, done, rest, first, row, sent_once, ends_first, has_waits}
 use Rattle.cct_model.proofs.Requests.{is_asked_again, IsAgain}
 use Rattle.cct_model.proofs.Tries.{FailsAs, fails_as, left_asks, due_sends, same_request}
@@ -56,9 +56,9 @@ once_goes rows asked got since once =
 -- a row that asks is the first that isn't done
 pub rest_asks : (d : DeviceSetup) (c : Command) (since : List Line) (state : EpochState) (owed : Option OpenOrder)
     (q : Request) → row d c since state owed ≡ sends q →
-    first (address_of c) (judged_in c since state) (payment_in since owed) (rest d c since) ≡ sends q
+    first (address_of c) (judged_in c since state) (noted_in since owed) (rest d c since) ≡ sends q
 rest_asks d c since state owed q is =
-    subst (λ rows. first (address_of c) (judged_in c since state) (payment_in since owed) rows ≡ sends q)
+    subst (λ rows. first (address_of c) (judged_in c since state) (noted_in since owed) rows ≡ sends q)
     (left_asks d c since state owed q is) is
 
 -- an answer ends the row, or the row waits for a payout
@@ -68,7 +68,7 @@ AnswersAs rows marked q =
     ⊎ ((has_waits rows ≡ true) × (state_row marked ≡ sends q)
     × ((y : Reply) → ends_first rows (Some y) ≡ ends_first (waits_for_coins ∷ []) (Some y)))
 
-answers_first : (addr : ℕ) (means : Judged) (p : Payment) (rows : List TableRow) (q : Request) →
+answers_first : (addr : ℕ) (means : Judged) (p : Noted) (rows : List TableRow) (q : Request) →
     first addr means p rows ≡ sends q → AnswersAs rows p.is_marked q
 answers_first addr means p [] q is = absurd cc
 answers_first addr means p (asks_for x behind ∷ rows) q is = inl (λ y. refl)
@@ -83,7 +83,7 @@ answers_first addr means p (puts_due due behind ∷ rows) q is = absurd (due_sen
 pub answers_as : (d : DeviceSetup) (c : Command) (since : List Line) (state : EpochState) (owed : Option OpenOrder)
     (q : Request) → row d c since state owed ≡ sends q → AnswersAs (rest d c since) (is_marked since) q
 answers_as d c since state owed q is =
-    answers_first (address_of c) (judged_in c since state) (payment_in since owed) (rest d c since) q
+    answers_first (address_of c) (judged_in c since state) (noted_in since owed) (rest d c since) q
     (rest_asks d c since state owed q is)
 
 -- whether the row that asks is sent once is told by its request, and tells it
@@ -121,7 +121,7 @@ abbrev pub IfOnce : (Request → Type 0) → TableRow → Type 0
 IfOnce P (asks_once q behind without) = P q
 IfOnce P r = ⊤
 
-pub once_sent : (P : Request → Type 0) (addr : ℕ) (means : Judged) (p : Payment) (rows : List TableRow) (q : Request) →
+pub once_sent : (P : Request → Type 0) (addr : ℕ) (means : Judged) (p : Noted) (rows : List TableRow) (q : Request) →
     first addr means p rows ≡ sends q → sent_once rows ≡ true → EachRow (IfOnce P) rows → P q
 once_sent P addr means p [] q is once each = absurd cc
 once_sent P addr means p (asks_for x behind ∷ rows) q is once each = absurd cc

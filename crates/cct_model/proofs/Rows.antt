@@ -12,7 +12,7 @@ use Rattle.cct_model.specs.terms.request.Request.TheVariants.{GetStatus, StopNow
 use Rattle.cct_model.specs.lines.record.Record.{Record}
 use Rattle.cct_model.specs.lines.record.Record.TheVariants as record_of
 use Rattle.cct_model.specs.declared.judging.Judged.{Judged}
-use Rattle.cct_model.specs.declared.judging.Judged.TheVariants.{Nothing, Reading, Broken}
+use Rattle.cct_model.specs.declared.judging.Judged.TheVariants.{Nothing, Moved, Reading, Broken}
 use Rattle.cct_model.specs.declared.judging.EpochState.{EpochState}
 use Rattle.cct_model.specs.declared.judging.EpochState.TheVariants.{Idle, Running}
 use Rattle.cct_model.specs.declared.judging.OpenOrder.{OpenOrder}
@@ -20,14 +20,15 @@ use Rattle.cct_model.specs.lines.command.Command.{Command}
 use Rattle.cct_model.specs.lines.command.Command.TheVariants as command
 use Rattle.cct_model.specs.lines.entry.End.{End}
 use Rattle.cct_model.specs.lines.entry.End.TheVariants.{Unquiet, Clean, Broke, NoAnswer, Told, PathSet, Closed, OddLife}
+use Rattle.cct_model.specs.lines.entry.End.TheVariants as end_for
 use Rattle.cct_model.specs.lines.entry.Entry.{Entry}
 use Rattle.cct_model.specs.Reply.{Reply}
 use Rattle.cct_model.specs.Reply as reply
 use Rattle.cct_model.specs.Line.{Line, exchange, put}
 use Rattle.cct_model.specs.Reading.{judge}
 use Rattle.cct_model.specs.Order.{close, life_between}
-use Rattle.cct_model.specs.Job.{Row, sends, puts, no_row, put_or, Payment, payment_in, state_row, open_row, close_row, ident_requests, judged_by, judged_in, credits_read, mask_read, address_of, end_of_reading, end_of_close}
-use Rattle.cct_model.specs.Rows.{done, Then, goes_on, ends_as, if_quiet, if_judged, path_told, if_posted, if_closed, Due, new_epoch, reading, epoch_end, new_order, order_end, sale, TableRow, asks_for, asks_once, waits_for_coins, puts_due, telling, rows_of, after, from, left, rest, first, due_row, row, row_at, end_by_answer, end_by_record, end_bare, end_answered, end_failed, end_kept, end_of, has_waits, id_ahead, ends_first}
+use Rattle.cct_model.specs.Job.{Row, sends, puts, no_row, put_or, Noted, noted_in, begin_row, state_row, open_row, close_row, ident_requests, judged_by, judged_in, credits_read, mask_read, accepts_before, accepts_read, address_of, end_of_moving, end_of_reading, end_of_close}
+use Rattle.cct_model.specs.Rows.{done, Then, goes_on, ends_as, if_quiet, if_judged, if_unmoved, path_told, if_posted, if_closed, Due, new_epoch, reading, epoch_end, new_order, order_end, sale, TableRow, asks_for, asks_once, waits_for_coins, puts_due, telling, rows_of, after, from, left, rest, first, due_row, row, row_at, end_by_answer, end_by_record, end_bare, end_answered, end_failed, end_kept, end_of, has_waits, id_ahead, ends_first}
 use Rattle.cct_model.specs.Transcript.{owner, opened_at}
 use Rattle.cct_model.proofs.Requests.{Each}
 
@@ -47,31 +48,38 @@ both_hold P Q no_row asks keeps = tt
 -- a fact of the record that was judged, if there is one
 abbrev pub JudgedHolds : (Record → Type 0) → Judged → Type 0
 JudgedHolds Q Nothing = ⊤
+JudgedHolds Q Moved = ⊤
 JudgedHolds Q (Reading r) = Q r
 JudgedHolds Q (Broken r) = Q r
 
 pub any_judged : (judged : Judged) → JudgedHolds (λ r. ⊤) judged
 any_judged Nothing = tt
+any_judged Moved = tt
 any_judged (Reading r) = tt
 any_judged (Broken r) = tt
 
 -- what a reading of an address means, where the fact holds of each reading and each break of it
-pub judged_holds : (Q : Record → Type 0) (addr : ℕ) (state : EpochState) (credits : Option Credits) (seen : Option ℕ) →
-    ((counter lost : ℕ) (posted : List Coin) → Q (record_of.Reading addr counter lost posted)) →
-    ((mask counter : ℕ) (posted : List Coin) → Q (record_of.Broken addr mask counter posted)) →
-    JudgedHolds Q (judged_by addr state credits seen)
+pub judged_holds : (Q : Record → Type 0) (addr : ℕ) (state : EpochState) (credits : Option Credits)
+    (seen before now : Option ℕ) →
+    ((counter lost accepts : ℕ) (posted : List Coin) → Q (record_of.Reading addr counter lost accepts posted)) →
+    ((mask counter lost accepts : ℕ) (posted : List Coin) → Q (record_of.Broken addr mask counter lost accepts posted)) →
+    JudgedHolds Q (judged_by addr state credits seen before now)
 unfolding judge
-judged_holds Q addr (Running mask counter) (Some credits) (Some seen) reads breaks = by_tests _ _ _ _ _ _ _
+judged_holds Q addr (Running mask counter accepts) (Some credits) (Some seen) (Some before) (Some now) reads breaks =
+    by_tests _ _ _ _ _ _ _ _ _
   where
-    by_tests : (seen read lost : ℕ) (ps qs : List Coin) (broke none : Bool) →
-        JudgedHolds Q (cond broke (Broken (record_of.Broken addr seen read ps))
-        (cond none Nothing (Reading (record_of.Reading addr read lost qs))))
-    by_tests seen read lost ps qs true none = breaks seen read ps
-    by_tests seen read lost ps qs false true = tt
-    by_tests seen read lost ps qs false false = reads read lost qs
-judged_holds Q addr (Running mask counter) (Some credits) None reads breaks = tt
-judged_holds Q addr (Running mask counter) None seen reads breaks = tt
-judged_holds Q addr Idle credits seen reads breaks = tt
+    by_tests : (seen read lost now : ℕ) (ps qs : List Coin) (moved broke none : Bool) →
+        JudgedHolds Q (cond moved Moved (cond broke (Broken (record_of.Broken addr seen read lost now ps))
+        (cond none Nothing (Reading (record_of.Reading addr read lost now qs)))))
+    by_tests seen read lost now ps qs true broke none = tt
+    by_tests seen read lost now ps qs false true none = breaks seen read lost now ps
+    by_tests seen read lost now ps qs false false true = tt
+    by_tests seen read lost now ps qs false false false = reads read lost now qs
+judged_holds Q addr (Running mask counter accepts) (Some credits) (Some seen) (Some before) None reads breaks = tt
+judged_holds Q addr (Running mask counter accepts) (Some credits) (Some seen) None now reads breaks = tt
+judged_holds Q addr (Running mask counter accepts) (Some credits) None before now reads breaks = tt
+judged_holds Q addr (Running mask counter accepts) None seen before now reads breaks = tt
+judged_holds Q addr Idle credits seen before now reads breaks = tt
 
 -- a fact of each row of the table
 abbrev pub EachRow : (TableRow → Type 0) → List TableRow → Type 0
@@ -180,7 +188,7 @@ each_told F goes last (q ∷ r ∷ qs) = (goes q, each_told F goes last (r ∷ q
 
 -- the row at which a job stands is the first of those that are left
 pub walk : (F : TableRow → Type 0) (G : Row → Type 0) (d : DeviceSetup) (c : Command) (n : ℕ) (means : Judged)
-    (p : Payment) → G no_row →
+    (p : Noted) → G no_row →
     ((r : TableRow) (rows : List TableRow) → F r → G (first (address_of c) means p (r ∷ rows))) →
     EachRow F (rows_of d c) → G (row_at d c n means p)
 walk F G d c n means p none more each =
@@ -203,8 +211,9 @@ state_holds P Q true asks stops = stops
 state_holds P Q false asks stops = asks
 
 -- of the record that it puts, beside what was judged and what is known of a payout
-abbrev pub DueHolds : (Record → Type 0) → ℕ → Judged → Payment → Due → Type 0
-DueHolds Q addr means p (new_epoch mask) = Q (record_of.Epoch addr mask)
+abbrev pub DueHolds : (Record → Type 0) → ℕ → Judged → Noted → Due → Type 0
+DueHolds Q addr means p (new_epoch mask) =
+    (accepts : ℕ) → p.accepts ≡ Some accepts → Q (record_of.Epoch addr mask accepts)
 DueHolds Q addr means p reading = JudgedHolds Q means
 DueHolds Q addr means p epoch_end = Q (record_of.EpochEnd addr)
 DueHolds Q addr means p (new_order id count) =
@@ -212,6 +221,11 @@ DueHolds Q addr means p (new_order id count) =
 DueHolds Q addr means p order_end =
     (o : OpenOrder) (life : ℕ) → p.owed ≡ Some o → p.life ≡ Some life → Q (close o life)
 DueHolds Q addr means p (sale id price) = Q (record_of.Sold id price)
+
+begun_holds : (P : Request → Type 0) (Q : Record → Type 0) (addr mask : ℕ) (accepts : Option ℕ) →
+    ((found : ℕ) → accepts ≡ Some found → Q (record_of.Epoch addr mask found)) → RowHolds P Q (begin_row addr mask accepts)
+begun_holds P Q addr mask None holds = tt
+begun_holds P Q addr mask (Some accepts) holds = holds accepts refl
 
 opened_holds : (P : Request → Type 0) (Q : Record → Type 0) (addr id count : ℕ) (life : Option ℕ) →
     ((found : ℕ) → life ≡ Some found → Q (record_of.Opened id addr count found)) →
@@ -229,21 +243,22 @@ closed_holds P Q None life holds = tt
 judged_row : (P : Request → Type 0) (Q : Record → Type 0) (means : Judged) → JudgedHolds Q means →
     RowHolds P Q (put_or no_row means)
 judged_row P Q Nothing holds = tt
+judged_row P Q Moved holds = tt
 judged_row P Q (Reading r) holds = holds
 judged_row P Q (Broken r) holds = holds
 
-pub due_holds : (P : Request → Type 0) (Q : Record → Type 0) (addr : ℕ) (means : Judged) (p : Payment) (due : Due) →
+pub due_holds : (P : Request → Type 0) (Q : Record → Type 0) (addr : ℕ) (means : Judged) (p : Noted) (due : Due) →
     DueHolds Q addr means p due → RowHolds P Q (due_row addr means p due)
-due_holds P Q addr means p (new_epoch mask) holds = holds
+due_holds P Q addr means p (new_epoch mask) holds = begun_holds P Q addr mask p.accepts holds
 due_holds P Q addr means p reading holds = judged_row P Q means holds
 due_holds P Q addr means p epoch_end holds = holds
 due_holds P Q addr means p (new_order id count) holds = opened_holds P Q addr id count p.life holds
 due_holds P Q addr means p order_end holds = closed_holds P Q p.owed p.life holds
 due_holds P Q addr means p (sale id price) holds = holds
 
-pub any_due : (addr : ℕ) (means : Judged) (p : Payment) (due : Due) →
+pub any_due : (addr : ℕ) (means : Judged) (p : Noted) (due : Due) →
     DueHolds (λ r. ⊤) addr means p due
-any_due addr means p (new_epoch mask) = tt
+any_due addr means p (new_epoch mask) = λ accepts read. tt
 any_due addr means p reading = any_judged means
 any_due addr means p epoch_end = tt
 any_due addr means p (new_order id count) = λ life read. tt
@@ -251,7 +266,7 @@ any_due addr means p order_end = λ o life owed read. tt
 any_due addr means p (sale id price) = tt
 
 -- what each row of a command asks holds of the row at which its job stands
-pub each_ask : (P : Request → Type 0) (d : DeviceSetup) (c : Command) (n : ℕ) (means : Judged) (p : Payment) →
+pub each_ask : (P : Request → Type 0) (d : DeviceSetup) (c : Command) (n : ℕ) (means : Judged) (p : Noted) →
     EachRow (Asks P) (rows_of d c) → RowHolds P (λ r. ⊤) (row_at d c n means p)
 each_ask P d c n means p each = walk (Asks P) (RowHolds P (λ r. ⊤)) d c n means p tt by_row each
   where
@@ -293,12 +308,12 @@ device_puts d (command.Ident addr) = told_only is_at_device (ident_requests d.bo
 device_puts d c = refl
 
 -- a fact of what a row of the table puts
-abbrev pub Puts : (Record → Type 0) → ℕ → Judged → Payment → TableRow → Type 0
+abbrev pub Puts : (Record → Type 0) → ℕ → Judged → Noted → TableRow → Type 0
 Puts Q addr means p (puts_due due behind) = DueHolds Q addr means p due
 Puts Q addr means p r = ⊤
 
 -- what each row of a command puts holds of the row at which its job stands
-pub each_due : (Q : Record → Type 0) (d : DeviceSetup) (c : Command) (n : ℕ) (means : Judged) (p : Payment) →
+pub each_due : (Q : Record → Type 0) (d : DeviceSetup) (c : Command) (n : ℕ) (means : Judged) (p : Noted) →
     EachRow (Puts Q (address_of c) means p) (rows_of d c) → RowHolds (λ q. ⊤) Q (row_at d c n means p)
 each_due Q d c n means p each =
     walk (Puts Q (address_of c) means p) (RowHolds (λ q. ⊤) Q) d c n means p tt by_row each
@@ -311,7 +326,7 @@ each_due Q d c n means p each =
     by_row (puts_due due behind) rows holds = due_holds (λ q. ⊤) Q (address_of c) means p due holds
 
 -- each thing that these rows put passes a test
-pub puts_by : (Q : Record → Type 0) (test : Due → Bool) (addr : ℕ) (means : Judged) (p : Payment) →
+pub puts_by : (Q : Record → Type 0) (test : Due → Bool) (addr : ℕ) (means : Judged) (p : Noted) →
     ((due : Due) → test due ≡ true → DueHolds Q addr means p due) → (rows : List TableRow) →
     puts_only test rows ≡ true → EachRow (Puts Q addr means p) rows
 puts_by Q test addr means p holds [] only = tt
@@ -324,14 +339,14 @@ puts_by Q test addr means p holds (asks_once q behind without ∷ rows) only =
 puts_by Q test addr means p holds (waits_for_coins ∷ rows) only = (tt, puts_by Q test addr means p holds rows only)
 
 pub each_put : (Q : Record → Type 0) (test : Due → Bool) (d : DeviceSetup) (c : Command) (n : ℕ) (means : Judged)
-    (p : Payment) → puts_only test (rows_of d c) ≡ true →
+    (p : Noted) → puts_only test (rows_of d c) ≡ true →
     ((due : Due) → test due ≡ true → DueHolds Q (address_of c) means p due) →
     RowHolds (λ q. ⊤) Q (row_at d c n means p)
 each_put Q test d c n means p only holds =
     each_due Q d c n means p (puts_by Q test (address_of c) means p holds (rows_of d c) only)
 
 -- the row of a question, and the end that its answer brings
-pub told_first : (addr : ℕ) (qs : List Request) (n : ℕ) (means : Judged) (p : Payment) (q : Request) →
+pub told_first : (addr : ℕ) (qs : List Request) (n : ℕ) (means : Judged) (p : Noted) (q : Request) →
     slice_get qs n ≡ Some q → first addr means p (from (after (telling qs) n) means) ≡ sends q
 told_first addr [] n means p q is = absurd cc
 told_first addr (x ∷ []) zero means p q is = cc
@@ -382,7 +397,8 @@ abbrev pub Behind : (End → Type 0) → Then → Type 0
 Behind P goes_on = ⊤
 Behind P (ends_as end) = P end
 Behind P if_quiet = (counter : ℕ) → P (Unquiet counter)
-Behind P if_judged = P Clean
+Behind P if_judged = P Clean × P end_for.Moved
+Behind P if_unmoved = P end_for.Moved
 Behind P (path_told place) = (number : ℕ) → P (PathSet place number)
 Behind P (if_posted of_reading) = IfEnd P of_reading × P Broke
 Behind P if_closed = P Closed × P OddLife
@@ -409,10 +425,17 @@ quiet_end : (P : End → Type 0) (quiet : Bool) (end : End) → P end → IfEnd 
 quiet_end P true end holds = tt
 quiet_end P false end holds = holds
 
-reading_end : (P : End → Type 0) (means : Judged) → P Clean → IfEnd P (end_of_reading means)
-reading_end P Nothing holds = holds
-reading_end P (Reading r) holds = tt
-reading_end P (Broken r) holds = tt
+moving_end : (P : End → Type 0) (means : Judged) → P end_for.Moved → IfEnd P (end_of_moving means)
+moving_end P Nothing moved = tt
+moving_end P Moved moved = moved
+moving_end P (Reading r) moved = tt
+moving_end P (Broken r) moved = tt
+
+reading_end : (P : End → Type 0) (means : Judged) → P Clean → P end_for.Moved → IfEnd P (end_of_reading means)
+reading_end P Nothing clean moved = clean
+reading_end P Moved clean moved = moved
+reading_end P (Reading r) clean moved = tt
+reading_end P (Broken r) clean moved = tt
 
 close_end : (P : End → Type 0) (r : Record) → P Closed → P OddLife → IfEnd P (end_of_close r)
 close_end P (record_of.Closed id paid unpaid) closed odd = closed
@@ -426,7 +449,8 @@ behind_answer P (ends_as end) y means holds = holds
 behind_answer P if_quiet (reply.credits c) means holds =
     quiet_end P (c.counter == 0) (Unquiet c.counter) (holds c.counter)
 behind_answer P if_quiet y means holds = tt
-behind_answer P if_judged y means holds = reading_end P means holds
+behind_answer P if_judged y means holds = reading_end P means holds.0 holds.1
+behind_answer P if_unmoved y means holds = moving_end P means holds
 behind_answer P (path_told place) (reply.path number) means holds = holds number
 behind_answer P (path_told place) y means holds = tt
 behind_answer P (if_posted of_reading) y means holds = tt
@@ -442,9 +466,10 @@ behind_record P goes_on r holds = tt
 behind_record P (ends_as end) r holds = holds
 behind_record P if_quiet r holds = tt
 behind_record P if_judged r holds = tt
+behind_record P if_unmoved r holds = tt
 behind_record P (path_told place) r holds = tt
-behind_record P (if_posted of_reading) (record_of.Reading addr counter lost coins) holds = holds.0
-behind_record P (if_posted of_reading) (record_of.Broken addr seen counter coins) holds = holds.1
+behind_record P (if_posted of_reading) (record_of.Reading addr counter lost accepts coins) holds = holds.0
+behind_record P (if_posted of_reading) (record_of.Broken addr seen counter lost accepts coins) holds = holds.1
 behind_record P (if_posted of_reading) r holds = tt
 behind_record P if_closed r holds = close_end P r holds.0 holds.1
 
@@ -489,10 +514,10 @@ exchange_end P d c (Some q) None since state answered bare given_up = failed_end
 kept_end : (P : End → Type 0) (rows : List TableRow) (r : Record) → EachRow (PutEnds P) rows →
     IfEnd P (end_kept rows r)
 kept_end P [] r each = tt
-kept_end P (puts_due reading behind ∷ rows) (record_of.Reading addr counter lost coins) each =
-    behind_record P behind (record_of.Reading addr counter lost coins) each.0
-kept_end P (puts_due reading behind ∷ rows) (record_of.Broken addr seen counter coins) each =
-    behind_record P behind (record_of.Broken addr seen counter coins) each.0
+kept_end P (puts_due reading behind ∷ rows) (record_of.Reading addr counter lost accepts coins) each =
+    behind_record P behind (record_of.Reading addr counter lost accepts coins) each.0
+kept_end P (puts_due reading behind ∷ rows) (record_of.Broken addr seen counter lost accepts coins) each =
+    behind_record P behind (record_of.Broken addr seen counter lost accepts coins) each.0
 kept_end P (puts_due reading behind ∷ rows) r each = kept_end P rows r each.1
 kept_end P (puts_due (new_epoch mask) behind ∷ rows) r each = behind_record P behind r each.0
 kept_end P (puts_due epoch_end behind ∷ rows) r each = behind_record P behind r each.0
@@ -514,10 +539,11 @@ IsRecordOf past addr r = owner past r ≡ addr
 abbrev pub IsOwned : List Entry → ℕ → Row → Type 0
 IsOwned past addr r = RowHolds (λ q. ⊤) (IsRecordOf past addr) r
 
-judged_owned : (past : List Entry) (addr : ℕ) (state : EpochState) (credits : Option Credits) (seen : Option ℕ) →
-    JudgedHolds (IsRecordOf past addr) (judged_by addr state credits seen)
-judged_owned past addr state credits seen =
-    judged_holds (IsRecordOf past addr) addr state credits seen (λ counter lost posted. refl) (λ mask counter posted. refl)
+judged_owned : (past : List Entry) (addr : ℕ) (state : EpochState) (credits : Option Credits) (seen before now : Option ℕ) →
+    JudgedHolds (IsRecordOf past addr) (judged_by addr state credits seen before now)
+judged_owned past addr state credits seen before now =
+    judged_holds (IsRecordOf past addr) addr state credits seen before now (λ counter lost accepts posted. refl)
+    (λ mask counter lost accepts posted. refl)
 
 -- the record that closes an order is of the address at which it was opened
 pub close_owned : (past : List Entry) (o : OpenOrder) (life : ℕ) → owner past (close o life) ≡ opened_at o.id past
@@ -535,13 +561,14 @@ pub row_owned : (past : List Entry) (d : DeviceSetup) (c : Command) (since : Lis
     (owed : Option OpenOrder) → ((o : OpenOrder) → owed ≡ Some o → opened_at o.id past ≡ address_of c) →
     IsOwned past (address_of c) (row d c since state owed)
 row_owned past d c since state owed owned =
-    each_put (IsRecordOf past (address_of c)) is_at_device d c (done (rows_of d c) since) (judged_in c since state) (payment_in since owed)
+    each_put (IsRecordOf past (address_of c)) is_at_device d c (done (rows_of d c) since) (judged_in c since state) (noted_in since owed)
     (device_puts d c) due_owned
   where
     due_owned : (due : Due) → is_at_device due ≡ true →
-        DueHolds (IsRecordOf past (address_of c)) (address_of c) (judged_in c since state) (payment_in since owed) due
-    due_owned (new_epoch mask) here = refl
-    due_owned reading here = judged_owned past (address_of c) state (credits_read since) (mask_read since)
+        DueHolds (IsRecordOf past (address_of c)) (address_of c) (judged_in c since state) (noted_in since owed) due
+    due_owned (new_epoch mask) here = λ accepts read. refl
+    due_owned reading here =
+        judged_owned past (address_of c) state (credits_read since) (mask_read since) (accepts_before since) (accepts_read since)
     due_owned epoch_end here = refl
     due_owned (new_order id count) here = λ life read. refl
     due_owned order_end here = λ o life is read. close_owned past o life ∙ owned o is

@@ -16,7 +16,7 @@ use Rattle.cct_model.specs.lines.entry.End.{End}
 use Rattle.cct_model.specs.lines.entry.End.TheVariants.{NoAnswer}
 use Rattle.cct_model.specs.Request.{header_of}
 use Rattle.cct_model.specs.Line.{Line, exchange}
-use Rattle.cct_model.specs.Job.{sends, Payment, payment_in, judged_in, address_of, ident_requests, state_row, end_of_tries, tries}
+use Rattle.cct_model.specs.Job.{sends, Noted, noted_in, judged_in, address_of, ident_requests, state_row, end_of_tries, tries}
 use Rattle.cct_model.specs.Rows.{Due, reading, TableRow, asks_for, asks_once, waits_for_coins, puts_due, telling, rows_of, from, done, rest, left, first, due_row, row, sent_once, end_failed}
 use Rattle.cct_model.proofs.Requests.{is_asked_again, IsAgain, Each}
 use Rattle.cct_model.proofs.Rows.{IfEnd, RowHolds, EachRow, fact_after, EachBefore, before_on, told_fact, told_each, AnswerEnds, PutEnds, Behind, each_left, each_told, due_holds, any_due, behind_bare}
@@ -92,11 +92,11 @@ pub state_again : (marked : Bool) (q : Request) → state_row marked ≡ sends q
 state_again true q is = subst IsAgain (same_request StopNow q is) refl
 state_again false q is = subst IsAgain (same_request GetStatus q is) refl
 
-pub due_sends : (addr : ℕ) (means : Judged) (p : Payment) (due : Due) (q : Request) → due_row addr means p due ≡ sends q → ⊥
+pub due_sends : (addr : ℕ) (means : Judged) (p : Noted) (due : Due) (q : Request) → due_row addr means p due ≡ sends q → ⊥
 due_sends addr means p due q is =
     subst (RowHolds (λ x. ⊥) (λ r. ⊤)) is (due_holds (λ x. ⊥) (λ r. ⊤) addr means p due (any_due addr means p due))
 
-pub fails_first : (addr : ℕ) (means : Judged) (p : Payment) (rows : List TableRow) (q : Request) → EachRow AsksWell rows →
+pub fails_first : (addr : ℕ) (means : Judged) (p : Noted) (rows : List TableRow) (q : Request) → EachRow AsksWell rows →
     first addr means p rows ≡ sends q → FailsAs rows q
 fails_first addr means p [] q each is = absurd cc
 fails_first addr means p (asks_for x behind ∷ rows) q each is =
@@ -113,7 +113,7 @@ fails_first addr means p (puts_due due behind ∷ rows) q each is = absurd (due_
 pub fails_as : (d : DeviceSetup) (c : Command) (since : List Line) (state : EpochState) (owed : Option OpenOrder)
     (q : Request) → row d c since state owed ≡ sends q → FailsAs (left d c since state) q
 fails_as d c since state owed q is =
-    fails_first (address_of c) (judged_in c since state) (payment_in since owed) (left d c since state) q
+    fails_first (address_of c) (judged_in c since state) (noted_in since owed) (left d c since state) q
     (each_left AsksWell d c since state (asks_well d c)) is
 
 -- a row that asks is the first that isn't done: none stands right after one that puts a reading
@@ -134,7 +134,7 @@ reads_well : (d : DeviceSetup) (c : Command) → ReadsWell (rows_of d c)
 reads_well d (command.Ident addr) = told_fact ReadsWell tt (λ q behind rows each. (tt, each)) (ident_requests d.body)
 reads_well d c = search rules
 
-sends_asks : (addr : ℕ) (means : Judged) (p : Payment) (rows : List TableRow) (q : Request) →
+sends_asks : (addr : ℕ) (means : Judged) (p : Noted) (rows : List TableRow) (q : Request) →
     first addr means p rows ≡ sends q → asks_first rows ≡ true
 sends_asks addr means p [] q is = absurd cc
 sends_asks addr means p (asks_for x behind ∷ rows) q is = refl
@@ -158,4 +158,4 @@ pub left_asks : (d : DeviceSetup) (c : Command) (since : List Line) (state : Epo
 left_asks d c since state owed q is =
     from_asks (rest d c since) (judged_in c since state)
     (fact_after ReadsWell (before_on ReadsLast) (rows_of d c) (done (rows_of d c) since) (reads_well d c))
-    (sends_asks (address_of c) (judged_in c since state) (payment_in since owed) (left d c since state) q is)
+    (sends_asks (address_of c) (judged_in c since state) (noted_in since owed) (left d c since state) q is)

@@ -7,7 +7,7 @@ use Rattle.cct_model.specs.terms.coin.Coin.{Coin}
 use Rattle.cct_model.specs.terms.coin.Credits.{Credits}
 use Rattle.cct_model.specs.terms.device.DeviceSetup.{DeviceSetup}
 use Rattle.cct_model.specs.terms.device.Setup.{Setup}
-use Rattle.cct_model.specs.terms.request.Request.TheVariants.{ResetDevice, ReadCredits, SetMask}
+use Rattle.cct_model.specs.terms.request.Request.TheVariants.{ResetDevice, ReadCredits, SetMask, AcceptCount}
 use Rattle.cct_model.specs.terms.request.ReplyForm.TheVariants as form
 use Rattle.cct_model.specs.lines.command.Command.{Command}
 use Rattle.cct_model.specs.lines.command.Command.TheVariants as command
@@ -15,11 +15,11 @@ use Rattle.cct_model.specs.lines.command.WireFault.TheVariants as fault
 use Rattle.cct_model.specs.lines.record.Record.TheVariants as record_of
 use Rattle.cct_model.specs.lines.entry.End.TheVariants.{StartUnsure}
 use Rattle.cct_model.specs.lines.entry.Entry.TheVariants as entry
-use Rattle.cct_model.specs.declared.judging.Judged.TheVariants.{Reading, Broken}
+use Rattle.cct_model.specs.declared.judging.Judged.TheVariants.{Nothing, Moved, Reading, Broken}
 use Rattle.cct_model.specs.declared.judging.EpochState.TheVariants.{Idle, Running}
 use Rattle.cct_model.specs.Message.{message, spelling, crc}
 use Rattle.cct_model.specs.Request.{request_of, requests_with}
-use Rattle.cct_model.specs.Reply.{reply_in, reply_data, ack, credits}
+use Rattle.cct_model.specs.Reply.{reply_in, reply_data, ack, accepts, credits}
 use Rattle.cct_model.specs.Device.{common_reply, reply_of}
 use Rattle.cct_model.specs.Acceptor.{acceptor_reply}
 use Rattle.cct_model.specs.Exchange.{after_echo, asker, asks_of, got}
@@ -30,7 +30,7 @@ use Rattle.cct_model.specs.Job.{sends, puts}
 use Rattle.cct_model.specs.Rows.{row, end_of}
 use Rattle.cct_model.specs.Scan.{scan_row, next_due}
 use Rattle.cct_model.specs.Transcript.{heard_after}
-use Rattle.cct_model.specs.Reading.{distance, judge}
+use Rattle.cct_model.specs.Reading.{distance, accepted_between, judge}
 
 from_first : distance 0 254 ≡ 254
 unfolding distance
@@ -75,21 +75,40 @@ two_coins = record { place = 6; path = 1 } ∷ one_coin
 abbrev four_coins : List Coin
 four_coins = record { place = 5; path = 3 } ∷ record { place = 6; path = 2 } ∷ two_coins
 
-posts_the_newest : judge 2 48 255 (read 1) 48 ≡ Reading (record_of.Reading 2 1 0 one_coin)
-unfolding judge distance
+posts_the_newest : judge 2 48 255 10 (read 1) 48 11 11 ≡ Reading (record_of.Reading 2 1 0 11 one_coin)
+unfolding judge distance accepted_between
 posts_the_newest = refl
 
-posts_oldest_first : judge 2 48 254 (read 2) 48 ≡ Reading (record_of.Reading 2 2 0 two_coins)
-unfolding judge distance
+-- three coins were accepted, and the newest three events are two coins and an error
+posts_oldest_first : judge 2 48 254 10 (read 2) 48 13 13 ≡ Reading (record_of.Reading 2 2 1 13 two_coins)
+unfolding judge distance accepted_between
 posts_oldest_first = refl
 
-tells_the_overrun : judge 2 48 1 (read 255) 48 ≡ Reading (record_of.Reading 2 255 249 four_coins)
-unfolding judge distance
-tells_the_overrun = refl
+tells_the_lost : judge 2 48 1 10 (read 255) 48 264 264 ≡ Reading (record_of.Reading 2 255 250 264 four_coins)
+unfolding judge distance accepted_between
+tells_the_lost = refl
 
-a_break_posts : judge 2 48 254 (read 2) 0 ≡ Broken (record_of.Broken 2 0 2 two_coins)
-unfolding judge distance
+-- the accept counter goes round, and the event counter has gone round unseen: no coin is posted, and 255 are lost
+counts_go_round : judge 2 48 1 16777215 (read 1) 48 254 254 ≡ Reading (record_of.Reading 2 1 255 254 [])
+unfolding judge distance accepted_between
+counts_go_round = refl
+
+nothing_came : judge 2 48 7 10 (read 7) 48 10 10 ≡ Nothing
+unfolding judge distance accepted_between
+nothing_came = refl
+
+a_coin_between : judge 2 48 254 10 (read 2) 48 12 13 ≡ Moved
+unfolding judge distance accepted_between
+a_coin_between = refl
+
+-- a break goes by the second accept counter, whether or not the two agree
+a_break_posts : judge 2 48 254 10 (read 2) 0 12 13 ≡ Broken (record_of.Broken 2 0 2 1 13 two_coins)
+unfolding judge distance accepted_between
 a_break_posts = refl
+
+a_reset_breaks : judge 2 48 254 10 (read 0) 48 12 12 ≡ Broken (record_of.Broken 2 48 0 2 12 [])
+unfolding judge distance accepted_between
+a_reset_breaks = refl
 
 -- an acceptor of which a script says no more
 abbrev acceptor : ℕ → CheckKind → DeviceSetup
@@ -128,8 +147,8 @@ cleared_fault :
 unfolding heard_after asker asks_of message request_of requests_with reply_of common_reply reply_data spelling crc
 cleared_fault = refl
 
--- a start with the mask of places 5 and 7: it is reset, its credits are asked once in vain, and its counter is 0; then the
--- epoch is put, and a refused mask ends it unsure
+-- a start with the mask of places 5 and 7: it is reset, its credits are asked once in vain, and its counter is 0; it has
+-- accepted 10 coins so far; then the epoch is put, and a refused mask ends it unsure
 abbrev start : Command
 start = command.Start 2 80
 
@@ -142,8 +161,11 @@ after_silence = exchange (Some ReadCredits) None ∷ after_reset
 abbrev after_credits : List Line
 after_credits = exchange (Some ReadCredits) (Some (credits (record { counter = 0; pairs = [] }))) ∷ after_silence
 
+abbrev after_count : List Line
+after_count = exchange (Some AcceptCount) (Some (accepts 10)) ∷ after_credits
+
 abbrev after_epoch : List Line
-after_epoch = put (record_of.Epoch 2 80) ∷ after_credits
+after_epoch = put (record_of.Epoch 2 80 10) ∷ after_count
 
 resets_first : row (acceptor 2 Simple) start [] Idle None ≡ sends ResetDevice
 resets_first = refl
@@ -154,10 +176,13 @@ reads_then = refl
 reads_again : row (acceptor 2 Simple) start after_silence Idle None ≡ sends ReadCredits
 reads_again = refl
 
-puts_then : row (acceptor 2 Simple) start after_credits Idle None ≡ puts (record_of.Epoch 2 80)
+counts_then : row (acceptor 2 Simple) start after_credits Idle None ≡ sends AcceptCount
+counts_then = refl
+
+puts_then : row (acceptor 2 Simple) start after_count Idle None ≡ puts (record_of.Epoch 2 80 10)
 puts_then = refl
 
-sets_then : row (acceptor 2 Simple) start after_epoch (Running 80 0) None ≡ sends (SetMask 80)
+sets_then : row (acceptor 2 Simple) start after_epoch (Running 80 0 10) None ≡ sends (SetMask 80)
 sets_then = refl
 
 a_refusal_is_no_acknowledgement :
@@ -168,7 +193,7 @@ a_refusal_is_no_acknowledgement :
 unfolding got after_echo message
 a_refusal_is_no_acknowledgement = refl
 
-a_refused_mask : end_of (acceptor 2 Simple) start (exchange (Some (SetMask 80)) None) after_epoch (Running 80 0) ≡ Some StartUnsure
+a_refused_mask : end_of (acceptor 2 Simple) start (exchange (Some (SetMask 80)) None) after_epoch (Running 80 0 10) ≡ Some StartUnsure
 a_refused_mask = refl
 
 -- a scan that hears the bytes 2 and 9 after its first address poll asks device 2, and then device 9 under both checks

@@ -20,7 +20,7 @@ use Rattle.cct_model.specs.Job.{epoch_by}
 use Rattle.cct_model.specs.Order.{order_by}
 use Rattle.cct_model.specs.Money.{amount, coins_of, coins_value, odd_in, paid_in, posted_in, sold_in}
 use Rattle.cct_model.specs.Records.{epoch_in, greatest_id, hopper_of, id_of, order_in}
-use Rattle.cct_model.specs.Sums.{coins_paid, coins_posted, coins_unpaid, events_lost, posts_of, price_sold, sum_in}
+use Rattle.cct_model.specs.Sums.{coins_paid, coins_posted, coins_unpaid, coins_lost, posts_of, price_sold, sum_in}
 
 -- What stands at each of some devices, in their order.
 abbrev pub gathered : {X : Type 0} → (DeviceSetup → Option X) → List DeviceSetup → List X
@@ -30,7 +30,8 @@ gathered f (d ∷ ds) = with_some (f d) (gathered f ds)
 -- What a carry has of an epoch at an address: nothing if none runs.
 abbrev pub epoch_entry : ℕ → EpochState → Option CarryEpoch
 epoch_entry addr Idle = None
-epoch_entry addr (Running mask counter) = Some (record { addr = addr; mask = mask; counter = counter })
+epoch_entry addr (Running mask counter accepts) =
+    Some (record { addr = addr; mask = mask; counter = counter; accepts = accepts })
 
 -- What a carry has of an order.
 abbrev pub order_entry : OpenOrder → CarryOrder
@@ -45,8 +46,8 @@ abbrev pub order_at : List Record → DeviceSetup → Option CarryOrder
 order_at before d = if is_acceptor d.body then None else option_map order_entry (order_in d.addr before)
 
 -- The carry of records, newest first: the greatest id; the value of all coins posted, that of all coins paid and that of
--- the orders whose counts of life don't fit; how many coins were posted, events lost, coins paid and not paid, and the sum
--- of all prices; and in rising order of address the running epochs of the acceptors and the open orders of the hoppers.
+-- the orders whose counts of life don't fit; how many coins were posted, lost, paid and not paid, and the sum of all prices;
+-- and in rising order of address the running epochs of the acceptors and the open orders of the hoppers.
 abbrev pub carry : Setup → List Record → Carry
 carry setup before = record {
   last_id = greatest_id before;
@@ -54,7 +55,7 @@ carry setup before = record {
   paid_value = paid_in setup before;
   odd_value = odd_in setup before;
   posted = sum_in coins_posted before;
-  lost = sum_in events_lost before;
+  lost = sum_in coins_lost before;
   paid = sum_in coins_paid before;
   unpaid = sum_in coins_unpaid before;
   sold = sold_in before;
@@ -69,7 +70,7 @@ carry_of setup records = carry setup (reverse records)
 -- The epoch that an entry of a carry is.
 abbrev pub epoch_from : Option CarryEpoch → EpochState
 epoch_from None = Idle
-epoch_from (Some e) = Running e.mask e.counter
+epoch_from (Some e) = Running e.mask e.counter e.accepts
 
 -- The order that an entry of a carry is.
 abbrev pub order_from : CarryOrder → OpenOrder
@@ -116,9 +117,9 @@ follows_carry setup c r = follows_known setup (known_by setup c) r
 
 -- The address that a record belongs to, by a carry of those before it: that of the order that it closes, and 1 for a sale.
 abbrev pub owner_by : Carry → Record → ℕ
-owner_by c (record_of.Epoch addr mask) = addr
-owner_by c (record_of.Reading addr counter lost posted) = addr
-owner_by c (record_of.Broken addr seen counter posted) = addr
+owner_by c (record_of.Epoch addr mask accepts) = addr
+owner_by c (record_of.Reading addr counter lost accepts posted) = addr
+owner_by c (record_of.Broken addr seen counter lost accepts posted) = addr
 owner_by c (record_of.EpochEnd addr) = addr
 owner_by c (record_of.Opened id addr count life) = addr
 owner_by c (record_of.Closed id paid unpaid) = hopper_of (order_with id c)
@@ -146,7 +147,7 @@ carry_with setup r c = record {
   paid_value = coins_of setup (owner_by c r) (coins_paid r) + c.paid_value;
   odd_value = odd_more setup c r + c.odd_value;
   posted = coins_posted r + c.posted;
-  lost = events_lost r + c.lost;
+  lost = coins_lost r + c.lost;
   paid = coins_paid r + c.paid;
   unpaid = coins_unpaid r + c.unpaid;
   sold = price_sold r + c.sold;

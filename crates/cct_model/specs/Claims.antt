@@ -1,27 +1,19 @@
 -- What holds of the lines of an acceptor: its posts are accepted coins in their order, none twice, and none is lost
 -- in silence.
-use Rattle.std.specs.Prelude.{◌≡◌, ℕ, suc, ◌+◌, ◌-◌, ◌<◌, ◌≤◌, nat_le, List, [], ◌∷◌, ◌++◌, length, take, reverse, if◌then◌else◌, Option, Some, None, ⊤}
+use Rattle.std.specs.Prelude.{◌≡◌, ℕ, ◌+◌, ◌-◌, ◌^◌, ◌<◌, ◌≤◌, nat_le, List, [], ◌∷◌, ◌++◌, length, take, reverse, if◌then◌else◌, Option, Some, None, ⊤}
 use Rattle.cct_model.specs.terms.coin.Coin.{Coin}
 use Rattle.cct_model.specs.lines.record.Record.{Record}
 use Rattle.cct_model.specs.lines.record.Record.TheVariants as record_of
 use Rattle.cct_model.specs.lines.entry.End.TheVariants.{Clean}
-use Rattle.cct_model.specs.Line.{Line, accepted, inhibited, alien, put, ended}
+use Rattle.cct_model.specs.Line.{Line, accepted, put, ended}
 use Rattle.cct_model.specs.Job.{credits_line, mask_line}
-use Rattle.cct_model.specs.Sums.{is_item}
+use Rattle.cct_model.specs.Sums.{is_item, coins_lost, coins_posted}
 
 -- The coins that were accepted, newest first.
 abbrev pub coins : List Line → List Coin
 coins [] = []
 coins (accepted coin ∷ past) = coin ∷ coins past
 coins (_ ∷ past) = coins past
-
--- How many objects came: coins, accepted or not, and objects that are no coin.
-abbrev pub arrivals : List Line → ℕ
-arrivals [] = 0
-arrivals (accepted coin ∷ past) = suc (arrivals past)
-arrivals (inhibited place ∷ past) = suc (arrivals past)
-arrivals (alien ∷ past) = suc (arrivals past)
-arrivals (_ ∷ past) = arrivals past
 
 -- All that came before, where this line read something, else what came before an earlier such line.
 abbrev pub behind : {A : Type 0} → Option A → List Line → List Line → List Line
@@ -41,8 +33,8 @@ looking (line ∷ past) = behind (mask_line line) past (looking past)
 -- Up to which coins a record that is an item tells, newest first. A reading tells up to those that were accepted before the
 -- credits were read; a break, before the mask was read; the begin and the end of an epoch tell all that were accepted.
 abbrev pub known_by : Record → List Line → List Coin
-known_by (record_of.Reading addr counter lost posted) past = coins (reading past)
-known_by (record_of.Broken addr seen counter posted) past = coins (looking past)
+known_by (record_of.Reading addr counter lost accepts posted) past = coins (reading past)
+known_by (record_of.Broken addr seen counter lost accepts posted) past = coins (looking past)
 known_by r past = coins past
 
 -- The same, and none where the record is no item.
@@ -80,9 +72,9 @@ AreNewest posted newest = (older : List Coin) × (newest ≡ reverse posted ++ o
 -- A record's posts are the newest coins of its part, in their order; of a break, the newest of those that were accepted
 -- before its credits were read. No coin was accepted between an epoch and the item before it.
 abbrev pub PostsOf : List Line → Record → Type 0
-PostsOf past (record_of.Epoch addr mask) = part past (coins past) ≡ []
-PostsOf past (record_of.Reading addr counter lost posted) = AreNewest posted (part past (coins (reading past)))
-PostsOf past (record_of.Broken addr seen counter posted) = AreNewest posted (part past (fewer (coins (reading past)) (coins (looking past))))
+PostsOf past (record_of.Epoch addr mask accepts) = part past (coins past) ≡ []
+PostsOf past (record_of.Reading addr counter lost accepts posted) = AreNewest posted (part past (coins (reading past)))
+PostsOf past (record_of.Broken addr seen counter lost accepts posted) = AreNewest posted (part past (fewer (coins (reading past)) (coins (looking past))))
 PostsOf past r = ⊤
 
 -- An item tells no fewer coins than the item before it.
@@ -96,49 +88,55 @@ OrderAt past (put entry) = GoesOn past (told_by entry past) × PostsOf past entr
 OrderAt past (ended Clean) = mark past ≤ length (coins (reading past))
 OrderAt past line = ⊤
 
--- A reading leaves no more coins of its part unposted than it reports lost, and no coin is between the end of an epoch
--- and the item before it; a break reports that coins may be lost.
+-- The coins of the part of a reading or of a break are as many as it posts and as it tells to be lost, and no coin is
+-- between the end of an epoch and the item before it.
 abbrev pub UnpostedOf : List Line → Record → Type 0
-UnpostedOf past (record_of.Reading addr counter lost posted) = length (part past (coins (reading past))) ≤ lost + length posted
+UnpostedOf past (record_of.Reading addr counter lost accepts posted) =
+    length (part past (coins (reading past))) ≡ lost + length posted
+UnpostedOf past (record_of.Broken addr seen counter lost accepts posted) =
+    length (part past (coins (looking past))) ≡ lost + length posted
 UnpostedOf past (record_of.EpochEnd addr) = part past (coins past) ≡ []
 UnpostedOf past r = ⊤
 
--- No coin of an item's part is lost in silence, and a clean end has no coin in its part.
+-- Each coin of an item's part is posted or told to be lost, and a clean end has no coin in its part.
 abbrev pub CoverAt : List Line → Line → Type 0
 CoverAt past (put entry) = UnpostedOf past entry
 CoverAt past (ended Clean) = part past (coins (reading past)) ≡ []
 CoverAt past line = ⊤
 
--- How many objects had come at the reading of the last record, where that begins an epoch or is a reading; none after a
--- record that ends an epoch.
+-- How many coins the records of these lines post and tell to be lost.
+abbrev pub tally : List Line → ℕ
+tally [] = 0
+tally (put entry ∷ past) = (coins_lost entry + coins_posted entry) + tally past
+tally (line ∷ past) = tally past
+
+-- The coins up to the mark are as many as all that were posted and all that were told to be lost.
+abbrev pub Tallies : List Line → Type 0
+Tallies lines = mark lines ≡ tally lines
+
+-- How many coins had been accepted when an epoch began, after a record.
 abbrev pub base_by : Record → List Line → Option ℕ → Option ℕ
-base_by (record_of.Epoch addr mask) past before = Some (arrivals (reading past))
-base_by (record_of.Reading addr counter lost posted) past before = Some (arrivals (reading past))
-base_by (record_of.Broken addr seen counter posted) past before = None
-base_by (record_of.EpochEnd addr) past before = None
+base_by (record_of.Epoch addr mask accepts) past before = Some (length (coins past))
 base_by r past before = before
 
--- The same after all these lines.
+-- How many coins had been accepted when the last epoch began, or none before any.
 abbrev pub base : List Line → Option ℕ
 base [] = None
 base (put entry ∷ past) = base_by entry past (base past)
 base (line ∷ past) = base past
 
--- Fewer than 255 objects came from one number of objects to another, where there is the first.
+-- Fewer than 2 ^ 24 coins were accepted from one number of coins to another, where there is the first.
 abbrev pub IsNear : Option ℕ → ℕ → Type 0
 IsNear None now = ⊤
-IsNear (Some before) now = now < before + 255
+IsNear (Some before) now = now < before + 2 ^ 24
 
--- Fewer than 255 objects came between the reading of the last record, where that begins an epoch or is a reading, and the
--- reading of this item.
+-- Fewer than 2 ^ 24 coins were accepted since the last epoch began.
 abbrev pub Near : List Line → Type 0
-Near past = IsNear (base past) (arrivals (reading past))
+Near lines = IsNear (base lines) (length (coins lines))
 
--- An item, a record put or a clean end, is near.
+-- The same after one line more.
 abbrev pub PaceAt : List Line → Line → Type 0
-PaceAt past (put entry) = Near past
-PaceAt past (ended Clean) = Near past
-PaceAt past line = ⊤
+PaceAt past line = Near (line ∷ past)
 
 -- A fact of each line and all that came before it.
 abbrev pub AllPast : (List Line → Line → Type 0) → List Line → Type 0
@@ -149,10 +147,10 @@ AllPast P (line ∷ past) = P past line × AllPast P past
 abbrev pub InOrder : List Line → Type 0
 InOrder lines = AllPast OrderAt lines
 
--- No coin that came before a completed reading is lost in silence.
+-- No coin that came before a completed reading is lost in silence: each is posted or told to be lost.
 abbrev pub Covers : List Line → Type 0
 Covers lines = AllPast CoverAt lines
 
--- No 255 objects come without a recorded reading: the event counter counts each, and tells no more than 254 apart.
+-- No epoch has 2 ^ 24 coins accepted: the accept counter tells how many came, modulo that number.
 abbrev pub Pace : List Line → Type 0
 Pace lines = AllPast PaceAt lines

@@ -15,7 +15,7 @@ use Rattle.cct_model.specs.Money.{coins_of, available_in, available_beside}
 -- An epoch runs.
 abbrev pub is_running : EpochState → Bool
 is_running Idle = false
-is_running (Running mask counter) = true
+is_running (Running mask counter accepts) = true
 
 -- Each place of a mask has a value at a device; there has to be one.
 abbrev pub has_values : Option DeviceSetup → ℕ → Bool
@@ -42,11 +42,11 @@ pub record Known : Type 0 where
 -- It is closed where it is open, and its coins are then paid or unpaid. A sale has an id and a price that aren't 0, and its
 -- price is available.
 abbrev pub follows_known : Setup → Known → Record → Bool
-follows_known setup k (record_of.Epoch addr mask) =
+follows_known setup k (record_of.Epoch addr mask accepts) =
     acceptor_there (device_at setup.devices addr) && not (is_running (k.epoch_at addr)) && not (mask == 0)
     && has_values (device_at setup.devices addr) mask
-follows_known setup k (record_of.Reading addr counter lost posted) = is_running (k.epoch_at addr)
-follows_known setup k (record_of.Broken addr seen counter posted) = is_running (k.epoch_at addr)
+follows_known setup k (record_of.Reading addr counter lost accepts posted) = is_running (k.epoch_at addr)
+follows_known setup k (record_of.Broken addr seen counter lost accepts posted) = is_running (k.epoch_at addr)
 follows_known setup k (record_of.EpochEnd addr) = is_running (k.epoch_at addr)
 follows_known setup k (record_of.Opened id addr count life) =
     hopper_there (device_at setup.devices addr) && is_none (k.order_at addr) && not (id == 0) && not (k.is_open id)

@@ -12,13 +12,14 @@ use Rattle.cct_model.specs.lines.record.Record.{Record}
 use Rattle.cct_model.specs.lines.record.Record.TheVariants as record_of
 use Rattle.cct_model.specs.declared.judging.Judged.{Judged}
 use Rattle.cct_model.specs.declared.judging.Judged.TheVariants.{Nothing, Reading, Broken}
+use Rattle.cct_model.specs.declared.judging.Judged.TheVariants as judged_of
 use Rattle.cct_model.specs.declared.judging.EpochState.{EpochState}
 use Rattle.cct_model.specs.declared.judging.EpochState.TheVariants.{Idle, Running}
 use Rattle.cct_model.specs.declared.judging.OpenOrder.{OpenOrder}
 use Rattle.cct_model.specs.lines.command.Command.{Command}
 use Rattle.cct_model.specs.lines.command.Command.TheVariants as command
 use Rattle.cct_model.specs.lines.entry.End.{End}
-use Rattle.cct_model.specs.lines.entry.End.TheVariants.{Unquiet, Clean, NoAnswer, Closed, OddLife}
+use Rattle.cct_model.specs.lines.entry.End.TheVariants.{Unquiet, Clean, Moved, NoAnswer, Closed, OddLife}
 use Rattle.cct_model.specs.Request.{header_of}
 use Rattle.cct_model.specs.Reply.{Reply}
 use Rattle.cct_model.specs.Reply as reply
@@ -101,30 +102,57 @@ abbrev pub mask_read : List Line → Option ℕ
 mask_read [] = None
 mask_read (line ∷ past) = option_or (mask_line line) (mask_read past)
 
--- An epoch with another event counter.
-abbrev pub counted : ℕ → EpochState → EpochState
-counted counter Idle = Idle
-counted counter (Running mask before) = Running mask counter
+-- The accept counter that a reply is, or none.
+abbrev pub accepts_reply : Option Reply → Option ℕ
+accepts_reply (Some (reply.accepts count)) = Some count
+accepts_reply got = None
 
--- The epoch after a record: it begins at counter 0, a reading moves its counter, and a break or its end ends it.
+-- The accept counter that a line read, or none where it is no answered header 225.
+abbrev pub accepts_line : Line → Option ℕ
+accepts_line (exchange (Some AcceptCount) got) = accepts_reply got
+accepts_line line = None
+
+-- The accept counter that was last read.
+abbrev pub accepts_read : List Line → Option ℕ
+accepts_read [] = None
+accepts_read (line ∷ past) = option_or (accepts_line line) (accepts_read past)
+
+-- One accept counter where this line read the credits, else an earlier one.
+abbrev pub at_credits : Option Credits → Option ℕ → Option ℕ → Option ℕ
+at_credits None count earlier = earlier
+at_credits (Some read) count earlier = count
+
+-- The accept counter that was last read before the credits were.
+abbrev pub accepts_before : List Line → Option ℕ
+accepts_before [] = None
+accepts_before (line ∷ past) = at_credits (credits_line line) (accepts_read past) (accepts_before past)
+
+-- An epoch with another event counter and another accept counter.
+abbrev pub counted : ℕ → ℕ → EpochState → EpochState
+counted counter accepts Idle = Idle
+counted counter accepts (Running mask before earlier) = Running mask counter accepts
+
+-- The epoch after a record: it begins at event counter 0 with the accept counter that it records, a reading moves both, and
+-- a break or its end ends it.
 abbrev pub epoch_by : Record → EpochState → EpochState
-epoch_by (record_of.Epoch addr mask) before = Running mask 0
-epoch_by (record_of.Reading addr counter lost posted) before = counted counter before
-epoch_by (record_of.Broken addr seen counter posted) before = Idle
+epoch_by (record_of.Epoch addr mask accepts) before = Running mask 0 accepts
+epoch_by (record_of.Reading addr counter lost accepts posted) before = counted counter accepts before
+epoch_by (record_of.Broken addr seen counter lost accepts posted) before = Idle
 epoch_by (record_of.EpochEnd addr) before = Idle
 epoch_by r before = before
 
--- The epoch of an acceptor: its inhibit mask and its recorded event counter, or none.
+-- The epoch of an acceptor: its inhibit mask and its recorded event counter and accept counter, or none.
 abbrev pub epoch : List Line → EpochState
 epoch [] = Idle
 epoch (put entry ∷ past) = epoch_by entry (epoch past)
 epoch (line ∷ past) = epoch past
 
--- What the credits and the mask that a job read mean, beside the epoch; nothing where one of them wasn't read, or no
--- epoch runs.
-abbrev pub judged_by : ℕ → EpochState → Option Credits → Option ℕ → Judged
-judged_by addr (Running mask counter) (Some c) (Some seen) = judge addr mask counter c seen
-judged_by addr state credits seen = Nothing
+-- What the credits and the mask that a job read mean, with the accept counters before and after them, beside the epoch;
+-- nothing where one of them wasn't read, or no epoch runs.
+abbrev pub judged_by : ℕ → EpochState → Option Credits → Option ℕ → Option ℕ → Option ℕ → Judged
+judged_by addr (Running mask counter accepts) (Some c) (Some seen) (Some before) (Some now) =
+    judge addr mask counter accepts c seen before now
+judged_by addr state credits seen before now = Nothing
 
 -- What a job has to do next: send a request, or put a record.
 pub data Row : Type 0 where
@@ -132,9 +160,10 @@ pub data Row : Type 0 where
   puts : (entry : Record) → Row
   no_row : Row
 
--- The row that puts what was judged, or another where that is nothing.
+-- The row that puts what was judged, or another where that is nothing; none after a reading that has to be made again.
 abbrev pub put_or : Row → Judged → Row
 put_or other Nothing = other
+put_or other judged_of.Moved = no_row
 put_or other (Reading entry) = puts entry
 put_or other (Broken entry) = puts entry
 
@@ -160,12 +189,18 @@ path_set place path = if place == 0 then SetDefault path else SetPath place path
 abbrev pub path_read : ℕ → Request
 path_read place = if place == 0 then GetDefault else GetPath place
 
--- What the lines of a payment tell: whether the payout is to be stopped, the life count that was last read, and the order
--- that is open.
-pub record Payment : Type 0 where
+-- What the lines of a job tell beside what they judge: whether its payout is to be stopped, the life count that was last
+-- read, the order that is open, and the accept counter that was last read.
+pub record Noted : Type 0 where
   pub is_marked : Bool
   pub life : Option ℕ
   pub owed : Option OpenOrder
+  pub accepts : Option ℕ
+
+-- The row that begins an epoch, with the accept counter that was read.
+abbrev pub begin_row : ℕ → ℕ → Option ℕ → Row
+begin_row addr mask None = no_row
+begin_row addr mask (Some accepts) = puts (record_of.Epoch addr mask accepts)
 
 -- The row that asks how a payout goes, or that stops it.
 abbrev pub state_row : Bool → Row
@@ -196,11 +231,13 @@ address_of (command.Vend id price) = HOST
 
 -- What the lines of a job mean, beside the epoch.
 abbrev pub judged_in : Command → List Line → EpochState → Judged
-judged_in c since state = judged_by (address_of c) state (credits_read since) (mask_read since)
+judged_in c since state =
+    judged_by (address_of c) state (credits_read since) (mask_read since) (accepts_before since) (accepts_read since)
 
--- What the lines of a job tell of a payment, beside the open order.
-abbrev pub payment_in : List Line → Option OpenOrder → Payment
-payment_in since owed = record { is_marked = is_marked since; life = life_read since; owed = owed }
+-- What the lines of a job tell beside that, and the open order.
+abbrev pub noted_in : List Line → Option OpenOrder → Noted
+noted_in since owed =
+    record { is_marked = is_marked since; life = life_read since; owed = owed; accepts = accepts_read since }
 
 -- The end of a payment by the record that closes its order.
 abbrev pub end_of_close : Record → Option End
@@ -212,9 +249,15 @@ end_of_close r = None
 abbrev pub end_of_credits : ℕ → Option End
 end_of_credits counter = if counter == 0 then None else Some (Unquiet counter)
 
--- A reading that means nothing ends a round clean.
+-- A reading that has to be made again ends its job.
+abbrev pub end_of_moving : Judged → Option End
+end_of_moving judged_of.Moved = Some Moved
+end_of_moving judged = None
+
+-- A reading that means nothing ends a round clean, and one that has to be made again ends it too.
 abbrev pub end_of_reading : Judged → Option End
 end_of_reading Nothing = Some Clean
+end_of_reading judged_of.Moved = Some Moved
 end_of_reading (Reading entry) = None
 end_of_reading (Broken entry) = None
 

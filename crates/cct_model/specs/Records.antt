@@ -41,9 +41,9 @@ opened_in id before = hopper_of (order_named id before)
 
 -- The address that a record belongs to: that of the order that it closes, and 1 for a sale.
 abbrev pub owner_in : List Record → Record → ℕ
-owner_in before (record_of.Epoch addr mask) = addr
-owner_in before (record_of.Reading addr counter lost posted) = addr
-owner_in before (record_of.Broken addr seen counter posted) = addr
+owner_in before (record_of.Epoch addr mask accepts) = addr
+owner_in before (record_of.Reading addr counter lost accepts posted) = addr
+owner_in before (record_of.Broken addr seen counter lost accepts posted) = addr
 owner_in before (record_of.EpochEnd addr) = addr
 owner_in before (record_of.Opened id addr count life) = addr
 owner_in before (record_of.Closed id paid unpaid) = opened_in id before

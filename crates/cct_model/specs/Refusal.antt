@@ -104,12 +104,12 @@ valueless body mask = find (λ place. has_place mask place && (value_at body pla
 -- The test that no epoch runs.
 abbrev pub epoch_refusal : EpochState → Option CommandNo
 epoch_refusal Idle = None
-epoch_refusal (Running mask counter) = Some EpochRuns
+epoch_refusal (Running mask counter accepts) = Some EpochRuns
 
 -- The test that an epoch runs.
 abbrev pub running_refusal : EpochState → Option CommandNo
 running_refusal Idle = Some NoEpoch
-running_refusal (Running mask counter) = None
+running_refusal (Running mask counter accepts) = None
 
 -- The test that each place of a mask has a value at a device.
 abbrev pub value_refusal : ℕ → Option DeviceSetup → Option CommandNo

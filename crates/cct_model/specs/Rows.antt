@@ -4,7 +4,7 @@ use Rattle.std.specs.Prelude.{ℕ, suc, zero, ◌==◌, Bool, true, false, List,
 use Rattle.cct_model.specs.terms.request.TheConstants.{ENABLE_CODE}
 use Rattle.cct_model.specs.terms.device.DeviceSetup.{DeviceSetup}
 use Rattle.cct_model.specs.terms.request.Request.{Request}
-use Rattle.cct_model.specs.terms.request.Request.TheVariants.{ResetDevice, SetMask, GetMask, SetMaster, ReadCredits, Enable, Dispense, GetLife}
+use Rattle.cct_model.specs.terms.request.Request.TheVariants.{ResetDevice, SetMask, GetMask, SetMaster, ReadCredits, AcceptCount, Enable, Dispense, GetLife}
 use Rattle.cct_model.specs.lines.record.Record.{Record}
 use Rattle.cct_model.specs.lines.record.Record.TheVariants as record_of
 use Rattle.cct_model.specs.declared.judging.Judged.{Judged}
@@ -19,16 +19,18 @@ use Rattle.cct_model.specs.Request.{header_of}
 use Rattle.cct_model.specs.Reply.{Reply}
 use Rattle.cct_model.specs.Reply as reply
 use Rattle.cct_model.specs.Line.{Line, exchange, put}
-use Rattle.cct_model.specs.Job.{Job, free, works, tries, Row, sends, puts, no_row, put_or, ident_requests, path_set, path_read, Payment, state_row, open_row, close_row, address_of, judged_in, payment_in, end_of_close, end_of_credits, end_of_reading, end_of_tries}
+use Rattle.cct_model.specs.Job.{Job, free, works, tries, Row, sends, puts, no_row, put_or, begin_row, ident_requests, path_set, path_read, Noted, state_row, open_row, close_row, address_of, judged_in, noted_in, end_of_close, end_of_credits, end_of_moving, end_of_reading, end_of_tries}
 
--- How a job goes on after a row: by its next row; it ends so; by the next row where the acceptor's counter is 0; by the next
--- row where the reading means something, else it ends clean. With the path that was read it ends. A break ends it, and a
--- reading may. The record that closes the order ends it.
+-- How a job goes on after a row: by its next row; it ends so; by the next row if the acceptor's counter is 0; by the next
+-- row if the reading gives a record, else it ends by what the reading means; by the next row unless the reading has to be
+-- made again, which ends it. With the path that was read it ends. A break ends it, and a reading may. The record that
+-- closes the order ends it.
 pub data Then : Type 0 where
   goes_on : Then
   ends_as : (end : End) → Then
   if_quiet : Then
   if_judged : Then
+  if_unmoved : Then
   path_told : (place : ℕ) → Then
   if_posted : (of_reading : Option End) → Then
   if_closed : Then
@@ -66,15 +68,23 @@ abbrev pub rows_of : DeviceSetup → Command → List TableRow
 rows_of d (command.Start addr mask) =
     asks_for ResetDevice goes_on
     ∷ asks_for ReadCredits if_quiet
+    ∷ asks_for AcceptCount goes_on
     ∷ puts_due (new_epoch mask) goes_on
     ∷ asks_once (SetMask mask) (ends_as Started) (ends_as StartUnsure)
     ∷ []
 rows_of d (command.Round addr) =
-    asks_for ReadCredits goes_on ∷ asks_for GetMask if_judged ∷ puts_due reading (if_posted (Some Posted)) ∷ []
-rows_of d (command.Stop addr) =
-    asks_for (SetMaster 0) goes_on
+    asks_for AcceptCount goes_on
     ∷ asks_for ReadCredits goes_on
     ∷ asks_for GetMask goes_on
+    ∷ asks_for AcceptCount if_judged
+    ∷ puts_due reading (if_posted (Some Posted))
+    ∷ []
+rows_of d (command.Stop addr) =
+    asks_for (SetMaster 0) goes_on
+    ∷ asks_for AcceptCount goes_on
+    ∷ asks_for ReadCredits goes_on
+    ∷ asks_for GetMask goes_on
+    ∷ asks_for AcceptCount if_unmoved
     ∷ puts_due reading (if_posted None)
     ∷ puts_due epoch_end (ends_as Stopped)
     ∷ []
@@ -149,8 +159,8 @@ abbrev pub left_of_sale : Command → List Line → List TableRow
 left_of_sale c since = after (rows_of_sale c) (done (rows_of_sale c) since)
 
 -- What a row at an address has to put, beside what was judged and what is known of a payout.
-abbrev pub due_row : ℕ → Judged → Payment → Due → Row
-due_row addr means p (new_epoch mask) = puts (record_of.Epoch addr mask)
+abbrev pub due_row : ℕ → Judged → Noted → Due → Row
+due_row addr means p (new_epoch mask) = begin_row addr mask p.accepts
 due_row addr means p reading = put_or no_row means
 due_row addr means p epoch_end = puts (record_of.EpochEnd addr)
 due_row addr means p (new_order id count) = open_row addr id count p.life
@@ -158,7 +168,7 @@ due_row addr means p order_end = close_row p.owed p.life
 due_row addr means p (sale id price) = puts (record_of.Sold id price)
 
 -- What the first of these rows sends or puts.
-abbrev pub first : ℕ → Judged → Payment → List TableRow → Row
+abbrev pub first : ℕ → Judged → Noted → List TableRow → Row
 first addr means p [] = no_row
 first addr means p (asks_for q behind ∷ rows) = sends q
 first addr means p (asks_once q behind without ∷ rows) = sends q
@@ -166,16 +176,16 @@ first addr means p (waits_for_coins ∷ rows) = state_row p.is_marked
 first addr means p (puts_due due behind ∷ rows) = due_row addr means p due
 
 -- The row at which a job at a device stands, after so many rows.
-abbrev pub row_at : DeviceSetup → Command → ℕ → Judged → Payment → Row
+abbrev pub row_at : DeviceSetup → Command → ℕ → Judged → Noted → Row
 row_at d c n means p = first (address_of c) means p (left_at d c n means)
 
 -- The row at which a job at a device stands, beside its epoch and its open order.
 abbrev pub row : DeviceSetup → Command → List Line → EpochState → Option OpenOrder → Row
-row d c since state owed = row_at d c (done (rows_of d c) since) (judged_in c since state) (payment_in since owed)
+row d c since state owed = row_at d c (done (rows_of d c) since) (judged_in c since state) (noted_in since owed)
 
 -- The row at which a job that is at no device stands: a sale.
 abbrev pub row_of_sale : Command → List Line → Row
-row_of_sale c since = first (address_of c) Nothing (payment_in since None) (left_of_sale c since)
+row_of_sale c since = first (address_of c) Nothing (noted_in since None) (left_of_sale c since)
 
 -- How many records these rows may put.
 abbrev pub puts_in : List TableRow → ℕ
@@ -226,6 +236,7 @@ abbrev pub end_by_answer : Then → Reply → Judged → Option End
 end_by_answer (ends_as end) y means = Some end
 end_by_answer if_quiet (reply.credits c) means = end_of_credits c.counter
 end_by_answer if_judged y means = end_of_reading means
+end_by_answer if_unmoved y means = end_of_moving means
 end_by_answer (path_told place) (reply.path number) means = Some (PathSet place number)
 end_by_answer behind y means = None
 
@@ -237,8 +248,8 @@ end_bare behind = None
 -- The end that a record brings after the row that puts it.
 abbrev pub end_by_record : Then → Record → Option End
 end_by_record (ends_as end) r = Some end
-end_by_record (if_posted of_reading) (record_of.Reading addr counter lost coins) = of_reading
-end_by_record (if_posted of_reading) (record_of.Broken addr seen counter coins) = Some Broke
+end_by_record (if_posted of_reading) (record_of.Reading addr counter lost accepts coins) = of_reading
+end_by_record (if_posted of_reading) (record_of.Broken addr seen counter lost accepts coins) = Some Broke
 end_by_record if_closed r = end_of_close r
 end_by_record behind r = None
 
@@ -257,10 +268,10 @@ end_failed rows failed = end_of_tries failed
 -- a break.
 abbrev pub end_kept : List TableRow → Record → Option End
 end_kept [] r = None
-end_kept (puts_due reading behind ∷ rows) (record_of.Reading addr counter lost coins) =
-    end_by_record behind (record_of.Reading addr counter lost coins)
-end_kept (puts_due reading behind ∷ rows) (record_of.Broken addr seen counter coins) =
-    end_by_record behind (record_of.Broken addr seen counter coins)
+end_kept (puts_due reading behind ∷ rows) (record_of.Reading addr counter lost accepts coins) =
+    end_by_record behind (record_of.Reading addr counter lost accepts coins)
+end_kept (puts_due reading behind ∷ rows) (record_of.Broken addr seen counter lost accepts coins) =
+    end_by_record behind (record_of.Broken addr seen counter lost accepts coins)
 end_kept (puts_due reading behind ∷ rows) r = end_kept rows r
 end_kept (puts_due due behind ∷ rows) r = end_by_record behind r
 end_kept (row ∷ rows) r = None

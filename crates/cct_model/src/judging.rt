@@ -5,8 +5,10 @@ use crate::Record;
 /// What a reading means beside what was recorded before.
 #[derive(Debug, Drop)]
 pub enum Judged {
-    /// The event counter is the recorded one.
+    /// No event came and no coin was accepted.
     Nothing,
+    /// A coin was accepted while the acceptor was being read.
+    Moved,
     /// Put this record, a `Reading`.
     Reading(Record),
     /// Put this record, a `Broken`.
@@ -18,8 +20,13 @@ pub enum Judged {
 pub enum EpochState {
     /// No epoch runs.
     Idle,
-    /// An epoch runs with this inhibit mask; the event counter is that of the last reading recorded in it, or 0.
-    Running { mask: u16, counter: u8 },
+    /// An epoch runs with this inhibit mask; the event counter is that of the last reading recorded in it, or 0, and the
+    /// accept counter, below 2^24, that of the last record in it.
+    Running {
+        mask: u16,
+        counter: u8,
+        accepts: u32,
+    },
 }
 
 /// An order that is open: its id, its hopper, how many coins it is for, and the life count of the hopper, below 2^24,

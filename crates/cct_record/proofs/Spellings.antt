@@ -11,7 +11,7 @@ use Rattle.cct_record.specs.Fields.{record_at}
 
 -- A reading with so few coins is read back.
 reading_back : (addr counter lost : ℕ) (posted : List Coin) → length posted ≤ 5
-    → record_at (body_of (Reading addr counter lost posted)) ≡ Some (Reading addr counter lost posted)
+    → record_at (body_of (Reading addr counter lost accepts posted)) ≡ Some (Reading addr counter lost accepts posted)
 unfolding body_of fields_of record_at
 reading_back addr counter lost [] few = refl
 reading_back addr counter lost (c1 ∷ []) few = refl
@@ -23,7 +23,7 @@ reading_back addr counter lost (c1 ∷ c2 ∷ c3 ∷ c4 ∷ c5 ∷ c6 ∷ more) 
 
 -- And so is a broken epoch.
 broken_back : (addr mask_seen counter : ℕ) (posted : List Coin) → length posted ≤ 5 → mask_seen < 2 ^ 16
-    → record_at (body_of (Broken addr mask_seen counter posted)) ≡ Some (Broken addr mask_seen counter posted)
+    → record_at (body_of (Broken addr mask_seen counter lost accepts posted)) ≡ Some (Broken addr mask_seen counter lost accepts posted)
 unfolding body_of fields_of record_at
 broken_back addr mask counter [] few fits =
     ap (λ n. Some (Broken addr n counter [])) (from_le_bytes-to_le_bytes_2 mask fits)
@@ -42,9 +42,9 @@ broken_back addr mask counter (c1 ∷ c2 ∷ c3 ∷ c4 ∷ c5 ∷ c6 ∷ more) f
 -- Each record is read back from its body.
 pub read_back : (r : Record) → InRange r → record_at (body_of r) ≡ Some r
 unfolding body_of fields_of record_at
-read_back (Epoch addr mask) fits = ap (λ n. Some (Epoch addr n)) (from_le_bytes-to_le_bytes_2 mask fits.1)
-read_back (Reading addr counter lost posted) fits = reading_back addr counter lost posted fits.3.few
-read_back (Broken addr mask_seen counter posted) fits = broken_back addr mask_seen counter posted fits.3.few fits.1
+read_back (Epoch addr mask accepts) fits = ap (λ n. Some (Epoch addr n accepts)) (from_le_bytes-to_le_bytes_2 mask fits.1)
+read_back (Reading addr counter lost accepts posted) fits = reading_back addr counter lost posted fits.3.few
+read_back (Broken addr mask_seen counter lost accepts posted) fits = broken_back addr mask_seen counter posted fits.3.few fits.1
 read_back (EpochEnd addr) fits = refl
 read_back (Opened id addr count life) fits =
     λ i. Some (Opened (from_le_bytes-to_le_bytes_4 id fits.0 i) addr count (three_back life fits.3 i))
@@ -76,9 +76,9 @@ refused_other body at is not_spelt = record {
 
 -- Only what can be spelt is in range.
 pub encodable : (r : Record) → InRange r → Encodable r
-encodable (Epoch addr mask) fits = tt
-encodable (Reading addr counter lost posted) fits = fits.3.placed
-encodable (Broken addr mask_seen counter posted) fits = fits.3.placed
+encodable (Epoch addr mask accepts) fits = tt
+encodable (Reading addr counter lost accepts posted) fits = fits.3.placed
+encodable (Broken addr mask_seen counter lost accepts posted) fits = fits.3.placed
 encodable (EpochEnd addr) fits = tt
 encodable (Opened id addr count life) fits = fits.3
 encodable (Closed id paid unpaid) fits = tt

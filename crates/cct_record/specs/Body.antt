@@ -18,9 +18,9 @@ coins_fields coins = length coins ∷ flat_map coin_fields coins
 
 -- The number of the kind, and then the fields of the record, each number low byte first.
 unfoldable pub fields_of : Record → List ℕ
-fields_of (Epoch addr mask) = 1 ∷ addr ∷ to_le_bytes w16 mask
-fields_of (Reading addr counter lost posted) = 2 ∷ addr ∷ counter ∷ lost ∷ coins_fields posted
-fields_of (Broken addr mask_seen counter posted) =
+fields_of (Epoch addr mask accepts) = 1 ∷ addr ∷ to_le_bytes w16 mask
+fields_of (Reading addr counter lost accepts posted) = 2 ∷ addr ∷ counter ∷ lost ∷ coins_fields posted
+fields_of (Broken addr mask_seen counter lost accepts posted) =
     (3 ∷ addr ∷ counter ∷ to_le_bytes w16 mask_seen) ++ coins_fields posted
 fields_of (EpochEnd addr) = 4 ∷ addr ∷ []
 fields_of (Opened id addr count life) = (5 ∷ addr ∷ to_le_bytes w32 id) ++ count ∷ three_bytes life
@@ -40,8 +40,8 @@ IsPlaced coin = 1 ≤ coin.place
 -- What a record has to be so that it can be spelt: the coin places of posted coins are at least 1, and life counts are
 -- below 2 ^ 24. All else about a record of the code can be spelt.
 abbrev pub Encodable : Record → Type 0
-Encodable (Reading addr counter lost posted) = All IsPlaced posted
-Encodable (Broken addr mask_seen counter posted) = All IsPlaced posted
+Encodable (Reading addr counter lost accepts posted) = All IsPlaced posted
+Encodable (Broken addr mask_seen counter lost accepts posted) = All IsPlaced posted
 Encodable (Opened id addr count life) = life < 2 ^ 24
 Encodable (Odd id life_before life_after) = (life_before < 2 ^ 24) × (life_after < 2 ^ 24)
 Encodable r = ⊤
@@ -59,9 +59,9 @@ pub record AreByteCoins (coins : List Coin) : Type 0 where
 
 -- A record whose numbers fit their bytes: only such a record has a body.
 abbrev pub InRange : Record → Type 0
-InRange (Epoch addr mask) = (addr < 256) × (mask < 2 ^ 16)
-InRange (Reading addr counter lost posted) = (addr < 256) × (counter < 256) × (lost < 256) × AreByteCoins posted
-InRange (Broken addr mask_seen counter posted) = (addr < 256) × (mask_seen < 2 ^ 16) × (counter < 256)
+InRange (Epoch addr mask accepts) = (addr < 256) × (mask < 2 ^ 16)
+InRange (Reading addr counter lost accepts posted) = (addr < 256) × (counter < 256) × (lost < 256) × AreByteCoins posted
+InRange (Broken addr mask_seen counter lost accepts posted) = (addr < 256) × (mask_seen < 2 ^ 16) × (counter < 256)
     × AreByteCoins posted
 InRange (EpochEnd addr) = addr < 256
 InRange (Opened id addr count life) = (id < 2 ^ 32) × (addr < 256) × (count < 256) × (life < 2 ^ 24)

@@ -2,14 +2,14 @@
 use Rattle.std.specs.Prelude.{ℕ, ◌+◌, ◌*◌, ◌^◌, ◌≤◌, List, [], ◌∷◌}
 use Rattle.cct_lines.specs.declared.carry.Carry.{Carry}
 use Rattle.cct_lines.specs.declared.record.Record.{Record}
-use Rattle.cct_lines.specs.Sums.{coins_posted, events_lost, coins_paid, coins_unpaid, price_sold}
+use Rattle.cct_lines.specs.Sums.{coins_posted, coins_lost, coins_paid, coins_unpaid, price_sold}
 use Rattle.cct_report.specs.declared.sums.Sums.{Sums}
 
 -- Sums with one record more.
 abbrev pub with_record : Record → Sums → Sums
 with_record entry sums = record {
   posted = sums.posted + coins_posted entry;
-  lost = sums.lost + events_lost entry;
+  lost = sums.lost + coins_lost entry;
   paid = sums.paid + coins_paid entry;
   unpaid = sums.unpaid + coins_unpaid entry;
   sold = sums.sold + price_sold entry;

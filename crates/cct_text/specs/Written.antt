@@ -20,8 +20,8 @@ IsMask mask = mask < 2 ^ 16
 
 -- The masks of a record fit.
 abbrev pub IsRecord : Record → Type 0
-IsRecord (record_of.Epoch addr mask) = IsMask mask
-IsRecord (record_of.Broken addr seen counter posted) = IsMask seen
+IsRecord (record_of.Epoch addr mask accepts) = IsMask mask
+IsRecord (record_of.Broken addr seen counter lost accepts posted) = IsMask seen
 IsRecord r = ⊤
 
 -- The mask of a command fits.

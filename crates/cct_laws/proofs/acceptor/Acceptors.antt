@@ -17,7 +17,7 @@ use Rattle.cct_model.specs.History.{Met, heard}
 use Rattle.cct_model.specs.Device.{IsAcceptor}
 use Rattle.cct_model.specs.Line.{Line, exchange, put, restarted}
 use Rattle.cct_model.specs.Order.{order}
-use Rattle.cct_model.specs.Job.{works, job, sends, puts, ident_requests, Payment, payment_in, epoch, credits_read, judged_in, address_of}
+use Rattle.cct_model.specs.Job.{works, job, sends, puts, ident_requests, Noted, noted_in, epoch, credits_read, judged_in, address_of}
 use Rattle.cct_model.specs.Rows.{Then, ends_as, if_quiet, if_posted, new_epoch, reading, epoch_end, TableRow, asks_for, asks_once, waits_for_coins, puts_due, row, rows_of, rest, from, first, done, sent_once, end_of, end_kept, end_by_record}
 use Rattle.cct_model.proofs.Rows.{EachRow, EachBefore, before_on, fact_after, Behind, behind_answer, behind_record, PutEnds, each_told, put_end}
 use Rattle.cct_laws.specs.DeviceJobs.{Fate, unheard, silenced, answered, IsForOthers, is_for_acceptor, with_ended}
@@ -118,7 +118,7 @@ as_asked d past lines c since x q asked got row keeps =
     subst (λ r. Fate d past r asked got → KeepsAsk d past lines c since r asked got) (request_is x q row) keeps
 
 asks_at : (d : DeviceSetup) (past : List Met) (lines : List Line) (c : Command) (since : List Line)
-    (rows : List TableRow) (p : Payment) (q : Request) (asked : Option Request) (got : Option Reply) →
+    (rows : List TableRow) (p : Noted) (q : Request) (asked : Option Request) (got : Option Reply) →
     IsAcceptor d.body → EachBefore Leads rows → AtRows d past lines c since rows →
     FitsAt (world past lines) (read_so_far lines) rows (credits_read since) (judged_in c since (epoch lines)) →
     first (address_of c) (judged_in c since (epoch lines)) p rows ≡ sends q → Fate d past q asked got →
@@ -161,7 +161,7 @@ keeps_asks : (d : DeviceSetup) (past : List Met) (lines : List Line) (c : Comman
     job lines ≡ works c since → row d c since (epoch lines) (order lines) ≡ sends q → Fate d past q asked got →
     Keeps d past lines → KeepsAsk d past lines c since q asked got
 keeps_asks d past lines c since q asked got accepting suited in_range is_job row_is fate keeps =
-    asks_at d past lines c since (rest d c since) (payment_in since (order lines)) q asked got accepting
+    asks_at d past lines c since (rest d c since) (noted_in since (order lines)) q asked got accepting
     (left_leads d c since suited in_range)
     (record {
       is_job = is_job;
@@ -173,7 +173,7 @@ keeps_asks d past lines c since q asked got accepting suited in_range is_job row
 
 -- it puts a record: what the first of its rows puts
 puts_at : (d : DeviceSetup) (past : List Met) (lines : List Line) (c : Command) (since : List Line)
-    (rows : List TableRow) (p : Payment) (r : Record) → job lines ≡ works c since → rest d c since ≡ rows →
+    (rows : List TableRow) (p : Noted) (r : Record) → job lines ≡ works c since → rest d c since ≡ rows →
     EachBefore Leads rows →
     FitsAt (world past lines) (read_so_far lines) rows (credits_read since) (judged_in c since (epoch lines)) →
     first (address_of c) (judged_in c since (epoch lines)) p (from rows (judged_in c since (epoch lines))) ≡ puts r →
@@ -201,7 +201,7 @@ keeps_puts : (d : DeviceSetup) (past : List Met) (lines : List Line) (c : Comman
     job lines ≡ works c since → row d c since (epoch lines) (order lines) ≡ puts r → Keeps d past lines →
     Keeps d past (with_ended (end_of d c (put r) since (epoch lines)) (put r ∷ lines))
 keeps_puts d past lines c since r suited in_range is_job row_is keeps =
-    puts_at d past lines c since (rest d c since) (payment_in since (order lines)) r is_job refl
+    puts_at d past lines c since (rest d c since) (noted_in since (order lines)) r is_job refl
     (left_leads d c since suited in_range) (fits_at d past lines c since is_job keeps) row_is keeps
 
 -- the power is cut
@@ -235,19 +235,19 @@ unended d past lines (Some end) other keeps = record {
 -- a record after a power cut tells what it would have told before it
 sound_kept : (past : List Met) (lines : List Line) (r : Record) → Sound past (put r ∷ lines) →
     Sound past (put r ∷ restarted ∷ lines)
-sound_kept past lines (record_of.Epoch addr mask) sound = record {
+sound_kept past lines (record_of.Epoch addr mask accepts) sound = record {
   in_order = (sound.in_order.0, (tt, sound.in_order.1));
   covers = λ pace. let before = sound.covers (pace.0, pace.1.1) in (before.0, (tt, before.1));
   marked = sound.marked;
   state = sound.state;
 }
-sound_kept past lines (record_of.Reading addr counter lost posted) sound = record {
+sound_kept past lines (record_of.Reading addr counter lost accepts posted) sound = record {
   in_order = (sound.in_order.0, (tt, sound.in_order.1));
   covers = λ pace. let before = sound.covers (pace.0, pace.1.1) in (before.0, (tt, before.1));
   marked = sound.marked;
   state = sound.state;
 }
-sound_kept past lines (record_of.Broken addr seen counter posted) sound = record {
+sound_kept past lines (record_of.Broken addr seen counter lost accepts posted) sound = record {
   in_order = (sound.in_order.0, (tt, sound.in_order.1));
   covers = λ pace. let before = sound.covers (pace.0, pace.1.1) in (before.0, (tt, before.1));
   marked = sound.marked;

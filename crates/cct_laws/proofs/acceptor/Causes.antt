@@ -27,7 +27,7 @@ use Rattle.cct_laws.proofs.jobs.Seen.{each_aside, each_with_end, loose, Lost, ba
 put_caused : (d : DeviceSetup) (past : List Entry) (c : Command) (since : List Line) (r : Record) → IsAcceptor d.body →
     IsRanged d (job (lines_of d past)) → AtWork d past c since → row_after d past c since ≡ puts r → HoldsAt d (Masks d) past →
     HasCause d past r
-put_caused d past c since (record_of.Broken addr seen counter posted) accepting ranged at_work is_row masks =
+put_caused d past c since (record_of.Broken addr seen counter lost accepts posted) accepting ranged at_work is_row masks =
     λ here.
     let in_range = subst (IsRanged d) at_work.job_is ranged in
     masks_break d (since_epoch d past) (met d past) (lines_of d past) c since addr seen counter posted
@@ -54,7 +54,7 @@ causes_there capacity setup d past _ _ accepting ranged (made_put c since r at_w
 -- what is after a power cut is as before it
 cause_behind : (d : DeviceSetup) (past : List Entry) (records : ℕ) (r : Record) → HasCause d past r →
     HasCause d (entry.Crash records ∷ past) r
-cause_behind d past records (record_of.Broken addr seen counter posted) caused = caused
+cause_behind d past records (record_of.Broken addr seen counter lost accepts posted) caused = caused
 cause_behind d past records r caused = tt
 
 causes_lost : (d : DeviceSetup) (past news : List Entry) → IsAcceptor d.body → IsRanged d (job (lines_of d past)) →

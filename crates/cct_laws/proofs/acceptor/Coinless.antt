@@ -24,7 +24,7 @@ use Rattle.cct_model.specs.Reply.{Reply}
 use Rattle.cct_model.specs.History.{Met}
 use Rattle.cct_model.specs.Hopper.{taken_of}
 use Rattle.cct_model.specs.Honest.{Honest}
-use Rattle.cct_model.specs.Job.{Payment, payment_in, judged_in, epoch, puts, ident_requests, address_of}
+use Rattle.cct_model.specs.Job.{Noted, noted_in, judged_in, epoch, puts, ident_requests, address_of}
 use Rattle.cct_model.specs.Rows.{row, end_of, done, Due, new_order, rows_of, order_end}
 use Rattle.cct_model.specs.Legal.{Legal}
 use Rattle.cct_model.specs.Line.{Line, exchange, put, restarted}
@@ -84,7 +84,7 @@ hopper_dues : (d : DeviceSetup) (c : Command) → cond (is_for_hopper c) (puts_o
 hopper_dues d (command.Ident addr) = told_only is_order_due (ident_requests d.body)
 hopper_dues d c = refl
 
-due_of_order : (addr : ℕ) (judged : Judged) (p : Payment) (due : Due) → is_order_due due ≡ true →
+due_of_order : (addr : ℕ) (judged : Judged) (p : Noted) (due : Due) → is_order_due due ≡ true →
     DueHolds IsOfOrder addr judged p due
 due_of_order addr judged p (new_order id count) is = λ life read. tt
 due_of_order addr judged p order_end is = λ o life owed read. close_of_order o life
@@ -94,7 +94,7 @@ puts_of_order : (d : DeviceSetup) (c : Command) (work : List Line) (state : Epoc
     (r : Record) → is_for_hopper c ≡ true → row d c work state owed ≡ puts r → IsOfOrder r
 puts_of_order d c work state owed r suited is_row =
     let judged = judged_in c work state in
-    let p = payment_in work owed in
+    let p = noted_in work owed in
     let only : puts_only is_order_due (rows_of d c) ≡ true =
     sym (ap (λ b. cond b (puts_only is_order_due (rows_of d c)) true) suited) ∙ hopper_dues d c in
     subst (RowHolds (λ q. ⊤) IsOfOrder) is_row

@@ -54,7 +54,7 @@ pub record Runs (w : World) (m : ℕ) (from : Option ℕ) (mask c : ℕ) : Type 
 
 abbrev pub StateOf : World → ℕ → Option ℕ → EpochState → Type 0
 StateOf w m from Idle = Rests w m
-StateOf w m from (Running mask c) = Runs w m from mask c
+StateOf w m from (Running mask c accepts) = Runs w m from mask c
 
 -- posts are the newest coins after the mark of those that were read
 pub record Reads (b : ReadSoFar) (posted : List Coin) : Type 0 where
@@ -75,13 +75,13 @@ pub record Held (w : World) (b : ReadSoFar) (mask c : ℕ) (credits : Credits) :
   pub tracks : Tracks w mask credits.counter (length b.known) b.came
 
 abbrev pub HeldIn : World → ReadSoFar → EpochState → Option Credits → Type 0
-HeldIn w b (Running mask c) (Some credits) = Held w b mask c credits
+HeldIn w b (Running mask c accepts) (Some credits) = Held w b mask c credits
 HeldIn w b state credits = ⊥
 
 -- the reading that a job has to put
 abbrev pub TracksIn : World → EpochState → ℕ → ℕ → ℕ → Type 0
 TracksIn w Idle k m t = ⊥
-TracksIn w (Running mask c) k m t = Tracks w mask k m t
+TracksIn w (Running mask c accepts) k m t = Tracks w mask k m t
 
 pub record Posts (w : World) (b : ReadSoFar) (k lost : ℕ) (posted : List Coin) : Type 0 where
   pub reads : Reads b posted
@@ -89,7 +89,7 @@ pub record Posts (w : World) (b : ReadSoFar) (k lost : ℕ) (posted : List Coin)
   pub tracks : TracksIn w b.epoch k (length b.known) b.came
 
 abbrev pub PostsAs : World → ReadSoFar → Record → Type 0
-PostsAs w b (record_of.Reading addr k lost posted) = Posts w b k lost posted
+PostsAs w b (record_of.Reading addr k lost accepts posted) = Posts w b k lost posted
 PostsAs w b r = ⊥
 
 -- the break that a job has to put: the acceptor is silent, and no coin came since the look at the mask
@@ -100,7 +100,7 @@ pub record Breaks (w : World) (b : ReadSoFar) (posted : List Coin) : Type 0 wher
   pub marked : length w.coins ≡ length b.seen
 
 abbrev pub BreaksAs : World → ReadSoFar → Record → Type 0
-BreaksAs w b (record_of.Broken addr seen k posted) = Breaks w b posted
+BreaksAs w b (record_of.Broken addr seen k lost accepts posted) = Breaks w b posted
 BreaksAs w b r = ⊥
 
 -- the reading showed no coin after the mark, so that the mark can go up to it
@@ -116,11 +116,11 @@ Ready w b (Broken entry) = BreaksAs w b entry
 
 abbrev pub IsIdle : EpochState → Type 0
 IsIdle Idle = ⊤
-IsIdle (Running mask c) = ⊥
+IsIdle (Running mask c accepts) = ⊥
 
 abbrev pub IsRunning : EpochState → Type 0
 IsRunning Idle = ⊥
-IsRunning (Running mask c) = ⊤
+IsRunning (Running mask c accepts) = ⊤
 
 -- an epoch begins, whose mask isn't set yet
 pub record Waits (w : World) (b : ReadSoFar) (mask : ℕ) : Type 0 where
@@ -212,7 +212,7 @@ rests_on w v m on rests = record { shut = on.shut rests.shut; marked = ap length
 
 pub state_on : (w v : World) (m : ℕ) (from : Option ℕ) (state : EpochState) → On w v → StateOf w m from state → StateOf v m from state
 state_on w v m from Idle on rests = rests_on w v m on rests
-state_on w v m from (Running mask c) on runs = record {
+state_on w v m from (Running mask c accepts) on runs = record {
   begun = runs.begun;
   based = runs.based;
   live = on.live mask runs.live;
@@ -220,7 +220,7 @@ state_on w v m from (Running mask c) on runs = record {
 }
 
 held_on : (w v : World) (b : ReadSoFar) (state : EpochState) (credits : Option Credits) → On w v → HeldIn w b state credits → HeldIn v b state credits
-held_on w v b (Running mask c) (Some credits) on held = record {
+held_on w v b (Running mask c accepts) (Some credits) on held = record {
   reads = held.reads;
   counts = λ is_mask. held.counts (on.masked mask held.tracks.nonzero is_mask);
   tracks = tracks_on w v mask credits.counter (length b.known) b.came on held.tracks;
@@ -230,15 +230,15 @@ held_on w v b state None on held = absurd held
 
 tracks_in_on : (w v : World) (state : EpochState) (k m t : ℕ) → On w v → TracksIn w state k m t → TracksIn v state k m t
 tracks_in_on w v Idle k m t on tracks = absurd tracks
-tracks_in_on w v (Running mask c) k m t on tracks = tracks_on w v mask k m t on tracks
+tracks_in_on w v (Running mask c accepts) k m t on tracks = tracks_on w v mask k m t on tracks
 
 posts_on : (w v : World) (b : ReadSoFar) (entry : Record) → On w v → PostsAs w b entry → PostsAs v b entry
-posts_on w v b (record_of.Reading addr k lost posted) on posts =
+posts_on w v b (record_of.Reading addr k lost accepts posted) on posts =
     record { reads = posts.reads; covers = posts.covers; tracks = tracks_in_on w v b.epoch k (length b.known) b.came on posts.tracks }
 posts_on w v b r on posts = absurd posts
 
 breaks_on : (w v : World) (b : ReadSoFar) (entry : Record) → On w v → BreaksAs w b entry → BreaksAs v b entry
-breaks_on w v b (record_of.Broken addr seen k posted) on breaks = record {
+breaks_on w v b (record_of.Broken addr seen k lost accepts posted) on breaks = record {
   goes_on = breaks.goes_on;
   newest = breaks.newest;
   silent = on.silent breaks.silent;

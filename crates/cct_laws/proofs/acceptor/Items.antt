@@ -60,33 +60,33 @@ waiting_state w mask m t some silent = record {
 
 rested : (w : World) (m : ℕ) (from : Option ℕ) (state : EpochState) → IsIdle state → StateOf w m from state → length w.coins ≡ m
 rested w m from Idle idle rests = rests.marked
-rested w m from (Running mask c) idle runs = absurd idle
+rested w m from (Running mask c accepts) idle runs = absurd idle
 
 pub sound_epoch : (past : List Met) (lines : List Line) (addr mask : ℕ) → 1 ≤ mask → IsIdle (epoch lines) → Silent (world past lines) → Sound past lines →
-    Sound past (put (record_of.Epoch addr mask) ∷ lines)
+    Sound past (put (record_of.Epoch addr mask accepts) ∷ lines)
 sound_epoch past lines addr mask some idle silent sound =
     let few = rested (world past lines) (mark lines) (base lines) (epoch lines) idle sound.state in
-    sound_line past past lines (put (record_of.Epoch addr mask)) (sound.marked, part_none (coins lines) (mark lines) (omega (arith, few))) (λ near. tt) (le_refl _)
+    sound_line past past lines (put (record_of.Epoch addr mask accepts)) (sound.marked, part_none (coins lines) (mark lines) (omega (arith, few))) (λ near. tt) (le_refl _)
     (waiting_state (world past lines) mask (length (coins lines)) (arrivals (reading lines)) some silent) sound
 
 -- a reading
 
 counted_state : (w : World) (m n k t : ℕ) (from : Option ℕ) (state : EpochState) → StateOf w m from state → TracksIn w state k n t → StateOf w n (Some t) (counted k state)
 counted_state w m n k t from Idle rests tracks = absurd tracks
-counted_state w m n k t from (Running mask c) runs tracks = record { begun = t; based = refl; live = runs.live; tracks = tracks }
+counted_state w m n k t from (Running mask c accepts) runs tracks = record { begun = t; based = refl; live = runs.live; tracks = tracks }
 
 pub sound_reading : (past : List Met) (lines : List Line) (addr k lost : ℕ) (posted : List Coin) → Posts (world past lines) (read_so_far lines) k lost posted → Sound past lines →
-    Sound past (put (record_of.Reading addr k lost posted) ∷ lines)
+    Sound past (put (record_of.Reading addr k lost accepts posted) ∷ lines)
 sound_reading past lines addr k lost posted posts sound =
-    sound_line past past lines (put (record_of.Reading addr k lost posted)) (posts.reads.goes_on, posts.reads.newest)
+    sound_line past past lines (put (record_of.Reading addr k lost accepts posted)) (posts.reads.goes_on, posts.reads.newest)
     (λ near. part_length (coins (reading lines)) (mark lines) (lost + length posted) (posts.covers near)) (reading_fewer lines)
     (counted_state (world past lines) (mark lines) (length (coins (reading lines))) k (arrivals (reading lines)) (base lines) (epoch lines) sound.state posts.tracks) sound
 
 -- a break
 pub sound_broken : (past : List Met) (lines : List Line) (addr seen k : ℕ) (posted : List Coin) → Breaks (world past lines) (read_so_far lines) posted → Sound past lines →
-    Sound past (put (record_of.Broken addr seen k posted) ∷ lines)
+    Sound past (put (record_of.Broken addr seen k lost accepts posted) ∷ lines)
 sound_broken past lines addr seen k posted breaks sound =
-    sound_line past past lines (put (record_of.Broken addr seen k posted)) (breaks.goes_on, breaks.newest) (λ near. tt) (omega (arith, breaks.marked))
+    sound_line past past lines (put (record_of.Broken addr seen k lost accepts posted)) (breaks.goes_on, breaks.newest) (λ near. tt) (omega (arith, breaks.marked))
     (record { shut = closed (world past lines) breaks.silent.masked; marked = breaks.marked }) sound
 
 -- the end of an epoch

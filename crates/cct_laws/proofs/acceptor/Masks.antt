@@ -20,7 +20,7 @@ use Rattle.cct_model.specs.terms.coin.Coin.{Coin}
 use Rattle.cct_model.specs.Device.{IsAcceptor}
 use Rattle.cct_model.specs.Line.{Line, exchange, put}
 use Rattle.cct_model.specs.Order.{order}
-use Rattle.cct_model.specs.Job.{works, job, sends, puts, payment_in, epoch, counted, epoch_by, address_of, credits_read, judged_in, Payment}
+use Rattle.cct_model.specs.Job.{works, job, sends, puts, noted_in, epoch, counted, epoch_by, address_of, credits_read, judged_in, Noted}
 use Rattle.cct_model.specs.Rows.{ends_as, TableRow, asks_for, asks_once, waits_for_coins, puts_due, row, rest, first}
 use Rattle.cct_model.specs.Script.{IsCommand}
 use Rattle.cct_model.specs.terms.coin.Credits.{Credits}
@@ -40,7 +40,7 @@ use Rattle.cct_laws.proofs.acceptor.Putting.{Puts, row_puts}
 -- while an epoch runs, the mask is that which was set since, and that is the epoch's
 abbrev pub MaskedIn : EpochState → List Met → List Met → Type 0
 MaskedIn Idle since past = ⊤
-MaskedIn (Running mask counter) since past = IsMaskedBy mask since past
+MaskedIn (Running mask counter accepts) since past = IsMaskedBy mask since past
 
 -- what holds after every step
 pub record Masks (d : DeviceSetup) (since past : List Met) (lines : List Line) : Type 0 where
@@ -52,10 +52,10 @@ abbrev Asks : EpochState → Request → Type 0
 Asks state (SetMask mask) = state ≡ Running mask 0
 Asks state q = ⊤
 
-running_is : (mask counter other : ℕ) → Running mask counter ≡ Running other 0 → other ≡ mask
+running_is : (mask counter other : ℕ) → Running mask counter accepts ≡ Running other 0 → other ≡ mask
 running_is mask counter other same = cc
 
-asked_by : (mask counter : ℕ) (q : Request) (since past : List Met) → Asks (Running mask counter) q → IsMaskedBy mask since past → IsMaskedBy mask (heard (Some q) ∷ since) (heard (Some q) ∷ past)
+asked_by : (mask counter : ℕ) (q : Request) (since past : List Met) → Asks (Running mask counter accepts) q → IsMaskedBy mask since past → IsMaskedBy mask (heard (Some q) ∷ since) (heard (Some q) ∷ past)
 asked_by mask counter ResetDevice since past asks masked = inr (refl, refl)
 asked_by mask counter (SetMask other) since past asks masked = inl (ap Some (running_is mask counter other asks), running_is mask counter other asks)
 asked_by mask counter (SetMaster value) since past asks masked = masked
@@ -65,13 +65,13 @@ asked_by mask counter q since past asks masked = masked
 
 asked_masked : (state : EpochState) (q : Request) (since past : List Met) → Asks state q → MaskedIn state since past → MaskedIn state (heard (Some q) ∷ since) (heard (Some q) ∷ past)
 asked_masked Idle q since past asks masked = tt
-asked_masked (Running mask counter) q since past asks masked = asked_by mask counter q since past asks masked
+asked_masked (Running mask counter accepts) q since past asks masked = asked_by mask counter q since past asks masked
 
 -- what changes no setting
 same_masked : (state : EpochState) (m : Met) (since past : List Met) → mask_set_in (m ∷ since) ≡ mask_set_in since → mask_of (m ∷ past) ≡ mask_of past → MaskedIn state since past → MaskedIn state (m ∷ since) (m ∷ past)
 same_masked Idle m since past set_stays mask_stays masked = tt
-same_masked (Running mask counter) m since past set_stays mask_stays (inl set) = inl (set_stays ∙ set.0, mask_stays ∙ set.1)
-same_masked (Running mask counter) m since past set_stays mask_stays (inr none) = inr (set_stays ∙ none.0, mask_stays ∙ none.1)
+same_masked (Running mask counter accepts) m since past set_stays mask_stays (inl set) = inl (set_stays ∙ set.0, mask_stays ∙ set.1)
+same_masked (Running mask counter accepts) m since past set_stays mask_stays (inr none) = inr (set_stays ∙ none.0, mask_stays ∙ none.1)
 
 others_masked : (state : EpochState) (asked : Option Request) (since past : List Met) → IsForOthers asked → MaskedIn state since past → MaskedIn state (heard asked ∷ since) (heard asked ∷ past)
 others_masked state None since past others masked = same_masked state (heard None) since past refl refl masked
@@ -81,10 +81,10 @@ others_masked state (Some q) since past others masked = absurd others
 
 reset_masked : (state : EpochState) (since past : List Met) → MaskedIn state (reset ∷ since) (reset ∷ past)
 reset_masked Idle since past = tt
-reset_masked (Running mask counter) since past = inr (refl, refl)
+reset_masked (Running mask counter accepts) since past = inr (refl, refl)
 
 -- what the rows of a job send
-first_asks : (w : World) (b : ReadSoFar) (addr : ℕ) (credits : Option Credits) (judged : Judged) (p : Payment)
+first_asks : (w : World) (b : ReadSoFar) (addr : ℕ) (credits : Option Credits) (judged : Judged) (p : Noted)
     (rows : List TableRow) (q : Request) → EachBefore Leads rows → FitsAt w b rows credits judged →
     first addr judged p rows ≡ sends q → Asks b.epoch q
 first_asks w b addr credits judged p [] q each fits row = absurd cc
@@ -105,7 +105,7 @@ row_asks : (d : DeviceSetup) (past : List Met) (lines : List Line) (c : Command)
     row d c work (epoch lines) (order lines) ≡ sends q → Asks (epoch lines) q
 row_asks d past lines c work q suited in_range is_job keeps row_is =
     first_asks (world past lines) (read_so_far lines) (address_of c) (credits_read work) (judged_in c work (epoch lines))
-    (payment_in work (order lines)) (rest d c work) q (left_leads d c work suited in_range)
+    (noted_in work (order lines)) (rest d c work) q (left_leads d c work suited in_range)
     (fits_at d past lines c work is_job keeps) (rest_asks d c work (epoch lines) (order lines) q row_is)
 
 -- an exchange of a job, and its end if there is one
@@ -127,10 +127,10 @@ counted_masked counter Idle since past masked = tt
 counted_masked counter (Running mask before) since past masked = masked
 
 put_masked : (d : DeviceSetup) (state : EpochState) (r : Record) (since past : List Met) (lines : List Line) → Puts d (world past lines) state r → MaskedIn state since past → MaskedIn (epoch_by r state) (since_record d r since) past
-put_masked d state (record_of.Epoch addr mask) since past lines puts_it masked =
+put_masked d state (record_of.Epoch addr mask accepts) since past lines puts_it masked =
     subst (λ b. IsMaskedBy mask (cond b [] since) past) (sym (eq-eqb addr d.addr puts_it.0)) (inr (refl, puts_it.1.masked))
-put_masked d state (record_of.Reading addr counter lost posted) since past lines puts_it masked = counted_masked counter state since past masked
-put_masked d state (record_of.Broken addr seen counter posted) since past lines puts_it masked = tt
+put_masked d state (record_of.Reading addr counter lost accepts posted) since past lines puts_it masked = counted_masked counter state since past masked
+put_masked d state (record_of.Broken addr seen counter lost accepts posted) since past lines puts_it masked = tt
 put_masked d state (record_of.EpochEnd addr) since past lines puts_it masked = tt
 put_masked d state r since past lines puts_it masked = masked
 
@@ -182,7 +182,7 @@ live_silent : (w : World) (mask : ℕ) → mask ≢ 0 → mask_at w ≡ 0 → Is
 live_silent w mask some none (inl set) = absurd (some (sym set ∙ none))
 live_silent w mask some none (inr silent) = silent
 
-pub masks_silent : (d : DeviceSetup) (since past : List Met) (lines : List Line) (mask counter : ℕ) → epoch lines ≡ Running mask counter → mask_set_in since ≡ None → Masks d since past lines → coins_among (events past) ≡ []
+pub masks_silent : (d : DeviceSetup) (since past : List Met) (lines : List Line) (mask counter : ℕ) → epoch lines ≡ Running mask counter accepts → mask_set_in since ≡ None → Masks d since past lines → coins_among (events past) ≡ []
 masks_silent d since past lines mask counter running none holds =
     let w = world past lines in
     let runs = subst (StateOf w (mark lines) (base lines)) running holds.keeps.sound.state in
@@ -192,8 +192,8 @@ masks_silent d since past lines mask counter running none holds =
 -- and where an acceptor is silent whose epoch runs, the epoch's mask doesn't stand
 silent_unset : (state : EpochState) (since past : List Met) (lines : List Line) → Silent (world past lines) → IsRunning state → StateOf (world past lines) (mark lines) (base lines) state → MaskedIn state since past → mask_set_in since ≡ None
 silent_unset Idle since past lines silent running is masked = absurd running
-silent_unset (Running mask counter) since past lines silent running is (inl set) = absurd (is.tracks.nonzero (sym set.1 ∙ silent.masked))
-silent_unset (Running mask counter) since past lines silent running is (inr unset) = unset.0
+silent_unset (Running mask counter accepts) since past lines silent running is (inl set) = absurd (is.tracks.nonzero (sym set.1 ∙ silent.masked))
+silent_unset (Running mask counter accepts) since past lines silent running is (inr unset) = unset.0
 
 -- then a reset came since the epoch began, or no mask was heard
 unset_cause : (since : List Met) → mask_set_in since ≡ None → MayBreak since
@@ -207,7 +207,7 @@ unset_cause (m ∷ since) none = unset_cause since none
 -- a job that has a break to put
 pub masks_break : (d : DeviceSetup) (since past : List Met) (lines : List Line) (c : Command) (work : List Line)
     (addr seen counter : ℕ) (posted : List Coin) → is_for_acceptor c ≡ true → IsCommand c → job lines ≡ works c work → address_of c ≡ d.addr →
-    row d c work (epoch lines) (order lines) ≡ puts (record_of.Broken addr seen counter posted) → Masks d since past lines → MayBreak since
+    row d c work (epoch lines) (order lines) ≡ puts (record_of.Broken addr seen counter lost accepts posted) → Masks d since past lines → MayBreak since
 masks_break d since past lines c work addr seen counter posted suited in_range is_job here is_row holds =
-    let puts_it = row_puts d past lines c work (record_of.Broken addr seen counter posted) suited in_range is_job here is_row holds.keeps in
+    let puts_it = row_puts d past lines c work (record_of.Broken addr seen counter lost accepts posted) suited in_range is_job here is_row holds.keeps in
     unset_cause since (silent_unset (epoch lines) since past lines puts_it.1 puts_it.0 holds.keeps.sound.state holds.masked)

@@ -133,7 +133,7 @@ idle_taken mask d (Running running counter) fine = absurd cc
 
 running_taken : (state : EpochState) → running_refusal state ≡ None → IsRunning state
 running_taken Idle fine = absurd cc
-running_taken (Running mask counter) fine = tt
+running_taken (Running mask counter accepts) fine = tt
 
 -- a request that changes nothing of what the rows after it need
 abbrev pub IsNeutral : Request → Type 0
@@ -184,7 +184,7 @@ begun_fits d w b c played fine = search rules
 
 judged_none : (c : Command) (state : EpochState) → judged_in c [] state ≡ Nothing
 judged_none c Idle = refl
-judged_none c (Running mask counter) = refl
+judged_none c (Running mask counter accepts) = refl
 
 begins_fits : (d : DeviceSetup) (w : World) (b : ReadSoFar) (c : Command) → is_for_acceptor c ≡ true →
     IsTaken d c b.epoch → Fits d w b (works c [])

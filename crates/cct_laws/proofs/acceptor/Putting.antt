@@ -12,7 +12,7 @@ use Rattle.cct_model.specs.declared.judging.EpochState.TheVariants.{Idle, Runnin
 use Rattle.cct_model.specs.lines.command.Command.{Command}
 use Rattle.cct_model.specs.History.{Met}
 use Rattle.cct_model.specs.Line.{Line}
-use Rattle.cct_model.specs.Job.{works, job, puts, epoch, credits_read, mask_read, address_of, judged_by, judged_in, Payment, payment_in}
+use Rattle.cct_model.specs.Job.{works, job, puts, epoch, credits_read, mask_read, address_of, judged_by, judged_in, Noted, noted_in}
 use Rattle.cct_model.specs.Rows.{Then, ends_as, if_posted, new_epoch, reading, epoch_end, TableRow, asks_for, asks_once, waits_for_coins, puts_due, row, rest, from, first}
 use Rattle.cct_model.specs.Script.{IsCommand}
 use Rattle.cct_model.specs.Order.{order}
@@ -27,8 +27,8 @@ use Rattle.cct_model.proofs.Rows.{EachBefore}
 
 -- an epoch begins at the device's own address, and one that breaks runs; its acceptor is silent at both
 abbrev pub Puts : DeviceSetup → World → EpochState → Record → Type 0
-Puts d w state (record_of.Epoch addr mask) = (addr ≡ d.addr) × Silent w
-Puts d w state (record_of.Broken addr seen k posted) = IsRunning state × Silent w
+Puts d w state (record_of.Epoch addr mask accepts) = (addr ≡ d.addr) × Silent w
+Puts d w state (record_of.Broken addr seen k lost accepts posted) = IsRunning state × Silent w
 Puts d w state r = ⊤
 
 -- only an epoch that runs is judged broken
@@ -38,9 +38,9 @@ IfBroken state judged = ⊤
 
 judged_runs : (addr : ℕ) (state : EpochState) (credits : Option Credits) (seen : Option ℕ) → IfBroken state (judged_by addr state credits seen)
 judged_runs addr Idle credits seen = tt
-judged_runs addr (Running mask counter) credits seen = broken_runs mask counter (judged_by addr (Running mask counter) credits seen)
+judged_runs addr (Running mask counter accepts) credits seen = broken_runs mask counter (judged_by addr (Running mask counter accepts) credits seen)
   where
-    broken_runs : (mask counter : ℕ) (judged : Judged) → IfBroken (Running mask counter) judged
+    broken_runs : (mask counter : ℕ) (judged : Judged) → IfBroken (Running mask counter accepts) judged
     broken_runs mask counter Nothing = tt
     broken_runs mask counter (Reading entry) = tt
     broken_runs mask counter (Broken entry) = tt
@@ -48,11 +48,11 @@ judged_runs addr (Running mask counter) credits seen = broken_runs mask counter 
 -- what was judged
 
 reading_puts : (d : DeviceSetup) (w : World) (b : ReadSoFar) (entry : Record) → PostsAs w b entry → Puts d w b.epoch entry
-reading_puts d w b (record_of.Reading addr k lost posted) posts = tt
+reading_puts d w b (record_of.Reading addr k lost accepts posted) posts = tt
 reading_puts d w b r posts = absurd posts
 
 break_puts : (d : DeviceSetup) (w : World) (b : ReadSoFar) (entry : Record) → IsRunning b.epoch → BreaksAs w b entry → Puts d w b.epoch entry
-break_puts d w b (record_of.Broken addr seen k posted) running breaks = (running, breaks.silent)
+break_puts d w b (record_of.Broken addr seen k lost accepts posted) running breaks = (running, breaks.silent)
 break_puts d w b r running breaks = absurd breaks
 
 -- the first of the rows that are left
@@ -60,13 +60,13 @@ break_puts d w b r running breaks = absurd breaks
 end_puts : (d : DeviceSetup) (w : World) (b : ReadSoFar) (addr : ℕ) (r : Record) → puts (record_of.EpochEnd addr) ≡ puts r → Puts d w b.epoch r
 end_puts d w b addr r row_is = subst (Puts d w b.epoch) (entry_is (record_of.EpochEnd addr) r row_is) tt
 
-over_puts : (d : DeviceSetup) (w : World) (b : ReadSoFar) (addr : ℕ) (r : Record) (p : Payment) (rows : List TableRow) →
+over_puts : (d : DeviceSetup) (w : World) (b : ReadSoFar) (addr : ℕ) (r : Record) (p : Noted) (rows : List TableRow) →
     IsOverNext rows → first addr Nothing p rows ≡ puts r → Puts d w b.epoch r
 over_puts d w b addr r p [] over row_is = absurd cc
 over_puts d w b addr r p (puts_due epoch_end (ends_as end) ∷ rows) over row_is = end_puts d w b addr r row_is
 over_puts d w b addr r p rows over row_is = absurd over
 
-reading_row : (d : DeviceSetup) (w : World) (b : ReadSoFar) (addr : ℕ) (r : Record) (judged : Judged) (p : Payment)
+reading_row : (d : DeviceSetup) (w : World) (b : ReadSoFar) (addr : ℕ) (r : Record) (judged : Judged) (p : Noted)
     (behind : Then) (rows : List TableRow) → IfBroken b.epoch judged → IsOverNext rows → Ready w b judged →
     first addr judged p (from (puts_due reading behind ∷ rows) judged) ≡ puts r → Puts d w b.epoch r
 reading_row d w b addr r Nothing p behind rows runs over ready row_is = over_puts d w b addr r p rows over row_is
@@ -76,14 +76,14 @@ reading_row d w b addr r (Broken entry) p behind rows runs over ready row_is =
     subst (Puts d w b.epoch) (entry_is entry r row_is) (break_puts d w b entry runs ready)
 
 first_puts : (d : DeviceSetup) (w : World) (b : ReadSoFar) (addr : ℕ) (r : Record) (credits : Option Credits) (judged : Judged)
-    (p : Payment) (rows : List TableRow) → addr ≡ d.addr → IfBroken b.epoch judged → EachBefore Leads rows →
+    (p : Noted) (rows : List TableRow) → addr ≡ d.addr → IfBroken b.epoch judged → EachBefore Leads rows →
     FitsAt w b rows credits judged → first addr judged p (from rows judged) ≡ puts r → Puts d w b.epoch r
 first_puts d w b addr r credits judged p [] here runs each fits row_is = absurd cc
 first_puts d w b addr r credits judged p (asks_for q behind ∷ rows) here runs each fits row_is = absurd cc
 first_puts d w b addr r credits judged p (asks_once q behind without ∷ rows) here runs each fits row_is = absurd cc
 first_puts d w b addr r credits judged p (waits_for_coins ∷ rows) here runs each fits row_is = absurd each.0
 first_puts d w b addr r credits judged p (puts_due (new_epoch mask) behind ∷ rows) here runs each fits row_is =
-    subst (Puts d w b.epoch) (entry_is (record_of.Epoch addr mask) r row_is) (here, fits.1)
+    subst (Puts d w b.epoch) (entry_is (record_of.Epoch addr mask accepts) r row_is) (here, fits.1)
 first_puts d w b addr r credits judged p (puts_due reading (if_posted of_reading) ∷ rows) here runs each fits row_is =
     reading_row d w b addr r judged p (if_posted of_reading) rows runs each.0.1 fits.0 row_is
 first_puts d w b addr r credits judged p (puts_due epoch_end (ends_as end) ∷ rows) here runs each fits row_is =
@@ -96,6 +96,6 @@ pub row_puts : (d : DeviceSetup) (past : List Met) (lines : List Line) (c : Comm
     row d c since (epoch lines) (order lines) ≡ puts r → Keeps d past lines → Puts d (world past lines) (epoch lines) r
 row_puts d past lines c since r suited in_range is_job here row_is keeps =
     first_puts d (world past lines) (read_so_far lines) (address_of c) r (credits_read since) (judged_in c since (epoch lines))
-    (payment_in since (order lines)) (rest d c since) here
+    (noted_in since (order lines)) (rest d c since) here
     (judged_runs (address_of c) (epoch lines) (credits_read since) (mask_read since))
     (left_leads d c since suited in_range) (fits_at d past lines c since is_job keeps) row_is

@@ -111,9 +111,9 @@ reads_now w m from state seen mask c marked runs = elim runs.live as (λ _. Read
 pub held_now : (w : World) (m : ℕ) (from : Option ℕ) (state : EpochState) (seen : List Coin) → m ≤ length w.coins → IsRunning state → StateOf w m from state →
     HeldIn w (read_now w m from state seen) state (Some (credits_at w))
 held_now w m from Idle seen marked running runs = absurd running
-held_now w m from (Running mask c) seen marked running runs = record {
-  reads = reads_now w m from (Running mask c) seen mask c marked runs;
-  counts = λ is. counts_after w m from (Running mask c) seen c runs.begun runs.based (runs.tracks.after is);
+held_now w m from (Running mask c accepts) seen marked running runs = record {
+  reads = reads_now w m from (Running mask c accepts) seen mask c marked runs;
+  counts = λ is. counts_after w m from (Running mask c accepts) seen c runs.begun runs.based (runs.tracks.after is);
   tracks = record { nonzero = runs.tracks.nonzero; after = λ is. after_now w };
 }
 
@@ -147,8 +147,8 @@ broken_now w m from state known seen came posted marked few silent reads = recor
 
 -- it is that of the epoch, and no event came: the mark goes up to what was read
 nears_now : (w : World) (m : ℕ) (from : Option ℕ) (mask c : ℕ) (known seen : List Coin) (came k : ℕ) (pairs : List Pair) →
-    Runs w m from mask c → distance c k ≡ 0 → Held w (record { mark = m; base = from; epoch = Running mask c; known = known; came = came; seen = seen }) mask c (record { counter = k; pairs = pairs }) →
-    mask_at w ≡ mask → Nears w (seen_now w m from (Running mask c) known came)
+    Runs w m from mask c → distance c k ≡ 0 → Held w (record { mark = m; base = from; epoch = Running mask c accepts; known = known; came = came; seen = seen }) mask c (record { counter = k; pairs = pairs }) →
+    mask_at w ≡ mask → Nears w (seen_now w m from (Running mask c accepts) known came)
 nears_now w m from mask c known seen came k pairs runs none held is =
     let counts = held.counts is in
     record {
@@ -176,8 +176,8 @@ nears_now w m from mask c known seen came k pairs runs none held is =
 
 -- it is that of the epoch, and events came: the reading is to be put
 posts_now : (w : World) (m : ℕ) (from : Option ℕ) (mask c : ℕ) (known seen : List Coin) (came : ℕ) (credits : Credits) →
-    Held w (record { mark = m; base = from; epoch = Running mask c; known = known; came = came; seen = seen }) mask c credits → mask_at w ≡ mask →
-    Posts w (seen_now w m from (Running mask c) known came) credits.counter (distance c credits.counter - 5) (posted_of (distance c credits.counter) credits.pairs)
+    Held w (record { mark = m; base = from; epoch = Running mask c accepts; known = known; came = came; seen = seen }) mask c credits → mask_at w ≡ mask →
+    Posts w (seen_now w m from (Running mask c accepts) known came) credits.counter (distance c credits.counter - 5) (posted_of (distance c credits.counter) credits.pairs)
 posts_now w m from mask c known seen came credits held is = record {
   reads = record { goes_on = held.reads.goes_on; newest = held.reads.newest };
   covers = (held.counts is).covers;
@@ -194,14 +194,14 @@ breaks_silent w mask c k on (inr silent) breaks = silent
 
 -- by the two tests of the judgement
 judged_tests : (w : World) (m : ℕ) (from : Option ℕ) (mask c : ℕ) (known seen : List Coin) (came addr : ℕ) (credits : Credits) (breaks none : Bool) → m ≤ length w.coins → length known ≤ length w.coins →
-    Runs w m from mask c → Held w (record { mark = m; base = from; epoch = Running mask c; known = known; came = came; seen = seen }) mask c credits →
+    Runs w m from mask c → Held w (record { mark = m; base = from; epoch = Running mask c accepts; known = known; came = came; seen = seen }) mask c credits →
     shows_break mask c (mask_at w) credits.counter ≡ breaks → (distance c credits.counter == 0) ≡ none →
-    Ready w (seen_now w m from (Running mask c) known came)
+    Ready w (seen_now w m from (Running mask c accepts) known came)
     (cond breaks (Broken (record_of.Broken addr (mask_at w) credits.counter (posted_of (distance c credits.counter) credits.pairs)))
     (cond none Nothing (Reading (record_of.Reading addr credits.counter (distance c credits.counter - 5) (posted_of (distance c credits.counter) credits.pairs)))))
 judged_tests w m from mask c known seen came addr credits true none marked few runs held breaks no_events =
     let silent = breaks_silent w mask c credits.counter (λ is. (held.counts is).first) runs.live breaks in
-    broken_now w m from (Running mask c) known seen came _ marked few silent held.reads
+    broken_now w m from (Running mask c accepts) known seen came _ marked few silent held.reads
 judged_tests w m from mask c known seen came addr credits false true marked few runs held breaks no_events =
     nears_now w m from mask c known seen came credits.counter credits.pairs runs (eqb-true _ _ no_events) held (same_mask mask c (mask_at w) credits.counter breaks)
 judged_tests w m from mask c known seen came addr credits false false marked few runs held breaks no_events =
@@ -212,7 +212,7 @@ pub ready_now : (w : World) (m : ℕ) (from : Option ℕ) (state : EpochState) (
     StateOf w m from state → HeldIn w (record { mark = m; base = from; epoch = state; known = known; came = came; seen = seen }) state credits →
     Ready w (seen_now w m from state known came) (judged_by addr state credits (Some (mask_at w)))
 unfolding judge
-ready_now w m from (Running mask c) known seen came addr (Some credits) marked few runs held =
+ready_now w m from (Running mask c accepts) known seen came addr (Some credits) marked few runs held =
     judged_tests w m from mask c known seen came addr credits _ _ marked few runs held refl refl
 ready_now w m from Idle known seen came addr credits marked few runs held = absurd held
 ready_now w m from state known seen came addr None marked few runs held = absurd held

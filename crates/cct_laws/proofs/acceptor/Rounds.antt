@@ -119,12 +119,12 @@ reading_put : (d : DeviceSetup) (past : List Met) (lines : List Line) (c : Comma
     rest d c since ≡ r ∷ rows → IsAfterReading of_reading rows →
     Posts (world past lines) (read_so_far lines) k lost posted → IfOver (ends_epoch rows) (IsStill (world past lines) (read_so_far lines)) →
     Keeps d past lines →
-    Keeps d past (with_ended of_reading (put (record_of.Reading addr k lost posted) ∷ lines))
+    Keeps d past (with_ended of_reading (put (record_of.Reading addr k lost accepts posted) ∷ lines))
 reading_put d past lines c since r rows addr k lost posted (Some end) is_job rest_is other posts still keeps =
     keeps_ended d past _ end other (sound_reading past lines addr k lost posted posts keeps.sound)
 reading_put d past lines c since r rows addr k lost posted None is_job rest_is next posts still keeps =
     let w = world past lines in
-    let line = put (record_of.Reading addr k lost posted) in
+    let line = put (record_of.Reading addr k lost accepts posted) in
     let b = read_so_far (line ∷ lines) in
     let is_still = subst (λ over. IfOver over (IsStill w (read_so_far lines))) next.0 still in
     record {
@@ -141,13 +141,13 @@ pub posts_put : (d : DeviceSetup) (past : List Met) (lines : List Line) (c : Com
     PostsAs (world past lines) (read_so_far lines) entry → IfOver (ends_epoch rows) (IsStill (world past lines) (read_so_far lines)) →
     Keeps d past lines →
     Keeps d past (with_ended (end_kept (puts_due reading (if_posted of_reading) ∷ rows) entry) (put entry ∷ lines))
-posts_put d past lines c since rows (record_of.Reading addr k lost posted) of_reading is_job rest_is next posts still keeps =
+posts_put d past lines c since rows (record_of.Reading addr k lost accepts posted) of_reading is_job rest_is next posts still keeps =
     reading_put d past lines c since _ rows addr k lost posted of_reading is_job rest_is next posts still keeps
 posts_put d past lines c since rows entry of_reading is_job rest_is next posts still keeps = absurd posts
 
 pub breaks_put : (d : DeviceSetup) (past : List Met) (lines : List Line) (rows : List TableRow) (entry : Record)
     (of_reading : Option End) → BreaksAs (world past lines) (read_so_far lines) entry → Sound past lines →
     Keeps d past (with_ended (end_kept (puts_due reading (if_posted of_reading) ∷ rows) entry) (put entry ∷ lines))
-breaks_put d past lines rows (record_of.Broken a seen k posted) of_reading breaks sound =
+breaks_put d past lines rows (record_of.Broken a seen k lost accepts posted) of_reading breaks sound =
     keeps_ended d past _ Broke tt (sound_broken past lines a seen k posted breaks sound)
 breaks_put d past lines rows entry of_reading breaks sound = absurd breaks

@@ -75,7 +75,7 @@ legal_unread capacity setup steps transcript d sound own accepting in_range lega
 -- a break has its cause
 pub legal_caused : EachAcceptor (λ d transcript. (c : Command) (since : List Line) (addr seen counter : ℕ) (posted :
     List Coin) → job (lines_in d transcript) ≡ works c since → row d c since (epoch (lines_in d transcript)) (order
-    (lines_in d transcript)) ≡ puts (record_of.Broken addr seen counter posted) → MayBreak (since_epoch_in d
+    (lines_in d transcript)) ≡ puts (record_of.Broken addr seen counter lost accepts posted) → MayBreak (since_epoch_in d
     transcript))
 legal_caused capacity setup steps transcript d sound own accepting in_range legal honest c since addr seen counter posted is_job is_row =
     let here : address_of c ≡ d.addr = subst (IsAt d.addr) is_job (job_at d (onto [] transcript)) in

@@ -140,10 +140,10 @@ pub begins : (d : DeviceSetup) (past : List Met) (lines : List Line) (c : Comman
     (rows : List TableRow) (addr mask : ℕ) → 1 ≤ mask → job lines ≡ works c since → rest d c since ≡ r ∷ rows →
     AfterEpoch mask rows → IsIdle (epoch lines) → Silent (world past lines) →
     length (world past lines).events + (read_so_far lines).came ≤ (world past lines).arrivals → Keeps d past lines →
-    Keeps d past (put (record_of.Epoch addr mask) ∷ lines)
+    Keeps d past (put (record_of.Epoch addr mask accepts) ∷ lines)
 begins d past lines c since r rows addr mask some is_job rest_is next idle silent few keeps =
     let w = world past lines in
-    let line = put (record_of.Epoch addr mask) in
+    let line = put (record_of.Epoch addr mask accepts) in
     let b = read_so_far (line ∷ lines) in
     let waits : Waits w b mask = record {
       running = refl;

@@ -13,7 +13,7 @@ use Rattle.cct_model.specs.lines.entry.End.{End}
 use Rattle.cct_model.specs.Reply.{Reply}
 use Rattle.cct_model.specs.History.{Met, heard}
 use Rattle.cct_model.specs.Line.{Line, exchange, put}
-use Rattle.cct_model.specs.Job.{works, job, puts, epoch, Payment}
+use Rattle.cct_model.specs.Job.{works, job, puts, epoch, Noted}
 use Rattle.cct_model.specs.Claims as claims
 use Rattle.cct_model.specs.Claims.{coins, arrivals, mark, base, IsNear}
 use Rattle.cct_model.specs.Rows.{Then, ends_as, if_posted, reading, epoch_end, TableRow, asks_for, puts_due, from, first, rest, end_kept, sent_once}
@@ -62,7 +62,7 @@ IsOverNext rows = ⊥
 
 -- what was judged is put, or the epoch's end where that is nothing
 none_put : (d : DeviceSetup) (past : List Met) (lines : List Line) (of_reading : Option End) (rows : List TableRow)
-    (addr : ℕ) (p : Payment) (r : Record) → IsOverNext rows → Ready (world past lines) (read_so_far lines) Nothing →
+    (addr : ℕ) (p : Noted) (r : Record) → IsOverNext rows → Ready (world past lines) (read_so_far lines) Nothing →
     IfOver (ends_epoch rows) (IsStill (world past lines) (read_so_far lines)) → first addr Nothing p rows ≡ puts r →
     Sound past lines →
     Keeps d past (with_ended (end_kept (puts_due reading (if_posted of_reading) ∷ rows) r) (put r ∷ lines))
@@ -74,7 +74,7 @@ none_put d past lines of_reading (puts_due epoch_end (ends_as end) ∷ rows) add
 none_put d past lines of_reading rows addr p r over ready still row sound = absurd over
 
 pub judged_put : (d : DeviceSetup) (past : List Met) (lines : List Line) (c : Command) (since : List Line)
-    (of_reading : Option End) (rows : List TableRow) (addr : ℕ) (judged : Judged) (p : Payment) (r : Record) →
+    (of_reading : Option End) (rows : List TableRow) (addr : ℕ) (judged : Judged) (p : Noted) (r : Record) →
     job lines ≡ works c since → rest d c since ≡ puts_due reading (if_posted of_reading) ∷ rows →
     IsAfterReading of_reading rows → IsOverNext rows → Ready (world past lines) (read_so_far lines) judged →
     IfOver (ends_epoch rows) (IsStill (world past lines) (read_so_far lines)) →

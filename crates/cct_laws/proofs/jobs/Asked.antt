@@ -15,7 +15,7 @@ use Rattle.cct_model.specs.Line.{Line}
 use Rattle.cct_model.specs.Device.{IsSound, IsAcceptor, IsHopper, reply_of}
 use Rattle.cct_model.specs.Setup.{IsSoundSetup}
 use Rattle.cct_model.specs.Order.{order}
-use Rattle.cct_model.specs.Job.{sends, Payment, epoch, judged_in, payment_in}
+use Rattle.cct_model.specs.Job.{sends, Noted, epoch, judged_in, noted_in}
 use Rattle.cct_model.specs.Rows.{row_at, done, rows_of}
 use Rattle.cct_model.specs.Script.{IsCommand}
 use Rattle.cct_model.specs.Exchange.{ask, asked, asks_of}
@@ -37,7 +37,7 @@ sound_of setup d sound own = (found_in IsSound setup.devices d.addr d sound.devi
 
 -- what a job at an acceptor asks has its reply
 pub replied_at : (setup : Setup) (past : List Entry) (d : DeviceSetup) (c : Command) (rows : ℕ) (judged : Judged)
-    (p : Payment) (q : Request) → IsSoundSetup setup → IsOf setup d → IsAcceptor d.body → suits d.body c ≡ true →
+    (p : Noted) (q : Request) → IsSoundSetup setup → IsOf setup d → IsAcceptor d.body → suits d.body c ≡ true →
     IsCommand c → row_at d c rows judged p ≡ sends q → Replied d (met d past) q
 replied_at setup past d c rows judged p q sound own accepting suited known asks =
     let sane : Sane d = record { sound = sound_of setup d sound own; accepting = accepting } in
@@ -47,7 +47,7 @@ replied_at setup past d c rows judged p q sound own accepting suited known asks 
 
 -- and what one at a hopper asks has its reply, or is refused
 paid_at : (setup : Setup) (past : List Entry) (d : DeviceSetup) (c : Command) (rows : ℕ) (judged : Judged)
-    (p : Payment) (q : Request) → IsSoundSetup setup → IsOf setup d → IsHopper d.body → suits d.body c ≡ true →
+    (p : Noted) (q : Request) → IsSoundSetup setup → IsOf setup d → IsHopper d.body → suits d.body c ≡ true →
     row_at d c rows judged p ≡ sends q → Answers d (met d past) q
 paid_at setup past d c rows judged p q sound own paying suited asks =
     let payer : Payer d = record { sound = sound_of setup d sound own; paying = paying } in
@@ -56,7 +56,7 @@ paid_at setup past d c rows judged p q sound own paying suited asks =
     (hopper_answers d (met d past) c payer (for_hopper d.body c paying suited)))
 
 pub answers_at : (setup : Setup) (past : List Entry) (d : DeviceSetup) (c : Command) (rows : ℕ) (judged : Judged)
-    (p : Payment) (q : Request) → IsSoundSetup setup → IsOf setup d → suits d.body c ≡ true → IsCommand c →
+    (p : Noted) (q : Request) → IsSoundSetup setup → IsOf setup d → suits d.body c ≡ true → IsCommand c →
     row_at d c rows judged p ≡ sends q → Answers d (met d past) q
 answers_at setup past d c rows judged p q sound own suited known asks =
     elim (kind_of d.body) [
@@ -69,7 +69,7 @@ works_answers : (setup : Setup) (past : List Entry) (d : DeviceSetup) (c : Comma
     Answers d (met d past) q
 works_answers setup past d c since q sound own works is_row =
     answers_at setup past d c (done (rows_of d c) since) (judged_in c since (epoch (lines_of d past)))
-    (payment_in since (order (lines_of d past))) q sound own works.suited works.in_range is_row
+    (noted_in since (order (lines_of d past))) q sound own works.suited works.in_range is_row
 
 -- the line of an exchange says what the job asked
 pub asked_at : (setup : Setup) (past : List Entry) (d : DeviceSetup) (c : Command) (since : List Line) (q : Request) →
@@ -98,7 +98,7 @@ clear_answers setup past d q (inr is) sound own clear =
     inr (is.refuses, undisturbed_refused setup d past q is sound own clear)
 
 pub undisturbed_answered : (setup : Setup) (past : List Entry) (d : DeviceSetup) (c : Command) (rows : ℕ)
-    (judged : Judged) (p : Payment) (q : Request) →
+    (judged : Judged) (p : Noted) (q : Request) →
     IsSoundSetup setup → IsOf setup d → suits d.body c ≡ true → IsCommand c → pending past ≡ fault.Clear →
     row_at d c rows judged p ≡ sends q →
     IsAnswered setup d past q ⊎ (IsRefused d (met d past) q × IsUnanswered setup d past q)
@@ -132,7 +132,7 @@ undisturbed_at setup past d c since q sound own works is_row clear other =
 
 -- and one at an acceptor always gets it
 pub undisturbed_accepting : (setup : Setup) (past : List Entry) (d : DeviceSetup) (c : Command) (rows : ℕ)
-    (judged : Judged) (p : Payment) (q : Request) →
+    (judged : Judged) (p : Noted) (q : Request) →
     IsSoundSetup setup → IsOf setup d → IsAcceptor d.body → suits d.body c ≡ true → IsCommand c →
     pending past ≡ fault.Clear → row_at d c rows judged p ≡ sends q → IsAnswered setup d past q
 undisturbed_accepting setup past d c rows judged p q sound own accepting suited known clear asks =
@@ -148,7 +148,7 @@ got_or_none d past q _ _ (answered y replied) = inr (y, replied, refl)
 
 -- an exchange with an honest fault is answered, or nothing is got
 pub honest_answered : (setup : Setup) (past : List Entry) (d : DeviceSetup) (c : Command) (rows : ℕ) (judged : Judged)
-    (p : Payment) (q : Request) →
+    (p : Noted) (q : Request) →
     IsSoundSetup setup → IsOf setup d → suits d.body c ≡ true → IsCommand c →
     IsHonestFault (pending past) (ask d.kind d.addr q) → row_at d c rows judged p ≡ sends q →
     IsUnanswered setup d past q ⊎ IsAnswered setup d past q

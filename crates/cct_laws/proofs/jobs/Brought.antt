@@ -36,7 +36,7 @@ use Rattle.cct_model.specs.Hopper.{remaining}
 use Rattle.cct_model.specs.Exchange.{ask, asked, asks_of, device_at}
 use Rattle.cct_model.specs.Line.{Line, accepted, inhibited, alien, fell, reset, exchange, scanned, put, taken, ended, restarted}
 use Rattle.cct_model.specs.Order.{order}
-use Rattle.cct_model.specs.Job.{Job, free, works, job, begun, with_line, epoch, Row, sends, puts, no_row, address_of, payment_in}
+use Rattle.cct_model.specs.Job.{Job, free, works, job, begun, with_line, epoch, Row, sends, puts, no_row, address_of, noted_in}
 use Rattle.cct_model.specs.Rows.{TableRow, row, row_of_sale, left_of_sale, end_of, first, end_of_sale, end_kept, after, done, rows_of_sale, can_halt}
 use Rattle.cct_model.specs.Money.{totals}
 use Rattle.cct_model.specs.Scan.{scan_row, end_of_scan, poll_of}
@@ -447,7 +447,7 @@ sale_puts (command.Vend id price) since r is = by_rows (done (rows_of_sale (comm
     rows : List TableRow
     rows = rows_of_sale (command.Vend id price)
 
-    by_rows : (n : ℕ) → first HOST Nothing (payment_in since None) (after rows n) ≡ puts r →
+    by_rows : (n : ℕ) → first HOST Nothing (noted_in since None) (after rows n) ≡ puts r →
         (i : ℕ) × (p : ℕ) × (command.Vend id price ≡ command.Vend i p) × (after rows n ≡ rows)
         × (r ≡ record_of.Sold i p)
     by_rows zero is = (id, price, refl, refl, cc)

@@ -27,7 +27,7 @@ use Rattle.cct_model.specs.Setup.{IsSoundSetup}
 use Rattle.cct_model.specs.Exchange.{ask, asked, asks_of}
 use Rattle.cct_model.specs.Line.{Line, exchange, put, taken}
 use Rattle.cct_model.specs.Order.{order, is_marked, is_stopped}
-use Rattle.cct_model.specs.Job.{free, works, job, with_line, epoch, credits_read, mask_read, sends, puts, Payment, payment_in, state_row, ident_requests, judged_in, address_of, tries}
+use Rattle.cct_model.specs.Job.{free, works, job, with_line, epoch, credits_read, mask_read, sends, puts, Noted, noted_in, state_row, ident_requests, judged_in, address_of, tries}
 use Rattle.cct_model.specs.Rows.{end_of, end_answered, rows_of, first, waits_for_coins, can_halt, has_waits, rest, done, ends_first, after, end_failed}
 use Rattle.cct_model.specs.Script.{IsCommand}
 use Rattle.cct_model.specs.Legal.{with_end, LegalFrom}
@@ -185,7 +185,7 @@ exchanged setup d c nexts past since q found is_job asks_it got_is ends few enou
     ends few enough)
 
 -- an answered one brings it on
-few_left : (ended : Bool) (d : DeviceSetup) (c : Command) (rows : ℕ) (judged means : Judged) (p : Payment)
+few_left : (ended : Bool) (d : DeviceSetup) (c : Command) (rows : ℕ) (judged means : Judged) (p : Noted)
     (q : Request) (y : Reply) (wanted : ReplyForm) →
     first (address_of c) judged p (after (rows_of d c) rows) ≡ sends q → form_of q ≡ Some wanted →
     form_shown y ≡ Some wanted → rows < row_count d c → end_answered (after (rows_of d c) rows) y means ≡ None →
@@ -210,7 +210,7 @@ answered_there setup d c nexts past since q sound own suited is_job few enough i
     (ends_of_answer d c (Some q) is.y since state)
     (λ no_end.
     few_left (ends_first (rest d c since) (Some is.y)) d c (done (rows_of d c) since) (judged_in c since state) means
-    (payment_in since owed) q is.y is.form (rest_asks d c since state owed q is_row) is.wants is.shown few
+    (noted_in since owed) q is.y is.form (rest_asks d c since state owed q is_row) is.wants is.shown few
     (subst (λ rows. end_answered rows is.y means ≡ None) (left_asks d c since state owed q is_row) no_end))
     (answer_brings d (met d past) c since q is.y nexts suited (answers_as d c since state owed q is_row) is.replied found
     enough)
@@ -249,7 +249,7 @@ asks_there : (setup : Setup) (d : DeviceSetup) (c : Command) (nexts : ℕ) (past
     Goes d c nexts past (with_end d.addr (wire_of setup d past q) (wire_end setup d past c since q))
 asks_there setup d c nexts past since q sound own known suited is_job few enough is_row clear found =
     elim (answers_at setup past d c (done (rows_of d c) since) (judged_in c since (epoch (lines_of d past)))
-    (payment_in since (order (lines_of d past))) q sound own suited known is_row) [
+    (noted_in since (order (lines_of d past))) q sound own suited known is_row) [
       | inl is ↦ answered_there setup d c nexts past since q sound own suited is_job few enough is_row clear found is
       | inr is ↦ refused_there setup d c nexts past since q sound own is_job few enough is_row clear is.refuses is
     ]
@@ -265,7 +265,7 @@ puts_there setup d c nexts past since r own ids at_work few enough is_row =
     goes_by d c nexts past since (put r) (entry.Put r) (end_of d c (put r) since state)
     (ap job (lines_put d past r (put_owned setup past d c since r own ids at_work is_row))
     ∙ ap (with_line (put r)) at_work.job_is) tt (ends_of_put d c r since state)
-    (few_put d c (done (rows_of d c) since) (judged_in c since state) (payment_in since (order (lines_of d past))) r is_row reads few)
+    (few_put d c (done (rows_of d c) since) (judged_in c since state) (noted_in since (order (lines_of d past))) r is_row reads few)
     (on_by true false (is_marked since) (row_count d c) (done (rows_of d c) since) nexts refl enough)
 
 -- how many `next` are left after a step

@@ -16,7 +16,7 @@ use Rattle.cct_model.specs.lines.entry.End.{End}
 use Rattle.cct_model.specs.Request.{form_of, header_of}
 use Rattle.cct_model.specs.Reply.{Reply}
 use Rattle.cct_model.specs.Reply as reply
-use Rattle.cct_model.specs.Job.{sends, puts, Payment, ident_requests, address_of, judged_in, payment_in, tries}
+use Rattle.cct_model.specs.Job.{sends, puts, Noted, ident_requests, address_of, judged_in, noted_in, tries}
 use Rattle.cct_model.specs.Rows.{ends_as, path_told, if_posted, if_closed, new_epoch, reading, epoch_end, new_order, order_end, sale, TableRow, asks_for, asks_once, waits_for_coins, puts_due, telling, rows_of, after, from, first, row_at, end_by_answer, end_answered, end_failed, end_kept, end_bare, end_of, done, rest, row, sent_once}
 use Rattle.cct_msg.specs.Forms.{form_shown}
 use Rattle.cct_laws.proofs.money.Held.{IsReading, close_row_closes, same_record}
@@ -88,7 +88,7 @@ path_shown : (wanted : ReplyForm) (place : ℕ) (y : Reply) (means : Judged) →
 path_shown wanted place (reply.path number) means is shown none = cc
 path_shown wanted place y means is shown none = cc
 
-last_answered : (addr : ℕ) (judged means : Judged) (p : Payment) (r : TableRow) (q : Request) (y : Reply)
+last_answered : (addr : ℕ) (judged means : Judged) (p : Noted) (r : TableRow) (q : Request) (y : Reply)
     (wanted : ReplyForm) → EndsIt r → first addr judged p (r ∷ []) ≡ sends q → form_of q ≡ Some wanted →
     form_shown y ≡ Some wanted → end_answered (r ∷ []) y means ≡ None → ⊥
 last_answered addr judged means p (asks_for x (ends_as end)) q y wanted ends is wants shown none = cc
@@ -99,7 +99,7 @@ last_answered addr judged means p (puts_due due behind) q y wanted ends is wants
     due_sends addr judged p due q is
 last_answered addr judged means p r q y wanted ends is wants shown none = ends
 
-pub few_answered : (d : DeviceSetup) (c : Command) (n : ℕ) (judged means : Judged) (p : Payment) (q : Request)
+pub few_answered : (d : DeviceSetup) (c : Command) (n : ℕ) (judged means : Judged) (p : Noted) (q : Request)
     (y : Reply) (wanted : ReplyForm) → first (address_of c) judged p (after (rows_of d c) n) ≡ sends q →
     form_of q ≡ Some wanted → form_shown y ≡ Some wanted → n < length (rows_of d c) →
     end_answered (after (rows_of d c) n) y means ≡ None → suc n < length (rows_of d c)
@@ -112,28 +112,28 @@ few_answered d c n judged means p q y wanted is wants shown few none =
 -- a put
 posted_last : (end : End) (e r : Record) → IsReading (Reading e) → e ≡ r →
     end_kept (puts_due reading (if_posted (Some end)) ∷ []) r ≡ None → ⊥
-posted_last end (record_of.Reading addr counter lost posted) r reads same none =
-    let ended : end_kept (puts_due reading (if_posted (Some end)) ∷ []) (record_of.Reading addr counter lost posted) ≡ None =
+posted_last end (record_of.Reading addr counter lost accepts posted) r reads same none =
+    let ended : end_kept (puts_due reading (if_posted (Some end)) ∷ []) (record_of.Reading addr counter lost accepts posted) ≡ None =
     ap (end_kept (puts_due reading (if_posted (Some end)) ∷ [])) same ∙ none in
     cc
 posted_last end e r reads same none = reads
 
 broken_last : (end : End) (e r : Record) → IsReading (Broken e) → e ≡ r →
     end_kept (puts_due reading (if_posted (Some end)) ∷ []) r ≡ None → ⊥
-broken_last end (record_of.Broken addr seen counter posted) r reads same none =
-    let ended : end_kept (puts_due reading (if_posted (Some end)) ∷ []) (record_of.Broken addr seen counter posted) ≡ None =
+broken_last end (record_of.Broken addr seen counter lost accepts posted) r reads same none =
+    let ended : end_kept (puts_due reading (if_posted (Some end)) ∷ []) (record_of.Broken addr seen counter lost accepts posted) ≡ None =
     ap (end_kept (puts_due reading (if_posted (Some end)) ∷ [])) same ∙ none in
     cc
 broken_last end e r reads same none = reads
 
-reading_last : (addr : ℕ) (judged : Judged) (p : Payment) (end : End) (r : Record) → IsReading judged →
+reading_last : (addr : ℕ) (judged : Judged) (p : Noted) (end : End) (r : Record) → IsReading judged →
     first addr judged p (from (puts_due reading (if_posted (Some end)) ∷ []) judged) ≡ puts r →
     end_kept (puts_due reading (if_posted (Some end)) ∷ []) r ≡ None → ⊥
 reading_last addr Nothing p end r reads is none = cc
 reading_last addr (Reading e) p end r reads is none = posted_last end e r reads (same_record e r is) none
 reading_last addr (Broken e) p end r reads is none = broken_last end e r reads (same_record e r is) none
 
-last_put : (addr : ℕ) (judged : Judged) (p : Payment) (row : TableRow) (r : Record) → IsReading judged → EndsIt row →
+last_put : (addr : ℕ) (judged : Judged) (p : Noted) (row : TableRow) (r : Record) → IsReading judged → EndsIt row →
     first addr judged p (from (row ∷ []) judged) ≡ puts r → end_kept (row ∷ []) r ≡ None → ⊥
 last_put addr judged p (puts_due reading (if_posted (Some end))) r reads ends is none =
     reading_last addr judged p end r reads is none
@@ -148,7 +148,7 @@ last_put addr judged p (asks_for q behind) r reads ends is none = cc
 last_put addr judged p (asks_once q behind without) r reads ends is none = cc
 last_put addr judged p row r reads ends is none = ends
 
-pub few_put : (d : DeviceSetup) (c : Command) (n : ℕ) (judged : Judged) (p : Payment) (r : Record) →
+pub few_put : (d : DeviceSetup) (c : Command) (n : ℕ) (judged : Judged) (p : Noted) (r : Record) →
     row_at d c n judged p ≡ puts r → IsReading judged → n < length (rows_of d c) →
     end_kept (after (rows_of d c) n) r ≡ None → suc n < length (rows_of d c)
 few_put d c n judged p r is reads few none =
@@ -181,7 +181,7 @@ dispenses_on : (d : DeviceSetup) (c : Command) → EachRow DispensesOn (rows_of 
 dispenses_on d (command.Ident addr) = each_told DispensesOn (λ q. tt) (λ q. tt) (ident_requests d.body)
 dispenses_on d c = search rules
 
-first_dispenses : (addr : ℕ) (means : Judged) (p : Payment) (rows : List TableRow) (serial count failed : ℕ) →
+first_dispenses : (addr : ℕ) (means : Judged) (p : Noted) (rows : List TableRow) (serial count failed : ℕ) →
     EachRow DispensesOn rows → sent_once rows ≡ true → first addr means p rows ≡ sends (Dispense serial count) →
     end_failed rows failed ≡ None
 first_dispenses addr means p [] serial count failed on once is = absurd cc
@@ -198,6 +198,6 @@ dispensed_ends d c since state owed serial count is =
     let q = Dispense serial count in
     subst (λ rows. end_failed rows (tries (header_of q) (exchange (Some q) None ∷ since)) ≡ None)
     (sym (left_asks d c since state owed q is))
-    (first_dispenses (address_of c) (judged_in c since state) (payment_in since owed) (rest d c since) serial count _
+    (first_dispenses (address_of c) (judged_in c since state) (noted_in since owed) (rest d c since) serial count _
     (each_after DispensesOn (rows_of d c) (done (rows_of d c) since) (dispenses_on d c))
     (row_once d c since state owed q is refl) (rest_asks d c since state owed q is))

@@ -223,12 +223,12 @@ wire_passes d past addr sent piece other others =
     }
 
 put_elsewhere : (d : DeviceSetup) (past : List Entry) (r : Record) → owner past r ≢ d.addr → HasCause d past r
-put_elsewhere d past (record_of.Broken addr seen counter posted) away = λ here. absurd (away here)
+put_elsewhere d past (record_of.Broken addr seen counter lost accepts posted) away = λ here. absurd (away here)
 put_elsewhere d past r away = tt
 
 pub since_elsewhere : (d : DeviceSetup) (past : List Entry) (r : Record) (since : List Met) → owner past r ≢ d.addr →
     since_record d r since ≡ since
-since_elsewhere d past (record_of.Epoch addr mask) since away = rw (ne_eqb addr d.addr away) refl
+since_elsewhere d past (record_of.Epoch addr mask accepts) since away = rw (ne_eqb addr d.addr away) refl
 since_elsewhere d past r since away = refl
 
 put_passes : (d : DeviceSetup) (past : List Entry) (r : Record) → owner past r ≢ d.addr → Passes d past (entry.Put r)

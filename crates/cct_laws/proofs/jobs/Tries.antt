@@ -23,7 +23,7 @@ use Rattle.cct_model.specs.Reply.{Reply}
 use Rattle.cct_model.specs.Device.{IsSound}
 use Rattle.cct_model.specs.Setup.{IsSoundSetup}
 use Rattle.cct_model.specs.Line.{Line, dispensed, exchange, put, taken, ended, restarted}
-use Rattle.cct_model.specs.Job.{Job, free, works, job, with_line, epoch, judged_in, sends, ident_requests, Payment, payment_in, tries, tries_after, address_of}
+use Rattle.cct_model.specs.Job.{Job, free, works, job, with_line, epoch, judged_in, sends, ident_requests, Noted, noted_in, tries, tries_after, address_of}
 use Rattle.cct_model.specs.Rows.{end_of, left, rows_of, TableRow, asks_for, asks_once, waits_for_coins, puts_due, telling, after, first, rest, row, done, sent_once}
 use Rattle.cct_model.specs.Claims.{AllPast}
 use Rattle.cct_model.specs.Legal.{Legal}
@@ -68,7 +68,7 @@ sent_fits d c since state owed q low is =
     elim (fails_rest d c since state owed q is) [
       | inl again ↦ again_fits q again.0
       | inr once ↦ own_fits d.serial q low
-          (once_sent (IsOwnDose d.serial) (address_of c) (judged_in c since state) (payment_in since owed) (rest d c since) q
+          (once_sent (IsOwnDose d.serial) (address_of c) (judged_in c since state) (noted_in since owed) (rest d c since) q
           (rest_asks d c since state owed q is) once.1
           (each_after (IfOnce (IsOwnDose d.serial)) (rows_of d c) (done (rows_of d c) since) (own_doses d c)))
     ]
@@ -90,7 +90,7 @@ rows_apart : (d : DeviceSetup) (c : Command) → AreApart (rows_of d c)
 rows_apart d (command.Ident addr) = (told_apart (ident_requests d.body)).1
 rows_apart d c = search rules
 
-apart_first : (addr : ℕ) (means : Judged) (p : Payment) (rows : List TableRow) (q : Request) → AreApart rows →
+apart_first : (addr : ℕ) (means : Judged) (p : Noted) (rows : List TableRow) (q : Request) → AreApart rows →
     first addr means p rows ≡ sends q → IsApart (but_first rows) q
 apart_first addr means p [] q each is = absurd cc
 apart_first addr means p (asks_for x behind ∷ rows) q each is = subst (IsApart rows) (same_request x q is) each.0
@@ -263,7 +263,7 @@ steady_failed d lines since c q false test again none is_job steady =
 apart_row : (d : DeviceSetup) (c : Command) (since : List Line) (state : EpochState) (owed : Option OpenOrder)
     (q : Request) → row d c since state owed ≡ sends q → IsApart (but_first (rest d c since)) q
 apart_row d c since state owed q is =
-    apart_first (address_of c) (judged_in c since state) (payment_in since owed) (rest d c since) q
+    apart_first (address_of c) (judged_in c since state) (noted_in since owed) (rest d c since) q
     (fact_after AreApart (before_on (λ r later. Asks (IsApart later) r)) (rows_of d c) (done (rows_of d c) since)
     (rows_apart d c)) (rest_asks d c since state owed q is)
 
@@ -290,7 +290,7 @@ once_tries : (d : DeviceSetup) (lines since : List Line) (c : Command) (state : 
     (q : Request) → job lines ≡ works c since → row d c since state owed ≡ sends q →
     sent_once (rest d c since) ≡ true → Steady d lines → tries (header_of q) since ≡ 0
 once_tries d lines since c state owed q is_job is once steady =
-    once_sent (λ x. tries (header_of x) since ≡ 0) (address_of c) (judged_in c since state) (payment_in since owed)
+    once_sent (λ x. tries (header_of x) since ≡ 0) (address_of c) (judged_in c since state) (noted_in since owed)
     (rest d c since) q (rest_asks d c since state owed q is) once
     (subst (HasTriesLeft d) is_job steady.goes_on).none_of_once
 

@@ -22,7 +22,7 @@ use Rattle.cct_model.specs.Device.{is_acceptor, is_hopper}
 use Rattle.cct_model.specs.Exchange.{device_at, acceptor_there, hopper_there}
 use Rattle.cct_model.specs.Line.{Line}
 use Rattle.cct_model.specs.Order.{close, life_between}
-use Rattle.cct_model.specs.Job.{puts, address_of, credits_read, mask_read, judged_by, judged_in, payment_in, Payment, ident_requests}
+use Rattle.cct_model.specs.Job.{puts, address_of, credits_read, mask_read, judged_by, judged_in, noted_in, Noted, ident_requests}
 use Rattle.cct_model.specs.Rows.{id_ahead, Then, Due, new_epoch, reading, epoch_end, new_order, order_end, sale, TableRow, asks_for, asks_once, waits_for_coins, puts_due, rows_of, from, rest, first, row}
 use Rattle.cct_model.specs.Records.{is_open, epoch_in, order_in}
 use Rattle.cct_model.specs.Money.{coins_of, available_in}
@@ -153,12 +153,12 @@ start_lets d mask (Running running counter) none = absurd cc
 -- a round and a stop that their epoch doesn't refuse
 pub runs_by : (state : EpochState) → running_refusal state ≡ None → is_running state ≡ true
 runs_by Idle none = absurd cc
-runs_by (Running mask counter) none = refl
+runs_by (Running mask counter accepts) none = refl
 
 -- an epoch that begins
 begins : (setup : Setup) (before : List Record) (d : DeviceSetup) (addr mask : ℕ) (state : EpochState)
     (owed : Option OpenOrder) → Stands setup before d addr state owed → is_acceptor d.body ≡ true → 1 ≤ mask →
-    start_refusal mask d state ≡ None → Fits setup before (record_of.Epoch addr mask)
+    start_refusal mask d state ≡ None → Fits setup before (record_of.Epoch addr mask accepts)
 begins setup before d addr mask state owed at kind least lets =
     let both = start_lets d mask state lets in
     and_from _ _
@@ -220,7 +220,7 @@ ranged_rows d c range suited = search rules
 
 -- what is put fits, where it is in its range and has what it needs
 due_fits : (setup : Setup) (before : List Record) (d : DeviceSetup) (addr : ℕ) (state : EpochState)
-    (credits : Option Credits) (seen : Option ℕ) (p : Payment) (behind : Then) (rows : List TableRow) (due : Due) →
+    (credits : Option Credits) (seen : Option ℕ) (p : Noted) (behind : Then) (rows : List TableRow) (due : Due) →
     Stands setup before d addr state p.owed → IsRanged d due → DueNeeds d state p.owed due →
     NewOf before (puts_due due behind ∷ rows) →
     DueHolds (Fits setup before) addr (judged_by addr state credits seen) p due
@@ -237,7 +237,7 @@ due_fits setup before d addr state credits seen p behind rows order_end at range
 due_fits setup before d addr state credits seen p behind rows (sale id price) at range needs new = absurd range
 
 first_fits : (setup : Setup) (before : List Record) (d : DeviceSetup) (addr : ℕ) (state : EpochState)
-    (credits : Option Credits) (seen : Option ℕ) (p : Payment) (rows : List TableRow) →
+    (credits : Option Credits) (seen : Option ℕ) (p : Noted) (rows : List TableRow) →
     Stands setup before d addr state p.owed → EachRow (IfPuts (IsRanged d)) rows → NeedsOf d rows state p.owed →
     NewOf before rows → RowHolds (λ q. ⊤) (Fits setup before) (first addr (judged_by addr state credits seen) p rows)
 first_fits setup before d addr state credits seen p [] at range needs new = tt
@@ -259,7 +259,7 @@ row_fits setup before d c since state owed r at range suited needs new is =
     let rows = rest d c since in
     let means = judged_in c since state in
     subst (RowHolds (λ q. ⊤) (Fits setup before)) is
-    (first_fits setup before d (address_of c) state (credits_read since) (mask_read since) (payment_in since owed)
+    (first_fits setup before d (address_of c) state (credits_read since) (mask_read since) (noted_in since owed)
     (from rows means) at (each_left (IfPuts (IsRanged d)) d c since state (ranged_rows d c range suited))
     (each_from (IfPuts (DueNeeds d state owed)) rows means needs)
     (fact_from (NewOf before) (λ behind later fact. fact) rows means new))

@@ -19,7 +19,7 @@ use Rattle.cct_model.specs.Reply.{Reply}
 use Rattle.cct_model.specs.Line.{Line, exchange, put, taken}
 use Rattle.cct_model.specs.Order.{order_by, life_between, close}
 use Rattle.cct_model.specs.Reading.{judge, shows_break, distance, posted_of}
-use Rattle.cct_model.specs.Job.{Job, free, works, with_line, sends, puts, no_row, put_or, close_row, Payment, end_of_close, judged_by, judged_in, payment_in, credits_read, mask_read, address_of, epoch_by, ident_requests}
+use Rattle.cct_model.specs.Job.{Job, free, works, with_line, sends, puts, no_row, put_or, close_row, Noted, end_of_close, judged_by, judged_in, noted_in, credits_read, mask_read, address_of, epoch_by, ident_requests}
 use Rattle.cct_model.specs.Rows.{Then, ends_as, Due, new_epoch, reading, epoch_end, new_order, order_end, sale, TableRow, asks_for, asks_once, waits_for_coins, puts_due, rows_of, rows_of_sale, from, done, rest, left, first, due_row, row, end_kept, end_of, puts_in, has_closes, closes_order, need_in}
 use Rattle.cct_model.specs.Refusal.{job_holds, order_holds, need_for}
 use Rattle.cct_model.proofs.Rows.{but_first, after_none, after_next, after_line, fact_after, fact_from, EachBefore, before_on, told_fact}
@@ -29,9 +29,9 @@ use Rattle.cct_laws.specs.KeptHopper.{IsOwed}
 -- what a reading was judged to be is a reading or a break
 abbrev pub IsReading : Judged → Type 0
 IsReading Nothing = ⊤
-IsReading (Reading (record_of.Reading addr counter lost posted)) = ⊤
+IsReading (Reading (record_of.Reading addr counter lost accepts posted)) = ⊤
 IsReading (Reading r) = ⊥
-IsReading (Broken (record_of.Broken addr seen counter posted)) = ⊤
+IsReading (Broken (record_of.Broken addr seen counter lost accepts posted)) = ⊤
 IsReading (Broken r) = ⊥
 
 judge_reads : (addr mask counter : ℕ) (c : Credits) (seen : ℕ) → IsReading (judge addr mask counter c seen)
@@ -51,7 +51,7 @@ judge_reads addr mask counter c seen =
 
 pub judged_reads : (addr : ℕ) (state : EpochState) (credits : Option Credits) (seen : Option ℕ) →
     IsReading (judged_by addr state credits seen)
-judged_reads addr (Running mask counter) (Some c) (Some seen) = judge_reads addr mask counter c seen
+judged_reads addr (Running mask counter accepts) (Some c) (Some seen) = judge_reads addr mask counter c seen
 judged_reads addr state credits seen = tt
 
 -- what the record that a row puts does to the open order
@@ -65,11 +65,11 @@ LeavesOrders r = (owed : Option OpenOrder) → order_by r owed ≡ owed
 
 judged_leaves : (judged : Judged) (r : Record) → IsReading judged → put_or no_row judged ≡ puts r → LeavesOrders r
 judged_leaves Nothing r reads is = absurd cc
-judged_leaves (Reading (record_of.Reading addr counter lost posted)) r reads is =
-    subst LeavesOrders (same_record (record_of.Reading addr counter lost posted) r is) (λ owed. refl)
+judged_leaves (Reading (record_of.Reading addr counter lost accepts posted)) r reads is =
+    subst LeavesOrders (same_record (record_of.Reading addr counter lost accepts posted) r is) (λ owed. refl)
 judged_leaves (Reading other) r reads is = absurd reads
-judged_leaves (Broken (record_of.Broken addr seen counter posted)) r reads is =
-    subst LeavesOrders (same_record (record_of.Broken addr seen counter posted) r is) (λ owed. refl)
+judged_leaves (Broken (record_of.Broken addr seen counter lost accepts posted)) r reads is =
+    subst LeavesOrders (same_record (record_of.Broken addr seen counter lost accepts posted) r is) (λ owed. refl)
 judged_leaves (Broken other) r reads is = absurd reads
 
 abbrev leaves_orders : Due → Bool
@@ -77,10 +77,10 @@ leaves_orders (new_order id count) = false
 leaves_orders order_end = false
 leaves_orders due = true
 
-due_leaves : (addr : ℕ) (means : Judged) (p : Payment) (due : Due) (r : Record) → IsReading means →
+due_leaves : (addr : ℕ) (means : Judged) (p : Noted) (due : Due) (r : Record) → IsReading means →
     leaves_orders due ≡ true → due_row addr means p due ≡ puts r → LeavesOrders r
 due_leaves addr means p (new_epoch mask) r reads leaves is =
-    subst LeavesOrders (same_record (record_of.Epoch addr mask) r is) (λ owed. refl)
+    subst LeavesOrders (same_record (record_of.Epoch addr mask accepts) r is) (λ owed. refl)
 due_leaves addr means p reading r reads leaves is = judged_leaves means r reads is
 due_leaves addr means p epoch_end r reads leaves is =
     subst LeavesOrders (same_record (record_of.EpochEnd addr) r is) (λ owed. refl)
@@ -136,7 +136,7 @@ pub rest_well : (d : DeviceSetup) (c : Command) (since : List Line) → RowsHold
 rest_well d c since = fact_after RowsHoldWell (before_on HoldsWell) (rows_of d c) _ (rows_well d c)
 
 -- the record of the row after one that was passed over ends its job
-pub passed_ends : (addr : ℕ) (p : Payment) (behind : Then) (rows : List TableRow) (r : Record) → EndsNext rows →
+pub passed_ends : (addr : ℕ) (p : Noted) (behind : Then) (rows : List TableRow) (r : Record) → EndsNext rows →
     first addr Nothing p rows ≡ puts r → end_kept (puts_due reading behind ∷ rows) r ≡ None → ⊥
 passed_ends addr p behind [] r ends is none = cc
 passed_ends addr p behind (puts_due epoch_end (ends_as end) ∷ rows) r ends is none =
@@ -193,7 +193,7 @@ free_least d c since state owed =
 
 -- an exchange brings no more to come
 
-asked_same : (addr : ℕ) (means : Judged) (p : Payment) (rows : List TableRow) (q : Request) (owed : Option OpenOrder) →
+asked_same : (addr : ℕ) (means : Judged) (p : Noted) (rows : List TableRow) (q : Request) (owed : Option OpenOrder) →
     first addr means p rows ≡ sends q → held_by (but_first rows) owed ≡ held_by rows owed
 asked_same addr means p [] q owed is = refl
 asked_same addr means p (asks_for x behind ∷ rows) q owed is = refl
@@ -206,7 +206,7 @@ pub asked_no_more : (d : DeviceSetup) (c : Command) (since : List Line) (state :
     holds_with d (works c (exchange (Some q) got ∷ since)) state owed ≤ holds_with d (works c since) state owed
 asked_no_more d c since state owed q got is =
     let rows = rest d c since in
-    let p = payment_in since owed in
+    let p = noted_in since owed in
     let means = judged_in c since state in
     let later = judged_in c (exchange (Some q) got ∷ since) state in
     let all : left d c since state ≡ rows = left_asks d c since state owed q is in
@@ -229,7 +229,7 @@ opens_least rows later closes =
     let none : order_holds (has_closes rows) later ≡ 0 = ap (λ b. order_holds b later) closes ∙ closing later in
     omega (arith, some, none)
 
-least_first : (addr : ℕ) (means : Judged) (p : Payment) (rows : List TableRow) (r : Record) → IsReading means →
+least_first : (addr : ℕ) (means : Judged) (p : Noted) (rows : List TableRow) (r : Record) → IsReading means →
     RowsHoldWell rows → first addr means p rows ≡ puts r →
     suc (order_holds false (order_by r p.owed)) ≤ held_by rows p.owed
 least_first addr means p [] r reads well is = absurd cc
@@ -257,7 +257,7 @@ put_least d c since state owed r is =
     let means = judged_in c since state in
     subst (λ b. suc (order_holds false (order_by r owed)) ≤ puts_in (from rows means) + order_holds b owed)
     (from_closes rows means)
-    (least_first (address_of c) means (payment_in since owed) (from rows means) r
+    (least_first (address_of c) means (noted_in since owed) (from rows means) r
     (judged_reads (address_of c) state (credits_read since) (mask_read since))
     (fact_from RowsHoldWell (λ behind later each. each.1) rows means (rest_well d c since)) is)
 
@@ -272,7 +272,7 @@ leaves_less rows later owed r leaves =
     let most = from_puts rows later in
     omega (arith, same, most)
 
-goes_first : (addr : ℕ) (means later : Judged) (p : Payment) (rows : List TableRow) (r : Record) → IsReading means →
+goes_first : (addr : ℕ) (means later : Judged) (p : Noted) (rows : List TableRow) (r : Record) → IsReading means →
     RowsHoldWell rows → first addr means p (from rows means) ≡ puts r → end_kept rows r ≡ None →
     suc (puts_in (from (but_first rows) later) + order_holds (has_closes (but_first rows)) (order_by r p.owed))
     ≤ puts_in (from rows means) + order_holds (has_closes rows) p.owed
@@ -309,7 +309,7 @@ put_goes_on d c since state owed r is none =
     (λ rs. suc (puts_in (from rs later) + order_holds (has_closes rs) (order_by r owed))
     ≤ holds_with d (works c since) state owed)
     (sym (after_next (rows_of d c) (done (rows_of d c) since)))
-    (goes_first (address_of c) (judged_in c since state) later (payment_in since owed) (rest d c since) r
+    (goes_first (address_of c) (judged_in c since state) later (noted_in since owed) (rest d c since) r
     (judged_reads (address_of c) state (credits_read since) (mask_read since)) (rest_well d c since) is none)
 
 -- a command

@@ -24,7 +24,7 @@ use Rattle.cct_model.specs.Setup.{IsSoundSetup}
 use Rattle.cct_model.specs.Exchange.{ask, asked}
 use Rattle.cct_model.specs.Line.{Line, exchange, put, taken}
 use Rattle.cct_model.specs.Order.{order_by, order}
-use Rattle.cct_model.specs.Job.{Job, free, works, with_line, job, puts, counted, epoch_by, epoch, Payment, payment_in, judged_in, credits_read, mask_read, address_of, ident_requests}
+use Rattle.cct_model.specs.Job.{Job, free, works, with_line, job, puts, counted, epoch_by, epoch, Noted, noted_in, judged_in, credits_read, mask_read, address_of, ident_requests}
 use Rattle.cct_model.specs.Refusal.{start_refusal}
 use Rattle.cct_model.specs.Rows.{Then, if_posted, Due, new_epoch, reading, epoch_end, new_order, order_end, sale, TableRow, asks_for, asks_once, waits_for_coins, puts_due, rows_of, from, done, rest, first, row, end_kept, end_of}
 use Rattle.cct_model.specs.Following.{is_running}
@@ -181,21 +181,21 @@ needs_counted d counter state owed (waits_for_coins ∷ rows) needs =
 
 needs_read : (d : DeviceSetup) (state : EpochState) (owed : Option OpenOrder) (rows : List TableRow) (e r : Record) →
     e ≡ r → IsReading (Reading e) → NeedsOf d rows state owed → NeedsOf d rows (epoch_by r state) (order_by r owed)
-needs_read d state owed rows (record_of.Reading addr counter lost posted) r same reads needs =
+needs_read d state owed rows (record_of.Reading addr counter lost accepts posted) r same reads needs =
     subst (λ x. NeedsOf d rows (epoch_by x state) (order_by x owed)) same
     (needs_counted d counter state owed rows needs)
 needs_read d state owed rows e r same reads needs = absurd reads
 
 break_ends : (behind : Then) (rows : List TableRow) (e r : Record) → e ≡ r → IsReading (Broken e) → BreakEnds behind →
     end_kept (puts_due reading behind ∷ rows) r ≡ None → ⊥
-break_ends (if_posted of_reading) rows (record_of.Broken addr seen counter posted) r same reads breaks none =
+break_ends (if_posted of_reading) rows (record_of.Broken addr seen counter lost accepts posted) r same reads breaks none =
     let all = puts_due reading (if_posted of_reading) ∷ rows in
-    let over : end_kept all (record_of.Broken addr seen counter posted) ≡ None = ap (end_kept all) same ∙ none in
+    let over : end_kept all (record_of.Broken addr seen counter lost accepts posted) ≡ None = ap (end_kept all) same ∙ none in
     cc
 break_ends (if_posted of_reading) rows e r same reads breaks none = reads
 break_ends behind rows e r same reads breaks none = breaks
 
-first_needs : (d : DeviceSetup) (addr : ℕ) (means : Judged) (p : Payment) (state : EpochState) (rows : List TableRow)
+first_needs : (d : DeviceSetup) (addr : ℕ) (means : Judged) (p : Noted) (state : EpochState) (rows : List TableRow)
     (r : Record) → IsReading means → EachBefore NeedsWell rows → RowsHoldWell rows →
     first addr means p (from rows means) ≡ puts r → end_kept rows r ≡ None → NeedsOf d rows state p.owed →
     NeedsOf d (but_first rows) (epoch_by r state) (order_by r p.owed)
@@ -219,7 +219,7 @@ needs_put : (d : DeviceSetup) (c : Command) (since : List Line) (state : EpochSt
 needs_put d c since state owed r is none needs =
     let n = done (rows_of d c) since in
     subst (λ rows. NeedsOf d rows (epoch_by r state) (order_by r owed)) (sym (after_next (rows_of d c) n))
-    (first_needs d (address_of c) (judged_in c since state) (payment_in since owed) state (rest d c since) r
+    (first_needs d (address_of c) (judged_in c since state) (noted_in since owed) state (rest d c since) r
     (judged_reads (address_of c) state (credits_read since) (mask_read since))
     (fact_after (EachBefore NeedsWell) (before_on NeedsWell) (rows_of d c) n (needs_well d c)) (rest_well d c since) is
     none needs)

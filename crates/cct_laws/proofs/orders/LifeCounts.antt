@@ -26,7 +26,7 @@ use Rattle.cct_model.specs.Device.{IsHopper}
 use Rattle.cct_model.specs.Setup.{IsSoundSetup}
 use Rattle.cct_model.specs.Line.{Line, exchange, put}
 use Rattle.cct_model.specs.Order.{order}
-use Rattle.cct_model.specs.Job.{job, epoch, puts, judged_in, judged_by, credits_read, mask_read, payment_in, ident_requests, end_of_close, address_of}
+use Rattle.cct_model.specs.Job.{job, epoch, puts, judged_in, judged_by, credits_read, mask_read, noted_in, ident_requests, end_of_close, address_of}
 use Rattle.cct_model.specs.Rows.{row, end_of, TableRow, Due, puts_due, rows_of, Then, end_kept, new_epoch, ends_as, end_by_record, if_posted, if_closed, reading, asks_for, epoch_end, asks_once, waits_for_coins, new_order, rest, sale, order_end, done}
 use Rattle.cct_model.specs.Scan.{end_of_scan, end_by_row, scan_row, scan_tries}
 use Rattle.cct_model.specs.Legal.{with_end}
@@ -99,18 +99,18 @@ puts_fit d c = search rules
 record_fit : (due : Due) (behind : Then) (r : Record) → PutsFit (puts_due due behind) → HasFittingLife r →
     IsFit (end_by_record behind r)
 record_fit due (ends_as end) r fit fine = fit
-record_fit due (if_posted of_reading) (record_of.Reading addr counter lost coins) fit fine = fit
-record_fit due (if_posted of_reading) (record_of.Broken addr seen counter coins) fit fine = tt
+record_fit due (if_posted of_reading) (record_of.Reading addr counter lost accepts coins) fit fine = fit
+record_fit due (if_posted of_reading) (record_of.Broken addr seen counter lost accepts coins) fit fine = tt
 record_fit due (if_posted of_reading) r fit fine = tt
 record_fit due if_closed r fit fine = close_fit r fine
 record_fit due behind r fit fine = tt
 
 kept_fit : (rows : List TableRow) (r : Record) → EachRow PutsFit rows → HasFittingLife r → IsFit (end_kept rows r)
 kept_fit [] r each fine = tt
-kept_fit (puts_due reading behind ∷ rows) (record_of.Reading addr counter lost coins) each fine =
-    record_fit reading behind (record_of.Reading addr counter lost coins) each.0 fine
-kept_fit (puts_due reading behind ∷ rows) (record_of.Broken addr seen counter coins) each fine =
-    record_fit reading behind (record_of.Broken addr seen counter coins) each.0 fine
+kept_fit (puts_due reading behind ∷ rows) (record_of.Reading addr counter lost accepts coins) each fine =
+    record_fit reading behind (record_of.Reading addr counter lost accepts coins) each.0 fine
+kept_fit (puts_due reading behind ∷ rows) (record_of.Broken addr seen counter lost accepts coins) each fine =
+    record_fit reading behind (record_of.Broken addr seen counter lost accepts coins) each.0 fine
 kept_fit (puts_due reading behind ∷ rows) r each fine = kept_fit rows r each.1 fine
 kept_fit (puts_due (new_epoch mask) behind ∷ rows) r each fine = record_fit (new_epoch mask) behind r each.0 fine
 kept_fit (puts_due epoch_end behind ∷ rows) r each fine = record_fit epoch_end behind r each.0 fine
@@ -155,14 +155,14 @@ acceptor_fit : (d : DeviceSetup) (c : Command) (since : List Line) (state : Epoc
     (r : Record) → is_for_acceptor c ≡ true → row d c since state owed ≡ puts r → HasFittingLife r
 acceptor_fit d c since state owed r suited is_row =
     let judged = judged_in c since state in
-    let p = payment_in since owed in
+    let p = noted_in since owed in
     let only : puts_only is_reading_due (rows_of d c) ≡ true =
     sym (ap (λ b. cond b (puts_only is_reading_due (rows_of d c)) true) suited) ∙ acceptor_dues d c in
     subst (RowHolds (λ q. ⊤) HasFittingLife) is_row
     (each_put HasFittingLife is_reading_due d c (done (rows_of d c) since) judged p only due_fit)
   where
     due_fit : (due : Due) → is_reading_due due ≡ true →
-        DueHolds HasFittingLife (address_of c) (judged_in c since state) (payment_in since owed) due
+        DueHolds HasFittingLife (address_of c) (judged_in c since state) (noted_in since owed) due
     due_fit (new_epoch mask) is = tt
     due_fit reading is = judged_fit (address_of c) state (credits_read since) (mask_read since)
     due_fit epoch_end is = tt

@@ -14,7 +14,7 @@ use Rattle.cct_model.specs.declared.judging.Judged.TheVariants.{Nothing, Reading
 use Rattle.cct_model.specs.declared.judging.OpenOrder.{OpenOrder}
 use Rattle.cct_model.specs.Line.{Line}
 use Rattle.cct_model.specs.Order.{close, life_between}
-use Rattle.cct_model.specs.Job.{credits_read, mask_read, judged_by, ident_requests, Payment, judged_in, payment_in, address_of}
+use Rattle.cct_model.specs.Job.{credits_read, mask_read, judged_by, ident_requests, Noted, judged_in, noted_in, address_of}
 use Rattle.cct_model.specs.Rows.{id_ahead, row, Due, TableRow, asks_for, asks_once, waits_for_coins, puts_due, new_order, rows_of, from, rest, left, first, done, sale, new_epoch, reading, epoch_end, order_end, Then}
 use Rattle.cct_model.proofs.Rows.{RowHolds, EachRow, each_told, each_left, JudgedHolds, judged_holds, due_holds, state_holds, DueHolds, but_first}
 use Rattle.cct_laws.proofs.jobs.Waits.{OneId, one_id, one_after}
@@ -80,7 +80,7 @@ from_opens id count [] means one opens = opens
 
 -- what the first of these rows puts, beside all that were left
 due_own : (addr : ℕ) (rows all : List TableRow) (due : Due) (behind : Then) (since : List Line) (state : EpochState)
-    (p : Payment) → ((id count : ℕ) → Opens id count (puts_due due behind ∷ rows) → Opens id count all) →
+    (p : Noted) → ((id count : ℕ) → Opens id count (puts_due due behind ∷ rows) → Opens id count all) →
     SellsNone (puts_due due behind) →
     DueHolds (λ r. UsesOwn r addr all) addr (judged_by addr state (credits_read since) (mask_read since)) p due
 due_own addr rows all (new_epoch mask) behind since state p opens none = tt
@@ -91,7 +91,7 @@ due_own addr rows all (new_order id count) behind since state p opens none =
 due_own addr rows all order_end behind since state p opens none = λ o life owed read. closes_own o life addr all
 due_own addr rows all (sale id price) behind since state p opens none = absurd none
 
-first_own : (addr : ℕ) (rows all : List TableRow) (since : List Line) (state : EpochState) (p : Payment) →
+first_own : (addr : ℕ) (rows all : List TableRow) (since : List Line) (state : EpochState) (p : Noted) →
     ((id count : ℕ) → Opens id count rows → Opens id count all) → EachRow SellsNone rows →
     RowHolds (λ q. ⊤) (λ r. UsesOwn r addr all)
     (first addr (judged_by addr state (credits_read since) (mask_read since)) p rows)
@@ -107,7 +107,7 @@ first_own addr (puts_due due behind ∷ rows) all since state p opens none =
 pub row_own : (d : DeviceSetup) (c : Command) (since : List Line) (state : EpochState) (owed : Option OpenOrder) →
     RowHolds (λ q. ⊤) (λ r. UsesOwn r (address_of c) (rest d c since)) (row d c since state owed)
 row_own d c since state owed =
-    first_own (address_of c) (left d c since state) (rest d c since) since state (payment_in since owed)
+    first_own (address_of c) (left d c since state) (rest d c since) since state (noted_in since owed)
     (λ id count. from_opens id count (rest d c since) (judged_in c since state)
     (one_after (rows_of d c) (done (rows_of d c) since) (one_id d c)))
     (each_left SellsNone d c since state (sells_none d c))

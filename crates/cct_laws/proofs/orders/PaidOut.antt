@@ -18,7 +18,7 @@ use Rattle.cct_model.specs.Hopper.{remaining, taken_of}
 use Rattle.cct_model.specs.Device.{IsHopper, reply_of}
 use Rattle.cct_model.specs.Line.{Line, exchange, put, taken}
 use Rattle.cct_model.specs.Order.{order}
-use Rattle.cct_model.specs.Job.{Job, free, works, job, begun, with_line, epoch, sends, puts, Payment, payment_in, judged_in, open_row, ident_requests, address_of}
+use Rattle.cct_model.specs.Job.{Job, free, works, job, begun, with_line, epoch, sends, puts, Noted, noted_in, judged_in, open_row, ident_requests, address_of}
 use Rattle.cct_model.specs.Rows.{row, new_epoch, reading, epoch_end, new_order, order_end, sale, TableRow, asks_for, asks_once, waits_for_coins, puts_due, telling, rows_of, after, from, rest, done, first, sent_once, ends_first}
 use Rattle.cct_model.specs.Transcript.{doses, met, onto}
 use Rattle.cct_model.proofs.Hoppers.{left_heard, remaining_fall, remaining_jam, remaining_heard}
@@ -77,7 +77,7 @@ rows_opened d (command.Ident addr) played = (told_opened (ident_requests d.body)
 rows_opened d c played = absurd cc
 
 -- so the row after one that asks isn't sent once
-asked_opened : (addr : ℕ) (means : Judged) (p : Payment) (rows : List TableRow) (q : Request) → AreOpened rows →
+asked_opened : (addr : ℕ) (means : Judged) (p : Noted) (rows : List TableRow) (q : Request) → AreOpened rows →
     first addr means p rows ≡ sends q → sent_once (but_first rows) ≡ false
 asked_opened addr means p [] q each is = refl
 asked_opened addr means p (asks_for x behind ∷ rows) q each is = each.0
@@ -93,7 +93,7 @@ opened_out addr id count (Some life) r before is out =
     let same : record_of.Opened id addr count life ≡ r = cc in
     true≢false (sym out ∙ ap (λ x. paid_out_by x before) (sym same))
 
-put_opened : (addr : ℕ) (means : Judged) (p : Payment) (rows : List TableRow) (r : Record) (before : Bool) →
+put_opened : (addr : ℕ) (means : Judged) (p : Noted) (rows : List TableRow) (r : Record) (before : Bool) →
     AreOpened rows → first addr means p (from rows means) ≡ puts r → paid_out_by r before ≡ true →
     sent_once (but_first rows) ≡ false
 put_opened addr means p [] r before each is out = refl
@@ -121,7 +121,7 @@ asked_aside d c work state owed q got played is = by_end (ends_first (rest d c w
   where
     goes : sent_once (but_first (rest d c work)) ≡ false
     goes =
-        asked_opened (address_of c) (judged_in c work state) (payment_in work owed) (rest d c work) q
+        asked_opened (address_of c) (judged_in c work state) (noted_in work owed) (rest d c work) q
         (left_opened d c work played) (rest_asks d c work state owed q is)
 
     by_end : (ends : Bool) → ends_first (rest d c work) got ≡ ends →
@@ -135,7 +135,7 @@ put_aside : (d : DeviceSetup) (c : Command) (work : List Line) (state : EpochSta
     paid_out_by r before ≡ true → IsNotAtDispense d (works c (put r ∷ work))
 put_aside d c work state owed r before played is out =
     ap sent_once (after_next (rows_of d c) (done (rows_of d c) work))
-    ∙ put_opened (address_of c) (judged_in c work state) (payment_in work owed) (rest d c work) r before
+    ∙ put_opened (address_of c) (judged_in c work state) (noted_in work owed) (rest d c work) r before
     (left_opened d c work played) is out
 
 -- a hopper with nothing left to fall has nothing left, whatever it hears but a dispense

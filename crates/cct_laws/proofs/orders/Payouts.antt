@@ -20,7 +20,7 @@ use Rattle.cct_model.specs.Hopper.{remaining, dropped, taken_of, life_count, sta
 use Rattle.cct_model.specs.Device.{IsHopper, reply_of}
 use Rattle.cct_model.specs.Line.{Line, dispensed, exchange, put}
 use Rattle.cct_model.specs.Order.{order, is_marked, life_read, close, life_line}
-use Rattle.cct_model.specs.Job.{Row, works, job, with_line, epoch, sends, puts, Payment, payment_in, state_row, open_row, close_row, judged_in, address_of}
+use Rattle.cct_model.specs.Job.{Row, works, job, with_line, epoch, sends, puts, Noted, noted_in, state_row, open_row, close_row, judged_in, address_of}
 use Rattle.cct_model.specs.Rows.{end_of, row, TableRow, rows_of, after, rest, done, sent_once, ends_first, Then, new_order, order_end, reading, asks_for, asks_once, waits_for_coins, puts_due, first, from}
 use Rattle.cct_model.specs.Paid.{dispenses, fallen, PaidBy, Paid}
 use Rattle.cct_model.specs.Transcript.{dispensed_by, doses}
@@ -237,7 +237,7 @@ waited_next own start w owed life rows follows is_open none = absurd follows
 
 -- what an answer brings to a job
 rows_next : (d : DeviceSetup) (past : List Met) (lines : List Line) (w : View) (owed : Option OpenOrder)
-    (work : List Line) (addr : ℕ) (judged : Judged) (p : Payment) (rows : List TableRow) (q : Request) (y : Reply)
+    (work : List Line) (addr : ℕ) (judged : Judged) (p : Noted) (rows : List TableRow) (q : Request) (y : Reply)
     (ends : Bool) → IsHopper d.body → Less (view d past lines) w → sent_once rows ≡ false →
     FitsLeft d.serial (start_of d.body) (view d past lines) owed (life_read work) rows →
     first addr judged p rows ≡ sends q → reply_of d past q ≡ Some y → ends_first rows (Some y) ≡ ends →
@@ -378,7 +378,7 @@ rows_fits : (d : DeviceSetup) (past : List Met) (lines work : List Line) (addr :
     StateOf (start_of d.body) (view d past lines) (order lines) →
     RowFits d past lines (life_read work)
     (λ w owed life. FitsLeft d.serial (start_of d.body) w owed life (but_first rows))
-    (first addr judged (payment_in work (order lines)) rows)
+    (first addr judged (noted_in work (order lines)) rows)
 rows_fits d past lines work addr judged [] well fits state = tt
 rows_fits d past lines work addr judged (asks_for q behind ∷ rows) well fits state =
     again_sent (view d past lines) (order lines) d.serial _ q well.0
@@ -418,7 +418,7 @@ row_fits d past lines c work is_job pays =
     let fits = fits_at d past lines c work is_job pays in
     let judged = judged_in c work (epoch lines) in
     subst (λ rows. RowFits d past lines (life_read work) (NextOf d c work)
-    (first (address_of c) judged (payment_in work (order lines)) rows))
+    (first (address_of c) judged (noted_in work (order lines)) rows))
     (sym (none_passed d.serial (rest d c work) judged fits.0))
     (rows_fits d past lines work (address_of c) judged (rest d c work)
     (each_after AsksWell (rows_of d c) (done (rows_of d c) work) (asks_well d c)) fits pays.state)
@@ -545,7 +545,7 @@ asks_sent d past lines c work q asked got paying is_job row_is pays sent fate =
     left_next d c work (start_of d.body) (view d now lines) (order lines) (life_read (exchange (Some q) (Some y) ∷ work))
     (ends_first (rest d c work) (Some y))
     (rows_next d past lines (view d now lines) (order lines) work (address_of c) (judged_in c work (epoch lines))
-    (payment_in work (order lines)) (rest d c work) q y (ends_first (rest d c work) (Some y)) paying
+    (noted_in work (order lines)) (rest d c work) q y (ends_first (rest d c work) (Some y)) paying
     (less_heard d past lines (Some q) sent) again (fits_at d past lines c work is_job pays)
     (rest_asks d c work (epoch lines) (order lines) q row_is) gives refl)) fate
 

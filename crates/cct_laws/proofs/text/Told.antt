@@ -34,7 +34,7 @@ use Rattle.cct_model.specs.Line.{Line, accepted, inhibited, fell, exchange, scan
 use Rattle.cct_model.specs.Line as line
 use Rattle.cct_model.specs.Reading.{judge}
 use Rattle.cct_model.specs.Order.{close, life_between}
-use Rattle.cct_model.specs.Job.{Job, free, works, job, begun, with_line, credits_read, mask_reply, mask_line, mask_read, judged_by, judged_in, Row, payment_in, ident_requests, address_of}
+use Rattle.cct_model.specs.Job.{Job, free, works, job, begun, with_line, credits_read, mask_reply, mask_line, mask_read, judged_by, judged_in, Row, noted_in, ident_requests, address_of}
 use Rattle.cct_model.specs.Rows.{row, end_of, rows_of, done}
 use Rattle.cct_model.specs.Transcript.{pending, heard_by_devices, heard_by_host, met, answers, heard_after, got_by, dispensed_by, doses, doses_of, owner, lines_of}
 use Rattle.cct_model.proofs.Requests.{request_short}
@@ -280,8 +280,8 @@ mask_fits (l ∷ lines) h = there_or IsMask (mask_line l) (mask_read lines) (lin
 
 -- what is judged
 judged_by_tests : (breaks none : Bool) (addr seen counter lost : ℕ) (broken posted : List Coin) → IsMask seen →
-    JudgedHolds IsRecord (cond breaks (Broken (record_of.Broken addr seen counter broken))
-    (cond none Nothing (Reading (record_of.Reading addr counter lost posted))))
+    JudgedHolds IsRecord (cond breaks (Broken (record_of.Broken addr seen counter lost accepts broken))
+    (cond none Nothing (Reading (record_of.Reading addr counter lost accepts posted))))
 judged_by_tests true none addr seen counter lost broken posted h = omega (arith, h)
 judged_by_tests false true addr seen counter lost broken posted h = tt
 judged_by_tests false false addr seen counter lost broken posted h = tt
@@ -343,7 +343,7 @@ command_asks d c since h = tt
 
 command_puts : (d : DeviceSetup) (c : Command) (since : List Line) (state : EpochState) (owed : Option OpenOrder) →
     FitsJob (works c since) →
-    EachRow (Puts IsRecord (address_of c) (judged_in c since state) (payment_in since owed)) (rows_of d c)
+    EachRow (Puts IsRecord (address_of c) (judged_in c since state) (noted_in since owed)) (rows_of d c)
 command_puts d (command.Start addr mask) since state owed h = (tt, (tt, (omega (arith, h.0.1.1), (tt, tt))))
 command_puts d (command.Round addr) since state owed h =
     (tt, (tt, (judged_fits (command.Round addr) since state h.1, tt)))
@@ -355,7 +355,7 @@ command_puts d (command.Pay addr id count) since state owed h = (
 )
 command_puts d (command.Settle addr) since state owed h = (tt, (tt, ((λ o life is read. close_fits o life), tt)))
 command_puts d (command.Ident addr) since state owed h =
-    each_told (Puts IsRecord addr (judged_in (command.Ident addr) since state) (payment_in since owed)) (λ q. tt) (λ q. tt)
+    each_told (Puts IsRecord addr (judged_in (command.Ident addr) since state) (noted_in since owed)) (λ q. tt) (λ q. tt)
     (ident_requests d.body)
 command_puts d c since state owed h = search rules
 
@@ -363,7 +363,7 @@ pub row_fits : (d : DeviceSetup) (c : Command) (since : List Line) (state : Epoc
     FitsJob (works c since) → FitsRow (row d c since state owed)
 row_fits d c since state owed h =
     let judged = judged_in c since state in
-    let p = payment_in since owed in
+    let p = noted_in since owed in
     both_hold FitsAsk IsRecord (row d c since state owed)
     (each_ask FitsAsk d c (done (rows_of d c) since) judged p (command_asks d c since h))
     (each_due IsRecord d c (done (rows_of d c) since) judged p (command_puts d c since state owed h))
