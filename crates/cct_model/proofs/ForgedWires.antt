@@ -20,7 +20,7 @@ use Rattle.cct_model.specs.Exchange.{ask, asked, asks_of, asker, after_echo, got
 use Rattle.cct_model.specs.Transcript.{heard_after, got_by, scan_line}
 use Rattle.cct_model.specs.DeviceSet.{all_addresses}
 use Rattle.cct_model.specs.Scan.{scan_row, next_due, end_of_scan}
-use Rattle.cct_model.specs.Reading.{distance, judge}
+use Rattle.cct_model.specs.Reading.{distance, accepted_between, judge}
 use Rattle.cct_model.proofs.Machine.{setup, coin, wire, bytes_of, Row, AllPlay, one, both, after, starting}
 
 -- a step that sets a fault
@@ -38,10 +38,12 @@ refusal = bytes_of (codes "01000205f8")
 abbrev forged_coin : List Row
 forged_coin =
     one (step.Command (command.Round 2)) (entry.Taken (command.Round 2))
+    ∷ one (step.Next 2) (wire 2 "020001e11c" "020001e11c01030200000000fa")
     ∷ sets (fault.HostHears told_coin)
     ∷ both (step.Next 2) (wire 2 "020001e518" "020001e518010b02000105010000000000000000eb") (entry.Forged 2)
     ∷ one (step.Next 2) (wire 2 "020001e617" "020001e61701020200fffffd")
-    ∷ both (step.Next 2) (entry.Put (record_of.Reading 2 1 0 (coin 5 1 ∷ []))) (entry.Ended 2 end_of.Posted)
+    ∷ one (step.Next 2) (wire 2 "020001e11c" "020001e11c01030200000000fa")
+    ∷ both (step.Next 2) (entry.Put (record_of.Reading 2 1 0 0 (coin 5 1 ∷ []))) (entry.Ended 2 end_of.Posted)
     ∷ one (step.Next 2) (entry.Idle 2)
     ∷ []
 
@@ -50,13 +52,13 @@ abbrev forged_refusals : List Row
 forged_refusals =
     one (step.Command (command.Round 2)) (entry.Taken (command.Round 2))
     ∷ sets (fault.HostHears refusal)
-    ∷ both (step.Next 2) (wire 2 "020001e518" "020001e51801000205f8") (entry.Forged 2)
-    ∷ sets (fault.WholeHeard (bytes_of (codes "020001e51801000205f8")))
-    ∷ both (step.Next 2) (wire 2 "020001e518" "020001e51801000205f8") (entry.Forged 2)
+    ∷ both (step.Next 2) (wire 2 "020001e11c" "020001e11c01000205f8") (entry.Forged 2)
+    ∷ sets (fault.WholeHeard (bytes_of (codes "020001e11c01000205f8")))
+    ∷ both (step.Next 2) (wire 2 "020001e11c" "020001e11c01000205f8") (entry.Forged 2)
     ∷ sets (fault.WholeHeard refusal)
     ∷ record {
       play = step.Next 2;
-      news = entry.Forged 2 ∷ entry.Ended 2 end_of.NoAnswer ∷ wire 2 "020001e518" "01000205f8" ∷ [];
+      news = entry.Forged 2 ∷ entry.Ended 2 end_of.NoAnswer ∷ wire 2 "020001e11c" "01000205f8" ∷ [];
     }
     ∷ []
 
@@ -65,7 +67,7 @@ abbrev forged_request : List Row
 forged_request =
     one (step.Command (command.Round 2)) (entry.Taken (command.Round 2))
     ∷ sets (fault.DevicesHear (bytes_of (codes "020001e518")))
-    ∷ both (step.Next 2) (wire 2 "020001e518" "020001e518010b02000000000000000000000000f2") (entry.Forged 2)
+    ∷ both (step.Next 2) (wire 2 "020001e11c" "020001e11c010b02000000000000000000000000f2") (entry.Forged 2)
     ∷ []
 
 -- damaged bytes are no message; a fault that another one replaced counts for nothing
@@ -73,13 +75,13 @@ abbrev honest_faults : List Row
 honest_faults =
     one (step.Command (command.Round 2)) (entry.Taken (command.Round 2))
     ∷ sets (fault.WholeHeard (85 ∷ 85 ∷ 85 ∷ []))
-    ∷ one (step.Next 2) (wire 2 "020001e518" "555555")
+    ∷ one (step.Next 2) (wire 2 "020001e11c" "555555")
     ∷ sets (fault.DevicesHear (85 ∷ []))
-    ∷ one (step.Next 2) (wire 2 "020001e518" "020001e518")
+    ∷ one (step.Next 2) (wire 2 "020001e11c" "020001e11c")
     ∷ sets (fault.HostHears told_coin)
     ∷ sets (fault.DevicesHear told_coin)
     ∷ sets fault.Clear
-    ∷ one (step.Next 2) (wire 2 "020001e518" "020001e518010b02000000000000000000000000f2")
+    ∷ one (step.Next 2) (wire 2 "020001e11c" "020001e11c01030200000000fa")
     ∷ []
 
 -- what the host hears in an address poll may be any bytes; what the devices hear may not
@@ -95,5 +97,5 @@ polls =
 wires_play : AllPlay setup (after [] starting) (forged_coin ∷ forged_refusals ∷ forged_request ∷ honest_faults ∷ polls ∷ [])
 unfolding message spelling crc data_of request_of requests_with form_of reply_data reply_in has_place acceptor_reply
     hopper_reply common_reply reply_of ask asked asks_of asker after_echo got heard_after got_by scan_line scan_row next_due end_of_scan all_addresses distance
-    judge
+    accepted_between judge
 wires_play = (search, (search, (search, (search, (search, tt)))))

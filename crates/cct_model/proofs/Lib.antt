@@ -21,4 +21,5 @@ mod Refusals
 mod Ledger
 mod Forged
 mod ForgedWires
+mod Moving
 mod Day
