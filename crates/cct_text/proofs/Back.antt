@@ -136,12 +136,29 @@ record_back (record_of.Sold id price) h = two_back (λ i p. Some (record_of.Sold
 pub record_above : (r : Record) → IsRecord r → EachAbove 32 (record_fields r)
 record_above (record_of.Epoch addr mask accepts) h =
     (refl, (number_field addr, (mask_above mask h, (number_field accepts, tt))))
-record_above (record_of.Reading addr counter lost accepts posted) h =
-    (refl, (number_field addr, (number_field counter,
-    (number_field lost, (number_field accepts, (coins_field_above posted, tt))))))
-record_above (record_of.Broken addr seen counter lost accepts posted) h =
-    (refl, (number_field addr, (mask_above seen h, (number_field counter,
-    (number_field lost, (number_field accepts, (coins_field_above posted, tt)))))))
+record_above (record_of.Reading addr counter lost accepts posted) h = (
+  refl,
+  (
+    number_field addr,
+    (
+      number_field counter,
+      (number_field lost, (number_field accepts, (coins_field_above posted, tt))),
+    ),
+  ),
+)
+record_above (record_of.Broken addr seen counter lost accepts posted) h = (
+  refl,
+  (
+    number_field addr,
+    (
+      mask_above seen h,
+      (
+        number_field counter,
+        (number_field lost, (number_field accepts, (coins_field_above posted, tt))),
+      ),
+    ),
+  ),
+)
 record_above (record_of.EpochEnd addr) h = (refl, (number_field addr, tt))
 record_above (record_of.Opened id addr count life) h =
     (refl, (number_field id, (number_field addr, (number_field count, (number_field life, tt)))))
