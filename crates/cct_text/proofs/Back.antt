@@ -116,15 +116,15 @@ coins_field_above (coin ∷ coins) =
 
 pub record_back : (r : Record) → IsRecord r → record_in (record_fields r) ≡ Some r
 record_back (record_of.Epoch addr mask accepts) h =
-    one_back (λ a. Some (record_of.Epoch a (mask_in (mask_field mask)))) addr
+    two_back (λ a n. Some (record_of.Epoch a (mask_in (mask_field mask)) n)) addr accepts
     ∙ ap (λ m. Some (record_of.Epoch addr m accepts)) (mask_back mask h)
 record_back (record_of.Reading addr counter lost accepts posted) h =
-    three_back (λ a c l. Some (record_of.Reading a c l (coins_in (coins_field posted)))) addr counter lost
+    four_back (λ a c l n. Some (record_of.Reading a c l n (coins_in (coins_field posted)))) addr counter lost accepts
     ∙ ap (λ coins. Some (record_of.Reading addr counter lost accepts coins)) (coins_back posted)
 record_back (record_of.Broken addr seen counter lost accepts posted) h =
-    two_back (λ a c. Some (record_of.Broken a (mask_in (mask_field seen)) c (coins_in (coins_field posted))))
-    addr counter
-    ∙ ap (λ m. Some (record_of.Broken addr m counter (coins_in (coins_field posted)))) (mask_back seen h)
+    four_back (λ a c l n. Some (record_of.Broken a (mask_in (mask_field seen)) c l n (coins_in (coins_field posted))))
+    addr counter lost accepts
+    ∙ ap (λ m. Some (record_of.Broken addr m counter lost accepts (coins_in (coins_field posted)))) (mask_back seen h)
     ∙ ap (λ coins. Some (record_of.Broken addr seen counter lost accepts coins)) (coins_back posted)
 record_back (record_of.EpochEnd addr) h = one_back (λ a. Some (record_of.EpochEnd a)) addr
 record_back (record_of.Opened id addr count life) h =
@@ -134,11 +134,31 @@ record_back (record_of.Odd id before after) h = three_back (λ i b a. Some (reco
 record_back (record_of.Sold id price) h = two_back (λ i p. Some (record_of.Sold i p)) id price
 
 pub record_above : (r : Record) → IsRecord r → EachAbove 32 (record_fields r)
-record_above (record_of.Epoch addr mask accepts) h = (refl, (number_field addr, (mask_above mask h, tt)))
-record_above (record_of.Reading addr counter lost accepts posted) h =
-    (refl, (number_field addr, (number_field counter, (number_field lost, (coins_field_above posted, tt)))))
-record_above (record_of.Broken addr seen counter lost accepts posted) h =
-    (refl, (number_field addr, (mask_above seen h, (number_field counter, (coins_field_above posted, tt)))))
+record_above (record_of.Epoch addr mask accepts) h =
+    (refl, (number_field addr, (mask_above mask h, (number_field accepts, tt))))
+record_above (record_of.Reading addr counter lost accepts posted) h = (
+  refl,
+  (
+    number_field addr,
+    (
+      number_field counter,
+      (number_field lost, (number_field accepts, (coins_field_above posted, tt))),
+    ),
+  ),
+)
+record_above (record_of.Broken addr seen counter lost accepts posted) h = (
+  refl,
+  (
+    number_field addr,
+    (
+      mask_above seen h,
+      (
+        number_field counter,
+        (number_field lost, (number_field accepts, (coins_field_above posted, tt))),
+      ),
+    ),
+  ),
+)
 record_above (record_of.EpochEnd addr) h = (refl, (number_field addr, tt))
 record_above (record_of.Opened id addr count life) h =
     (refl, (number_field id, (number_field addr, (number_field count, (number_field life, tt)))))

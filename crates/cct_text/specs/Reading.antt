@@ -124,21 +124,21 @@ abbrev pub either : {A : Type 0} → Option A → Option A → Option A
 either None second = second
 either (Some first) second = Some first
 
--- The record of its fields: an address and a mask.
+-- The record of its fields: an address, a mask, and an accept counter.
 abbrev pub epoch_of : List (List ℕ) → Option Record
-epoch_of (addr ∷ mask ∷ []) = Some (record_of.Epoch (number_in addr) (mask_in mask))
+epoch_of (addr ∷ mask ∷ accepts ∷ []) = Some (record_of.Epoch (number_in addr) (mask_in mask) (number_in accepts))
 epoch_of _ = None
 
--- The record of its fields: an address, an event counter, how many are lost, and coins.
+-- The record of its fields: an address, an event counter, how many coins are lost, an accept counter, and coins.
 abbrev pub reading_of : List (List ℕ) → Option Record
-reading_of (addr ∷ counter ∷ lost ∷ coins ∷ []) =
-    Some (record_of.Reading (number_in addr) (number_in counter) (number_in lost) (coins_in coins))
+reading_of (addr ∷ counter ∷ lost ∷ accepts ∷ coins ∷ []) =
+    Some (record_of.Reading (number_in addr) (number_in counter) (number_in lost) (number_in accepts) (coins_in coins))
 reading_of _ = None
 
--- The record of its fields: an address, a mask, an event counter, and coins.
+-- The record of its fields: an address, a mask, an event counter, how many coins are lost, an accept counter, and coins.
 abbrev pub broken_of : List (List ℕ) → Option Record
-broken_of (addr ∷ mask ∷ counter ∷ coins ∷ []) =
-    Some (record_of.Broken (number_in addr) (mask_in mask) (number_in counter) (coins_in coins))
+broken_of (addr ∷ mask ∷ counter ∷ lost ∷ accepts ∷ coins ∷ []) =
+    Some (record_of.Broken (number_in addr) (mask_in mask) (number_in counter) (number_in lost) (number_in accepts) (coins_in coins))
 broken_of _ = None
 
 -- The record of a word and the fields after it.
@@ -333,6 +333,7 @@ end_entry word rest =
     else if bytes_eq word (codes "clean") then of_one (λ addr. entry.Ended addr end_of.Clean) rest
     else if bytes_eq word (codes "posted") then of_one (λ addr. entry.Ended addr end_of.Posted) rest
     else if bytes_eq word (codes "broke") then of_one (λ addr. entry.Ended addr end_of.Broke) rest
+    else if bytes_eq word (codes "moved") then of_one (λ addr. entry.Ended addr end_of.Moved) rest
     else if bytes_eq word (codes "stopped") then of_one (λ addr. entry.Ended addr end_of.Stopped) rest
     else if bytes_eq word (codes "closed") then of_one (λ addr. entry.Ended addr end_of.Closed) rest
     else if bytes_eq word (codes "oddlife") then of_one (λ addr. entry.Ended addr end_of.OddLife) rest

@@ -20,6 +20,7 @@ pub(crate) fn write_end(line: &mut TextLine, addr: u8, end: &End)
         End::Clean => write_address(line, b"clean", addr),
         End::Posted => write_address(line, b"posted", addr),
         End::Broke => write_address(line, b"broke", addr),
+        End::Moved => write_address(line, b"moved", addr),
         End::Stopped => write_address(line, b"stopped", addr),
         End::Closed => write_address(line, b"closed", addr),
         End::OddLife => write_address(line, b"oddlife", addr),

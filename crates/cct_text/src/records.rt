@@ -15,26 +15,35 @@ pub(crate) fn write_record(line: &mut TextLine, entry: &Record)
     ensures { Adds line.old line.new (each_after 32 (record_fields entry.now)) 200 }
 {
     match entry {
-        Record::Epoch { addr, mask } => write_mask(line, b" epoch", *addr, *mask),
+        Record::Epoch {
+            addr,
+            mask,
+            accepts,
+        } => {
+            write_mask(line, b" epoch", *addr, *mask);
+            write_number(line, u64::from(*accepts));
+        }
         Record::Reading {
             addr,
             counter,
             lost,
+            accepts,
             posted,
         } => {
             write_pair(line, b" reading", *addr, *counter);
-            write_number(line, u64::from(*lost));
-            write_coins(line, posted.as_slice());
+            write_coins_told(line, *lost, *accepts, posted.as_slice());
         }
         Record::Broken {
             addr,
             mask_seen,
             counter,
+            lost,
+            accepts,
             posted,
         } => {
             write_mask(line, b" broken", *addr, *mask_seen);
             write_number(line, u64::from(*counter));
-            write_coins(line, posted.as_slice());
+            write_coins_told(line, *lost, *accepts, posted.as_slice());
         }
         Record::EpochEnd { addr } => write_address(line, b" epochend", *addr),
         Record::Opened {
@@ -81,6 +90,19 @@ fn write_lives(line: &mut TextLine, id: u32, before: u32, after: u32)
         b" odd",
         &[u64::from(id), u64::from(before), u64::from(after)],
     );
+}
+
+/// Writes what a reading or a break tells of coins, as the next three fields: how many are lost, the accept counter, and
+/// the coins posted.
+fn write_coins_told(line: &mut TextLine, lost: u32, accepts: u32, coins: &[Coin])
+    requires few { length coins.now ≤ EVENTS }
+    requires room { length line.old + 82 ≤ MOST_TEXT }
+    ensures { Adds line.old line.new
+        (32 ∷ number_text lost ++ 32 ∷ number_text accepts ++ 32 ∷ coins_field coins.now) 82 }
+{
+    write_number(line, u64::from(lost));
+    write_number(line, u64::from(accepts));
+    write_coins(line, coins);
 }
 
 /// Writes coins as the next field: joined by commas, or a hyphen where there is none.
