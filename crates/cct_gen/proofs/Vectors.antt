@@ -1,6 +1,7 @@
 -- Lines of a load at worked values.
 use Rattle.std.proofs.Common.{◌≡◌, [], ◌∷◌, None, Some, map, refl}
 use Rattle.cct_lines.specs.declared.command.Command.TheVariants as command
+use Rattle.cct_lines.specs.declared.command.WireFault.TheVariants as fault
 use Rattle.cct_lines.specs.declared.command.Step.TheVariants as step
 use Rattle.cct_lines.specs.declared.entry.LineKind.TheVariants as kind
 use Rattle.cct_lines.specs.Text.{number_text}
@@ -50,15 +51,18 @@ one_round :
 unfolding lines_before line_at drawn
 one_round = refl
 
--- an object that is no coin, a coin where a reply could be lost, and a power cut; and the payment of the last round
+-- an object that is no coin, a coin where a reply could be lost, a lost reply, and a power cut; and the payment of the last
+-- round
 with_great_seeds :
     line_at 18446744073709551614 7
     ∷ line_at 18446744073709551615 8
+    ∷ line_at 18446744073709551599 8
     ∷ line_at 18446744073709551601 25
     ∷ line_at 18446744073709551615 199996
     ∷ []
     ≡ step.Alien 2
     ∷ step.Coin 2 8
+    ∷ step.Fault (fault.HostHears [])
     ∷ step.Crash None 3
     ∷ step.Command (command.Pay 3 10000 1)
     ∷ []
