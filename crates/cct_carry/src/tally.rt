@@ -10,7 +10,6 @@ use crate::fits::fits;
 use crate::following::follows;
 use crate::going_on::go_on;
 use cct_model::{Carry, DEVICES, Record, Setup};
-use std::alloc::AllocError;
 
 /// The carry of all records that a host went over, of which each follows those before it.
 #[derive(Debug, Drop)]
@@ -52,7 +51,7 @@ impl<'s> Tally<'s> {
             Some(Tally {
                 setup,
                 many,
-                carry: copied(carry),
+                carry: carry.copied(),
             })
         } else {
             None
@@ -101,12 +100,4 @@ impl<'s> Tally<'s> {
     {
         &self.carry
     }
-}
-
-/// The same carry once more. It takes no memory, so it can't fail as `clone` could.
-fn copied(carry: &Carry) -> Carry
-    ensures { result ≡ carry.now }
-{
-    let copy: Result<Carry, AllocError> = carry.clone();
-    copy.unwrap()
 }

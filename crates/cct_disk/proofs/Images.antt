@@ -97,11 +97,11 @@ module _ (at : ℕ) (bytes : List ℕ) (old : Content) (within : at + length byt
   beside_it : SameOutside at (length bytes) old.bytes (put_at old.bytes at bytes)
   beside_it = put_outside at old.bytes bytes within
 
-  pub written_follows : Follows (SameOutside at (length bytes)) (may_leave old) (may_leave (written at bytes old))
+  written_follows : Follows (SameOutside at (length bytes)) (may_leave old) (may_leave (written at bytes old))
   written_follows image is =
       wrote_follows span old.past old.replaced old.bytes (put_at old.bytes at bytes) within beside_it image is
 
-  pub written_time : ElapsesTo old (written at bytes old)
+  written_time : ElapsesTo old (written at bytes old)
   written_time = record {
     later = omega arith;
     nothing_else = λ t image le since.
@@ -111,3 +111,12 @@ module _ (at : ℕ) (bytes : List ℕ) (old : Content) (within : at + length byt
     keeps = λ t image le since.
         wrote_keeps span old.past old.replaced old.bytes (put_at old.bytes at bytes) within beside_it t image le since;
   }
+
+  -- the same where it is known by an equation
+  module _ (new : Content) (is : new ≡ written at bytes old) where
+    pub new_follows : Follows (SameOutside at (length bytes)) (may_leave old) (may_leave new)
+    new_follows = subst (λ (c : Content). Follows (SameOutside at (length bytes)) (may_leave old) (may_leave c)) (sym is)
+        written_follows
+
+    pub new_time : ElapsesTo old new
+    new_time = subst (λ (c : Content). ElapsesTo old c) (sym is) written_time

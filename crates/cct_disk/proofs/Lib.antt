@@ -1,3 +1,5 @@
 mod Cuts
 mod Images
 pub mod Ranges
+mod Tears
+mod Writing

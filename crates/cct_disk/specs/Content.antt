@@ -80,6 +80,17 @@ cut_byte choice place old new =
     else if choice == 2 then (if place % 2 == 0 then new else old)
     else (choice + place) % 256
 
+-- what a torn write leaves from a place on, of the bytes that stood there and those that were to be written
+abbrev pub torn_bytes : ℕ → ℕ → List ℕ → List ℕ → List ℕ
+torn_bytes choice place (old ∷ olds) (new ∷ news) =
+    cut_byte choice place old new ∷ torn_bytes choice (place + 1) olds news
+torn_bytes choice place olds news = []
+
+-- the content after a torn write: its range is written, with the bytes that the choice says
+abbrev pub written_torn : ℕ → ℕ → List ℕ → Content → Content
+written_torn choice at bytes old =
+    written at (torn_bytes choice at (window at (length bytes) old.bytes) bytes) old
+
 -- What a cut makes of the bytes: a place that was written since the last sync or cut holds what its choice says, each
 -- other keeps its byte.
 pub record CutsBytes (choice : ℕ) (old : Content) (bytes : List ℕ) : Type 0 where

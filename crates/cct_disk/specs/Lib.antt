@@ -3,4 +3,5 @@ pub mod Disk
 pub mod File
 pub mod Laws
 pub mod Memory
+pub mod Torn
 pub mod Traced

@@ -1,7 +1,8 @@
 -- The value as which contracts see a disk in memory, and what a call makes of it.
-use Rattle.std.specs.Prelude.{◌≡◌, ◌↔◌, ℕ, ◌+◌, true, Some, List, length, Result, IsErr, OnOk, OnErr}
+use Rattle.std.specs.Prelude.{◌≡◌, ◌⊎◌, ◌↔◌, ℕ, ◌+◌, true, Some, List, [], length, replicate, Result, IsErr, OnOk, OnErr}
 use Rattle.cct_edge.specs.Faults.{HasCause, next_count}
-use Rattle.cct_disk.specs.Content.{Content, IsCut}
+use Rattle.cct_edge.specs.Memory.{FailsNext}
+use Rattle.cct_disk.specs.Content.{Content, IsCut, written, written_torn}
 use Rattle.cct_disk.specs.Disk.{GoesOn, Outlasts}
 use Rattle.cct_disk.specs.Traced.{PassesRoom}
 
@@ -14,6 +15,17 @@ pub record MemoryDisk : Type 0 where
   pub calls : ℕ
   pub faults : ℕ
   pub cuts : ℕ
+
+-- a disk of n zeros, of which the calls with these numbers fail
+abbrev pub blank : ℕ → List ℕ → MemoryDisk
+blank n fails = record {
+  content = record { bytes = replicate n 0; past = []; replaced = [] };
+  changes = 0;
+  fails = fails;
+  calls = 0;
+  faults = 0;
+  cuts = 0;
+}
 
 -- one more change that replaces so many bytes passes the room
 abbrev pub LacksRoom : MemoryDisk → ℕ → Type 0
@@ -30,6 +42,11 @@ after_read disk = record disk { calls = next_count disk.calls }
 -- a disk after a change to this content
 abbrev pub after_change : Content → MemoryDisk → MemoryDisk
 after_change content disk = record disk { content = content; changes = disk.changes + 1; calls = next_count disk.calls }
+
+-- a disk after a write that failed, and that tore its range
+abbrev pub after_torn : ℕ → ℕ → List ℕ → MemoryDisk → MemoryDisk
+after_torn choice at bytes disk =
+    record (after_change (written_torn choice at bytes disk.content) disk) { faults = next_count disk.faults }
 
 -- a disk after a cut
 pub record IsAfterCut (choice : ℕ) (old new : MemoryDisk) : Type 0 where
@@ -53,4 +70,14 @@ pub record Answers {T E : Type 0} (Fails : Type 0) (After : MemoryDisk → Type 
   pub fails : IsErr result ↔ Fails
   pub after : OnOk result (After new)
   pub after_fault : OnErr result (new ≡ after_fault old)
+  pub cause : HasCause old.faults new.faults result
+
+-- What a write answers that tears its range where it is told to fail, and what it leaves. Where it lacks room it only
+-- counts the fault.
+pub record AnswersTorn {T E : Type 0} (choice at : ℕ) (bytes : List ℕ) (old new : MemoryDisk) (result : Result T E)
+    : Type 0 where
+  pub fails : IsErr result ↔ (FailsNext old.fails old.calls ⊎ LacksRoom old (length bytes))
+  pub after : OnOk result (new ≡ after_change (written at bytes old.content) old)
+  pub torn : OnErr result ((LacksRoom old (length bytes) → ⊥) → new ≡ after_torn choice at bytes old)
+  pub after_fault : OnErr result (LacksRoom old (length bytes) → new ≡ after_fault old)
   pub cause : HasCause old.faults new.faults result

@@ -5,11 +5,13 @@ mod calls;
 mod disk;
 mod file;
 mod memory;
+mod torn;
 mod traced;
 
 pub use disk::Disk;
 pub use file::{FileDisk, MADE_LEN};
 pub use memory::MemDisk;
+pub use torn::TornDisk;
 
 #[cfg(test)]
 mod file_tests;

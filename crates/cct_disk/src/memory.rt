@@ -1,12 +1,12 @@
 // A disk in memory that keeps a trace of its changes, and whose calls fail where they are told to.
-ghost use Rattle.std.specs.Prelude.{◌≡◌, ◌⊎◌, ◌↔◌, ◌+◌, ◌<◌, ◌≤◌, true, [], Some, IsErr, IfOk, OnOk, OnErr};
-ghost use Rattle.std.specs.Prelude.{ℕ, List, length, take, drop, set, replicate};
+ghost use Rattle.std.specs.Prelude.{◌≡◌, ◌⊎◌, ◌↔◌, ◌+◌, ◌<◌, ◌≤◌, true, Some, IsErr, IfOk, OnOk, OnErr};
+ghost use Rattle.std.specs.Prelude.{ℕ, List, length, take, drop, set};
 ghost use Rattle.cct_edge.specs.Faults.{next_count};
 ghost use Rattle.cct_edge.specs.Memory.{FailsNext};
 ghost use Rattle.cct_disk.specs.Content.{written, settled, unsynced_in, may_leave, left_since, ElapsesTo};
 ghost use Rattle.cct_disk.specs.Disk.{SameOutside, Follows, IsWithin, Only};
 ghost use Rattle.cct_disk.specs.Traced.{IsTraced, HasRoom, PassesRoom};
-ghost use Rattle.cct_disk.specs.Memory.{Answers, IsAfterCut, LacksRoom, MemoryGoesOn, MemoryOutlasts, after_change, after_read};
+ghost use Rattle.cct_disk.specs.Memory.{blank, Answers, AnswersTorn, IsAfterCut, LacksRoom, MemoryGoesOn, MemoryOutlasts, after_change, after_read};
 ghost use Rattle.cct_disk.specs.Laws.{fits_bytes, bytes_are_image, now_counts, now_only};
 
 use crate::Disk;
@@ -53,14 +53,7 @@ impl MemDisk {
     /// It takes the room for 262,144 writes, syncs and cuts, and for 8,388,608 bytes that they replace: a write takes
     /// its length of that, a cut the lengths of all writes since the last sync or cut.
     pub fn new(alloc: Global, len: u64, fails: Vec<u64>) -> Result<MemDisk, AllocError>
-        ensures { IfOk result (λ s. s ≡ record {
-          content = record { bytes = replicate len 0; past = []; replaced = [] };
-          changes = 0;
-          fails = fails.items;
-          calls = 0;
-          faults = 0;
-          cuts = 0;
-        }) }
+        ensures { IfOk result (λ s. s ≡ blank len fails.items) }
     {
         Ok(MemDisk {
             content: Traced::new(alloc, len as usize)?,
@@ -78,6 +71,25 @@ impl MemDisk {
         } }
     {
         self.content.poke(at as usize, byte);
+    }
+
+    // Writes, but tears its range by this choice where its number is told to fail.
+    pub(crate) fn write_or_tear(&mut self, at: u64, bytes: &[u8], choice: u64) -> Result<(), Failed>
+        requires { at + length bytes.now ≤ length self.old.content.bytes }
+        ensures goes_on { MemoryGoesOn self.old self.new }
+        ensures images { Follows (SameOutside at (length bytes.now)) (may_leave self.old.content)
+            (may_leave self.new.content) }
+        ensures time { ElapsesTo self.old.content self.new.content }
+        ensures answers { AnswersTorn choice at bytes.now self.old self.new result }
+    {
+        if let Err(failed) = begin_change(&self.content, &mut self.calls, bytes.len()) {
+            if self.content.has_room(bytes.len()) {
+                self.content.write_torn(at as usize, bytes, choice);
+            }
+            return Err(failed);
+        }
+        self.content.write(at as usize, bytes);
+        Ok(())
     }
 }
 

@@ -1,4 +1,4 @@
-// The disk in memory through the trait: what a cut leaves, which calls fail, and where its room ends.
+// The disks in memory through the trait: what a cut leaves, which calls fail, and where its room ends.
 use super::*;
 use std::alloc::Global;
 use std::test::Fail;
@@ -42,6 +42,19 @@ const LEFT_OF_TWO_WRITES: [(u64, [u8; 4]); 7] = [
     (4, [10, 5, 6, 40]),
     (133, [10, 134, 135, 40]),
     (u64::MAX, [10, 0, 1, 40]),
+];
+
+// What stood on a disk of 8, all synced, before a write of 1, 2 and 3 at place 3 was torn.
+const STOOD: [u8; 8] = [10, 20, 30, 40, 50, 60, 70, 80];
+
+// What stands there after it, by the choice.
+const TORN: [(u64, [u8; 8]); 6] = [
+    (0, STOOD),
+    (1, [10, 20, 30, 1, 2, 3, 70, 80]),
+    (2, [10, 20, 30, 40, 2, 60, 70, 80]),
+    (3, [10, 20, 30, 6, 7, 8, 70, 80]),
+    (133, [10, 20, 30, 136, 137, 138, 70, 80]),
+    (u64::MAX, [10, 20, 30, 2, 3, 4, 70, 80]),
 ];
 
 fn blank(alloc: Global, len: u64) -> Result<MemDisk, Fail> {
@@ -104,16 +117,68 @@ fn a_cut_leaves_each_unsynced_byte_by_its_choice(rt: HostRuntime) -> Result<(), 
     Ok(())
 }
 
+// Whether a read, a write of 5, a sync and a cut succeed, one after the other, and what a read then gives.
+fn makes_each_call<D: Disk>(disk: &mut D) -> ([bool; 4], Option<[u8; 1]>) {
+    let read: Option<[u8; 1]> = read_from(disk, 0);
+    let written = is_written(disk, 0, &[5]);
+    let synced = is_synced(disk);
+    let cut = is_cut(disk, 0);
+    ([read.is_some(), written, synced, cut], read_from(disk, 0))
+}
+
 #[test]
 fn a_call_that_is_told_to_fail_changes_nothing(rt: HostRuntime) -> Result<(), Fail> {
     let alloc = rt.alloc();
     for (fails, want) in [(1, 5), (2, 0), (3, 0), (4, 5), (5, 5)] {
         let mut disk = MemDisk::new(alloc, 4, [fails].to_vec(alloc)?)?;
-        assert_eq!(rt; read_from(&mut disk, 0), (fails != 1).then_some([0]));
-        assert_eq!(rt; is_written(&mut disk, 0, &[5]), fails != 2);
-        assert_eq!(rt; is_synced(&mut disk), fails != 3);
-        assert_eq!(rt; is_cut(&mut disk, 0), fails != 4);
-        assert_eq!(rt; read_from(&mut disk, 0), (fails != 5).then_some([want]));
+        let (succeeded, read) = makes_each_call(&mut disk);
+        assert_eq!(rt; succeeded, [fails != 1, fails != 2, fails != 3, fails != 4]);
+        assert_eq!(rt; read, (fails != 5).then_some([want]));
+    }
+    Ok(())
+}
+
+#[test]
+fn of_calls_that_are_told_to_fail_only_a_write_is_torn(rt: HostRuntime) -> Result<(), Fail> {
+    let alloc = rt.alloc();
+    for (fails, want) in [(1, 5), (2, 5), (3, 0), (4, 5), (5, 5)] {
+        let mut disk = TornDisk::new(alloc, 4, [fails].to_vec(alloc)?, 1)?;
+        let (succeeded, read) = makes_each_call(&mut disk);
+        assert_eq!(rt; succeeded, [fails != 1, fails != 2, fails != 3, fails != 4]);
+        assert_eq!(rt; read, (fails != 5).then_some([want]));
+    }
+    Ok(())
+}
+
+#[test]
+fn a_torn_write_leaves_each_byte_by_its_choice(rt: HostRuntime) -> Result<(), Fail> {
+    let alloc = rt.alloc();
+    for (choice, want) in TORN {
+        let mut disk = TornDisk::new(alloc, 8, [3].to_vec(alloc)?, choice)?;
+        assert!(rt; disk.len() == 8);
+        assert!(rt; is_written(&mut disk, 0, &STOOD) && is_synced(&mut disk));
+        assert!(rt; !is_written(&mut disk, 3, &[1, 2, 3]));
+        assert_eq!(rt; read_from(&mut disk, 0), Some(want), "{choice}");
+        // The disk goes on, and keeps what it is told to keep.
+        assert!(rt; is_synced(&mut disk) && is_cut(&mut disk, 0));
+        assert_eq!(rt; read_from(&mut disk, 0), Some(want), "{choice}");
+        assert!(rt; is_written(&mut disk, 3, &[1, 2, 3]));
+        assert_eq!(rt; read_from(&mut disk, 3), Some([1, 2, 3]), "{choice}");
+    }
+    Ok(())
+}
+
+#[test]
+fn a_cut_may_change_what_a_torn_write_left(rt: HostRuntime) -> Result<(), Fail> {
+    let alloc = rt.alloc();
+    for (choice, torn) in TORN {
+        for (cut, want) in [(0, STOOD), (1, torn), (5, [10, 20, 30, 8, 9, 10, 70, 80])] {
+            let mut disk = TornDisk::new(alloc, 8, [3].to_vec(alloc)?, choice)?;
+            assert!(rt; is_written(&mut disk, 0, &STOOD) && is_synced(&mut disk));
+            assert!(rt; !is_written(&mut disk, 3, &[1, 2, 3]));
+            assert!(rt; is_cut(&mut disk, cut));
+            assert_eq!(rt; read_from(&mut disk, 0), Some(want), "{choice}, {cut}");
+        }
     }
     Ok(())
 }

@@ -2,7 +2,7 @@
 ghost use Rattle.std.specs.Prelude.{◌≡◌, ◌↔◌, ◌+◌, ◌-◌, ◌<◌, ◌≤◌, ◌∷◌, [], ◌++◌, IsTrue, IfOk, IfSome};
 ghost use Rattle.std.specs.Prelude.{ℕ, length, take, reverse, get_or, set, replicate, vec_capacity};
 ghost use Rattle.cct_disk.specs.Disk.{put_at, SameOutside};
-ghost use Rattle.cct_disk.specs.Content.{window, written, settled, unsynced_in, cut_byte};
+ghost use Rattle.cct_disk.specs.Content.{window, written, written_torn, settled, unsynced_in, cut_byte};
 ghost use Rattle.cct_disk.specs.Content.{IsCut, CutsBytes, AddsNoImage};
 ghost use Rattle.cct_disk.specs.Traced.{content_of, HasRoom, newest_span, IsKept, IsTraced, IsTracedAs};
 ghost use Rattle.cct_disk.specs.declared.traced.Change.TheVariants.{Wrote};
@@ -90,6 +90,19 @@ impl Traced {
         self.trace.push_reserved(Change::Wrote(Span { at, len }));
         self.changes += 1;
         self.unsynced += len;
+    }
+
+    // Writes, but leaves in the range what a cut would leave there by this choice: each byte is set between the one
+    // that stood there and the one to be written.
+    pub(crate) fn write_torn(&mut self, at: usize, bytes: &[u8], choice: u64)
+        requires traced { IsTraced self.old }
+        requires place { at + length bytes.now ≤ length self.old.bytes.items }
+        requires room { HasRoom self.old (length bytes.now) }
+        ensures { IsTracedAs (written_torn choice at bytes.now (content_of self.old)) (self.old.changes + 1) self.new }
+    {
+        self.write(at, bytes);
+        let kept = self.replaced.len() - bytes.len();
+        choose(&mut self.bytes, at, &self.replaced[kept..], choice);
     }
 
     // All that was written is settled.
@@ -186,13 +199,24 @@ fn rewrite(bytes: &mut Vec<u8>, replaced: &mut Vec<u8>, span: Span, old: usize, 
         ≡ cut_byte choice (span.at + i) (get_or replaced.old.items (old + i) 0)
         (get_or bytes.old.items (span.at + i) 0) }
     ensures replaced { replaced.new.items ≡ replaced.old.items ++ window span.at span.len bytes.old.items }
-    ensures capacity { vec_capacity replaced.new ≡ vec_capacity replaced.old }
+    ensures capacity { vec_capacity replaced.old ≤ vec_capacity replaced.new }
 {
-    for i in 0..span.len {
-        let place = span.at + i;
-        let now = bytes[place];
-        bytes[place] = byte_after_cut(choice, place, replaced[old + i], now);
-        replaced.push_reserved(now);
+    replaced
+        .extend_from_slice(&bytes[span.at..span.at + span.len])
+        .unwrap();
+    choose(bytes, span.at, &replaced[old..old + span.len], choice);
+}
+
+// Sets the bytes from a place on by the choice between what stands there and the old ones.
+fn choose(bytes: &mut Vec<u8>, at: usize, old: &[u8], choice: u64)
+    requires { at + length old.now ≤ length bytes.old.items }
+    ensures outside { SameOutside at (length old.now) bytes.old.items bytes.new.items }
+    ensures inside { (i : ℕ) → i < length old.now → get_or bytes.new.items (at + i) 0
+        ≡ cut_byte choice (at + i) (get_or old.now i 0) (get_or bytes.old.items (at + i) 0) }
+{
+    for i in 0..old.len() {
+        let place = at + i;
+        bytes[place] = byte_after_cut(choice, place, old[i], bytes[place]);
     }
 }
 

@@ -11,7 +11,6 @@ use crate::payout::Payout;
 use crate::stage::Stage;
 use crate::{payment, scan};
 use cct_model::{BROADCAST, CheckKind, End, OpenOrder, Record};
-use std::alloc::AllocError;
 
 impl Job {
     /// What the job needs next, by its row.
@@ -37,11 +36,11 @@ impl Job {
                 addr: device.addr,
                 mask: *mask,
             }),
-            Job::RoundPuts { entry, .. } => Some(copied(entry)),
-            Job::StopPuts { entry, .. } => Some(copied(entry)),
+            Job::RoundPuts { entry, .. } => Some(entry.copied()),
+            Job::StopPuts { entry, .. } => Some(entry.copied()),
             Job::StopEnds { device } => Some(Record::EpochEnd { addr: device.addr }),
             Job::OrderOpens { owed, .. } => Some(opened(&owed.order)),
-            Job::OrderCloses { entry, .. } => Some(copied(entry)),
+            Job::OrderCloses { entry, .. } => Some(entry.copied()),
             Job::SalePuts { id, price } => Some(Record::Sold {
                 id: *id,
                 price: *price,
@@ -208,12 +207,4 @@ fn opened(order: &OpenOrder) -> Record
         count: order.count,
         life: order.life,
     }
-}
-
-/// The same record.
-fn copied(entry: &Record) -> Record
-    ensures { result ≡ entry.now }
-{
-    let copy: Result<Record, AllocError> = entry.clone();
-    copy.unwrap()
 }

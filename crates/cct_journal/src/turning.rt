@@ -19,7 +19,6 @@ use crate::start::spell_start;
 use cct_disk::Disk;
 use cct_edge::Failed;
 use cct_lines::Carry;
-use std::alloc::AllocError;
 
 /// Where the first write of a turn goes: to the gate of the other half, if that is open, and else to the place after it,
 /// since a write that fails may leave any byte.
@@ -84,14 +83,6 @@ pub(crate) fn write_start<D: Disk>(
     write_gated(disk, at, &bytes, GATED_CALLS)
 }
 
-/// The same carry. It takes no memory, so it can't fail as `clone` could.
-fn copied(carry: &Carry) -> Carry
-    ensures { result ≡ carry.now }
-{
-    let copy: Result<Carry, AllocError> = carry.clone();
-    copy.unwrap()
-}
-
 /// Begins the other half with the carry of all records so far, by four disk calls. The current half has to be full and
 /// the gate of the other one shut.
 fn begin_other<D: Disk>(disk: &mut D, place: &Place, carry: &Carry) -> Result<Place, Failed>
@@ -118,7 +109,7 @@ fn begin_other<D: Disk>(disk: &mut D, place: &Place, carry: &Carry) -> Result<Pl
         second: !place.second,
         generation,
         base: place.used,
-        carry: copied(carry),
+        carry: carry.copied(),
         other_open: true,
     })
 }

@@ -19,7 +19,8 @@ use Rattle.cct_model.specs.Line.{Line}
 use Rattle.cct_model.specs.Order.{order}
 use Rattle.cct_model.specs.Job.{Job, free, works, job, Row, sends, puts, no_row, epoch}
 use Rattle.cct_model.specs.Rows.{row, row_of_sale}
-use Rattle.cct_model.specs.Legal.{Entries, Legal, LegalFrom, NextEntries, RowEntries, PollEntries, ScanEntries, SaleRowEntries, SaleEntries, BareNext, OfDevice, OfKnowing, OfNext}
+use Rattle.cct_model.specs.Honest.{forged_after, without_forged}
+use Rattle.cct_model.specs.Legal.{Entries, EntriesOnWire, Legal, LegalFrom, NextEntries, RowEntries, PollEntries, ScanEntries, SaleRowEntries, SaleEntries, BareNext, OfDevice, OfKnowing, OfNext}
 use Rattle.cct_model.specs.Scan.{scan_row}
 use Rattle.cct_model.specs.Transcript.{heard_after, lines_of, onto, sale_lines, scan_lines}
 use Rattle.cct_laws.specs.Law.{Begins, NamesNoPut}
@@ -92,6 +93,12 @@ one_there : (hears : List ℕ → List ℕ) (past : List Entry) (addr : ℕ) (fo
 one_there hears past addr None = one_bare hears past addr
 one_there hears past addr (Some d) = one_next hears d past (job (lines_of d past))
 
+one_on_wire : (setup : Setup) (past : List Entry) (addr : ℕ) → One (EntriesOnWire setup past addr)
+one_on_wire setup past addr xs ys first second =
+    let same = one_there (heard_after setup past) past addr (device_at setup.devices addr) (without_forged xs)
+    (without_forged ys) first.0 second.0 in
+    first.1 ∙ ap (λ told. forged_after past told ++ told) same ∙ sym second.1
+
 -- a step
 one_step : (capacity : ℕ) (setup : Setup) (past : List Entry) (s : Step) → NamesNoPut s →
     One (Entries capacity setup past s)
@@ -103,8 +110,7 @@ one_step capacity setup past (step.Jam addr) no_put = one_known happening.Jam (d
 one_step capacity setup past (step.Reset addr) no_put = one_known happening.Reset (device_at setup.devices addr) _
 one_step capacity setup past (step.Fault f) no_put = one_is _
 one_step capacity setup past (step.Command c) no_put = one_is _
-one_step capacity setup past (step.Next addr) no_put =
-    one_there (heard_after setup past) past addr (device_at setup.devices addr)
+one_step capacity setup past (step.Next addr) no_put = one_on_wire setup past addr
 one_step capacity setup past (step.Crash None choice) no_put = one_is _
 one_step capacity setup past (step.Crash (Some at) choice) no_put = absurd no_put
 one_step capacity setup past step.Balance no_put = one_is _

@@ -1,6 +1,7 @@
 -- An exchange without the wanted reply, or without the host's own echo, had a fault.
 use Rattle.std.proofs.Common.{◌≡◌, ◌≢◌, ℕ, cond, false, Bool, List, [], ◌∷◌, ◌++◌, refl, ap, sym, ◌∙◌, subst, Option, Some, None, All, eq-eqb}
 use Rattle.std.proofs.lemmas.Bool.{true≢false}
+use Rattle.std.specs.Prelude.{⊤}
 use Rattle.cct_model.specs.terms.device.DeviceSetup.{DeviceSetup}
 use Rattle.cct_model.specs.terms.device.Setup.{Setup}
 use Rattle.cct_model.specs.terms.request.Request.{Request}
@@ -18,7 +19,7 @@ use Rattle.cct_model.specs.Order.{order}
 use Rattle.cct_model.specs.Job.{job, sends, epoch, judged_in, payment_in}
 use Rattle.cct_model.specs.Rows.{done, rows_of}
 use Rattle.cct_model.specs.Scan.{poll_of}
-use Rattle.cct_model.specs.Legal.{Legal, LegalFrom}
+use Rattle.cct_model.specs.Legal.{Legal}
 use Rattle.cct_model.specs.Script.{IsInRange}
 use Rattle.cct_model.specs.Transcript.{pending, met, own, lines_of, heard_after, answers, doses_of, got_by, onto}
 use Rattle.cct_laws.specs.Faults.{IsFaultSet, FailsByFault, is_dispense, FailsByFaultBut, EchoFailsByFault}
@@ -26,11 +27,12 @@ use Rattle.cct_laws.specs.Ids.{Ids}
 use Rattle.cct_laws.specs.DeviceJobs.{WorksAt}
 use Rattle.cct_laws.specs.Law.{IsOf, EachEntry, IsAnswered}
 use Rattle.cct_laws.proofs.jobs.Asked.{asked_at, undisturbed_at, undisturbed_accepting}
-use Rattle.cct_laws.proofs.jobs.Brought.{AtDevice, came, took, halted, idled, made_exchange, made_put, row_after, wire_of, wire_end, record_end, poll_wire, poll_end, Brought, of_device, faulted, refused, began_scan, began_sale, nobody, polled, sold, balanced, lost_power, lost_in_put, lost_in_sale, brought}
+use Rattle.cct_laws.proofs.jobs.Brought.{AtDevice, came, took, halted, idled, made_exchange, made_put, row_after, wire_of, wire_end, record_end, poll_wire, poll_end, Brought, of_device, faulted, refused, began_scan, began_sale, nobody, polled, sold, balanced, lost_power, lost_in_put, lost_in_sale}
 use Rattle.cct_model.proofs.Doses.{AreDoses}
 use Rattle.cct_laws.proofs.Exchanges.{heard_under, heard_is}
 use Rattle.cct_laws.proofs.Echoes.{echo_off}
 use Rattle.cct_laws.proofs.Keeping.{IsRanged, ranged_step, works_at}
+use Rattle.cct_laws.proofs.jobs.Telling.{each_brought, any_steps}
 use Rattle.cct_laws.proofs.jobs.Seen.{each_aside, each_with_end, loose, Lost, bare, kept_here, kept_elsewhere, seen_here, seen_aside, seen_lost, seen_from, along}
 
 none_some : {A : Type 0} {x : A} → None ≡ Some x → ⊥
@@ -76,18 +78,13 @@ echo_step capacity setup past _ _ (lost_power at choice) before = (tt, before)
 echo_step capacity setup past _ _ (lost_in_put at choice d c since r own at_work is_row) before = (tt, (tt, before))
 echo_step capacity setup past _ _ (lost_in_sale at choice id price since none selling) before = (tt, (tt, before))
 
-echoes_along : (capacity : ℕ) (setup : Setup) (past : List Entry) (steps : List Step) (end : List Entry) →
-    LegalFrom capacity setup past steps end → EachEntry EchoFailsByFault past → EachEntry EchoFailsByFault end
-echoes_along capacity setup past [] end legal before = subst (EachEntry EchoFailsByFault) (sym legal) before
-echoes_along capacity setup past (s ∷ steps) end legal before =
-    echoes_along capacity setup (legal.0 ++ past) steps end legal.2
-    (echo_step capacity setup past legal.0 s (brought capacity setup past legal.0 s legal.1) before)
-
 -- an exchange in which the host didn't hear its own echo had a fault
 pub legal_echoes : (capacity : ℕ) (setup : Setup) (steps : List Step) (transcript : List Entry) →
     Legal capacity setup steps transcript → EachEntry EchoFailsByFault (onto [] transcript)
 legal_echoes capacity setup steps transcript legal =
-    echoes_along capacity setup [] steps (onto [] transcript) legal tt
+    each_brought capacity setup (λ s. ⊤) (EachEntry EchoFailsByFault)
+    (λ past news s any told before. echo_step capacity setup past news s told before) (λ past addr before. (tt, before))
+    [] steps (onto [] transcript) (any_steps steps) legal tt
 
 -- the exchanges of a device, but for those that ask what is excused: entries that are none of it
 aside_fails : (excused : Option Request → Bool) (d : DeviceSetup) (past : List Entry) (e : Entry) →
@@ -159,8 +156,9 @@ fails_but : (excused : Option Request → Bool) (capacity : ℕ) (setup : Setup)
     All IsInRange steps → Legal capacity setup steps transcript →
     EachEntry (FailsByFaultBut excused d) (onto [] transcript)
 fails_but excused capacity setup steps transcript d sound own heard in_range legal =
-    (along capacity setup IsInRange (Fails excused d) sound (fails_step excused capacity setup d sound own heard) steps
-    (onto [] transcript) in_range legal (record { ranged = tt; each = tt })).each
+    (along capacity setup IsInRange (Fails excused d) sound (fails_step excused capacity setup d sound own heard)
+    (λ past addr fails. record { ranged = fails.ranged; each = (tt, fails.each) }) steps (onto [] transcript) in_range
+    legal (record { ranged = tt; each = tt })).each
 
 -- one of an acceptor without the wanted reply had a fault
 nothing_excused : (d : DeviceSetup) (past : List Entry) (e : Entry) → FailsByFaultBut (λ asks. false) d past e →

@@ -1,5 +1,6 @@
 pub mod acceptor
 pub mod Alike
+pub mod AsTold
 pub mod CommonReplies
 pub mod Echoes
 pub mod EitherKind
@@ -12,6 +13,7 @@ pub mod Keeping
 pub mod Lists
 pub mod money
 pub mod Onto
+pub mod OnWire
 pub mod orders
 pub mod Replies
 pub mod Rising

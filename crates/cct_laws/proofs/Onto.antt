@@ -1,12 +1,14 @@
 -- Entries that go onto a past, and what is legal of one step more.
 use Rattle.std.proofs.Common.{◌≡◌, ℕ, ◌+◌, ◌<◌, List, [], ◌∷◌, ◌++◌, length, get_or, take, reverse, ap, sym, ◌∙◌}
-use Rattle.std.proofs.Common.{subst, append_assoc, refl, add-one}
+use Rattle.std.proofs.Common.{subst, append_assoc, refl, add-one, All}
+use Rattle.std.proofs.lemmas.List.Elements.{All-head, All-tail, All-nil, All-cons}
 use Rattle.std.proofs.Math.Seq.{take-suc}
 use Rattle.cct_model.specs.terms.device.Setup.{Setup}
 use Rattle.cct_model.specs.lines.command.Step.{Step}
 use Rattle.cct_model.specs.lines.entry.Entry.{Entry}
 use Rattle.cct_model.specs.Legal.{Entries, Legal, LegalFrom}
 use Rattle.cct_model.specs.Transcript.{onto}
+use Rattle.cct_laws.specs.Law.{EachEntry}
 
 -- some go onto it, and then more
 pub onto-append : (past xs ys : List Entry) → onto past (xs ++ ys) ≡ onto (onto past xs) ys
@@ -27,6 +29,19 @@ onto_next past xs i e within is =
     let more : take (i + 1) xs ≡ take i xs ++ get_or xs i e ∷ [] = rw add-one (take-suc xs i e within) in
     ap (onto past) more ∙ onto-append past (take i xs) (get_or xs i e ∷ [])
     ∙ ap (λ x. x ∷ onto past (take i xs)) (sym is)
+
+-- a fact of each entry of a past and of those that go onto it
+pub onto_each : (P : Entry → Type 0) (past entries : List Entry) → EachEntry (λ older e. P e) (onto past entries) →
+    EachEntry (λ older e. P e) past × All P entries
+onto_each P past [] each = (each, All-nil P)
+onto_each P past (e ∷ entries) each =
+    let both = onto_each P (e ∷ past) entries each in (both.0.1, All-cons P e entries both.0.0 both.1)
+
+pub each_onto : (P : Entry → Type 0) (past entries : List Entry) → EachEntry (λ older e. P e) past → All P entries →
+    EachEntry (λ older e. P e) (onto past entries)
+each_onto P past [] before all = before
+each_onto P past (e ∷ entries) before all =
+    each_onto P (e ∷ past) entries (All-head P e entries all, before) (All-tail P e entries all)
 
 -- a transcript and the entries of one step more
 pub transcript_on : (transcript report : List Entry)

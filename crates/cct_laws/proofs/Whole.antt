@@ -5,6 +5,7 @@ use Rattle.cct_model.specs.terms.device.DeviceSetup.{DeviceSetup}
 use Rattle.cct_model.specs.terms.device.Setup.{Setup}
 use Rattle.cct_model.specs.lines.command.Step.{Step}
 use Rattle.cct_model.specs.lines.entry.Entry.{Entry}
+use Rattle.cct_model.specs.lines.entry.Entry.TheVariants as entry
 use Rattle.cct_model.specs.History.{Met}
 use Rattle.cct_model.specs.Device.{IsAcceptor, IsHopper}
 use Rattle.cct_model.specs.Job.{job}
@@ -23,6 +24,7 @@ use Rattle.cct_laws.proofs.jobs.Brought.{Brought}
 use Rattle.cct_laws.proofs.Keeping.{Fact, HoldsAt, IsRanged, ranged_step, kept_step}
 use Rattle.cct_laws.proofs.EitherKind.{both_acceptor, both_hopper}
 use Rattle.cct_laws.proofs.jobs.Seen.{along}
+use Rattle.cct_laws.proofs.jobs.Telling.{GoesOverForged}
 
 -- what came before an honest past is honest
 pub honest_before : (news past : List Entry) → HonestPast (news ++ past) → HonestPast past
@@ -53,15 +55,22 @@ along_step capacity setup d P Q sound own kept goes_on past news s range ids tol
       );
 }
 
+along_forged : (d : DeviceSetup) (P : Fact) (Q : List Entry → Type 0) → GoesOverForged Q → (past : List Entry) (addr : ℕ) →
+    Along d P Q past → Along d P Q (entry.Forged addr ∷ past)
+along_forged d P Q over past addr before = record {
+  ranged = before.ranged;
+  holds = λ honest. let both = before.holds honest.1 in (both.0, over past addr both.1);
+}
+
 -- a fact that is kept, of what was met since the epoch began too, and what goes on beside it hold in every legal
 -- transcript over an honest wire
 pub both_legal : (capacity : ℕ) (setup : Setup) (steps : List Step) (transcript : List Entry) (d : DeviceSetup)
     (P : List Met → List Met → List Line → Type 0) (Q : List Entry → Type 0) → IsSoundSetup setup → IsOf setup d →
     All IsInRange steps → Legal capacity setup steps transcript → Honest transcript → IsKeptBoth d P →
-    GoesAlong capacity setup d P Q → Q [] → HoldsAt d P (onto [] transcript) × Q (onto [] transcript)
-both_legal capacity setup steps transcript d P Q sound own in_range legal honest kept goes_on start =
-    (along capacity setup IsInRange (Along d P Q) sound (along_step capacity setup d P Q sound own kept goes_on) steps
-    (onto [] transcript) in_range legal (record { ranged = tt; holds = λ none. (kept.starts, start) })).holds honest
+    GoesAlong capacity setup d P Q → GoesOverForged Q → Q [] → HoldsAt d P (onto [] transcript) × Q (onto [] transcript)
+both_legal capacity setup steps transcript d P Q sound own in_range legal honest kept goes_on over start =
+    (along capacity setup IsInRange (Along d P Q) sound (along_step capacity setup d P Q sound own kept goes_on)
+    (along_forged d P Q over) steps (onto [] transcript) in_range legal (record { ranged = tt; holds = λ none. (kept.starts, start) })).holds honest
 
 -- a job at a device is one for its kind, in its range, whatever the wire does
 pub ranged_legal : (capacity : ℕ) (setup : Setup) (steps : List Step) (transcript : List Entry) (d : DeviceSetup) →
@@ -69,8 +78,8 @@ pub ranged_legal : (capacity : ℕ) (setup : Setup) (steps : List Step) (transcr
     IsRanged d (job (lines_in d transcript))
 ranged_legal capacity setup steps transcript d sound own in_range legal =
     along capacity setup IsInRange (λ past. IsRanged d (job (lines_of d past))) sound
-    (λ past news s range ids told before. ranged_step capacity setup d past news s sound own range ids told before) steps
-    (onto [] transcript) in_range legal tt
+    (λ past news s range ids told before. ranged_step capacity setup d past news s sound own range ids told before)
+    (λ past addr ranged. ranged) steps (onto [] transcript) in_range legal tt
 
 pub kept_since_legal : (capacity : ℕ) (setup : Setup) (steps : List Step) (transcript : List Entry)
     (d : DeviceSetup) (P : List Met → List Met → List Line → Type 0) → IsSoundSetup setup → IsOf setup d →
@@ -78,15 +87,15 @@ pub kept_since_legal : (capacity : ℕ) (setup : Setup) (steps : List Step) (tra
     IsKeptSince d P → P (since_epoch_in d transcript) (met d (onto [] transcript)) (lines_in d transcript)
 kept_since_legal capacity setup steps transcript d P sound own accepting in_range legal honest kept =
     (both_legal capacity setup steps transcript d P (λ past. ⊤) sound own in_range legal honest
-    (both_acceptor d P accepting kept) (λ past news s ranged ids told holds before. tt) tt).0
+    (both_acceptor d P accepting kept) (λ past news s ranged ids told holds before. tt) (λ past addr before. tt) tt).0
 
 pub goes_on_legal : (capacity : ℕ) (setup : Setup) (steps : List Step) (transcript : List Entry) (d : DeviceSetup)
     (P : List Met → List Met → List Line → Type 0) (Q : List Entry → Type 0) → IsSoundSetup setup → IsOf setup d →
     IsAcceptor d.body → All IsInRange steps → Legal capacity setup steps transcript → Honest transcript →
-    IsKeptSince d P → GoesAlong capacity setup d P Q → Q [] → Q (onto [] transcript)
-goes_on_legal capacity setup steps transcript d P Q sound own accepting in_range legal honest kept goes_on start =
+    IsKeptSince d P → GoesAlong capacity setup d P Q → GoesOverForged Q → Q [] → Q (onto [] transcript)
+goes_on_legal capacity setup steps transcript d P Q sound own accepting in_range legal honest kept goes_on over start =
     (both_legal capacity setup steps transcript d P Q sound own in_range legal honest (both_acceptor d P accepting kept)
-    goes_on start).1
+    goes_on over start).1
 
 -- and so does what is kept without regard to the epoch, of an acceptor and of a hopper
 pub kept_legal : (capacity : ℕ) (setup : Setup) (steps : List Step) (transcript : List Entry) (d : DeviceSetup)
@@ -103,4 +112,4 @@ pub kept_hopper_legal : (capacity : ℕ) (setup : Setup) (steps : List Step) (tr
     P (met d (onto [] transcript)) (lines_in d transcript)
 kept_hopper_legal capacity setup steps transcript d P sound own paying in_range legal honest kept =
     (both_legal capacity setup steps transcript d (λ since past lines. P past lines) (λ past. ⊤) sound own in_range legal
-    honest (both_hopper d P paying kept) (λ past news s ranged ids told holds before. tt) tt).0
+    honest (both_hopper d P paying kept) (λ past news s ranged ids told holds before. tt) (λ past addr before. tt) tt).0

@@ -6,6 +6,7 @@ pub mod GivenUp
 mod LastRows
 pub mod Scans
 pub mod Seen
+pub mod Telling
 pub mod Tests
 pub mod Tries
 pub mod Unmoved

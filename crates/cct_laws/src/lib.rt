@@ -2,9 +2,10 @@
 //! whose body is empty. They hold of a setup of several devices, of both kinds and under both checks, with power cuts at
 //! every step and after each disk call of a put. `specs/Scope.antt` names the transcripts and the devices that a law is of.
 //!
-//! Each goes by cases on what one step brought (`Brought` of `proofs/jobs/Brought.antt`, to which `brought` leads from
-//! the definition of legal), or on how that is seen from one device (`seen_from` of `proofs/jobs/Seen.antt`); `along`
-//! there carries a fact over all steps.
+//! Each goes by cases on what one step brought (`Brought` of `proofs/jobs/Brought.antt`, to which `tells` of
+//! `proofs/jobs/Telling.antt` leads from the definition of legal), or on how that is seen from one device (`seen_from` of
+//! `proofs/jobs/Seen.antt`); `along` there carries a fact over all steps. That an exchange was forged is no part of what a
+//! step brought: a fact goes over the entry that tells so by a clause of its own.
 //!
 //! A crate above cites the lemmas of these laws, each of which is named in its function's `Answers.antt`. Beside them it
 //! cites:
@@ -15,12 +16,14 @@
 //!   `played_right`, which say four laws at once; `legal_written` of `proofs/text/Texts.antt`;
 //! - for a host that restarts over its records `proofs/money/Replaying.antt`, which says what each record more tells, and
 //!   `proofs/money/Restarts.antt`, which says what entries a power cut leaves;
+//! - `on_wire` of `proofs/OnWire.antt`: the entries of a `next`, and after an exchange that was forged the one that tells
+//!   so, are those of a `next` on the wire of a machine;
 //! - `books_legal` of `proofs/money/Books.antt`: of every legal past, ids are in order and the books are kept;
 //! - `kept_due_allowed` of `proofs/money/Journal.antt` and `kept_restart_suits` of `proofs/money/Restarts.antt`: a ledger then
 //!   takes what a job is about to put, and a power cut is survived.
 #![tactic(auto)]
 
-ghost use Rattle.std.specs.Prelude.{ℕ, ◌≡◌, ◌<◌, ◌≤◌, ◌⊎◌, false, List, [], ◌++◌, None, true, Option, Some, ◌≢◌, ◌+◌, ◌-◌, length};
+ghost use Rattle.std.specs.Prelude.{ℕ, ◌≡◌, ◌↔◌, ◌<◌, ◌≤◌, ◌⊎◌, false, List, [], ◌++◌, None, true, Option, Some, ◌≢◌, ◌+◌, ◌-◌, length};
 ghost use Rattle.std.specs.List.{All};
 ghost use Rattle.std.specs.List.Sorted.{IsPermutation};
 ghost use Rattle.cct_model.specs.terms.coin.Coin.{Coin};
@@ -70,7 +73,7 @@ ghost use Rattle.cct_laws.specs.PaidOut.{is_paid_out};
 ghost use Rattle.cct_laws.specs.Recorded.{HasNoJob, IsRestart, open_orders, totals_in};
 ghost use Rattle.cct_laws.specs.Ending.{nexts_at, EndsRound, IsUndisturbed, nexts_needed, is_payment, EndsAs, AlwaysFindsNoneLeft};
 ghost use Rattle.cct_laws.specs.Faults.{FailsByFault, EchoFailsByFault, EndsByFaults, is_dispense, FailsByFaultBut};
-ghost use Rattle.cct_model.specs.Honest.{Honest, IsHonestFault};
+ghost use Rattle.cct_model.specs.Honest.{Honest, IsAllUnforged, IsHonestFault};
 ghost use Rattle.cct_laws.specs.Law.{AreOfToday, AreRising, Begins, EachEntry, HasBytes, IsAnswered, IsOf, IsUnanswered, NamesNoPut, lines_in};
 ghost use Rattle.cct_laws.specs.Right.{IsRight};
 ghost use Rattle.cct_laws.specs.Scope.{EachAcceptor, EachHopper, EachTranscript, IsCommandFor};
@@ -94,6 +97,14 @@ pub fn an_undisturbed_exchange_is_answered()
 pub fn an_honest_fault_does_honest_damage()
     ensures means { (f : WireFault) (sent : List ℕ) → IsHonestFault f sent → DamagesHonestly f sent }
     ensures tested { (f : WireFault) (sent : List ℕ) → DamagesHonestly f sent → IsHonestFault f sent }
+{}
+
+/// A legal transcript shows an honest wire exactly if no line of it tells of a forged exchange. So whoever reads it sees
+/// whether the laws over an honest wire speak of it. It holds of every setup and of all steps, in range or not. It says
+/// nothing of a transcript that isn't legal, and it doesn't say what a forged exchange does.
+pub fn honest_as_told()
+    ensures { (capacity : ℕ) (setup : Setup) (steps : List Step) (transcript : List Entry)
+        → Legal capacity setup steps transcript → (Honest transcript ↔ IsAllUnforged transcript) }
 {}
 
 /// Where an honest fault is set for the next exchange, such a job gets the device's own reply to what it asks, or

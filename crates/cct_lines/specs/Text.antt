@@ -176,6 +176,7 @@ fields_of (entry.Taken c) = codes "ok" ∷ command_fields c
 fields_of (entry.No c why) = codes "no" ∷ command_fields c ++ reason_fields why
 fields_of (entry.Idle addr) = codes "idle" ∷ number_text addr ∷ []
 fields_of (entry.Wire addr sent heard) = codes "wire" ∷ number_text addr ∷ piece_field sent ∷ piece_field heard ∷ []
+fields_of (entry.Forged addr) = codes "forged" ∷ number_text addr ∷ []
 fields_of (entry.Put r) = codes "put" ∷ record_fields r
 fields_of (entry.Kept r) = codes "kept" ∷ record_fields r
 fields_of (entry.Crash records) = codes "crash" ∷ number_text records ∷ []

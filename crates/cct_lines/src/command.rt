@@ -78,11 +78,11 @@ pub enum CommandNo {
 pub enum WireFault {
     /// Nothing.
     Clear,
-    /// The devices hear this piece, 260 bytes at most, in the place of what the host sends.
+    /// The devices hear these bytes, at most 260, in the place of what the host sends.
     DevicesHear(Piece),
-    /// The host hears this piece, 260 bytes at most, after its echo in the place of the replies.
+    /// The host hears these bytes, at most 260, after its echo in the place of the replies.
     HostHears(Piece),
-    /// The host hears this piece, and nothing else.
+    /// The host hears these bytes, and nothing else.
     WholeHeard(Piece),
 }
 

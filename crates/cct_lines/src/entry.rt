@@ -164,6 +164,11 @@ pub enum Entry {
         sent: Sent,
         heard: Piece,
     },
+    /// The exchange that this step made was damaged in a way that the promises don't allow for: bytes that a fault put
+    /// there are a message. It is the last entry of its step.
+    Forged {
+        addr: u8,
+    },
     /// The host put a record.
     Put(Record),
     /// A record that the host was putting when it lost its power was kept.

@@ -3,6 +3,7 @@ ghost use Rattle.std.specs.Prelude.{◌≡◌, ◌≤◌, length};
 ghost use Rattle.cct_lines.specs.Sums.{events_lost, posts_of};
 
 use crate::{Coin, Coins, EVENTS};
+use std::alloc::AllocError;
 
 /// A record of the host's journal. A record is the post: the coins in it are those that the machine counts.
 #[derive(Clone, Debug, Drop)]
@@ -59,6 +60,14 @@ pub enum Record {
 }
 
 impl Record {
+    /// The same record once more. It takes no memory, so it can't fail as `clone` could.
+    pub fn copied(&self) -> Record
+        ensures { result ≡ self.now }
+    {
+        let copy: Result<Record, AllocError> = self.clone();
+        copy.unwrap()
+    }
+
     /// The coins that it posts, oldest first.
     pub fn posted(&self) -> &[Coin]
         ensures coins { result.now ≡ posts_of self.now }

@@ -156,13 +156,13 @@ no_second_dispense : Entries 65535 setup unheard (step.Next 3) (wire 3 "030401a7
 unfolding message spelling data_of request_of requests_with form_of reply_data reply_in has_place acceptor_reply
     hopper_reply common_reply reply_of ask asked asks_of asker after_echo got heard_after got_by distance judge
     life_between close
-no_second_dispense e = differ (sends 167) _ _ refl refl e
+no_second_dispense e = differ (sends 167) _ _ refl refl e.0
 
 no_second_dispense_heard : Entries 65535 setup unheard (step.Next 3) (wire 3 "030401a70102030447" "030401a7010203044701000300fc" ∷ []) → ⊥
 unfolding message spelling data_of request_of requests_with form_of reply_data reply_in has_place acceptor_reply
     hopper_reply common_reply reply_of ask asked asks_of asker after_echo got heard_after got_by distance judge
     life_between close
-no_second_dispense_heard e = differ (sends 167) _ _ refl refl e
+no_second_dispense_heard e = differ (sends 167) _ _ refl refl e.0
 
 -- all four coins of it fell, and the dispense is sent again: the hopper takes it
 abbrev sent_twice : List Entry
@@ -186,7 +186,7 @@ not_by_status : Entries 65535 setup was_reset (step.Next 3) (entry.Ended 3 end_o
 unfolding message spelling data_of request_of requests_with form_of reply_data reply_in has_place acceptor_reply
     hopper_reply common_reply reply_of ask asked asks_of asker after_echo got heard_after got_by distance judge
     life_between close
-not_by_status e = differ (closes 0) _ _ refl refl e
+not_by_status e = differ (closes 0) _ _ refl refl e.0
 
 status_tells_less : Paid (put (record_of.Closed 41 0 4) ∷ lines_of hopper was_reset) → ⊥
 unfolding message spelling data_of request_of requests_with form_of reply_data reply_in has_place acceptor_reply
@@ -249,14 +249,14 @@ opened_before : Entries 65535 setup (after funded (take 3 sent_first)) (step.Nex
 unfolding message spelling data_of request_of requests_with form_of reply_data reply_in has_place acceptor_reply
     hopper_reply common_reply reply_of ask asked asks_of asker after_echo got heard_after got_by distance judge
     life_between close
-opened_before e = differ (sends 167) _ _ refl refl e
+opened_before e = differ (sends 167) _ _ refl refl e.0
 
 -- a settlement that sends the dispense
 settlement_dispenses : Entries 65535 setup (after funded (take 6 settled_after)) (step.Next 3) (wire 3 "030401a70102030447" "030401a7010203044701000305f7" ∷ []) → ⊥
 unfolding message spelling data_of request_of requests_with form_of reply_data reply_in has_place acceptor_reply
     hopper_reply common_reply reply_of ask asked asks_of asker after_echo got heard_after got_by distance judge
     life_between close
-settlement_dispenses e = differ (sends 167) _ _ refl refl e
+settlement_dispenses e = differ (sends 167) _ _ refl refl e.0
 
 -- a coin that falls out of a hopper that doesn't pay, and one that doesn't fall where it pays
 falls_from_nothing : Entries 65535 setup funded (step.Fall 3) (entry.Fell 3 ∷ []) → ⊥
@@ -280,7 +280,7 @@ posted_again : Entries 65535 setup kept_and_read (step.Next 2) (entry.Put (recor
 unfolding message spelling data_of request_of requests_with form_of reply_data reply_in has_place acceptor_reply
     hopper_reply common_reply reply_of ask asked asks_of asker after_echo got heard_after got_by distance judge
     life_between close
-posted_again e = differ is_put _ _ refl refl e
+posted_again e = differ is_put _ _ refl refl e.0
 
 not_in_order : InOrder (put (record_of.Reading 2 1 0 (coin 5 1 ∷ [])) ∷ lines_of acceptor kept_and_read) → ⊥
 unfolding message spelling data_of request_of requests_with form_of reply_data reply_in has_place acceptor_reply
@@ -377,7 +377,7 @@ job_in_memory : Entries 65535 setup order_lost (step.Next 3) (wire 3 "030401a701
 unfolding message spelling data_of request_of requests_with form_of reply_data reply_in has_place acceptor_reply
     hopper_reply common_reply reply_of ask asked asks_of asker after_echo got heard_after got_by distance judge
     life_between close
-job_in_memory e = differ (sends 167) _ _ refl refl e
+job_in_memory e = differ (sends 167) _ _ refl refl e.0
 
 -- an epoch that the host forgets over a power cut is broken by nothing: its coin is accepted, and must be posted
 abbrev epoch_there : List Entry
@@ -394,7 +394,7 @@ counter_alone : Entries 65535 setup posting (step.Next 2) (entry.Ended 2 end_of.
 unfolding message spelling data_of request_of requests_with form_of reply_data reply_in has_place acceptor_reply
     hopper_reply common_reply reply_of ask asked asks_of asker after_echo got heard_after got_by distance judge
     life_between close
-counter_alone e = differ posts_none _ _ refl refl e
+counter_alone e = differ posts_none _ _ refl refl e.0
 
 lost_in_silence : Covers (put (record_of.Reading 2 1 0 []) ∷ lines_of acceptor posting) → ⊥
 unfolding message spelling data_of request_of requests_with form_of reply_data reply_in has_place acceptor_reply

@@ -20,4 +20,5 @@ mod Restarts
 mod Refusals
 mod Ledger
 mod Forged
+mod ForgedWires
 mod Day

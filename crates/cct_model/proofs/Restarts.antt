@@ -281,14 +281,14 @@ unfolding message spelling data_of request_of requests_with form_of reply_data r
     hopper_reply common_reply reply_of ask asked asks_of asker after_echo got heard_after got_by distance judge
     life_between close
 started_play = (
-  (refl, (refl, (refl, (refl, (inl (omega arith, refl), (refl, (refl, (refl, (refl, tt))))))))),
+  (refl, (refl, ((refl, refl), ((refl, refl), (inl (omega arith, refl), (refl, ((refl, refl), ((refl, refl), ((refl, refl), tt))))))))),
   (
-    (refl, (refl, (refl, (refl, (inl (omega arith, refl), (refl, (refl, (refl, (refl, tt))))))))),
+    (refl, (refl, ((refl, refl), ((refl, refl), (inl (omega arith, refl), (refl, ((refl, refl), ((refl, refl), ((refl, refl), tt))))))))),
     (
-      (refl, (refl, (refl, (refl, (inl (omega arith, refl), (refl, (refl, (refl, (refl, tt))))))))),
+      (refl, (refl, ((refl, refl), ((refl, refl), (inl (omega arith, refl), (refl, ((refl, refl), ((refl, refl), ((refl, refl), tt))))))))),
       (
-        (refl, (refl, (refl, (refl, (inr (omega arith, refl), (refl, (refl, (refl, (refl, tt))))))))),
-        ((refl, (refl, (refl, (refl, (inr (omega arith, refl), (refl, (refl, (refl, (refl, tt))))))))), tt),
+        (refl, (refl, ((refl, refl), ((refl, refl), (inr (omega arith, refl), (refl, ((refl, refl), ((refl, refl), ((refl, refl), tt))))))))),
+        ((refl, (refl, ((refl, refl), ((refl, refl), (inr (omega arith, refl), (refl, ((refl, refl), ((refl, refl), ((refl, refl), tt))))))))), tt),
       ),
     ),
   ),
@@ -304,21 +304,21 @@ funded_play = (
   (
     search,
     (
-      (refl, (refl, (refl, (inl (omega arith, refl), (refl, (refl, (refl, (refl, tt)))))))),
+      (refl, ((refl, refl), ((refl, refl), (inl (omega arith, refl), (refl, (refl, ((refl, refl), (refl, tt)))))))),
       (
-        (refl, (refl, (refl, (inr (omega arith, refl), (refl, (refl, (refl, (refl, (refl, (refl, (refl, (refl, tt)))))))))))),
+        (refl, ((refl, refl), ((refl, refl), (inr (omega arith, refl), (refl, ((refl, refl), (refl, (refl, (refl, ((refl, refl), ((refl, refl), ((refl, refl), tt)))))))))))),
         (
           search,
           (
-            (refl, (refl, (refl, (refl, (refl, (refl, (refl, (refl, (refl, (refl, (refl, (inl (omega arith, refl), (refl, (refl, (refl, (refl, tt)))))))))))))))),
+            (refl, ((refl, refl), ((refl, refl), ((refl, refl), ((refl, refl), (refl, (refl, (refl, (refl, ((refl, refl), ((refl, refl), (inl (omega arith, refl), (refl, ((refl, refl), ((refl, refl), ((refl, refl), tt)))))))))))))))),
             (
-              (refl, (refl, (refl, (refl, (refl, (refl, (refl, (refl, (refl, (refl, (refl, (inr (omega arith, refl), (refl, (refl, tt)))))))))))))),
+              (refl, ((refl, refl), ((refl, refl), ((refl, refl), ((refl, refl), (refl, (refl, (refl, (refl, ((refl, refl), ((refl, refl), (inr (omega arith, refl), (refl, (refl, tt)))))))))))))),
               (
                 search,
                 (
-                  (refl, (refl, (inr (omega arith, refl), (refl, (refl, (refl, tt)))))),
+                  (refl, (refl, (inr (omega arith, refl), (refl, ((refl, refl), (refl, tt)))))),
                   (
-                    (refl, (inl (omega arith, refl), (refl, (refl, (refl, (refl, (refl, (refl, (refl, tt))))))))),
+                    (refl, (inl (omega arith, refl), (refl, ((refl, refl), (refl, ((refl, refl), (refl, (refl, (refl, tt))))))))),
                     (search, tt),
                   ),
                 ),
@@ -337,6 +337,6 @@ unfolding message spelling data_of request_of requests_with form_of reply_data r
     hopper_reply common_reply reply_of ask asked asks_of asker after_echo got heard_after got_by distance judge
     life_between close
 unstarted_play = (
-  (refl, (refl, (refl, (inr (omega arith, refl), (refl, (refl, (refl, (refl, (refl, (refl, tt)))))))))),
-  ((refl, (refl, (refl, (inl (omega arith, refl), (refl, (refl, tt)))))), tt),
+  (refl, ((refl, refl), ((refl, refl), (inr (omega arith, refl), (refl, (refl, (refl, ((refl, refl), ((refl, refl), ((refl, refl), tt)))))))))),
+  ((refl, ((refl, refl), ((refl, refl), (inl (omega arith, refl), (refl, (refl, tt)))))), tt),
 )

@@ -1,5 +1,6 @@
 -- The wire's faults as far as the laws allow for them: damaged bytes fail their check.
-use Rattle.std.specs.Prelude.{◌≡◌, ◌&&◌, ◌||◌, ℕ, Bool, true, List, [], ◌∷◌, Option, None, Some, is_none, bytes_eq, ⊤}
+use Rattle.std.specs.Prelude.{◌≡◌, ◌&&◌, ◌||◌, not, ℕ, Bool, true, false, List, [], ◌∷◌, ◌++◌, if◌then◌else◌, Option, None, Some, is_none, bytes_eq, ⊤}
+use Rattle.std.specs.List.{All}
 use Rattle.cct_model.specs.terms.wire.CheckKind.TheVariants.{Simple, Crc}
 use Rattle.cct_model.specs.terms.request.Request.TheVariants.{AddressPoll}
 use Rattle.cct_model.specs.lines.command.WireFault.{WireFault}
@@ -49,3 +50,35 @@ HonestPast (e ∷ past) = IsHonestAt past e × HonestPast past
 -- A transcript, oldest entry first, shows an honest wire: all bytes that a fault damages fail their check.
 abbrev pub Honest : List Entry → Type 0
 Honest transcript = HonestPast (onto [] transcript)
+
+-- Whether the last exchange was forged: the fault that was set for it did another damage than an honest one. Before the
+-- first exchange none was.
+abbrev pub was_forged : List Entry → Bool
+was_forged [] = false
+was_forged (entry.Wire addr sent piece ∷ past) = not (is_honest (pending past) sent)
+was_forged (e ∷ past) = was_forged past
+
+-- The entry that tells that an exchange at an address was forged, after this past, or none where it wasn't.
+abbrev pub forged_line : List Entry → ℕ → List ℕ → List Entry
+forged_line past addr sent = if is_honest (pending past) sent then [] else entry.Forged addr ∷ []
+
+-- What the entries of a step, newest first, have told after them: that their exchange was forged, where there is one that
+-- was.
+abbrev pub forged_after : List Entry → List Entry → List Entry
+forged_after past [] = []
+forged_after past (entry.Wire addr sent piece ∷ earlier) = forged_line (earlier ++ past) addr sent
+forged_after past (e ∷ earlier) = forged_after past earlier
+
+-- The entries of a step, newest first, without the one that tells of a forged exchange.
+abbrev pub without_forged : List Entry → List Entry
+without_forged (entry.Forged addr ∷ news) = news
+without_forged news = news
+
+-- An entry tells of no forged exchange.
+abbrev pub IsUnforged : Entry → Type 0
+IsUnforged (entry.Forged addr) = ⊥
+IsUnforged e = ⊤
+
+-- No entry of a transcript tells of a forged exchange.
+abbrev pub IsAllUnforged : List Entry → Type 0
+IsAllUnforged transcript = All IsUnforged transcript

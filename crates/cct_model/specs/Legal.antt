@@ -27,6 +27,7 @@ use Rattle.cct_model.specs.Records.{records}
 use Rattle.cct_model.specs.Money.{totals}
 use Rattle.cct_model.specs.Refusal.{refusal}
 use Rattle.cct_model.specs.Scan.{scan_row, end_of_scan, poll_of}
+use Rattle.cct_model.specs.Honest.{forged_after, without_forged}
 use Rattle.cct_model.specs.Transcript.{met, lines_of, scan_lines, scan_line, sale_lines, heard_after, got_by, onto}
 
 -- The entry of a coin: accepted with its path where the acceptor accepts its place, else inhibited.
@@ -135,6 +136,13 @@ abbrev pub EntriesOfNext : (List ℕ → List ℕ) → Setup → List Entry → 
 EntriesOfNext hears setup past addr news =
     OfNext (device_at setup.devices addr) (λ d. NextEntries hears d past (job (lines_of d past)) news) (BareNext hears past addr news)
 
+-- The entries of a `next` on the wire of a machine, newest first: those of its row; after an exchange that was forged, the
+-- entry that tells so.
+abbrev pub EntriesOnWire : Setup → List Entry → ℕ → List Entry → Type 0
+EntriesOnWire setup past addr news =
+    let told = without_forged news in
+    EntriesOfNext (heard_after setup past) setup past addr told × (news ≡ forged_after past told ++ told)
+
 -- The record that a row puts, or none.
 abbrev pub record_due : Row → Option Record
 record_due (puts r) = Some r
@@ -195,7 +203,7 @@ Entries capacity setup past (step.Jam addr) news = EntriesOfHappening setup past
 Entries capacity setup past (step.Reset addr) news = EntriesOfHappening setup past addr happening.Reset news
 Entries capacity setup past (step.Fault f) news = news ≡ entry.Fault f ∷ []
 Entries capacity setup past (step.Command c) news = news ≡ command_entry c (refusal capacity setup past c) ∷ []
-Entries capacity setup past (step.Next addr) news = EntriesOfNext (heard_after setup past) setup past addr news
+Entries capacity setup past (step.Next addr) news = EntriesOnWire setup past addr news
 Entries capacity setup past (step.Crash at choice) news = EntriesOfRestart setup past at news
 Entries capacity setup past step.Balance news = news ≡ entry.Balance (totals setup past) ∷ []
 Entries capacity setup past step.End news = ⊥

@@ -5,7 +5,7 @@ ghost use Rattle.cct_lines.specs.Carried.{IsRightly};
 ghost use Rattle.cct_record.specs.Body.{Encodable};
 ghost use Rattle.cct_journal.specs.Journal.{has_failed, used_of};
 
-use crate::machine::{copied, setup};
+use crate::machine::setup;
 use cct_carry::Tally;
 use cct_disk::{Disk, MemDisk};
 use cct_edge::Failed;
@@ -129,7 +129,7 @@ fn carry_of(rt: &impl Abort, journal: &Journal<MemDisk>) -> Carry
     ensures { IsRightly (used_of journal.now) result }
 {
     assert!(rt; journal.used() == journal.base());
-    copied(journal.carry())
+    journal.carry().copied()
 }
 
 // The disk after the first calls of a put, or after one that failed.

@@ -5,10 +5,8 @@ ghost use Rattle.cct_model.specs.Setup.{IsSoundSetup};
 ghost use Rattle.cct_record.specs.Body.{IsPlaced};
 
 use cct_model::{
-    COIN_PLACES, Carry, CheckKind, Coin, Coins, DeviceBody, DeviceSetup, Devices, Name, Setup,
-    Texts,
+    COIN_PLACES, CheckKind, Coin, Coins, DeviceBody, DeviceSetup, Devices, Name, Setup, Texts,
 };
-use std::alloc::AllocError;
 
 /// A text of one character.
 fn name() -> Name
@@ -81,12 +79,4 @@ pub(crate) fn five_coins() -> Coins
     coins.push(coin);
     coins.push(coin);
     coins
-}
-
-/// The same carry. It takes no memory, so it can't fail as `clone` could.
-pub(crate) fn copied(carry: &Carry) -> Carry
-    ensures { result ≡ carry.now }
-{
-    let copy: Result<Carry, AllocError> = carry.clone();
-    copy.unwrap()
 }

@@ -9,7 +9,7 @@ ghost use Rattle.cct_ledger.specs.Ledger.{applied};
 ghost use Rattle.cct_journal.specs.Journal.{has_failed, used_of};
 
 use crate::journal::{ONE_EACH, created, opened, put};
-use crate::machine::{copied, five_coins, one_coin, setup};
+use crate::machine::{five_coins, one_coin, setup};
 use cct_carry::Tally;
 use cct_disk::{Disk, MemDisk};
 use cct_journal::{Journal, JournalNo, Replay};
@@ -125,7 +125,7 @@ fn look_at(alloc: Global, journal: &mut Journal<MemDisk>) -> Result<Found, Fail>
     Ok(Found {
         base,
         used,
-        carry: copied(journal.carry()),
+        carry: journal.carry().copied(),
         record: text,
     })
 }
@@ -347,7 +347,7 @@ fn carry_before(rt: &impl Abort, journal: &Journal<MemDisk>, tally: &Tally<'_>) 
     ensures { IsRightly (used_of journal.now) result }
 {
     assert!(rt; tally.many() == journal.used());
-    copied(tally.carry())
+    tally.carry().copied()
 }
 
 /// One record is put after so many, up to this one of the calls of its put, and the power is cut.
@@ -396,7 +396,7 @@ impl Replay for Replayed {
 
     fn begin(&mut self, base: u32, carry: &Carry) {
         self.base = base;
-        self.carry = copied(carry);
+        self.carry = carry.copied();
         self.used = base;
     }
 

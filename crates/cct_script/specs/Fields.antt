@@ -5,9 +5,9 @@ use Rattle.std.specs.Borrow.{Bor}
 use Rattle.cct_lines.specs.Grammar.{is_space}
 
 -- The fields after a space, or none where there is no space.
-abbrev pub fields_behind : Option (Bor (List ℕ)) → List (List ℕ)
-fields_behind None = []
-fields_behind (Some rest) = slice_split is_space rest.now
+abbrev pub fields_after : Option (Bor (List ℕ)) → List (List ℕ)
+fields_after None = []
+fields_after (Some rest) = slice_split is_space rest.now
 
 -- What was read is what the grammar says, and where that is something, it is in range.
 pub record Reads {T : Type 0} (result said : Option T) (InRange : T → Type 0) : Type 0 where

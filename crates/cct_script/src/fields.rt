@@ -2,13 +2,13 @@
 ghost use Rattle.std.specs.Prelude.{◌≡◌, ◌≢◌, [], ◌∷◌, length, MatchOption};
 ghost use Rattle.std.specs.List.{slice_split};
 ghost use Rattle.cct_lines.specs.Grammar.{is_space, alone};
-ghost use Rattle.cct_script.specs.Fields.{fields_behind};
+ghost use Rattle.cct_script.specs.Fields.{fields_after};
 
 use crate::bytes::place_of;
 
 /// The first field of a line, and what stands after its space, if there is one.
 pub(crate) fn first_field(line: &[u8]) -> (&[u8], Option<&[u8]>)
-    ensures { slice_split is_space line.now ≡ result.0.now ∷ fields_behind result.1 }
+    ensures { slice_split is_space line.now ≡ result.0.now ∷ fields_after result.1 }
 {
     match place_of(line, b' ') {
         Some(at) => (&line[..at], Some(&line[at + 1..])),
@@ -19,7 +19,7 @@ pub(crate) fn first_field(line: &[u8]) -> (&[u8], Option<&[u8]>)
 /// What a word says that stands alone on its line.
 #[tactic(auto, using(crate::proofs::Forms::not_alone))]
 pub(crate) fn alone<T: Drop>(said: T, rest: Option<&[u8]>) -> Option<T>
-    ensures { result ≡ alone said (fields_behind rest.entry) }
+    ensures { result ≡ alone said (fields_after rest.entry) }
 {
     match rest {
         None => Some(said),
@@ -30,8 +30,8 @@ pub(crate) fn alone<T: Drop>(said: T, rest: Option<&[u8]>) -> Option<T>
 /// The one field after a word.
 #[tactic(auto, using(crate::proofs::Splits::split_not_empty))]
 pub(crate) fn one(rest: Option<&[u8]>) -> Option<&[u8]>
-    ensures { MatchOption result (length (fields_behind rest.entry) ≢ 1)
-        (λ field. fields_behind rest.entry ≡ field.now ∷ []) }
+    ensures { MatchOption result (length (fields_after rest.entry) ≢ 1)
+        (λ field. fields_after rest.entry ≡ field.now ∷ []) }
 {
     let (first, rest) = first_field(rest?);
     match rest {
@@ -42,8 +42,8 @@ pub(crate) fn one(rest: Option<&[u8]>) -> Option<&[u8]>
 
 /// The two fields after a word.
 pub(crate) fn two(rest: Option<&[u8]>) -> Option<(&[u8], &[u8])>
-    ensures { MatchOption result (length (fields_behind rest.entry) ≢ 2)
-        (λ fields. fields_behind rest.entry ≡ fields.0.now ∷ fields.1.now ∷ []) }
+    ensures { MatchOption result (length (fields_after rest.entry) ≢ 2)
+        (λ fields. fields_after rest.entry ≡ fields.0.now ∷ fields.1.now ∷ []) }
 {
     let (first, rest) = first_field(rest?);
     let second = one(rest)?;
@@ -52,8 +52,8 @@ pub(crate) fn two(rest: Option<&[u8]>) -> Option<(&[u8], &[u8])>
 
 /// The three fields after a word.
 pub(crate) fn three(rest: Option<&[u8]>) -> Option<(&[u8], &[u8], &[u8])>
-    ensures { MatchOption result (length (fields_behind rest.entry) ≢ 3)
-        (λ fields. fields_behind rest.entry ≡ fields.0.now ∷ fields.1.now ∷ fields.2.now ∷ []) }
+    ensures { MatchOption result (length (fields_after rest.entry) ≢ 3)
+        (λ fields. fields_after rest.entry ≡ fields.0.now ∷ fields.1.now ∷ fields.2.now ∷ []) }
 {
     let (first, rest) = first_field(rest?);
     let (second, third) = two(rest)?;
@@ -62,8 +62,8 @@ pub(crate) fn three(rest: Option<&[u8]>) -> Option<(&[u8], &[u8], &[u8])>
 
 /// The four fields after a word.
 pub(crate) fn four(rest: Option<&[u8]>) -> Option<(&[u8], &[u8], &[u8], &[u8])>
-    ensures { MatchOption result (length (fields_behind rest.entry) ≢ 4)
-        (λ fields. fields_behind rest.entry ≡ fields.0.now ∷ fields.1.now ∷ fields.2.now ∷ fields.3.now ∷ []) }
+    ensures { MatchOption result (length (fields_after rest.entry) ≢ 4)
+        (λ fields. fields_after rest.entry ≡ fields.0.now ∷ fields.1.now ∷ fields.2.now ∷ fields.3.now ∷ []) }
 {
     let (first, rest) = first_field(rest?);
     let (second, third, fourth) = three(rest)?;
@@ -72,8 +72,8 @@ pub(crate) fn four(rest: Option<&[u8]>) -> Option<(&[u8], &[u8], &[u8], &[u8])>
 
 /// The five fields after a word.
 pub(crate) fn five(rest: Option<&[u8]>) -> Option<(&[u8], &[u8], &[u8], &[u8], &[u8])>
-    ensures { MatchOption result (length (fields_behind rest.entry) ≢ 5)
-        (λ fields. fields_behind rest.entry ≡
+    ensures { MatchOption result (length (fields_after rest.entry) ≢ 5)
+        (λ fields. fields_after rest.entry ≡
         fields.0.now ∷ fields.1.now ∷ fields.2.now ∷ fields.3.now ∷ fields.4.now ∷ []) }
 {
     let (first, rest) = first_field(rest?);

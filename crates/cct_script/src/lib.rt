@@ -4,7 +4,6 @@
 #![tactic(auto)]
 
 mod adding;
-mod behind;
 mod buffer;
 mod bytes;
 mod fields;
@@ -12,6 +11,7 @@ mod lines;
 mod numbers;
 mod setup;
 mod step;
+mod step_fields;
 mod words;
 
 pub use adding::add;

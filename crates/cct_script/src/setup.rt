@@ -4,7 +4,7 @@ ghost use Rattle.cct_lines.specs.Device.{IsSound, IsSoundBody};
 ghost use Rattle.cct_lines.specs.SetupLine.{IsSetupLine};
 ghost use Rattle.cct_lines.specs.Grammar.{ranged, three_byte_in, plain_texts, plain_acceptor, plain_device};
 ghost use Rattle.cct_lines.specs.Grammar.{acceptor_line, hopper_line, value_line, texts_line, setup_line};
-ghost use Rattle.cct_script.specs.Fields.{Reads, fields_behind};
+ghost use Rattle.cct_script.specs.Fields.{Reads, fields_after};
 
 use crate::fields::{alone, first_field, five, four};
 use crate::numbers::{ranged_u8, ranged_u32};
@@ -86,7 +86,7 @@ fn plain_device(addr: u8, kind: CheckKind, serial: u32, body: DeviceBody) -> Dev
 /// `acceptor A CHECK SERIAL ACCEPTS`
 #[tactic(auto, using(crate::proofs::Forms::no_acceptor))]
 fn acceptor_line(rest: Option<&[u8]>) -> Option<SetupLine>
-    ensures { Reads result (acceptor_line (fields_behind rest.entry)) IsSetupLine }
+    ensures { Reads result (acceptor_line (fields_after rest.entry)) IsSetupLine }
 {
     let (addr, check, serial, accepts) = four(rest)?;
     let addr = address_in(addr)?;
@@ -100,7 +100,7 @@ fn acceptor_line(rest: Option<&[u8]>) -> Option<SetupLine>
 /// `hopper A CHECK SERIAL LIFE VALUE`
 #[tactic(auto, using(crate::proofs::Forms::no_hopper))]
 fn hopper_line(rest: Option<&[u8]>) -> Option<SetupLine>
-    ensures { Reads result (hopper_line (fields_behind rest.entry)) IsSetupLine }
+    ensures { Reads result (hopper_line (fields_after rest.entry)) IsSetupLine }
 {
     let (addr, check, serial, life, value) = five(rest)?;
     let addr = address_in(addr)?;
@@ -115,7 +115,7 @@ fn hopper_line(rest: Option<&[u8]>) -> Option<SetupLine>
 /// `value A PLACE VALUE ID`
 #[tactic(auto, using(crate::proofs::Forms::no_value))]
 fn value_line(rest: Option<&[u8]>) -> Option<SetupLine>
-    ensures { Reads result (value_line (fields_behind rest.entry)) IsSetupLine }
+    ensures { Reads result (value_line (fields_after rest.entry)) IsSetupLine }
 {
     let (addr, place, value, id) = four(rest)?;
     let addr = address_in(addr)?;
@@ -133,7 +133,7 @@ fn value_line(rest: Option<&[u8]>) -> Option<SetupLine>
 /// `texts A MAKER PRODUCT SOFTWARE BUILD`
 #[tactic(auto, using(crate::proofs::Forms::no_texts))]
 fn texts_line(rest: Option<&[u8]>) -> Option<SetupLine>
-    ensures { Reads result (texts_line (fields_behind rest.entry)) IsSetupLine }
+    ensures { Reads result (texts_line (fields_after rest.entry)) IsSetupLine }
 {
     let (addr, maker, product, software, build) = five(rest)?;
     let addr = address_in(addr)?;

@@ -3,13 +3,13 @@ ghost use Rattle.std.specs.Prelude.{◌≡◌, Ok, Err, IfOk, MatchResult, OnOk}
 ghost use Rattle.cct_lines.specs.Grammar.{step_line};
 ghost use Rattle.cct_lines.specs.Script.{IsInRange};
 ghost use Rattle.cct_lines.specs.declared.command.Step.TheVariants as steps;
-ghost use Rattle.cct_script.specs.Fields.{fields_behind};
+ghost use Rattle.cct_script.specs.Fields.{fields_after};
 ghost use Rattle.cct_script.specs.Steps.{ReadsInto, device_step, epoch_step, order_step, other_step};
 
-use crate::behind::{
+use crate::fields::first_field;
+use crate::step_fields::{
     addr, coin_into, crash_into, fault_into, nothing, path_into, pay_into, start_into, vend_into,
 };
-use crate::fields::first_field;
 use cct_lines::{Command, LineKind, Step};
 
 const COIN: &[u8] = b"coin";
@@ -56,7 +56,7 @@ const END: &[u8] = b"end";
 /// a device; or another word.
 #[tactic(auto, unfolding(crate::specs::Steps::device_step))]
 fn device_step(word: &[u8], rest: Option<&[u8]>, step: &mut Step) -> Result<(), LineKind>
-    ensures { ReadsInto result step.new (device_step word.now (fields_behind rest.entry)) }
+    ensures { ReadsInto result step.new (device_step word.now (fields_after rest.entry)) }
 {
     match word {
         _ if word == COIN => coin_into(rest, step).ok_or(LineKind::Form)?,
@@ -73,7 +73,7 @@ fn device_step(word: &[u8], rest: Option<&[u8]>, step: &mut Step) -> Result<(), 
 /// attempt of a job, what is wrong on the wire, or a command of an epoch; or another word.
 #[tactic(auto, unfolding(crate::specs::Steps::epoch_step))]
 fn epoch_step(word: &[u8], rest: Option<&[u8]>, step: &mut Step) -> Result<(), LineKind>
-    ensures { ReadsInto result step.new (epoch_step word.now (fields_behind rest.entry)) }
+    ensures { ReadsInto result step.new (epoch_step word.now (fields_after rest.entry)) }
 {
     match word {
         _ if word == NEXT => set_next(addr(rest)?, step),
@@ -100,7 +100,7 @@ fn set_next(addr: u8, step: &mut Step)
 /// hopper, or one that asks of devices; or another word.
 #[tactic(auto, unfolding(crate::specs::Steps::order_step))]
 fn order_step(word: &[u8], rest: Option<&[u8]>, step: &mut Step) -> Result<(), LineKind>
-    ensures { ReadsInto result step.new (order_step word.now (fields_behind rest.entry)) }
+    ensures { ReadsInto result step.new (order_step word.now (fields_after rest.entry)) }
 {
     match word {
         _ if word == SETTLE => *step = Step::Command(Command::Settle { addr: addr(rest)? }),
@@ -120,7 +120,7 @@ fn order_step(word: &[u8], rest: Option<&[u8]>, step: &mut Step) -> Result<(), L
 /// command, a power cut, or what the operator reads; any other word is none.
 #[tactic(auto, unfolding(crate::specs::Steps::other_step))]
 fn other_step(word: &[u8], rest: Option<&[u8]>, step: &mut Step) -> Result<(), LineKind>
-    ensures { ReadsInto result step.new (other_step word.now (fields_behind rest.entry)) }
+    ensures { ReadsInto result step.new (other_step word.now (fields_after rest.entry)) }
 {
     match word {
         _ if word == PATH => path_into(rest, step).ok_or(LineKind::Form)?,

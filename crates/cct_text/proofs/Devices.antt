@@ -102,12 +102,12 @@ stands : ℕ → List ℕ → Bool
 stands addr [] = false
 stands addr (a ∷ addrs) = (a == addr) || stands addr addrs
 
-stands_behind : (addr : ℕ) (addrs : List ℕ) (n : ℕ) → (stands addr addrs ≡ true) ⊎ (n ≡ addr) → stands addr (addrs ++ n ∷ []) ≡ true
+stands_last : (addr : ℕ) (addrs : List ℕ) (n : ℕ) → (stands addr addrs ≡ true) ⊎ (n ≡ addr) → stands addr (addrs ++ n ∷ []) ≡ true
 unfolding stands
-stands_behind addr [] n (inl h) = absurd (cc h)
-stands_behind addr [] n (inr e) = ap (λ b. b || false) (eq-eqb n addr e)
-stands_behind addr (a ∷ addrs) n h =
-    let more = stands_behind addr addrs n in
+stands_last addr [] n (inl h) = absurd (cc h)
+stands_last addr [] n (inr e) = ap (λ b. b || false) (eq-eqb n addr e)
+stands_last addr (a ∷ addrs) n h =
+    let more = stands_last addr addrs n in
     elim (a == addr) as (λ t. ((t || stands addr addrs ≡ true) ⊎ (n ≡ addr)) → (t || stands addr (addrs ++ n ∷ [])) ≡ true) [
       | true ↦ λ _. refl
       | false ↦ λ rest. more rest
@@ -117,8 +117,8 @@ stands_below : (addr n : ℕ) → addr < n → stands addr (addresses_below n) �
 stands_below addr zero below = absurd (omega arith)
 stands_below addr (suc n) below =
     elim (cases_lt addr n) [
-      | inl less ↦ stands_behind addr (addresses_below n) n (inl (stands_below addr n less))
-      | inr top ↦ stands_behind addr (addresses_below n) n (inr (omega arith))
+      | inl less ↦ stands_last addr (addresses_below n) n (inl (stands_below addr n less))
+      | inr top ↦ stands_last addr (addresses_below n) n (inr (omega arith))
     ]
 
 -- whether a device of two sets has a check

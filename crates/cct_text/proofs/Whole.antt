@@ -75,6 +75,7 @@ entry_back (entry.Wire addr sent heard) h =
     one_back (λ a. Some (entry.Wire a (piece_in (piece_field sent)) (piece_in (piece_field heard)))) addr
     ∙ ap (λ p. Some (entry.Wire addr p (piece_in (piece_field heard)))) (piece_back sent h.0)
     ∙ ap (λ p. Some (entry.Wire addr sent p)) (piece_back heard h.1)
+entry_back (entry.Forged addr) h = one_back (λ a. Some (entry.Forged a)) addr
 entry_back (entry.Put r) h = ap (λ o. either (made entry.Put o) None) (record_back r h)
 entry_back (entry.Kept r) h = ap (λ o. either (made entry.Kept o) None) (record_back r h)
 entry_back (entry.Crash records) h = one_back (λ n. Some (entry.Crash n)) records
@@ -117,6 +118,7 @@ entry_above (entry.No c why) h = (refl, each_append 32 (command_fields c) _ (com
 entry_above (entry.Idle addr) h = (refl, (number_field addr, tt))
 entry_above (entry.Wire addr sent heard) h =
     (refl, (number_field addr, (piece_above sent h.0, (piece_above heard h.1, tt))))
+entry_above (entry.Forged addr) h = (refl, (number_field addr, tt))
 entry_above (entry.Put r) h = (refl, record_above r h)
 entry_above (entry.Kept r) h = (refl, record_above r h)
 entry_above (entry.Crash records) h = (refl, (number_field records, tt))

@@ -112,12 +112,12 @@ pub writes_broke : {K : Type 0} (written : K → Option (List ℕ))
     i < length es → e ≡ get_or es i e → Wrote written puts a b (take i es)
     → Writes written puts b (e ∷ []) (Err failed) c → Writes written puts a es (Err failed) c
 writes_broke written puts a b c es i e failed inside at h k =
-    let behind = drop (i + 1) es in
-    let whole : es ≡ (take i es ++ e ∷ []) ++ behind =
-    sym (take-append-drop i es) ∙ (ap (λ xs. take i es ++ xs) (drop_more es i e inside ∙ ap (λ x. x ∷ behind) (sym at))
-    ∙ sym (append_assoc (take i es) (e ∷ []) behind)) in
+    let later = drop (i + 1) es in
+    let whole : es ≡ (take i es ++ e ∷ []) ++ later =
+    sym (take-append-drop i es) ∙ (ap (λ xs. take i es ++ xs) (drop_more es i e inside ∙ ap (λ x. x ∷ later) (sym at))
+    ∙ sym (append_assoc (take i es) (e ∷ []) later)) in
     subst (λ xs. Writes written puts a xs (Err failed) c) (sym whole)
-    (writes_more written puts a c (take i es ++ e ∷ []) behind failed
+    (writes_more written puts a c (take i es ++ e ∷ []) later failed
     (writes_then written puts a b c (take i es) (e ∷ []) (Err failed) h k))
 
 pub on_err : {T E : Type 0} (r : Result T E) (P : Type 0) → P → OnErr r P

@@ -316,6 +316,7 @@ host_entry word rest =
     else if bytes_eq word (codes "no") then refused_by (command_in rest)
     else if bytes_eq word (codes "idle") then of_one entry.Idle rest
     else if bytes_eq word (codes "wire") then exchange_of rest
+    else if bytes_eq word (codes "forged") then of_one entry.Forged rest
     else if bytes_eq word (codes "put") then made entry.Put (record_in rest)
     else if bytes_eq word (codes "kept") then made entry.Kept (record_in rest)
     else if bytes_eq word (codes "crash") then of_one entry.Crash rest

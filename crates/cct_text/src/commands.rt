@@ -2,7 +2,7 @@
 ghost use Rattle.std.specs.Prelude.{◌≡◌, ℕ, ◌+◌, ◌<◌, ◌≤◌, List, [], ◌∷◌, ◌++◌, length};
 ghost use Rattle.cct_lines.specs.declared.entry.Entry.TheVariants.{Fault};
 ghost use Rattle.cct_lines.specs.Text.{command_fields, reason_fields, fields_of};
-ghost use Rattle.cct_text.specs.Joined.{behind};
+ghost use Rattle.cct_text.specs.Joined.{each_after};
 ghost use Rattle.cct_text.specs.Adding.{Adds, HasFields};
 
 use crate::fields::{write_address, write_mask, write_numbers, write_piece};
@@ -12,7 +12,7 @@ use cct_lines::{Command, CommandNo, MOST_TEXT, WireFault};
 /// Writes the fields of a command.
 pub(crate) fn write_command(line: &mut TextLine, command: &Command)
     requires { length line.old + 80 ≤ MOST_TEXT }
-    ensures { Adds line.old line.new (behind 32 (command_fields command.now)) 80 }
+    ensures { Adds line.old line.new (each_after 32 (command_fields command.now)) 80 }
 {
     match command {
         Command::Start { addr, mask } => write_mask(line, b" start", *addr, *mask),
@@ -41,7 +41,7 @@ pub(crate) fn write_command(line: &mut TextLine, command: &Command)
 /// Writes the fields of a refusal's reason.
 pub(crate) fn write_reason(line: &mut TextLine, why: &CommandNo)
     requires { length line.old + 80 ≤ MOST_TEXT }
-    ensures { Adds line.old line.new (behind 32 (reason_fields why.now)) 80 }
+    ensures { Adds line.old line.new (each_after 32 (reason_fields why.now)) 80 }
 {
     match why {
         CommandNo::NoDevice => line.push(b" nodevice"),

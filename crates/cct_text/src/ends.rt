@@ -1,7 +1,7 @@
 //! How jobs end, and the devices that a scan lists.
 ghost use Rattle.std.specs.Prelude.{◌≡◌, ℕ, ◌+◌, ◌*◌, ◌<◌, ◌≤◌, List, [], ◌∷◌, ◌++◌, length};
 ghost use Rattle.cct_lines.specs.Text.{end_fields, listed_text, listed_field};
-ghost use Rattle.cct_text.specs.Joined.{behind, found, separator_past};
+ghost use Rattle.cct_text.specs.Joined.{each_after, found, separator_past};
 ghost use Rattle.cct_text.specs.Adding.{Adds, HasFields};
 
 use crate::fields::{write_address, write_number, write_pair};

@@ -2,7 +2,7 @@
 ghost use Rattle.std.specs.Prelude.{◌≡◌, ℕ, ◌+◌, ◌<◌, ◌≤◌, List, [], ◌∷◌, ◌++◌, length};
 ghost use Rattle.cct_lines.specs.declared.entry.Entry.TheVariants.{Accepted, Taken, No, Wire, Balance, Line, JournalLost, Listing};
 ghost use Rattle.cct_lines.specs.Text.{record_fields, fields_of, line_of, kind_field, sum_field};
-ghost use Rattle.cct_text.specs.Joined.{behind};
+ghost use Rattle.cct_text.specs.Joined.{each_after};
 ghost use Rattle.cct_text.specs.Adding.{Adds, HasFields};
 
 use crate::commands::{write_command, write_fault, write_reason};
@@ -47,6 +47,7 @@ fn write_fields(line: &mut TextLine, entry: &Entry)
         Entry::Wire { addr, sent, heard } => {
             write_exchange(line, *addr, sent.as_slice(), heard.as_slice())
         }
+        Entry::Forged { addr } => write_address(line, b"forged", *addr),
         Entry::Put(entry) => write_journal(line, b"put", entry),
         Entry::Kept(entry) => write_journal(line, b"kept", entry),
         Entry::Crash { records } => write_numbers(line, b"crash", &[u64::from(*records)]),
@@ -117,7 +118,7 @@ fn write_exchange(line: &mut TextLine, addr: u8, sent: &[u8], heard: &[u8])
 /// Writes a word, and a record as the fields after it.
 fn write_journal(line: &mut TextLine, word: &[u8], entry: &Record)
     requires { length line.old + length word.now + 200 ≤ MOST_TEXT }
-    ensures { Adds line.old line.new (word.now ++ behind 32 (record_fields entry.now))
+    ensures { Adds line.old line.new (word.now ++ each_after 32 (record_fields entry.now))
         (length word.now + 200) }
 {
     line.push(word);

@@ -1,7 +1,7 @@
 //! Fields of a line, each after a space.
 ghost use Rattle.std.specs.Prelude.{◌≡◌, ℕ, ◌+◌, ◌*◌, ◌<◌, ◌≤◌, List, [], ◌∷◌, ◌++◌, length, map};
 ghost use Rattle.cct_lines.specs.Text.{number_text, piece_field, mask_field};
-ghost use Rattle.cct_text.specs.Joined.{behind};
+ghost use Rattle.cct_text.specs.Joined.{each_after};
 ghost use Rattle.cct_text.specs.Adding.{Adds};
 
 use crate::text::TextLine;
@@ -10,7 +10,7 @@ use cct_lines::MOST_TEXT;
 /// Writes a word, and numbers as the fields after it.
 pub(crate) fn write_numbers(line: &mut TextLine, word: &[u8], numbers: &[u64])
     requires { length line.old + length word.now + 21 * length numbers.now ≤ MOST_TEXT }
-    ensures { Adds line.old line.new (word.now ++ behind 32 (map number_text numbers.now))
+    ensures { Adds line.old line.new (word.now ++ each_after 32 (map number_text numbers.now))
         (length word.now + 21 * length numbers.now) }
 {
     line.push(word);

@@ -2,7 +2,7 @@
 ghost use Rattle.std.specs.Prelude.{◌≡◌, ℕ, ◌+◌, ◌≤◌, List, [], ◌∷◌, ◌++◌, length};
 ghost use Rattle.cct_lines.specs.declared.record.Record.TheVariants.{Odd};
 ghost use Rattle.cct_lines.specs.Text.{number_text, coin_text, coins_field, record_fields};
-ghost use Rattle.cct_text.specs.Joined.{behind};
+ghost use Rattle.cct_text.specs.Joined.{each_after};
 ghost use Rattle.cct_text.specs.Adding.{Adds};
 
 use crate::fields::{write_address, write_mask, write_number, write_numbers, write_pair};
@@ -12,7 +12,7 @@ use cct_lines::{Coin, EVENTS, MOST_TEXT, Record};
 /// Writes the fields of a record.
 pub(crate) fn write_record(line: &mut TextLine, entry: &Record)
     requires { length line.old + 200 ≤ MOST_TEXT }
-    ensures { Adds line.old line.new (behind 32 (record_fields entry.now)) 200 }
+    ensures { Adds line.old line.new (each_after 32 (record_fields entry.now)) 200 }
 {
     match entry {
         Record::Epoch { addr, mask } => write_mask(line, b" epoch", *addr, *mask),
@@ -61,7 +61,7 @@ pub(crate) fn write_record(line: &mut TextLine, entry: &Record)
 /// Writes a word, and an order's id and two bytes as the fields after it.
 fn write_order(line: &mut TextLine, word: &[u8], id: u32, first: u8, second: u8)
     requires { length line.old + length word.now + 63 ≤ MOST_TEXT }
-    ensures { Adds line.old line.new (word.now ++ behind 32 (number_text id ∷ number_text first ∷ number_text second ∷ []))
+    ensures { Adds line.old line.new (word.now ++ each_after 32 (number_text id ∷ number_text first ∷ number_text second ∷ []))
         (length word.now + 63) }
 {
     write_numbers(
@@ -74,7 +74,7 @@ fn write_order(line: &mut TextLine, word: &[u8], id: u32, first: u8, second: u8)
 /// Writes the fields of an order whose life counts don't fit it.
 fn write_lives(line: &mut TextLine, id: u32, before: u32, after: u32)
     requires { length line.old + 67 ≤ MOST_TEXT }
-    ensures { Adds line.old line.new (behind 32 (record_fields (Odd id before after))) 67 }
+    ensures { Adds line.old line.new (each_after 32 (record_fields (Odd id before after))) 67 }
 {
     write_numbers(
         line,

@@ -87,4 +87,5 @@ legal_caused capacity setup steps transcript d sound own accepting in_range lega
 pub legal_causes : EachAcceptor (λ d transcript. HaveCauses d (onto [] transcript))
 legal_causes capacity setup steps transcript d sound own accepting in_range legal honest =
     goes_on_legal capacity setup steps transcript d (Masks d) (HaveCauses d) sound own accepting in_range legal honest (masks_kept d accepting)
-    (λ past news s ranged ids told masks before. causes_go_on capacity setup d past news s sound own accepting ranged ids told masks before) tt
+    (λ past news s ranged ids told masks before. causes_go_on capacity setup d past news s sound own accepting ranged ids told masks before)
+    (λ past addr causes. (tt, causes)) tt

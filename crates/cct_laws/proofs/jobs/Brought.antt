@@ -1,4 +1,5 @@
--- What one step of a machine brought: the one view of a legal step by which each law goes by cases.
+-- What one step of a machine brought: the one view of a legal step by which each law goes by cases. That an exchange was
+-- forged, which the last entry of a `next` may tell, is no part of it (`Telling.antt`).
 use Rattle.std.proofs.Common.{◌≡◌, inl, inr, ℕ, zero, suc, ◌==◌, cond, true, false, Bool, List, [], ◌∷◌, ◌++◌, refl, ap, sym, ◌∙◌, subst, Option, Some, None, MatchBool, eqb-true}
 use Rattle.std.specs.Prelude.{⊤, not}
 use Rattle.cct_model.specs.declared.judging.EpochState.{EpochState}
@@ -41,6 +42,7 @@ use Rattle.cct_model.specs.Rows.{TableRow, row, row_of_sale, left_of_sale, end_o
 use Rattle.cct_model.specs.Money.{totals}
 use Rattle.cct_model.specs.Scan.{scan_row, end_of_scan, poll_of}
 use Rattle.cct_model.specs.Refusal.{unless, is_busy, epoch_refusal, value_refusal, start_refusal, order_refusal, state_fails, view_of, lines_for, last_id, refusal, state_tests}
+use Rattle.cct_model.specs.Honest.{without_forged}
 use Rattle.cct_model.specs.Legal.{happening_entry, step_of, command_entry, with_end, RowEntries, NextEntries, PollEntries, ScanEntries, SaleRowEntries, SaleEntries, BareNext, OfKnowing, OfNext, record_due, due_of, due_of_sale, due_there, due_at, bare_restart, keeping_restart, RestartEntries, EntriesOfRestart, Entries}
 use Rattle.cct_model.specs.Transcript.{met, owner, lines_of, scan_lines, scan_line, sale_lines, heard_after, heard_by_devices, pending, got_by, doses_of}
 use Rattle.cct_laws.specs.DeviceJobs.{is_for_acceptor, is_for_hopper, suits, IsTaken}
@@ -581,9 +583,14 @@ restart_brought capacity setup past news None choice told =
     subst (Brought capacity setup past (step.Crash None choice)) (sym told) (lost_power None choice)
 restart_brought capacity setup past news (Some at) choice told = put_lost capacity setup past news at choice _ refl told
 
+-- the entries of a step without the one that tells that its exchange was forged: only a `next` has one
+abbrev pub told_of : Step → List Entry → List Entry
+told_of (step.Next addr) news = without_forged news
+told_of s news = news
+
 -- each legal step brought one of these
 pub brought : (capacity : ℕ) (setup : Setup) (past news : List Entry) (s : Step) → Entries capacity setup past s news →
-    Brought capacity setup past s news
+    Brought capacity setup past s (told_of s news)
 brought capacity setup past news (step.Coin addr place) told =
     happening_brought capacity setup past news addr (happening.Coin place) _ refl told
 brought capacity setup past news (step.Alien addr) told =
@@ -597,7 +604,8 @@ brought capacity setup past news (step.Reset addr) told =
 brought capacity setup past news (step.Fault f) told = subst (Brought capacity setup past (step.Fault f)) (sym told) (faulted f)
 brought capacity setup past news (step.Command c) told =
     subst (Brought capacity setup past (step.Command c)) (sym told) (command_brought capacity setup past c _ refl)
-brought capacity setup past news (step.Next addr) told = next_brought capacity setup past news addr _ refl told
+brought capacity setup past news (step.Next addr) told =
+    next_brought capacity setup past (without_forged news) addr _ refl told.0
 brought capacity setup past news (step.Crash at choice) told = restart_brought capacity setup past news at choice told
 brought capacity setup past news step.Balance told =
     subst (Brought capacity setup past step.Balance) (sym told) balanced

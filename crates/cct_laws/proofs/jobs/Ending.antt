@@ -30,6 +30,7 @@ use Rattle.cct_model.specs.Order.{order, is_marked, is_stopped}
 use Rattle.cct_model.specs.Job.{free, works, job, with_line, epoch, credits_read, mask_read, sends, puts, Payment, payment_in, state_row, ident_requests, judged_in, address_of, tries}
 use Rattle.cct_model.specs.Rows.{end_of, end_answered, rows_of, first, waits_for_coins, can_halt, has_waits, rest, done, ends_first, after, end_failed}
 use Rattle.cct_model.specs.Script.{IsCommand}
+use Rattle.cct_model.specs.Honest.{forged_after}
 use Rattle.cct_model.specs.Legal.{with_end, LegalFrom}
 use Rattle.cct_model.specs.Transcript.{pending, met, lines_of, heard_by_devices, heard_after, doses_of, got_by}
 use Rattle.cct_msg.specs.Forms.{form_shown}
@@ -39,12 +40,13 @@ use Rattle.cct_laws.specs.Ids.{Ids}
 use Rattle.cct_laws.specs.DeviceJobs.{IsRefused, suits}
 use Rattle.cct_laws.specs.Law.{IsOf}
 use Rattle.cct_laws.proofs.jobs.Asked.{answers_at}
-use Rattle.cct_laws.proofs.jobs.Brought.{AtDevice, came, took, halted, idled, made_exchange, made_put, AtWork, row_after, wire_of, wire_end, record_end, Brought, brought}
+use Rattle.cct_laws.proofs.jobs.Brought.{AtDevice, came, took, halted, idled, made_exchange, made_put, AtWork, row_after, wire_of, wire_end, record_end, Brought}
 use Rattle.cct_model.proofs.Doses.{job_undosed}
 use Rattle.cct_laws.proofs.Exchanges.{Replied, Refused, undisturbed_got, undisturbed_refused}
-use Rattle.cct_laws.proofs.orders.Ids.{ids_start, ids_step, put_owned}
+use Rattle.cct_laws.proofs.orders.Ids.{ids_start, put_owned}
 use Rattle.cct_model.proofs.Rows.{waits_before, told_no_waits}
-use Rattle.cct_laws.proofs.jobs.Seen.{ArePassed, loose, loose_line, Lost, bare, kept_here, kept_elsewhere, seen_here, seen_aside, seen_lost, seen_from, passed_job, lines_wire, lines_put, lines_taken, along_from, any_steps}
+use Rattle.cct_laws.proofs.jobs.Telling.{Telling, tells, GoesOverForged, over_telling, any_steps}
+use Rattle.cct_laws.proofs.jobs.Seen.{ArePassed, loose, loose_line, Lost, bare, kept_here, kept_elsewhere, seen_here, seen_aside, seen_lost, seen_from, passed_job, lines_wire, lines_put, lines_taken, along_from, ids_told}
 use Rattle.cct_laws.proofs.jobs.Tries.{IfEndOf, ends_of_answer, ends_of_put}
 use Rattle.cct_laws.proofs.jobs.LastRows.{dispensed_ends, few_failed, few_put, few_answered}
 use Rattle.cct_laws.proofs.money.Held.{judged_reads}
@@ -446,11 +448,26 @@ job_step capacity setup d c nexts past news s played ids at alone finds told =
       | seen_lost lost no_next ↦ absurd (none_lost d past news lost alone)
     ]
 
+-- an entry that tells of a forged exchange is no end, and no line of the job
+goes_forged : (d : DeviceSetup) (c : Command) (nexts : ℕ) (past : List Entry) → GoesOverForged (Goes d c nexts past)
+unfolding Goes
+goes_forged d c nexts past news addr (inl shows) = inl shows
+goes_forged d c nexts past news addr (inr goes) = inr (after, goes.1)
+  where
+    after : JobAt d c nexts (entry.Forged addr ∷ news ++ past)
+    after = record { since = goes.0.since; job_is = goes.0.job_is; few = goes.0.few; enough = goes.0.enough }
+
 -- what holds of entries of a running job holds of their parts
 work_first : (P : List Entry → Entry → Type 0) (addr : ℕ) (past news later : List Entry) →
     EachWhileRunning P addr past (later ++ news) → EachWhileRunning P addr past news
 work_first P addr past news [] each = each
 work_first P addr past news (e ∷ later) each = work_first P addr past news later each.1
+
+told_first : (P : List Entry → Entry → Type 0) (addr : ℕ) (capacity : ℕ) (setup : Setup) (past news : List Entry)
+    (s : Step) (told : Telling capacity setup past s news) → EachWhileRunning P addr past news →
+    EachWhileRunning P addr past told.told
+told_first P addr capacity setup past news s told each =
+    work_first P addr past told.told (forged_after past told.told) (subst (EachWhileRunning P addr past) told.whole each)
 
 no_end_both : (addr : ℕ) (news later : List Entry) → HasNoEnd addr later → HasNoEnd addr news →
     HasNoEnd addr (later ++ news)
@@ -465,6 +482,19 @@ work_later P addr past news (e ∷ later) none each = (
   λ first. subst (λ es. P es e) (append_assoc later news past) (each.0 (no_end_both addr news later first none)),
   work_later P addr past news later none each.1,
 )
+
+-- a step, by all that it tells
+job_told : (capacity : ℕ) (setup : Setup) (d : DeviceSetup) (c : Command) (nexts : ℕ) (past news : List Entry)
+    (s : Step) → IsPlayed setup d c → Ids setup past → JobAt d c (suc nexts) past →
+    EachWhileRunning (LeavesAlone d.addr) d.addr past news →
+    (is_payment c ≡ true → EachWhileRunning (FindsNoneLeft d) d.addr past news) → Telling capacity setup past s news →
+    Goes d c (needed_after (is_payment c) d.addr s (suc nexts)) past news
+job_told capacity setup d c nexts past news s played ids at alone finds told =
+    let goes = needed_after (is_payment c) d.addr s (suc nexts) in
+    over_telling capacity setup past news s (Goes d c goes past) (goes_forged d c goes past) told
+    (job_step capacity setup d c nexts past told.told s played ids at
+    (told_first (LeavesAlone d.addr) d.addr capacity setup past news s told alone)
+    (λ pays. told_first (FindsNoneLeft d) d.addr capacity setup past news s told (finds pays)) told.brings)
 
 -- a past that goes on
 grown : (capacity : ℕ) (setup : Setup) (past : List Entry) (steps : List Step) (end : List Entry) →
@@ -520,13 +550,13 @@ ends_along capacity setup d c (suc nexts) past [] end played come ids at legal u
 ends_along capacity setup d c (suc nexts) past (s ∷ steps) end played come ids at legal undisturbed paid =
     let pays = is_payment c in
     let news = legal.0 in
-    let told = brought capacity setup past news s legal.1 in
+    let told = tells capacity setup past news s legal.1 in
     let later = grown capacity setup (news ++ past) steps end legal.2 in
     let whole : end ≡ (later.0 ++ news) ++ past = later.1 ∙ sym (append_assoc later.0 news past) in
     let alone = work_first (LeavesAlone d.addr) d.addr past news later.0 (undisturbed (later.0 ++ news) whole) in
     let finds : pays ≡ true → EachWhileRunning (FindsNoneLeft d) d.addr past news =
     λ is. work_first (FindsNoneLeft d) d.addr past news later.0 (paid is (later.0 ++ news) whole) in
-    elim (job_step capacity setup d c nexts past news s played ids at alone finds told) [
+    elim (job_told capacity setup d c nexts past news s played ids at alone finds told) [
       | inl shows ↦ (later.0 ++ news, whole, shows_more c d.addr later.0 news shows)
       | inr goes ↦ (
           let rest : IsUndisturbed d.addr (news ++ past) end =
@@ -537,7 +567,7 @@ ends_along capacity setup d c (suc nexts) past (s ∷ steps) end played come ids
           (paid yes (more ++ news) (is ∙ sym (append_assoc more news past))) in
           let ends = ends_along capacity setup d c (needed_after pays d.addr s (suc nexts)) (news ++ past) steps end
           played (step_needs pays d.addr s nexts (halts_at d.addr steps) (nexts_at d.addr steps) come)
-          (ids_step capacity setup past news s played.sound told ids) goes.0 legal.2 rest rest_paid in
+          (ids_told capacity setup past news s played.sound told ids) goes.0 legal.2 rest rest_paid in
           (ends.0 ++ news, ends.1 ∙ sym (append_assoc ends.0 news past), shows_front c d.addr ends.0 news ends.2))
     ]
 
@@ -563,7 +593,8 @@ pub job_ends : (capacity : ℕ) (setup : Setup) (before : List Step) (past : Lis
     IsUndisturbed d.addr past end → (is_payment c ≡ true → AlwaysFindsNoneLeft d past end) → EndsAs c d.addr past end
 job_ends capacity setup before past d c steps end sound own known suited was is_job enough legal undisturbed paid =
     let played : IsPlayed setup d c = record { sound = sound; own = own; known = known; suited = suited } in
-    let ids = (along_from capacity setup (λ s. ⊤) (λ es. ⊤) sound (λ es news s any ids told holds. tt) [] before past
+    let ids = (along_from capacity setup (λ s. ⊤) (λ es. ⊤) sound (λ es news s any ids told holds. tt)
+    (λ es addr holds. tt) [] before past
     (any_steps before) (ids_start setup) was tt).0 in
     let at : JobAt d c (row_count d c) past = record {
       since = [];

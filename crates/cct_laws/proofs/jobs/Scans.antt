@@ -21,7 +21,8 @@ use Rattle.cct_model.specs.Transcript.{scan_lines, scan_line, onto}
 use Rattle.cct_laws.specs.Ids.{Ids}
 use Rattle.cct_laws.specs.Tries.{HasFewTries, HasThreeTries, ScanTriesAt}
 use Rattle.cct_laws.proofs.jobs.Brought.{Brought, of_device, faulted, refused, began_scan, began_sale, nobody, polled, sold, balanced, lost_power, lost_in_put, lost_in_sale}
-use Rattle.cct_laws.proofs.jobs.Seen.{unscanned, along, any_steps}
+use Rattle.cct_laws.proofs.jobs.Seen.{unscanned, along}
+use Rattle.cct_laws.proofs.jobs.Telling.{any_steps}
 
 -- what holds of the lines of address 0 after every step
 pub record Polls (lines : List Line) : Type 0 where
@@ -142,8 +143,8 @@ polls_step capacity setup sound past _ _ any ids (lost_in_sale at choice id pric
 legal_polls : (capacity : ℕ) (setup : Setup) (steps : List Step) (transcript : List Entry) →
     IsSoundSetup setup → Legal capacity setup steps transcript → PollsAt (onto [] transcript)
 legal_polls capacity setup steps transcript sound legal =
-    along capacity setup (λ s. ⊤) PollsAt sound (polls_step capacity setup sound) steps (onto [] transcript)
-    (any_steps steps) legal (record { each = tt; few = tt })
+    along capacity setup (λ s. ⊤) PollsAt sound (polls_step capacity setup sound) (λ past addr polls. polls) steps
+    (onto [] transcript) (any_steps steps) legal (record { each = tt; few = tt })
 
 -- a scan ends for want of an answer exactly after its third failed try
 pub legal_scans : (capacity : ℕ) (setup : Setup) (steps : List Step) (transcript : List Entry) →

@@ -3,7 +3,6 @@
 use Rattle.std.proofs.Common.{◌≡◌, ◌≢◌, ℕ, ◌==◌, cond, Bool, true, false, List, [], ◌∷◌, ◌++◌, slice_index, refl, ap, sym, ◌∙◌, subst, Option, Some, None, ◌⊎◌, inl, inr, All, arith, rules, eq-eqb}
 use Rattle.std.specs.Prelude.{⊤}
 use Rattle.std.proofs.lemmas.Bool.{ne_eqb}
-use Rattle.std.proofs.lemmas.List.Elements.{All-head, All-tail, All-nil, All-cons}
 use Rattle.cct_model.specs.terms.device.DeviceBody.{DeviceBody}
 use Rattle.cct_model.specs.terms.device.DeviceBody.TheVariants.{Acceptor, Hopper}
 use Rattle.cct_model.specs.terms.device.DeviceSetup.{DeviceSetup}
@@ -36,9 +35,10 @@ use Rattle.cct_laws.specs.DeviceJobs.{IsForOthers, with_ended}
 use Rattle.cct_laws.specs.Law.{IsOf, EachEntry}
 use Rattle.cct_laws.specs.SinceEpoch.{since_record, since_epoch, HasCause, HasCauseAt}
 use Rattle.cct_laws.specs.Ids.{Ids}
-use Rattle.cct_laws.proofs.jobs.Brought.{Comes, takes_coin, leaves_coin, leaves_alien, drops_coin, drops_none, jams, jams_none, is_reset, AtWork, AtDevice, came, took, halted, idled, made_exchange, made_put, row_after, wire_of, wire_end, record_end, poll_wire, poll_end, Brought, of_device, faulted, refused, began_scan, began_sale, nobody, polled, sold, balanced, lost_power, lost_in_put, lost_in_sale, brought}
+use Rattle.cct_laws.proofs.jobs.Brought.{Comes, takes_coin, leaves_coin, leaves_alien, drops_coin, drops_none, jams, jams_none, is_reset, AtWork, AtDevice, came, took, halted, idled, made_exchange, made_put, row_after, wire_of, wire_end, record_end, poll_wire, poll_end, Brought, of_device, faulted, refused, began_scan, began_sale, nobody, polled, sold, balanced, lost_power, lost_in_put, lost_in_sale}
 use Rattle.cct_model.proofs.Doses.{AreDoses, doses_are, same_over}
-use Rattle.cct_laws.proofs.orders.Ids.{ids_start, ids_step, put_owned}
+use Rattle.cct_laws.proofs.jobs.Telling.{Telling, GoesOverForged, over_telling, each_brought}
+use Rattle.cct_laws.proofs.orders.Ids.{ids_start, ids_step, ids_forged, put_owned}
 use Rattle.cct_laws.proofs.HeardBytes.{ask_to, asked_elsewhere, poll_others}
 use Rattle.cct_laws.proofs.Setups.{found_in, same_or_other}
 
@@ -457,28 +457,32 @@ unscanned capacity setup d past _ _ sound is_of (made_exchange c since q at_work
 unscanned capacity setup d past _ _ sound is_of (made_put c since r at_work is_row) =
     unscanned_end past d.addr (entry.Put r) (record_end d past c since r) (not_zero setup d sound is_of) refl
 
--- a fact that each step keeps, each of which has a fact of its own, from a past whose ids are in order
+-- ids stay in order over all that a step tells
+pub ids_told : (capacity : ℕ) (setup : Setup) (past news : List Entry) (s : Step) → IsSoundSetup setup →
+    Telling capacity setup past s news → Ids setup past → Ids setup (news ++ past)
+ids_told capacity setup past news s sound told ids =
+    over_telling capacity setup past news s (λ es. Ids setup (es ++ past))
+    (λ older addr at. ids_forged setup (older ++ past) addr at) told
+    (ids_step capacity setup past told.told s sound told.brings ids)
+
+-- a fact that each step keeps, each of which has a fact of its own, and that goes on over an entry that tells of a forged
+-- exchange, from a past whose ids are in order
 pub along_from : (capacity : ℕ) (setup : Setup) (S : Step → Type 0) (Q : List Entry → Type 0) → IsSoundSetup setup →
     ((past news : List Entry) (s : Step) → S s → Ids setup past → Brought capacity setup past s news → Q past →
-    Q (news ++ past)) →
+    Q (news ++ past)) → GoesOverForged Q →
     (past : List Entry) (steps : List Step) (end : List Entry) → All S steps → Ids setup past →
     LegalFrom capacity setup past steps end → Q past → Ids setup end × Q end
-along_from capacity setup S Q sound keeps past [] end each ids legal holds =
-    (subst (Ids setup) (sym legal) ids, subst Q (sym legal) holds)
-along_from capacity setup S Q sound keeps past (s ∷ steps) end each ids legal holds =
-    let told = brought capacity setup past legal.0 s legal.1 in
-    along_from capacity setup S Q sound keeps (legal.0 ++ past) steps end (All-tail S s steps each)
-    (ids_step capacity setup past legal.0 s sound told ids) legal.2
-    (keeps past legal.0 s (All-head S s steps each) ids told holds)
+along_from capacity setup S Q sound keeps over past steps end each ids legal holds =
+    each_brought capacity setup S (λ es. Ids setup es × Q es)
+    (λ before news s is told both.
+    (ids_step capacity setup before news s sound told both.0, keeps before news s is both.0 told both.1))
+    (λ before addr both. (ids_forged setup before addr both.0, over before addr both.1))
+    past steps end each legal (ids, holds)
 
 -- and from the beginning
 pub along : (capacity : ℕ) (setup : Setup) (S : Step → Type 0) (Q : List Entry → Type 0) → IsSoundSetup setup →
     ((past news : List Entry) (s : Step) → S s → Ids setup past → Brought capacity setup past s news → Q past →
-    Q (news ++ past)) →
+    Q (news ++ past)) → GoesOverForged Q →
     (steps : List Step) (end : List Entry) → All S steps → LegalFrom capacity setup [] steps end → Q [] → Q end
-along capacity setup S Q sound keeps steps end each legal holds =
-    (along_from capacity setup S Q sound keeps [] steps end each (ids_start setup) legal holds).1
-
-pub any_steps : (steps : List Step) → All (λ s. ⊤) steps
-any_steps [] = All-nil (λ s. ⊤)
-any_steps (s ∷ steps) = All-cons (λ s. ⊤) s steps tt (any_steps steps)
+along capacity setup S Q sound keeps over steps end each legal holds =
+    (along_from capacity setup S Q sound keeps over [] steps end each (ids_start setup) legal holds).1

@@ -41,7 +41,8 @@ use Rattle.cct_model.proofs.Doses.{AreDoses, doses_are, job_undosed}
 use Rattle.cct_laws.proofs.orders.Ids.{put_owned}
 use Rattle.cct_laws.proofs.Setups.{found_in}
 use Rattle.cct_model.proofs.Rows.{IfEnd, RowHolds, EachRow, answer_end, put_end, Asks, AnswerEnds, PutEnds, each_told, each_after, state_holds, but_first, after_next, EachBefore, before_on, fact_after, told_fact}
-use Rattle.cct_laws.proofs.jobs.Seen.{ArePassed, loose, loose_line, Lost, bare, kept_here, kept_elsewhere, seen_here, seen_aside, seen_lost, seen_from, along, any_steps, lines_wire, lines_with_end, lines_put, lines_taken, lines_kept, lines_kept_elsewhere}
+use Rattle.cct_laws.proofs.jobs.Telling.{any_steps}
+use Rattle.cct_laws.proofs.jobs.Seen.{ArePassed, loose, loose_line, Lost, bare, kept_here, kept_elsewhere, seen_here, seen_aside, seen_lost, seen_from, along, lines_wire, lines_with_end, lines_put, lines_taken, lines_kept, lines_kept_elsewhere}
 use Rattle.cct_model.proofs.Requests.{is_asked_again}
 use Rattle.cct_model.proofs.Tries.{tried, IfHeard, fails_as, IsHeardEnd, answers_heard, puts_heard, due_sends, same_request, left_asks, asked_fails}
 use Rattle.cct_model.proofs.RowEnds.{IfOnce, once_sent, failed_stays, once_goes, rest_asks, fails_rest}
@@ -430,7 +431,7 @@ legal_steady : (capacity : ℕ) (setup : Setup) (steps : List Step) (transcript 
     IsSoundSetup setup → IsOf setup d → Legal capacity setup steps transcript → Steady d (lines_in d transcript)
 legal_steady capacity setup steps transcript d sound own legal =
     along capacity setup (λ s. ⊤) (λ past. Steady d (lines_of d past)) sound (steady_step capacity setup d sound own)
-    steps (onto [] transcript) (any_steps steps) legal (record { each = tt; goes_on = free_on d })
+    (λ past addr steady. steady) steps (onto [] transcript) (any_steps steps) legal (record { each = tt; goes_on = free_on d })
 
 -- a job ends for want of an answer exactly after its third failed try of what it asks again
 pub legal_given_up : (capacity : ℕ) (setup : Setup) (steps : List Step) (transcript : List Entry)

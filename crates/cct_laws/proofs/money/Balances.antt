@@ -13,7 +13,7 @@ use Rattle.cct_model.specs.Transcript.{onto}
 use Rattle.cct_laws.specs.Balanced.{IsBalanced}
 use Rattle.cct_laws.specs.Law.{EachEntry}
 use Rattle.cct_laws.specs.Scope.{EachTranscript}
-use Rattle.cct_laws.proofs.money.Books.{Books, books_start, books_step}
+use Rattle.cct_laws.proofs.money.Books.{Books, books_start, books_step, books_forged}
 use Rattle.cct_laws.proofs.jobs.Brought.{Comes, takes_coin, leaves_coin, leaves_alien, drops_coin, drops_none, jams, jams_none, is_reset, AtDevice, came, took, halted, idled, made_exchange, made_put, wire_of, wire_end, record_end, poll_wire, poll_end, Brought, of_device, faulted, refused, began_scan, began_sale, nobody, polled, sold, balanced, lost_power, lost_in_put, lost_in_sale}
 use Rattle.cct_laws.proofs.money.Journal.{conserved}
 use Rattle.cct_laws.proofs.jobs.Seen.{each_with_end, along}
@@ -76,4 +76,5 @@ legal_balances capacity setup steps transcript sound in_range legal =
       books_step capacity setup past news s sound range ids told both.0,
       step_balanced capacity setup past news s told both.0 both.1,
     ))
+    (λ past addr both. (books_forged capacity setup past addr both.0, (tt, both.1)))
     steps (onto [] transcript) in_range legal (books_start capacity setup sound, tt)).1

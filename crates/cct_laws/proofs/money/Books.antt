@@ -274,10 +274,18 @@ books_step capacity setup past news s sound range ids told books = record {
   counts = counts_step capacity setup past news s sound ids told books;
 }
 
+-- an entry that tells of a forged exchange is none of them
+pub books_forged : (capacity : ℕ) (setup : Setup) (past : List Entry) (addr : ℕ) → Books capacity setup past →
+    Books capacity setup (entry.Forged addr ∷ past)
+books_forged capacity setup past addr books = record {
+  base = record { sells = books.base.sells; ranged = books.base.ranged; needs = books.base.needs };
+  counts = record { follow = books.counts.follow; covered = books.counts.covered; room = books.counts.room };
+}
+
 -- so they are kept of every legal past, whatever the wire does
 pub books_legal : (capacity : ℕ) (setup : Setup) (steps : List Step) (past : List Entry) → IsSoundSetup setup →
     All IsInRange steps → LegalFrom capacity setup [] steps past → Ids setup past × Books capacity setup past
 books_legal capacity setup steps past sound in_range legal =
     along_from capacity setup IsInRange (Books capacity setup) sound
     (λ before news s range ids told books. books_step capacity setup before news s sound range ids told books)
-    [] steps past in_range (ids_start setup) legal (books_start capacity setup sound)
+    (books_forged capacity setup) [] steps past in_range (ids_start setup) legal (books_start capacity setup sound)

@@ -81,6 +81,10 @@ pub ids_ended : (setup : Setup) (past : List Entry) (addr : ℕ) (e : Entry) (en
 ids_ended setup past addr e None ids = ids
 ids_ended setup past addr e (Some end) ids = ids_quiet setup (e ∷ past) (entry.Ended addr end) tt refl ids
 
+-- an entry that tells of a forged exchange
+pub ids_forged : (setup : Setup) (past : List Entry) (addr : ℕ) → Ids setup past → Ids setup (entry.Forged addr ∷ past)
+ids_forged setup past addr ids = ids_quiet setup past (entry.Forged addr) tt refl ids
+
 -- a device is at no address of a host or of all
 pub above_host : (setup : Setup) (e : DeviceSetup) → IsSoundSetup setup → IsOf setup e → HOST < e.addr
 above_host setup e sound own = (found_in IsSound setup.devices e.addr e sound.devices own).0.low

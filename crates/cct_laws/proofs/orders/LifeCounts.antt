@@ -248,11 +248,17 @@ fit_step capacity setup sound past news s range ids told all = record {
   );
 }
 
+fit_forged : (setup : Setup) (past : List Entry) (addr : ℕ) → AllFit setup past → AllFit setup (entry.Forged addr ∷ past)
+fit_forged setup past addr all = record {
+  ranged = all.ranged;
+  holds = λ honest. let both = all.holds honest.1 in (both.0, (tt, both.1));
+}
+
 pub legal_life : EachTranscript (λ capacity setup transcript. Honest transcript → EachEntry FitsLife (onto []
     transcript))
 legal_life capacity setup steps transcript sound in_range legal honest =
-    ((along capacity setup IsInRange (AllFit setup) sound (fit_step capacity setup sound) steps (onto [] transcript) in_range
-    legal (record {
+    ((along capacity setup IsInRange (AllFit setup) sound (fit_step capacity setup sound) (fit_forged setup) steps
+    (onto [] transcript) in_range legal (record {
       ranged = λ d own. tt;
       holds = λ none. (λ d own paying. (pays_kept d paying).starts, tt);
     })).holds honest).1

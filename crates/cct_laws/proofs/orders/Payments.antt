@@ -20,7 +20,8 @@ use Rattle.cct_laws.specs.Law.{lines_in}
 use Rattle.cct_laws.specs.Scope.{EachHopper}
 use Rattle.cct_laws.proofs.orders.Paying.{pays_kept, pays_paid, rests_unowed, dispense_fresh}
 use Rattle.cct_laws.proofs.orders.Payouts.{Pays}
-use Rattle.cct_laws.proofs.jobs.Seen.{along, any_steps}
+use Rattle.cct_laws.proofs.jobs.Seen.{along}
+use Rattle.cct_laws.proofs.jobs.Telling.{any_steps}
 use Rattle.cct_laws.proofs.orders.Growing.{step_grows}
 use Rattle.cct_laws.proofs.orders.Used.{grows_fresh}
 use Rattle.cct_laws.proofs.Whole.{kept_hopper_legal}
@@ -32,7 +33,7 @@ legal_fresh capacity setup steps transcript sound legal =
     along capacity setup (λ s. ⊤) (λ past. AreFresh (records past)) sound
     (λ past news s any ids told fresh.
     grows_fresh (records past) (records (news ++ past)) (step_grows capacity setup past news s ids told) fresh)
-    steps (onto [] transcript) (any_steps steps) legal tt
+    (λ past addr fresh. fresh) steps (onto [] transcript) (any_steps steps) legal tt
 
 -- a hopper, over an honest wire
 legal_pays : EachHopper (λ d transcript. Pays d (met d (onto [] transcript)) (lines_in d transcript))

@@ -1,7 +1,7 @@
 -- Every entry of a legal transcript is written, so its text tells it.
 use Rattle.std.proofs.Common.{◌≡◌, ℕ, ◌<◌, ◌==◌, List, [], ◌∷◌, ◌++◌, refl, sym, subst, Option, Some, None, All, arith}
 use Rattle.std.specs.Prelude.{⊤}
-use Rattle.std.proofs.lemmas.List.Elements.{All-head, All-tail, All-nil, All-cons}
+use Rattle.std.proofs.lemmas.List.Elements.{All-head, All-tail, All-nil, All-cons, All-weaker}
 use Rattle.cct_model.specs.terms.wire.CheckKind.{CheckKind}
 use Rattle.cct_model.specs.terms.device.DeviceSetup.{DeviceSetup}
 use Rattle.cct_model.specs.terms.device.Setup.{Setup}
@@ -29,12 +29,13 @@ use Rattle.cct_text.specs.Written.{IsEnd, IsWritten}
 use Rattle.cct_text.proofs.Whole.{text_is_one}
 use Rattle.cct_laws.specs.Ids.{Ids}
 use Rattle.cct_laws.specs.Law.{IsOf, HasBytes}
+use Rattle.cct_laws.proofs.Onto.{onto_each}
 use Rattle.cct_laws.proofs.Setups.{found_in}
 use Rattle.cct_laws.proofs.jobs.Brought.{Comes, takes_coin, leaves_coin, leaves_alien, drops_coin, drops_none, jams, jams_none, is_reset, AtWork, row_after, AtDevice, came, took, halted, idled, made_exchange, made_put, wire_of, wire_end, record_end, poll_wire, poll_end, Brought, of_device, faulted, refused, began_scan, began_sale, nobody, polled, sold, balanced, lost_power, lost_in_put, lost_in_sale}
 use Rattle.cct_laws.proofs.jobs.Seen.{unscanned, along}
 use Rattle.cct_terms.proofs.OfBytes.{IfThere}
 use Rattle.cct_laws.proofs.Lists.{Fine, IsAsked, fine_begun, row_asked, fine_more, scan_ends}
-use Rattle.cct_laws.proofs.text.Told.{IsTold, AllTold, all_written, heard_bytes, FitsAsk, ask_bytes, poll_fits, FitsJob, job_fits, FitsRow, row_fits, exchange_ends, put_ends}
+use Rattle.cct_laws.proofs.text.Told.{IsTold, AllTold, told_written, heard_bytes, FitsAsk, ask_bytes, poll_fits, FitsJob, job_fits, FitsRow, row_fits, exchange_ends, put_ends}
 
 -- what holds of a past
 abbrev FineJob : Job → Type 0
@@ -177,19 +178,14 @@ good_step capacity setup sound past _ _ says ids (lost_in_put at choice d c sinc
 good_step capacity setup sound past _ _ says ids (lost_in_sale at choice id price since none selling) good =
     record { told = (tt, (tt, good.told)); scan = tt }
 
-told_off : (past entries : List Entry) → AllTold (onto past entries) → AllTold past × AllTold entries
-told_off past [] h = (h, tt)
-told_off past (e ∷ entries) h =
-    let parts = told_off (e ∷ past) entries h in
-    (parts.0.1, (parts.0.0, parts.1))
-
 -- every entry of a legal transcript is written
 pub legal_written : (capacity : ℕ) (setup : Setup) (steps : List Step) (transcript : List Entry) →
     IsSoundSetup setup → All IsInRange steps → All HasBytes steps → Legal capacity setup steps transcript →
     All IsWritten transcript
 legal_written capacity setup steps transcript sound range bytes legal =
-    all_written transcript (told_off [] transcript
-    (along capacity setup Says Good sound (good_step capacity setup sound) steps (onto [] transcript)
+    All-weaker IsTold IsWritten told_written transcript (onto_each IsTold [] transcript
+    (along capacity setup Says Good sound (good_step capacity setup sound)
+    (λ past addr good. record { told = (tt, good.told); scan = good.scan }) steps (onto [] transcript)
     (all_say steps range bytes) legal (record { told = tt; scan = tt })).told).1
 
 -- so a text tells its legal transcript, whatever the journals take

@@ -1,7 +1,7 @@
 -- What an entry of a legal transcript tells: bytes and masks in range.
 use Rattle.std.proofs.Common.{ℕ, ◌-◌, ◌<◌, ◌==◌, nat_le, Bool, true, false, cond, List, [], ◌∷◌, ◌++◌, Option, Some, None, arith, All, rules}
 use Rattle.std.specs.Prelude.{⊤, unwrap_or, option_and_then, flat_map}
-use Rattle.std.proofs.lemmas.List.Elements.{All-head, All-tail, All-nil, All-cons}
+use Rattle.std.proofs.lemmas.List.Elements.{All-head, All-tail}
 use Rattle.cct_model.specs.terms.coin.Coin.{Coin}
 use Rattle.cct_model.specs.terms.coin.Credits.{Credits}
 use Rattle.cct_model.specs.terms.wire.CheckKind.{CheckKind}
@@ -39,7 +39,7 @@ use Rattle.cct_model.specs.Rows.{row, end_of, rows_of, done}
 use Rattle.cct_model.specs.Transcript.{pending, heard_by_devices, heard_by_host, met, answers, heard_after, got_by, dispensed_by, doses, doses_of, owner, lines_of}
 use Rattle.cct_model.proofs.Requests.{request_short}
 use Rattle.cct_model.specs.Script as script
-use Rattle.cct_laws.specs.Law.{IsCommandOfBytes}
+use Rattle.cct_laws.specs.Law.{EachEntry, IsCommandOfBytes}
 use Rattle.cct_text.specs.Written.{IsMask, IsCommand, IsRecord, IsFault, IsEnd, IsWritten}
 use Rattle.cct_terms.proofs.OfBytes.{Bytes, IfThere, bytes_are, are_bytes, bytes_more}
 use Rattle.cct_model.proofs.Requests.{Each}
@@ -67,25 +67,20 @@ IsTold (entry.Sum what amount) = ⊥
 IsTold e = ⊤
 
 abbrev pub AllTold : List Entry → Type 0
-AllTold [] = ⊤
-AllTold (e ∷ past) = IsTold e × AllTold past
+AllTold past = EachEntry (λ older e. IsTold e) past
 
 -- such an entry is written
 command_written : (c : Command) → FitsCommand c → IsCommand c
 command_written (command.Start addr mask) h = omega (arith, h.1.1)
 command_written c h = tt
 
-told_written : (e : Entry) → IsTold e → IsWritten e
+pub told_written : (e : Entry) → IsTold e → IsWritten e
 told_written (entry.Taken c) h = command_written c h
 told_written (entry.No c why) h = command_written c h
 told_written (entry.Wire addr sent piece) h = (bytes_are sent h.0, bytes_are piece h.1)
 told_written (entry.Accepted addr c) h = tt
 told_written (entry.Inhibited addr place) h = tt
 told_written e h = h
-
-pub all_written : (past : List Entry) → AllTold past → All IsWritten past
-all_written [] h = All-nil IsWritten
-all_written (e ∷ past) h = All-cons IsWritten e past (told_written e h.0) (all_written past h.1)
 
 -- what a line tells
 abbrev FitsLine : Line → Type 0

@@ -4,7 +4,7 @@ ghost use Rattle.cct_lines.specs.declared.command.Step.{Step};
 ghost use Rattle.cct_lines.specs.Grammar.{address_in, alone, choice_in, coin_step, step_at, fault_step, start_step};
 ghost use Rattle.cct_lines.specs.Grammar.{pay_step, path_step, vend_step, crash_step};
 ghost use Rattle.cct_lines.specs.Script.{IsInRange};
-ghost use Rattle.cct_script.specs.Fields.{Sets, fields_behind};
+ghost use Rattle.cct_script.specs.Fields.{Sets, fields_after};
 ghost use Rattle.cct_script.specs.Steps.{with_bytes};
 
 use crate::fields::{one, three, two};
@@ -38,8 +38,8 @@ fn choice_in(field: &[u8]) -> Option<u64>
 #[tactic(auto, using(crate::proofs::Forms::no_step_at))]
 pub(crate) fn addr(rest: Option<&[u8]>) -> Result<u8, LineKind>
     ensures { MatchResult result
-        (λ addr. (make : ℕ → Step) → step_at make (fields_behind rest.entry) ≡ Some (make addr))
-        (λ why. (why ≡ LineKind.Form) × ((make : ℕ → Step) → step_at make (fields_behind rest.entry) ≡ None)) }
+        (λ addr. (make : ℕ → Step) → step_at make (fields_after rest.entry) ≡ Some (make addr))
+        (λ why. (why ≡ LineKind.Form) × ((make : ℕ → Step) → step_at make (fields_after rest.entry) ≡ None)) }
 {
     match one(rest) {
         Some(addr) => address_in(addr).ok_or(LineKind::Form),
@@ -51,8 +51,8 @@ pub(crate) fn addr(rest: Option<&[u8]>) -> Result<u8, LineKind>
 #[tactic(auto, using(crate::proofs::Forms::not_alone))]
 pub(crate) fn nothing(rest: Option<&[u8]>) -> Result<(), LineKind>
     ensures { MatchResult result
-        (λ _. (s : Step) → alone s (fields_behind rest.entry) ≡ Some s)
-        (λ why. (why ≡ LineKind.Form) × ((s : Step) → alone s (fields_behind rest.entry) ≡ None)) }
+        (λ _. (s : Step) → alone s (fields_after rest.entry) ≡ Some s)
+        (λ why. (why ≡ LineKind.Form) × ((s : Step) → alone s (fields_after rest.entry) ≡ None)) }
 {
     match rest {
         None => Ok(()),
@@ -63,7 +63,7 @@ pub(crate) fn nothing(rest: Option<&[u8]>) -> Result<(), LineKind>
 /// `coin A PLACE`
 #[tactic(auto, using(crate::proofs::Forms::no_coin))]
 pub(crate) fn coin_into(rest: Option<&[u8]>, step: &mut Step) -> Option<()>
-    ensures { Sets result step.new (coin_step (fields_behind rest.entry)) IsInRange }
+    ensures { Sets result step.new (coin_step (fields_after rest.entry)) IsInRange }
 {
     let (addr, place) = two(rest)?;
     let addr = address_in(addr)?;
@@ -75,7 +75,7 @@ pub(crate) fn coin_into(rest: Option<&[u8]>, step: &mut Step) -> Option<()>
 /// `fault devices PIECE`, `fault host PIECE`, `fault whole PIECE`
 #[tactic(auto, using(crate::proofs::Forms::no_fault))]
 pub(crate) fn fault_into(rest: Option<&[u8]>, step: &mut Step) -> Option<()>
-    ensures { Sets result step.new (fault_step (fields_behind rest.entry)) IsInRange }
+    ensures { Sets result step.new (fault_step (fields_after rest.entry)) IsInRange }
 {
     let (whom, piece) = two(rest)?;
     if whom == BY_DEVICES {
@@ -105,7 +105,7 @@ fn bytes_into(field: &[u8], step: &mut Step) -> Option<()>
 /// `start A MASK`
 #[tactic(auto, using(crate::proofs::Forms::no_start))]
 pub(crate) fn start_into(rest: Option<&[u8]>, step: &mut Step) -> Option<()>
-    ensures { Sets result step.new (start_step (fields_behind rest.entry)) IsInRange }
+    ensures { Sets result step.new (start_step (fields_after rest.entry)) IsInRange }
 {
     let (addr, mask) = two(rest)?;
     let addr = address_in(addr)?;
@@ -117,7 +117,7 @@ pub(crate) fn start_into(rest: Option<&[u8]>, step: &mut Step) -> Option<()>
 /// `pay A ID COUNT`
 #[tactic(auto, using(crate::proofs::Forms::no_pay))]
 pub(crate) fn pay_into(rest: Option<&[u8]>, step: &mut Step) -> Option<()>
-    ensures { Sets result step.new (pay_step (fields_behind rest.entry)) IsInRange }
+    ensures { Sets result step.new (pay_step (fields_after rest.entry)) IsInRange }
 {
     let (addr, id, count) = three(rest)?;
     let addr = address_in(addr)?;
@@ -130,7 +130,7 @@ pub(crate) fn pay_into(rest: Option<&[u8]>, step: &mut Step) -> Option<()>
 /// `path A PLACE PATH`
 #[tactic(auto, using(crate::proofs::Forms::no_path))]
 pub(crate) fn path_into(rest: Option<&[u8]>, step: &mut Step) -> Option<()>
-    ensures { Sets result step.new (path_step (fields_behind rest.entry)) IsInRange }
+    ensures { Sets result step.new (path_step (fields_after rest.entry)) IsInRange }
 {
     let (addr, place, path) = three(rest)?;
     let addr = address_in(addr)?;
@@ -143,7 +143,7 @@ pub(crate) fn path_into(rest: Option<&[u8]>, step: &mut Step) -> Option<()>
 /// `vend ID PRICE`
 #[tactic(auto, using(crate::proofs::Forms::no_vend))]
 pub(crate) fn vend_into(rest: Option<&[u8]>, step: &mut Step) -> Option<()>
-    ensures { Sets result step.new (vend_step (fields_behind rest.entry)) IsInRange }
+    ensures { Sets result step.new (vend_step (fields_after rest.entry)) IsInRange }
 {
     let (id, price) = two(rest)?;
     let id = ranged_u32(1, u32::MAX, id)?;
@@ -155,7 +155,7 @@ pub(crate) fn vend_into(rest: Option<&[u8]>, step: &mut Step) -> Option<()>
 /// `crash CHOICE`, `crash A CALLS CHOICE`
 #[tactic(auto, using(crate::proofs::Forms::no_crash))]
 pub(crate) fn crash_into(rest: Option<&[u8]>, step: &mut Step) -> Option<()>
-    ensures { Sets result step.new (crash_step (fields_behind rest.entry)) IsInRange }
+    ensures { Sets result step.new (crash_step (fields_after rest.entry)) IsInRange }
 {
     if let Some(choice) = one(rest) {
         let choice = choice_in(choice)?;

@@ -1,0 +1,5 @@
+use Rattle.cct_laws.proofs.AsTold.{legal_as_told}
+use Rattle.cct_laws.proofs.honest_as_told.Goals as goal
+
+pub returns : goal.returns
+returns c = legal_as_told
