@@ -87,7 +87,7 @@ CHANGING = {'acceptor': ((1, ''), (231, 'ffff'), (231, '0000'), (228, '00'), (22
 
 
 class Drawer:
-    """The script of a seed, and the number and kind of the line that is refused, None if none is."""
+    """The script of a seed, the number and kind of the line that is refused, None if none is, and how many steps are played."""
 
     def __init__(self, seed):
         self.rng = random.Random(seed)
@@ -98,6 +98,7 @@ class Drawer:
         steps = self.draw_steps(self.rng.choice(STEPS))
         ending = self.spoil(steps) if self.chance(SPOILED) else '\n'
         self.script = '\n'.join(self.setup + ['begin'] + steps) + ending
+        self.played = max(self.refused[0] - len(self.setup) - 2, 0) if self.refused else len(steps)
 
     def chance(self, of):
         return self.rng.random() < of
