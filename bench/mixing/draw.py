@@ -1,7 +1,7 @@
 """Draws the script of a seed."""
 import random
 
-from wire import CHECKS, HOST, SIZES, hexed, is_message, spell
+from wire import CHECKS, HOST, POLLS, SIZES, hexed, is_message, spell
 
 # What scripts are drawn from. A row has a weight, where its lines are, and the lines; a row that is drawn is one plan. Its
 # lines keep their order, and those of other plans come between. `N* ` is N times the line, `?* ` none to seven times. A is
@@ -186,17 +186,19 @@ class Drawer:
         return max(self.last_id - self.rng.choice((0, 0, 0, 0, 0, 3)), 1)
 
     def fault(self, addr):
-        """A fault, mostly one that fits what is sent to the device at an address, or what it answers."""
+        """A fault, mostly one that fits what is sent to the device at an address, or what it answers. At 0 it is a scan."""
         where = self.rng.choice(('devices', 'host', 'host', 'whole'))
-        addr = addr if addr in self.devices else self.rng.choice(list(self.devices))
-        kind, check = self.devices[addr]
+        device = addr if addr in self.devices else self.rng.choice(list(self.devices))
+        kind, check = self.devices[device]
         forged = self.forges and self.chance(0.5)
         header, data = self.rng.choice((CHANGING if forged and where == 'devices' else ASKED)[kind])
-        asked = spell(check, addr, HOST, header, bytes.fromhex(data))
-        piece = asked if where == 'devices' else self.reply(addr, check, header)
+        asked = POLLS[check] if addr == 0 else spell(check, device, HOST, header, bytes.fromhex(data))
+        piece = asked if where == 'devices' else self.reply(device, check, header)
         piece = piece if forged else self.damaged(piece)
         if where == 'whole' and self.chance(0.7):
             piece = self.rng.choice((asked, asked, self.damaged(asked))) + piece
+        if is_message(piece) and not forged:
+            piece = b''
         return f'{where} {self.rng.choice((hexed(piece), hexed(piece).upper()))}'
 
     def reply(self, addr, check, header):
@@ -206,12 +208,11 @@ class Drawer:
         return spell(check, HOST, addr, self.rng.choice((0, 0, 0, 0, 0, 5, 6)), data)
 
     def damaged(self, piece):
-        """What may be left of a message: no message any more, under either check."""
+        """What may be left of a message."""
         at = self.rng.randrange(len(piece))
         changed = piece[:at] + bytes([piece[at] ^ self.rng.randint(1, 255)]) + piece[at + 1:]
-        some = bytes(self.rng.getrandbits(8) for _ in range(self.rng.randint(1, 260)))
-        left = self.rng.choice((b'', changed, changed, piece[:at], (piece + some)[:260], some))
-        return b'' if is_message(left) else left
+        some = bytes(self.rng.getrandbits(8) for _ in range(self.rng.choice((1, 3, 6, 20, 260))))
+        return self.rng.choice((b'', changed, changed, piece[:at], (piece + some)[:260], some))
 
     def spoil(self, steps):
         """Makes the script wrong at some line, from which on nothing is played; what it ends with."""
