@@ -14,8 +14,8 @@ PLANS = (
     (10, 'acceptor', '?* coin A PLACE'),
     (4, 'acceptor', 'alien A'),
     # The event counter goes round.
-    (0.4, 'acceptor', '247* coin A PLACE, round A, 2* next A, put A, 3* coin A PLACE, round A, 2* next A, put A, 3* coin A PLACE, '
-     'round A, 2* next A, put A, 3* coin A PLACE, round A, 2* next A, put A'),
+    (0.4, 'acceptor', '247* coin A PLACE, round A, 2* next A, put A, 3* coin A PLACE, round A, 2* next A, put A, '
+                      '3* coin A PLACE, round A, 2* next A, put A, 3* coin A PLACE, round A, 2* next A, put A'),
     (3, 'acceptor', 'stop A, 3* next A, 2* put A, start A MASK, 2* next A, put A, next A'),
     (2, 'acceptor', 'reset A, round A, 2* next A, put A, start A MASK, 2* next A, put A, next A'),
     (1, 'acceptor', 'round A, next A, reset A, next A, put A, start A MASK, 2* next A, put A, next A'),
@@ -87,7 +87,7 @@ CHANGING = {'acceptor': ((1, ''), (231, 'ffff'), (231, '0000'), (228, '00'), (22
 
 
 class Drawer:
-    """The script of a seed, the number and kind of the line that is refused, None if none is, and how many steps are played."""
+    """The script of a seed; how many of its steps are played; number and kind of its refused line, None without one."""
 
     def __init__(self, seed):
         self.rng = random.Random(seed)
@@ -123,7 +123,7 @@ class Drawer:
         return ''.join(chr(self.rng.randint(0x21, 0x7e)) for _ in range(self.rng.randint(least, most)))
 
     def draw_steps(self, wanted):
-        """So many lines of plans, up to four of which are under way at a time: mostly at most one with a job at an address."""
+        """So many lines of plans. Up to four plans are under way at a time, mostly at most one with a job at an address."""
         steps, under_way, most = [], [], self.rng.randint(1, 4)
         for addr in self.those('acceptor'):
             steps += self.lines(addr, FIRST)
