@@ -7,9 +7,9 @@ use Rattle.std.specs.Int.{w32, from_le_bytes}
 abbrev pub open_gate : ℕ
 open_gate = 165
 
--- The first bytes of an open half: an open gate, the title, and the version 2.
+-- The first bytes of an open half: an open gate, the title, and the version 3.
 abbrev pub title : List ℕ
-title = open_gate ∷ codes "CCTALK JOURNAL" ++ 2 ∷ []
+title = open_gate ∷ codes "CCTALK JOURNAL" ++ 3 ∷ []
 
 -- How many slots of 32 bytes each half has, on so many bytes.
 abbrev pub slots_in : ℕ → ℕ

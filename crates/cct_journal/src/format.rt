@@ -8,7 +8,7 @@ pub(crate) const OPEN: u8 = 0xa5;
 
 /// The first bytes of an open half: its gate, the title and the version.
 pub(crate) const TITLE: [u8; 16] = [
-    OPEN, b'C', b'C', b'T', b'A', b'L', b'K', b' ', b'J', b'O', b'U', b'R', b'N', b'A', b'L', 2,
+    OPEN, b'C', b'C', b'T', b'A', b'L', b'K', b' ', b'J', b'O', b'U', b'R', b'N', b'A', b'L', 3,
 ];
 
 /// The bodies of a carry at most: three of sums, and one each of 32 epochs and orders.

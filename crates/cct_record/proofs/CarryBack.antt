@@ -20,8 +20,12 @@ sum_fits sum many few small = omega arith
 epoch_back : (e : CarryEpoch) → EpochFits e → epoch_read (epoch_body e) ≡ e
 unfolding epoch_body
 epoch_back e fits =
-    ap (λ n. let x : CarryEpoch = record { addr = e.addr; mask = n; counter = e.counter } in x)
-    (from_le_bytes-to_le_bytes_2 e.mask fits.mask)
+    λ i. let x : CarryEpoch = record {
+      addr = e.addr;
+      mask = from_le_bytes-to_le_bytes_2 e.mask fits.mask i;
+      counter = e.counter;
+      accepts = three_back e.accepts fits.accepts i;
+    } in x
 
 -- An order is read back.
 order_back : (o : CarryOrder) → OrderFits o → order_read (order_body o) ≡ o

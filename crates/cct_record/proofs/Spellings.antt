@@ -10,41 +10,57 @@ use Rattle.cct_record.specs.Body.{Encodable, InRange, IsRefused, Spells, body_of
 use Rattle.cct_record.specs.Fields.{record_at}
 
 -- A reading with so few coins is read back.
-reading_back : (addr counter lost : ℕ) (posted : List Coin) → length posted ≤ 5
+reading_back : (addr counter lost accepts : ℕ) (posted : List Coin) → length posted ≤ 5 → lost < 2 ^ 24 → accepts < 2 ^ 24
     → record_at (body_of (Reading addr counter lost accepts posted)) ≡ Some (Reading addr counter lost accepts posted)
 unfolding body_of fields_of record_at
-reading_back addr counter lost [] few = refl
-reading_back addr counter lost (c1 ∷ []) few = refl
-reading_back addr counter lost (c1 ∷ c2 ∷ []) few = refl
-reading_back addr counter lost (c1 ∷ c2 ∷ c3 ∷ []) few = refl
-reading_back addr counter lost (c1 ∷ c2 ∷ c3 ∷ c4 ∷ []) few = refl
-reading_back addr counter lost (c1 ∷ c2 ∷ c3 ∷ c4 ∷ c5 ∷ []) few = refl
-reading_back addr counter lost (c1 ∷ c2 ∷ c3 ∷ c4 ∷ c5 ∷ c6 ∷ more) few = absurd (omega arith)
+reading_back addr counter lost accepts [] few many total =
+    λ i. Some (Reading addr counter (three_back lost many i) (three_back accepts total i) [])
+reading_back addr counter lost accepts (c1 ∷ []) few many total =
+    λ i. Some (Reading addr counter (three_back lost many i) (three_back accepts total i) (c1 ∷ []))
+reading_back addr counter lost accepts (c1 ∷ c2 ∷ []) few many total =
+    λ i. Some (Reading addr counter (three_back lost many i) (three_back accepts total i) (c1 ∷ c2 ∷ []))
+reading_back addr counter lost accepts (c1 ∷ c2 ∷ c3 ∷ []) few many total =
+    λ i. Some (Reading addr counter (three_back lost many i) (three_back accepts total i) (c1 ∷ c2 ∷ c3 ∷ []))
+reading_back addr counter lost accepts (c1 ∷ c2 ∷ c3 ∷ c4 ∷ []) few many total =
+    λ i. Some (Reading addr counter (three_back lost many i) (three_back accepts total i) (c1 ∷ c2 ∷ c3 ∷ c4 ∷ []))
+reading_back addr counter lost accepts (c1 ∷ c2 ∷ c3 ∷ c4 ∷ c5 ∷ []) few many total =
+    λ i. Some (Reading addr counter (three_back lost many i) (three_back accepts total i) (c1 ∷ c2 ∷ c3 ∷ c4 ∷ c5 ∷ []))
+reading_back addr counter lost accepts (c1 ∷ c2 ∷ c3 ∷ c4 ∷ c5 ∷ c6 ∷ more) few many total = absurd (omega arith)
 
 -- And so is a broken epoch.
-broken_back : (addr mask_seen counter : ℕ) (posted : List Coin) → length posted ≤ 5 → mask_seen < 2 ^ 16
-    → record_at (body_of (Broken addr mask_seen counter lost accepts posted)) ≡ Some (Broken addr mask_seen counter lost accepts posted)
+broken_back : (addr mask_seen counter lost accepts : ℕ) (posted : List Coin) → length posted ≤ 5 → mask_seen < 2 ^ 16
+    → lost < 2 ^ 24 → accepts < 2 ^ 24 → record_at (body_of (Broken addr mask_seen counter lost accepts posted))
+    ≡ Some (Broken addr mask_seen counter lost accepts posted)
 unfolding body_of fields_of record_at
-broken_back addr mask counter [] few fits =
-    ap (λ n. Some (Broken addr n counter [])) (from_le_bytes-to_le_bytes_2 mask fits)
-broken_back addr mask counter (c1 ∷ []) few fits =
-    ap (λ n. Some (Broken addr n counter (c1 ∷ []))) (from_le_bytes-to_le_bytes_2 mask fits)
-broken_back addr mask counter (c1 ∷ c2 ∷ []) few fits =
-    ap (λ n. Some (Broken addr n counter (c1 ∷ c2 ∷ []))) (from_le_bytes-to_le_bytes_2 mask fits)
-broken_back addr mask counter (c1 ∷ c2 ∷ c3 ∷ []) few fits =
-    ap (λ n. Some (Broken addr n counter (c1 ∷ c2 ∷ c3 ∷ []))) (from_le_bytes-to_le_bytes_2 mask fits)
-broken_back addr mask counter (c1 ∷ c2 ∷ c3 ∷ c4 ∷ []) few fits =
-    ap (λ n. Some (Broken addr n counter (c1 ∷ c2 ∷ c3 ∷ c4 ∷ []))) (from_le_bytes-to_le_bytes_2 mask fits)
-broken_back addr mask counter (c1 ∷ c2 ∷ c3 ∷ c4 ∷ c5 ∷ []) few fits =
-    ap (λ n. Some (Broken addr n counter (c1 ∷ c2 ∷ c3 ∷ c4 ∷ c5 ∷ []))) (from_le_bytes-to_le_bytes_2 mask fits)
-broken_back addr mask counter (c1 ∷ c2 ∷ c3 ∷ c4 ∷ c5 ∷ c6 ∷ more) few fits = absurd (omega arith)
+broken_back addr mask counter lost accepts [] few fits many total =
+    λ i. Some (Broken addr (from_le_bytes-to_le_bytes_2 mask fits i) counter (three_back lost many i)
+    (three_back accepts total i) [])
+broken_back addr mask counter lost accepts (c1 ∷ []) few fits many total =
+    λ i. Some (Broken addr (from_le_bytes-to_le_bytes_2 mask fits i) counter (three_back lost many i)
+    (three_back accepts total i) (c1 ∷ []))
+broken_back addr mask counter lost accepts (c1 ∷ c2 ∷ []) few fits many total =
+    λ i. Some (Broken addr (from_le_bytes-to_le_bytes_2 mask fits i) counter (three_back lost many i)
+    (three_back accepts total i) (c1 ∷ c2 ∷ []))
+broken_back addr mask counter lost accepts (c1 ∷ c2 ∷ c3 ∷ []) few fits many total =
+    λ i. Some (Broken addr (from_le_bytes-to_le_bytes_2 mask fits i) counter (three_back lost many i)
+    (three_back accepts total i) (c1 ∷ c2 ∷ c3 ∷ []))
+broken_back addr mask counter lost accepts (c1 ∷ c2 ∷ c3 ∷ c4 ∷ []) few fits many total =
+    λ i. Some (Broken addr (from_le_bytes-to_le_bytes_2 mask fits i) counter (three_back lost many i)
+    (three_back accepts total i) (c1 ∷ c2 ∷ c3 ∷ c4 ∷ []))
+broken_back addr mask counter lost accepts (c1 ∷ c2 ∷ c3 ∷ c4 ∷ c5 ∷ []) few fits many total =
+    λ i. Some (Broken addr (from_le_bytes-to_le_bytes_2 mask fits i) counter (three_back lost many i)
+    (three_back accepts total i) (c1 ∷ c2 ∷ c3 ∷ c4 ∷ c5 ∷ []))
+broken_back addr mask counter lost accepts (c1 ∷ c2 ∷ c3 ∷ c4 ∷ c5 ∷ c6 ∷ more) few fits many total = absurd (omega arith)
 
 -- Each record is read back from its body.
 pub read_back : (r : Record) → InRange r → record_at (body_of r) ≡ Some r
 unfolding body_of fields_of record_at
-read_back (Epoch addr mask accepts) fits = ap (λ n. Some (Epoch addr n accepts)) (from_le_bytes-to_le_bytes_2 mask fits.1)
-read_back (Reading addr counter lost accepts posted) fits = reading_back addr counter lost posted fits.3.few
-read_back (Broken addr mask_seen counter lost accepts posted) fits = broken_back addr mask_seen counter posted fits.3.few fits.1
+read_back (Epoch addr mask accepts) fits =
+    λ i. Some (Epoch addr (from_le_bytes-to_le_bytes_2 mask fits.1 i) (three_back accepts fits.2 i))
+read_back (Reading addr counter lost accepts posted) fits =
+    reading_back addr counter lost accepts posted fits.4.few fits.2 fits.3
+read_back (Broken addr mask_seen counter lost accepts posted) fits =
+    broken_back addr mask_seen counter lost accepts posted fits.5.few fits.1 fits.3 fits.4
 read_back (EpochEnd addr) fits = refl
 read_back (Opened id addr count life) fits =
     λ i. Some (Opened (from_le_bytes-to_le_bytes_4 id fits.0 i) addr count (three_back life fits.3 i))
@@ -76,9 +92,9 @@ refused_other body at is not_spelt = record {
 
 -- Only what can be spelt is in range.
 pub encodable : (r : Record) → InRange r → Encodable r
-encodable (Epoch addr mask accepts) fits = tt
-encodable (Reading addr counter lost accepts posted) fits = fits.3.placed
-encodable (Broken addr mask_seen counter lost accepts posted) fits = fits.3.placed
+encodable (Epoch addr mask accepts) fits = fits.2
+encodable (Reading addr counter lost accepts posted) fits = (fits.2, fits.3, fits.4.placed)
+encodable (Broken addr mask_seen counter lost accepts posted) fits = (fits.3, fits.4, fits.5.placed)
 encodable (EpochEnd addr) fits = tt
 encodable (Opened id addr count life) fits = fits.3
 encodable (Closed id paid unpaid) fits = tt

@@ -18,10 +18,11 @@ coins_fields coins = length coins ∷ flat_map coin_fields coins
 
 -- The number of the kind, and then the fields of the record, each number low byte first.
 unfoldable pub fields_of : Record → List ℕ
-fields_of (Epoch addr mask accepts) = 1 ∷ addr ∷ to_le_bytes w16 mask
-fields_of (Reading addr counter lost accepts posted) = 2 ∷ addr ∷ counter ∷ lost ∷ coins_fields posted
+fields_of (Epoch addr mask accepts) = (1 ∷ addr ∷ to_le_bytes w16 mask) ++ three_bytes accepts
+fields_of (Reading addr counter lost accepts posted) =
+    (2 ∷ addr ∷ counter ∷ three_bytes lost) ++ three_bytes accepts ++ coins_fields posted
 fields_of (Broken addr mask_seen counter lost accepts posted) =
-    (3 ∷ addr ∷ counter ∷ to_le_bytes w16 mask_seen) ++ coins_fields posted
+    (3 ∷ addr ∷ counter ∷ to_le_bytes w16 mask_seen) ++ three_bytes lost ++ three_bytes accepts ++ coins_fields posted
 fields_of (EpochEnd addr) = 4 ∷ addr ∷ []
 fields_of (Opened id addr count life) = (5 ∷ addr ∷ to_le_bytes w32 id) ++ count ∷ three_bytes life
 fields_of (Closed id paid unpaid) = (6 ∷ to_le_bytes w32 id) ++ paid ∷ unpaid ∷ []
@@ -37,11 +38,12 @@ body_of r = fields_of r ++ replicate (31 - length (fields_of r)) 0
 abbrev pub IsPlaced : Coin → Type 0
 IsPlaced coin = 1 ≤ coin.place
 
--- What a record has to be so that it can be spelt: the coin places of posted coins are at least 1, and life counts are
--- below 2 ^ 24. All else about a record of the code can be spelt.
+-- What a record has to be so that it can be spelt: the coin places of posted coins are at least 1; life counts, accept
+-- counters and numbers of lost coins are below 2 ^ 24. All else about a record of the code can be spelt.
 abbrev pub Encodable : Record → Type 0
-Encodable (Reading addr counter lost accepts posted) = All IsPlaced posted
-Encodable (Broken addr mask_seen counter lost accepts posted) = All IsPlaced posted
+Encodable (Epoch addr mask accepts) = accepts < 2 ^ 24
+Encodable (Reading addr counter lost accepts posted) = (lost < 2 ^ 24) × (accepts < 2 ^ 24) × All IsPlaced posted
+Encodable (Broken addr mask_seen counter lost accepts posted) = (lost < 2 ^ 24) × (accepts < 2 ^ 24) × All IsPlaced posted
 Encodable (Opened id addr count life) = life < 2 ^ 24
 Encodable (Odd id life_before life_after) = (life_before < 2 ^ 24) × (life_after < 2 ^ 24)
 Encodable r = ⊤
@@ -59,10 +61,11 @@ pub record AreByteCoins (coins : List Coin) : Type 0 where
 
 -- A record whose numbers fit their bytes: only such a record has a body.
 abbrev pub InRange : Record → Type 0
-InRange (Epoch addr mask accepts) = (addr < 256) × (mask < 2 ^ 16)
-InRange (Reading addr counter lost accepts posted) = (addr < 256) × (counter < 256) × (lost < 256) × AreByteCoins posted
-InRange (Broken addr mask_seen counter lost accepts posted) = (addr < 256) × (mask_seen < 2 ^ 16) × (counter < 256)
+InRange (Epoch addr mask accepts) = (addr < 256) × (mask < 2 ^ 16) × (accepts < 2 ^ 24)
+InRange (Reading addr counter lost accepts posted) = (addr < 256) × (counter < 256) × (lost < 2 ^ 24) × (accepts < 2 ^ 24)
     × AreByteCoins posted
+InRange (Broken addr mask_seen counter lost accepts posted) = (addr < 256) × (mask_seen < 2 ^ 16) × (counter < 256)
+    × (lost < 2 ^ 24) × (accepts < 2 ^ 24) × AreByteCoins posted
 InRange (EpochEnd addr) = addr < 256
 InRange (Opened id addr count life) = (id < 2 ^ 32) × (addr < 256) × (count < 256) × (life < 2 ^ 24)
 InRange (Closed id paid unpaid) = (id < 2 ^ 32) × (paid < 256) × (unpaid < 256)

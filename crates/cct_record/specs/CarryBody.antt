@@ -29,7 +29,7 @@ third_sums c = filled ((11 ∷ to_le_bytes w64 c.unpaid) ++ to_le_bytes w64 c.so
 
 -- The body of a running epoch.
 unfoldable pub epoch_body : CarryEpoch → List ℕ
-epoch_body e = filled ((12 ∷ e.addr ∷ to_le_bytes w16 e.mask) ++ e.counter ∷ [])
+epoch_body e = filled ((12 ∷ e.addr ∷ to_le_bytes w16 e.mask) ++ e.counter ∷ three_bytes e.accepts)
 
 -- The body of an open order: that of the record that opened it.
 unfoldable pub order_body : CarryOrder → List ℕ
@@ -57,7 +57,12 @@ eight_at body at =
 
 -- The epoch whose fields stand in a body.
 abbrev pub epoch_read : List ℕ → CarryEpoch
-epoch_read body = record { addr = slice_index body 1; mask = two_at body 2; counter = slice_index body 4 }
+epoch_read body = record {
+  addr = slice_index body 1;
+  mask = two_at body 2;
+  counter = slice_index body 4;
+  accepts = three_at body 5;
+}
 
 -- The order whose fields stand in a body.
 abbrev pub order_read : List ℕ → CarryOrder

@@ -38,11 +38,11 @@ coins_at body at = coins_from body (at + 1) (min (slice_index body at) 5)
 -- The record whose kind and fields stand in a body, or none where no kind has that number.
 unfoldable pub record_at : List ℕ → Option Record
 record_at body =
-    if slice_index body 0 == 1 then Some (Epoch (slice_index body 1) (two_at body 2))
+    if slice_index body 0 == 1 then Some (Epoch (slice_index body 1) (two_at body 2) (three_at body 4))
     else if slice_index body 0 ==
-    2 then Some (Reading (slice_index body 1) (slice_index body 2) (slice_index body 3) (coins_at body 4))
+    2 then Some (Reading (slice_index body 1) (slice_index body 2) (three_at body 3) (three_at body 6) (coins_at body 9))
     else if slice_index body 0 ==
-    3 then Some (Broken (slice_index body 1) (two_at body 3) (slice_index body 2) (coins_at body 5))
+    3 then Some (Broken (slice_index body 1) (two_at body 3) (slice_index body 2) (three_at body 5) (three_at body 8) (coins_at body 11))
     else if slice_index body 0 == 4 then Some (EpochEnd (slice_index body 1))
     else if slice_index body 0 ==
     5 then Some (Opened (four_at body 2) (slice_index body 1) (slice_index body 6) (three_at body 7))

@@ -74,6 +74,7 @@ fn epoch_body(epoch: &CarryEpoch) -> [u8; BODY]
     add(&mut fields, &[RUNNING, epoch.addr]);
     add(&mut fields, &epoch.mask.to_le_bytes());
     add(&mut fields, &[epoch.counter]);
+    add(&mut fields, &three_bytes(epoch.accepts));
     filled_up(&fields)
 }
 

@@ -218,6 +218,7 @@ fn epoch_at(body: &[u8; BODY]) -> CarryEpoch
         addr: body[1],
         mask: two_at(body, 2),
         counter: body[4],
+        accepts: three_at(body, 5),
     }
 }
 

@@ -9,8 +9,8 @@ pub(crate) const BODIES: usize = 35;
 /// The epochs and the orders of a carry at most.
 pub(crate) const ENTRIES: usize = 32;
 
-/// A life count is below this.
-pub(crate) const LIVES: u32 = 1 << 24;
+/// A life count, an accept counter and a number of lost coins are below this.
+pub(crate) const COUNTS: u32 = 1 << 24;
 
 pub(crate) const EPOCH: u8 = 1;
 

@@ -4,7 +4,7 @@ ghost use Rattle.cct_record.specs.Body.{Encodable, IsPlaced, IsRefused, Spells};
 ghost use Rattle.cct_record.specs.Fields.{coins_at, four_at, record_at, three_at, two_at};
 
 use crate::encode;
-use crate::kind::{BODY, BROKEN, CLOSED, EPOCH, EPOCH_END, LIVES, ODD, OPENED, READING, SOLD};
+use crate::kind::{BODY, BROKEN, CLOSED, COUNTS, EPOCH, EPOCH_END, ODD, OPENED, READING, SOLD};
 use cct_lines::{Coin, Coins, EVENTS, Record};
 
 /// The record that a body spells (`docs/JOURNAL.md`, "The body of a record"), or none where no record is spelt so: the
@@ -35,17 +35,26 @@ fn is_encodable(entry: &Record) -> bool
     ensures { IsTrue result ↔ Encodable entry.now }
 {
     match entry {
-        Record::Reading { posted, .. } | Record::Broken { posted, .. } => are_placed(posted),
-        Record::Opened { life, .. } => *life < LIVES,
+        Record::Epoch { accepts, .. } => *accepts < COUNTS,
+        Record::Reading {
+            lost,
+            accepts,
+            posted,
+            ..
+        } => *lost < COUNTS && *accepts < COUNTS && are_placed(posted),
+        Record::Broken {
+            lost,
+            accepts,
+            posted,
+            ..
+        } => *lost < COUNTS && *accepts < COUNTS && are_placed(posted),
+        Record::Opened { life, .. } => *life < COUNTS,
         Record::Odd {
             life_before,
             life_after,
             ..
-        } => *life_before < LIVES && *life_after < LIVES,
-        Record::Epoch { .. }
-        | Record::EpochEnd { .. }
-        | Record::Closed { .. }
-        | Record::Sold { .. } => true,
+        } => *life_before < COUNTS && *life_after < COUNTS,
+        Record::EpochEnd { .. } | Record::Closed { .. } | Record::Sold { .. } => true,
     }
 }
 
@@ -65,18 +74,22 @@ fn record_at(bytes: &[u8; BODY]) -> Option<Record>
         EPOCH => Record::Epoch {
             addr: bytes[1],
             mask: two_at(bytes, 2),
+            accepts: three_at(bytes, 4),
         },
         READING => Record::Reading {
             addr: bytes[1],
             counter: bytes[2],
-            lost: bytes[3],
-            posted: coins_at(bytes, 4),
+            lost: three_at(bytes, 3),
+            accepts: three_at(bytes, 6),
+            posted: coins_at(bytes, 9),
         },
         BROKEN => Record::Broken {
             addr: bytes[1],
             mask_seen: two_at(bytes, 3),
             counter: bytes[2],
-            posted: coins_at(bytes, 5),
+            lost: three_at(bytes, 5),
+            accepts: three_at(bytes, 8),
+            posted: coins_at(bytes, 11),
         },
         EPOCH_END => Record::EpochEnd { addr: bytes[1] },
         OPENED => Record::Opened {

@@ -11,7 +11,8 @@ use cct_lines::{Coin, Coins, EVENTS, Record};
 
 /// The body of a record: its kind and its fields, filled up with 0 (`docs/JOURNAL.md`, "The body of a record").
 ///
-/// Life counts have to be below 2^24, and the coin places of posted coins at least 1.
+/// Life counts, accept counters and numbers of lost coins have to be below 2^24, and the coin places of posted coins at
+/// least 1.
 #[tactic(auto, unfolding(crate::specs::Body::body_of))]
 pub fn encode(entry: &Record) -> [u8; 31]
     requires { Encodable entry.now }
@@ -39,27 +40,39 @@ fn fields(entry: &Record) -> ArrayVec<u8, BODY>
 {
     let mut fields = ArrayVec::new();
     match entry {
-        Record::Epoch { addr, mask } => {
+        Record::Epoch {
+            addr,
+            mask,
+            accepts,
+        } => {
             add(&mut fields, &[EPOCH, *addr]);
             add(&mut fields, &mask.to_le_bytes());
+            add(&mut fields, &three_bytes(*accepts));
         }
         Record::Reading {
             addr,
             counter,
             lost,
+            accepts,
             posted,
         } => {
-            add(&mut fields, &[READING, *addr, *counter, *lost]);
+            add(&mut fields, &[READING, *addr, *counter]);
+            add(&mut fields, &three_bytes(*lost));
+            add(&mut fields, &three_bytes(*accepts));
             add_coins(&mut fields, posted);
         }
         Record::Broken {
             addr,
             mask_seen,
             counter,
+            lost,
+            accepts,
             posted,
         } => {
             add(&mut fields, &[BROKEN, *addr, *counter]);
             add(&mut fields, &mask_seen.to_le_bytes());
+            add(&mut fields, &three_bytes(*lost));
+            add(&mut fields, &three_bytes(*accepts));
             add_coins(&mut fields, posted);
         }
         Record::EpochEnd { addr } => add(&mut fields, &[EPOCH_END, *addr]),
