@@ -118,7 +118,7 @@ pub fn an_honest_exchange_gets_the_reply_or_nothing()
         → IsUnanswered setup d past q ⊎ IsAnswered setup d past q }
 {}
 
-/// A round that was just taken at an acceptor ends within three `next` at its address, where no fault is set for one of
+/// A round that was just taken at an acceptor ends within five `next` at its address, where no fault is set for one of
 /// its own exchanges and the power isn't cut before. Nothing came, a reading is put, or a break. Its past is legal.
 /// Whatever else comes between them doesn't hinder it: coins, resets, commands, the jobs of other devices, and faults
 /// set for the exchanges of those, or of later jobs. It doesn't say what the round posts.
@@ -127,12 +127,12 @@ pub fn a_round_without_a_fault_ends()
         (steps : List Step) (end : List Entry)
         → IsSoundSetup setup → IsOf setup d → IsAcceptor d.body → LegalFrom capacity setup [] before past
         → job (lines_of d past) ≡ works (Round d.addr) []
-        → 3 ≤ nexts_at d.addr steps → LegalFrom capacity setup past steps end → IsUndisturbed d.addr past end
+        → 5 ≤ nexts_at d.addr steps → LegalFrom capacity setup past steps end → IsUndisturbed d.addr past end
         → EndsRound d.addr past end }
 {}
 
 /// Every job at a device that was just taken ends in the same way, within as many `next` at its address as it has rows,
-/// and for a payment one more for each halt. A start ends within 4, a stop within 5, a payment within 7, a settlement
+/// and for a payment one more for each halt. A start ends within 5, a stop within 7, a payment within 7, a settlement
 /// within 3, an identification within one for each of its questions, the setting of a path within 2. A payment and a
 /// settlement do so where no coin is left to pay whenever the hopper is asked how its payout goes. The end is one of a
 /// job that got its answers, never one for want of an answer. It doesn't say which coins were paid, nor that coins
@@ -291,17 +291,18 @@ pub fn no_coin_is_accepted_without_an_epoch()
 /// the acceptor heard the epoch's own header 231 since the Epoch record, and was not reset after that. It doesn't say
 /// that a start whose 231 was sent is answered.
 pub fn a_running_epoch_sets_its_mask_or_none()
-    ensures { EachAcceptor (λ d transcript. (mask counter : ℕ) → epoch (lines_in d transcript) ≡ Running mask counter accepts
+    ensures { EachAcceptor (λ d transcript. (mask counter accepts : ℕ)
+        → epoch (lines_in d transcript) ≡ Running mask counter accepts
         → IsMaskedBy mask (since_epoch_in d transcript) (met d (onto [] transcript))) }
 {}
 
 /// While an epoch runs at an acceptor that didn't hear the epoch's header 231 since the Epoch record, or was reset
 /// after that, none of its events since its last reset is a credit. So no pair of its credit buffer is one.
 pub fn after_a_reset_no_event_is_a_credit()
-    ensures events { EachAcceptor (λ d transcript. (mask counter : ℕ)
+    ensures events { EachAcceptor (λ d transcript. (mask counter accepts : ℕ)
         → epoch (lines_in d transcript) ≡ Running mask counter accepts → mask_set_in (since_epoch_in d transcript) ≡ None
         → coins_among (events (met d (onto [] transcript))) ≡ []) }
-    ensures pairs { EachAcceptor (λ d transcript. (mask counter : ℕ)
+    ensures pairs { EachAcceptor (λ d transcript. (mask counter accepts : ℕ)
         → epoch (lines_in d transcript) ≡ Running mask counter accepts → mask_set_in (since_epoch_in d transcript) ≡ None
         → coins_among (credits_of (met d (onto [] transcript))).pairs ≡ []) }
 {}
@@ -311,8 +312,8 @@ pub fn after_a_reset_no_event_is_a_credit()
 /// the moment when it was put. It doesn't say that such an epoch breaks: that takes a round or a stop that reads the
 /// mask.
 pub fn a_break_has_its_cause()
-    ensures waiting { EachAcceptor (λ d transcript. (command : Command) (since : List Line) (addr seen counter : ℕ)
-        (posted : List Coin)
+    ensures waiting { EachAcceptor (λ d transcript. (command : Command) (since : List Line)
+        (addr seen counter lost accepts : ℕ) (posted : List Coin)
         → job (lines_in d transcript) ≡ works command since
         → row d command since (epoch (lines_in d transcript)) (order (lines_in d transcript))
         ≡ puts (Broken addr seen counter lost accepts posted)

@@ -27,7 +27,7 @@ use Rattle.cct_model.specs.Setup.{IsSoundSetup}
 use Rattle.cct_model.specs.Exchange.{ask, asked, asks_of}
 use Rattle.cct_model.specs.Line.{Line, exchange, put, taken}
 use Rattle.cct_model.specs.Order.{order, is_marked, is_stopped}
-use Rattle.cct_model.specs.Job.{free, works, job, with_line, epoch, credits_read, mask_read, sends, puts, Noted, noted_in, state_row, ident_requests, judged_in, address_of, tries}
+use Rattle.cct_model.specs.Job.{free, works, job, with_line, epoch, sends, puts, Noted, noted_in, state_row, ident_requests, judged_in, address_of, tries}
 use Rattle.cct_model.specs.Rows.{end_of, end_answered, rows_of, first, waits_for_coins, can_halt, has_waits, rest, done, ends_first, after, end_failed}
 use Rattle.cct_model.specs.Script.{IsCommand}
 use Rattle.cct_model.specs.Honest.{forged_after}
@@ -264,7 +264,7 @@ puts_there : (setup : Setup) (d : DeviceSetup) (c : Command) (nexts : ℕ) (past
     Goes d c nexts past (with_end d.addr (entry.Put r) (record_end d past c since r))
 puts_there setup d c nexts past since r own ids at_work few enough is_row =
     let state = epoch (lines_of d past) in
-    let reads = judged_reads (address_of c) state (credits_read since) (mask_read since) in
+    let reads = judged_reads c since state in
     goes_by d c nexts past since (put r) (entry.Put r) (end_of d c (put r) since state)
     (ap job (lines_put d past r (put_owned setup past d c since r own ids at_work is_row))
     ∙ ap (with_line (put r)) at_work.job_is) tt (ends_of_put d c r since state)
@@ -600,7 +600,7 @@ job_ends capacity setup before past d c steps end sound own known suited was is_
     (needs_by (is_payment c) (row_count d c) (halts_at d.addr steps) (nexts_at d.addr steps) enough) ids at legal
     undisturbed paid
 
--- a round does so within three `next`
+-- a round does so within five `next`
 round_suits : (body : DeviceBody) (addr : ℕ) → IsAcceptor body → suits body (command.Round addr) ≡ true
 round_suits (Acceptor accepts values ids) addr accepting = refl
 round_suits (Hopper life value) addr accepting = absurd accepting
@@ -608,7 +608,7 @@ round_suits (Hopper life value) addr accepting = absurd accepting
 pub round_ends : (capacity : ℕ) (setup : Setup) (before : List Step) (past : List Entry) (d : DeviceSetup)
     (steps : List Step) (end : List Entry) → IsSoundSetup setup → IsOf setup d → IsAcceptor d.body →
     LegalFrom capacity setup [] before past → job (lines_of d past) ≡ works (command.Round d.addr) [] →
-    3 ≤ nexts_at d.addr steps → LegalFrom capacity setup past steps end → IsUndisturbed d.addr past end →
+    5 ≤ nexts_at d.addr steps → LegalFrom capacity setup past steps end → IsUndisturbed d.addr past end →
     EndsRound d.addr past end
 round_ends capacity setup before past d steps end sound own accepting was is_job enough legal undisturbed =
     job_ends capacity setup before past d (command.Round d.addr) steps end sound own tt
