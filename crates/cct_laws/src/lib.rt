@@ -13,7 +13,7 @@
 //! - `kept_legal`, `kept_since_legal` and `kept_hopper_legal` of `proofs/Whole.antt`, by which any fact of a device holds
 //!   that each thing that can come keeps; `along` of `proofs/jobs/Seen.antt`, by which one of all entries does;
 //! - `setup_sound`, `steps_of_today` and `front_of_today` of `proofs/text/Scripts.antt`, and there `legal_right` and
-//!   `played_right`, which say five laws at once; `legal_written` of `proofs/text/Texts.antt`;
+//!   `played_right`, which say six laws at once; `legal_written` of `proofs/text/Texts.antt`;
 //! - for a host that restarts over its records `proofs/money/Replaying.antt`, which says what each record more tells, and
 //!   `proofs/money/Restarts.antt`, which says what entries a power cut leaves;
 //! - `on_wire` of `proofs/OnWire.antt`: the entries of a `next`, and after an exchange that was forged the one that tells
@@ -42,7 +42,7 @@ ghost use Rattle.cct_model.specs.lines.command.WireFault.TheVariants.{Clear};
 ghost use Rattle.cct_model.specs.lines.entry.Entry.{Entry};
 ghost use Rattle.cct_model.specs.terms.wire.TheConstants.{BROADCAST};
 ghost use Rattle.cct_model.specs.Acceptor.{accepts, events, credits_of};
-ghost use Rattle.cct_model.specs.Claims.{AllPast, InOrder, Covers, Pace};
+ghost use Rattle.cct_model.specs.Claims.{AllPast, InOrder, Covers, Pace, Tallies};
 ghost use Rattle.cct_model.specs.Device.{IsAcceptor};
 ghost use Rattle.cct_model.specs.Exchange.{ask, by_address};
 ghost use Rattle.cct_model.specs.Job.{works, job, epoch, sends, puts, Noted};
@@ -75,6 +75,7 @@ ghost use Rattle.cct_laws.specs.Ending.{nexts_at, EndsRound, IsUndisturbed, IsOn
 ghost use Rattle.cct_laws.specs.Faults.{FailsByFault, EchoFailsByFault, EndsByFaults, is_dispense, FailsByFaultBut};
 ghost use Rattle.cct_model.specs.Honest.{Honest, IsAllUnforged, IsHonestFault};
 ghost use Rattle.cct_laws.specs.Law.{AreOfToday, AreRising, Begins, EachEntry, HasBytes, IsAnswered, IsOf, IsUnanswered, NamesNoPut, lines_in};
+ghost use Rattle.cct_laws.specs.Moving.{MovesWithCoins};
 ghost use Rattle.cct_laws.specs.Right.{IsRight};
 ghost use Rattle.cct_laws.specs.Scope.{EachAcceptor, EachHopper, EachTranscript, IsCommandFor};
 ghost use Rattle.cct_laws.specs.SinceEpoch.{since_epoch_in, mask_set_in, IsMaskedBy, MayBreak, HaveCauses};
@@ -167,14 +168,27 @@ pub fn posts_in_order()
     ensures { EachAcceptor (λ d transcript. InOrder (lines_in d transcript)) }
 {}
 
-/// No coin that came before a completed reading is lost in silence in such a transcript. A reading reports as lost at
-/// least the coins of its part that it doesn't post, and a clean end and the end of an epoch have no coin in theirs. The
-/// premise is the pace: fewer than 255 objects, coins or not, come between the reading of each record that begins an
-/// epoch or is a reading, and that of each record or clean end up to the next record. It doesn't say which coins were
-/// lost, nor that as many coins were lost as are reported. After a break it says nothing of the coins of the part that
-/// it doesn't post.
+/// No coin that came before a completed reading is lost in silence in such a transcript. A reading or a break tells as lost
+/// exactly the coins of its part that it doesn't post, and a clean end and the end of an epoch have no coin in theirs. So
+/// it is whenever the acceptor is reset, and however many other objects come. The premise is the pace: fewer than 2^24
+/// coins are accepted from each record that begins an epoch up to the next such record. It doesn't say which coins were
+/// lost.
 pub fn none_lost_in_silence()
     ensures { EachAcceptor (λ d transcript. Pace (lines_in d transcript) → Covers (lines_in d transcript)) }
+{}
+
+/// The coins up to the mark are exactly as many as all records of the acceptor together post and tell to be lost, under the
+/// same pace. The mark is the number of coins up to which its last record or clean end tells. So what was posted and what
+/// was told to be lost is together what was accepted, up to the last reading that told anything.
+pub fn coins_up_to_the_mark_are_tallied()
+    ensures { EachAcceptor (λ d transcript. Pace (lines_in d transcript) → Tallies (lines_in d transcript)) }
+{}
+
+/// Where a job of an acceptor ends because its reading has to be made again, a coin was accepted meanwhile: after the accept
+/// counter was read that stands before the credits, and before the last one was. It holds in every legal transcript over
+/// an honest wire, at any pace.
+pub fn a_reading_made_again_met_a_coin()
+    ensures { EachAcceptor (λ d transcript. MovesWithCoins (lines_in d transcript)) }
 {}
 
 /// A job at a device ends for want of an answer exactly after the third failed try in succession of one of its rows. In
@@ -243,8 +257,9 @@ pub fn scripts_are_in_range()
 {}
 
 /// The money of a script that was played up to any of its steps is right. Over an honest wire each device of its setup
-/// posts in order, where a hopper posts nothing; each that keeps the pace loses no coin in silence; and each hopper pays
-/// each order at most once, and closes it with exactly the coins that fell. Whatever the wire does, no id stands in two
+/// posts in order, where a hopper posts nothing; each that keeps the pace loses no coin in silence, and its coins up to the
+/// mark are as many as its records post and tell to be lost; and each hopper pays each order at most once, and closes it
+/// with exactly the coins that fell. Whatever the wire does, no id stands in two
 /// of its records, and the transcript shows an honest wire exactly if no line tells of a forged exchange.
 pub fn played_scripts_keep_the_laws()
     ensures { (capacity : ℕ) (bytes : List ℕ) (played rest : List Step) (transcript : List Entry)
