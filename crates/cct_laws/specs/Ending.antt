@@ -14,7 +14,9 @@ use Rattle.cct_model.specs.lines.entry.Entry.TheVariants as entry
 use Rattle.cct_model.specs.Exchange.{asked}
 use Rattle.cct_model.specs.Hopper.{remaining}
 use Rattle.cct_model.specs.Rows.{rows_of}
-use Rattle.cct_model.specs.Transcript.{pending, met}
+use Rattle.cct_model.specs.Line.{ended}
+use Rattle.cct_model.specs.Transcript.{pending, met, lines_of}
+use Rattle.cct_laws.specs.Moving.{MovedAt}
 
 -- So many `next` at an address after a step.
 abbrev pub nexts_after : ℕ → Step → ℕ → ℕ
@@ -110,6 +112,17 @@ LeavesAlone addr past e = ⊤
 -- power wasn't cut. Faults for later exchanges, and for those of other addresses, may be set.
 abbrev pub IsUndisturbed : ℕ → List Entry → List Entry → Type 0
 IsUndisturbed addr past end = (news : List Entry) → end ≡ news ++ past → EachWhileRunning (LeavesAlone addr) addr past news
+
+-- An entry is no end of a device's job by which a reading has to be made again, or a coin was accepted between the two
+-- readings of the accept counter.
+abbrev pub IsMovedByCoin : DeviceSetup → List Entry → Entry → Type 0
+IsMovedByCoin d past (entry.Ended addr end) = addr ≡ d.addr → MovedAt (lines_of d past) (ended end)
+IsMovedByCoin d past e = ⊤
+
+-- A past goes on to another, and if the job at a device ended because its reading has to be made again, a coin was accepted
+-- while it was made.
+abbrev pub IsOnlyMovedByCoins : DeviceSetup → List Entry → List Entry → Type 0
+IsOnlyMovedByCoins d past end = (news : List Entry) → end ≡ news ++ past → EachWhileRunning (IsMovedByCoin d) d.addr past news
 
 -- Where an exchange asks a hopper how its payout goes, no coin is left to pay.
 abbrev pub FindsNoneLeft : DeviceSetup → List Entry → Entry → Type 0

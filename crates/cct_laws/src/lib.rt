@@ -71,7 +71,7 @@ ghost use Rattle.cct_laws.specs.Coins.{all_fallen, all_paid};
 ghost use Rattle.cct_laws.specs.LifeCounts.{FitsLife};
 ghost use Rattle.cct_laws.specs.PaidOut.{is_paid_out};
 ghost use Rattle.cct_laws.specs.Recorded.{HasNoJob, IsRestart, open_orders, totals_in};
-ghost use Rattle.cct_laws.specs.Ending.{nexts_at, EndsRound, IsUndisturbed, nexts_needed, is_payment, EndsAs, AlwaysFindsNoneLeft};
+ghost use Rattle.cct_laws.specs.Ending.{nexts_at, EndsRound, IsUndisturbed, IsOnlyMovedByCoins, nexts_needed, is_payment, EndsAs, AlwaysFindsNoneLeft};
 ghost use Rattle.cct_laws.specs.Faults.{FailsByFault, EchoFailsByFault, EndsByFaults, is_dispense, FailsByFaultBut};
 ghost use Rattle.cct_model.specs.Honest.{Honest, IsAllUnforged, IsHonestFault};
 ghost use Rattle.cct_laws.specs.Law.{AreOfToday, AreRising, Begins, EachEntry, HasBytes, IsAnswered, IsOf, IsUnanswered, NamesNoPut, lines_in};
@@ -120,32 +120,44 @@ pub fn an_honest_exchange_gets_the_reply_or_nothing()
 {}
 
 /// A round that was just taken at an acceptor ends within five `next` at its address, where no fault is set for one of
-/// its own exchanges and the power isn't cut before. Nothing came, a reading is put, or a break. Its past is legal.
-/// Whatever else comes between them doesn't hinder it: coins, resets, commands, the jobs of other devices, and faults
-/// set for the exchanges of those, or of later jobs. It doesn't say what the round posts.
+/// its own exchanges and the power isn't cut before. Nothing came, a reading is put, a break, or the reading has to be made
+/// again; and that only if a coin was accepted between its two readings of the accept counter. Its past is legal. Whatever
+/// else comes between them doesn't hinder it: coins, resets, commands, the jobs of other devices, and faults set for the
+/// exchanges of those, or of later jobs. It doesn't say what the round posts.
 pub fn a_round_without_a_fault_ends()
-    ensures { (capacity : ℕ) (setup : Setup) (before : List Step) (past : List Entry) (d : DeviceSetup)
+    ensures ends { (capacity : ℕ) (setup : Setup) (before : List Step) (past : List Entry) (d : DeviceSetup)
         (steps : List Step) (end : List Entry)
         → IsSoundSetup setup → IsOf setup d → IsAcceptor d.body → LegalFrom capacity setup [] before past
         → job (lines_of d past) ≡ works (Round d.addr) []
         → 5 ≤ nexts_at d.addr steps → LegalFrom capacity setup past steps end → IsUndisturbed d.addr past end
         → EndsRound d.addr past end }
+    ensures moved { (capacity : ℕ) (setup : Setup) (before : List Step) (past : List Entry) (d : DeviceSetup)
+        (steps : List Step) (end : List Entry)
+        → IsSoundSetup setup → IsOf setup d → IsAcceptor d.body → LegalFrom capacity setup [] before past
+        → job (lines_of d past) ≡ works (Round d.addr) [] → LegalFrom capacity setup past steps end
+        → IsUndisturbed d.addr past end → IsOnlyMovedByCoins d past end }
 {}
 
 /// Every job at a device that was just taken ends in the same way, within as many `next` at its address as it has rows,
 /// and for a payment one more for each halt. A start ends within 5, a stop within 7, a payment within 7, a settlement
 /// within 3, an identification within one for each of its questions, the setting of a path within 2. A payment and a
 /// settlement do so where no coin is left to pay whenever the hopper is asked how its payout goes. The end is one of a
-/// job that got its answers, never one for want of an answer. It doesn't say which coins were paid, nor that coins
-/// fall.
+/// job that got its answers, never one for want of an answer. That a reading has to be made again ends a stop too only if
+/// a coin was accepted between its two readings of the accept counter. It doesn't say which coins were paid, nor that
+/// coins fall.
 pub fn a_job_without_a_fault_ends()
-    ensures { (capacity : ℕ) (setup : Setup) (before : List Step) (past : List Entry) (d : DeviceSetup)
+    ensures ends { (capacity : ℕ) (setup : Setup) (before : List Step) (past : List Entry) (d : DeviceSetup)
         (command : Command) (steps : List Step) (end : List Entry)
         → IsCommandFor setup d command → LegalFrom capacity setup [] before past
         → job (lines_of d past) ≡ works command [] → nexts_needed d command steps ≤ nexts_at d.addr steps
         → LegalFrom capacity setup past steps end → IsUndisturbed d.addr past end
         → (is_payment command ≡ true → AlwaysFindsNoneLeft d past end)
         → EndsAs command d.addr past end }
+    ensures moved { (capacity : ℕ) (setup : Setup) (before : List Step) (past : List Entry) (d : DeviceSetup)
+        (command : Command) (steps : List Step) (end : List Entry)
+        → IsCommandFor setup d command → IsAcceptor d.body → LegalFrom capacity setup [] before past
+        → job (lines_of d past) ≡ works command [] → LegalFrom capacity setup past steps end
+        → IsUndisturbed d.addr past end → IsOnlyMovedByCoins d past end }
 {}
 
 /// Posts are accepted coins in their order, none twice, for every acceptor of the setup, in every legal transcript over
