@@ -172,28 +172,28 @@ module _ {D : Type 0} {g : Ghosts D} where
 module _ {D : Type 0} (size : D → ℕ) (honest : D → Bool) (seen : D → Option (List ℕ)) (cuts : D → ℕ)
     (cut_to : D → ℕ → D → Type 0) (given : D) where
   -- what is so after a cut, where the disk lasts
-  pub behind_on : (old new : D) → Outlasts size honest seen cuts old new → (times : ℕ) (P : ℕ → Option (List ℕ) → Type 0)
+  pub after_cut_on : (old new : D) → Outlasts size honest seen cuts old new → (times : ℕ) (P : ℕ → Option (List ℕ) → Type 0)
       → CutAt size honest seen cuts cut_to given old times P → CutAt size honest seen cuts cut_to given new times P
-  behind_on old new lasts times P cut = record {
+  after_cut_on old new lasts times P cut = record {
     before = cut.before;
     choice = cut.choice;
-    behind = cut.behind;
+    after = cut.after;
     lasted = cut.lasted;
     is_cut = cut.is_cut;
-    lasts = lasts_then size honest seen cuts cut.behind old new cut.lasts lasts;
+    lasts = lasts_then size honest seen cuts cut.after old new cut.lasts lasts;
     count = cut.count;
     holds = cut.holds;
   }
 
   -- and after a cut that was made just now
-  pub behind_now : (choice : ℕ) (old new : D) (times : ℕ) (P : ℕ → Option (List ℕ) → Type 0)
+  pub after_cut_now : (choice : ℕ) (old new : D) (times : ℕ) (P : ℕ → Option (List ℕ) → Type 0)
       → Outlasts size honest seen cuts given old → cuts old ≡ count_after times (cuts given)
       → CutOnce size honest seen cuts cut_to choice old new → P choice (seen new)
       → CutAt size honest seen cuts cut_to given new (suc times) P
-  behind_now choice old new times P lasted before cut here = record {
+  after_cut_now choice old new times P lasted before cut here = record {
     before = cut.before;
     choice = choice;
-    behind = cut.behind;
+    after = cut.behind;
     lasted = lasts_then size honest seen cuts given old cut.before lasted
         (lasts_on size honest seen cuts old cut.before cut.goes_on);
     is_cut = cut.is_cut;
