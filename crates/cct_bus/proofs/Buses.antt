@@ -15,6 +15,7 @@ use Rattle.cct_model.specs.Acceptor.{accepts}
 use Rattle.cct_model.specs.Exchange.{by_address, device_at, put_by_address}
 use Rattle.cct_model.specs.History.{Met, coin, fall, jam}
 use Rattle.cct_model.specs.Legal.{OfKnowing, happening_entry}
+use Rattle.cct_model.specs.Honest.{was_forged}
 use Rattle.cct_model.specs.Hopper.{remaining}
 use Rattle.cct_model.specs.Family.{met_by}
 use Rattle.cct_model.specs.Setup.{AreDistinct, IsSoundSetup}
@@ -106,9 +107,12 @@ either : (test : Bool) (P : Entry → Type 0) (x y : Entry) → P x → P y → 
 either true P x y left right = left
 either false P x y left right = right
 
--- by an entry the device at an address meets something, the others nothing, and the fault stays
+-- by an entry the device at an address meets something, the others nothing, the fault stays, and so does what the last
+-- exchange was
 abbrev Tells : List Entry → ℕ → Met → Entry → Type 0
-Tells past addr m e = ((d : DeviceSetup) → meets d past e ≡ at addr d m) × (pending (e ∷ past) ≡ pending past)
+Tells past addr m e =
+    ((d : DeviceSetup) → meets d past e ≡ at addr d m) × (pending (e ∷ past) ≡ pending past)
+    × (was_forged (e ∷ past) ≡ was_forged past)
 
 -- by the entry of what befell it, the device at that address met that
 pub happening_tells : (d : DeviceSetup) (addr : ℕ) (what : Happening) (past : List Entry) → d.addr ≡ addr
@@ -118,13 +122,13 @@ happening_tells d addr what past is =
   where
     tells : (what : Happening) → Tells past d.addr (met_by what) (happening_entry d.addr d past what)
     tells (happening.Coin place) =
-        either (accepts (met d past) place) (Tells past d.addr (coin place)) _ _ ((λ e. refl), refl) ((λ e. refl), refl)
-    tells happening.Alien = ((λ e. refl), refl)
+        either (accepts (met d past) place) (Tells past d.addr (coin place)) _ _ ((λ e. refl), refl, refl) ((λ e. refl), refl, refl)
+    tells happening.Alien = ((λ e. refl), refl, refl)
     tells happening.Fall =
-        either (remaining d.serial (met d past) == 0) (Tells past d.addr fall) _ _ ((λ e. refl), refl) ((λ e. refl), refl)
+        either (remaining d.serial (met d past) == 0) (Tells past d.addr fall) _ _ ((λ e. refl), refl, refl) ((λ e. refl), refl, refl)
     tells happening.Jam =
-        either (remaining d.serial (met d past) == 0) (Tells past d.addr jam) _ _ ((λ e. refl), refl) ((λ e. refl), refl)
-    tells happening.Reset = ((λ e. refl), refl)
+        either (remaining d.serial (met d past) == 0) (Tells past d.addr jam) _ _ ((λ e. refl), refl, refl) ((λ e. refl), refl, refl)
+    tells happening.Reset = ((λ e. refl), refl, refl)
 
 -- after what the device at an address met the devices stand for its entry
 pub entry_stands : (devices : List Device) (addr : ℕ) (m : Met) (e : Entry) (past : List Entry) → Tells past addr m e

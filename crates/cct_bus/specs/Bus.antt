@@ -6,6 +6,7 @@ use Rattle.cct_model.specs.lines.entry.Entry.{Entry}
 use Rattle.cct_model.specs.lines.entry.Entry.TheVariants as entry
 use Rattle.cct_model.specs.terms.family.Happening.{Happening}
 use Rattle.cct_model.specs.Exchange.{by_address, device_at}
+use Rattle.cct_model.specs.Honest.{was_forged}
 use Rattle.cct_model.specs.Legal.{OfKnowing, happening_entry}
 use Rattle.cct_model.specs.Setup.{IsSoundSetup}
 use Rattle.cct_model.specs.Transcript.{heard_after, met, pending}
@@ -19,12 +20,14 @@ abbrev pub setup_of : Bus → Setup
 setup_of bus = bus.setup.now
 
 -- A bus stands for a transcript, newest entry first: its setup is sound, its devices are those of its setup in rising
--- order of address, each met what the transcript tells of it, and the fault that is set is the pending one.
+-- order of address, each met what the transcript tells of it, the fault that is set is the pending one, and whether the
+-- last exchange was forged is what the transcript tells.
 pub record StandsFor (bus : Bus) (past : List Entry) : Type 0 where
   pub sound : IsSoundSetup (setup_of bus)
   pub order : setups_in bus.devices.items ≡ by_address (setup_of bus).devices
   pub devices : All (Stands (λ d. met d past)) bus.devices.items
   pub fault : bus.fault ≡ pending past
+  pub forged : bus.forged ≡ was_forged past
 
 -- What an exchange on a bus may do: the setup stays, the host hears what it does after the transcript before, and the
 -- transcript goes on by the exchange.

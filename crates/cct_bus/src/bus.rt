@@ -10,6 +10,7 @@ ghost use Rattle.cct_model.specs.Device.{IsSound};
 ghost use Rattle.cct_model.specs.terms.family.Happening.TheVariants as happening;
 ghost use Rattle.cct_model.specs.Exchange.{acceptor_there, by_address, device_at, hopper_there, known_there};
 ghost use Rattle.cct_model.specs.Family.{IsPlaced};
+ghost use Rattle.cct_model.specs.Honest.{was_forged};
 ghost use Rattle.cct_model.specs.Hopper.{remaining};
 ghost use Rattle.cct_model.specs.Legal.{OfKnowing, coin_entry, fall_entry, jam_entry};
 ghost use Rattle.cct_model.specs.Setup.{IsSoundSetup};
@@ -22,6 +23,7 @@ ghost use Rattle.cct_bus.specs.Room.{most_answered};
 use crate::device::Device;
 use crate::fault::{heard_by_devices, heard_by_host, use_up};
 use crate::hearing::all_hear;
+use crate::honesty::is_honest;
 use crate::outcome::Outcome;
 use arrayvec::ArrayVec;
 use cct_acceptor::Inserted;
@@ -38,6 +40,8 @@ pub struct Bus<'s> {
     devices: Vec<Device<'s>>,
     /// What is wrong in the next exchange.
     fault: WireFault,
+    /// Whether the last exchange was forged.
+    forged: bool,
     /// The room for one answer.
     frame: ArrayVec<u8, MOST_SENT>,
     ghost order: { setups_in devices.items ≡ by_address setup.now.devices },
@@ -62,6 +66,7 @@ impl<'s> Bus<'s> {
             setup,
             devices,
             fault: WireFault::Clear,
+            forged: false,
             frame: ArrayVec::new(),
         })
     }
@@ -189,6 +194,15 @@ impl<'s> Bus<'s> {
         self.fault = fault;
     }
 
+    /// Whether the last exchange was forged: the fault that was set for it did another damage than an honest one. False
+    /// before the first exchange.
+    #[inline]
+    pub fn last_forged(&self) -> bool
+        ensures { (past : List Entry) → StandsFor self.now past → result ≡ was_forged past }
+    {
+        self.forged
+    }
+
     /// The index of the device at an address.
     fn index_of(&self, addr: u8) -> usize
         requires { IsTrue (is_some (device_at (setup_of self.now).devices addr)) }
@@ -212,6 +226,7 @@ impl Link for Bus<'_> {
         let piece = heard_by_devices(&self.fault, sent);
         all_hear(&mut self.devices, piece, &mut self.frame, heard);
         heard_by_host(&self.fault, sent, heard);
+        self.forged = !is_honest(&self.fault, sent);
         use_up(&mut self.fault);
     }
 }

@@ -6,6 +6,7 @@ mod bus;
 mod device;
 mod fault;
 mod hearing;
+mod honesty;
 mod outcome;
 
 pub use bus::Bus;

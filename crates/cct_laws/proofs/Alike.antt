@@ -1,5 +1,5 @@
 -- Steps of which none names a put that a power cut interrupts have one transcript.
-use Rattle.std.proofs.Common.{◌≡◌, ◌⊎◌, inl, inr, ℕ, ◌==◌, Bool, true, false, List, [], ◌∷◌, ◌++◌, reverse, refl, sym, ap, ap₂, subst, ◌∙◌, Option, Some, None, All, append_assoc}
+use Rattle.std.proofs.Common.{◌≡◌, ◌⊎◌, inl, inr, ℕ, ◌==◌, Bool, true, false, List, [], ◌∷◌, ◌++◌, reverse, refl, sym, ap, ap₂, subst, ◌∙◌, Option, Some, None, All}
 use Rattle.std.specs.Prelude.{MatchBool}
 use Rattle.std.proofs.lemmas.List.{append-nil, reverse-append, reverse-reverse}
 use Rattle.std.proofs.lemmas.List.Elements.{All-cons, All-head, All-nil, All-tail}
@@ -24,7 +24,7 @@ use Rattle.cct_model.specs.Legal.{Entries, EntriesOnWire, Legal, LegalFrom, Next
 use Rattle.cct_model.specs.Scan.{scan_row}
 use Rattle.cct_model.specs.Transcript.{heard_after, lines_of, onto, sale_lines, scan_lines}
 use Rattle.cct_laws.specs.Law.{Begins, NamesNoPut}
-use Rattle.cct_laws.proofs.Onto.{onto_is}
+use Rattle.cct_laws.proofs.Onto.{onto_is, grown}
 
 -- two lists of entries of which a fact holds are the same
 abbrev One : (List Entry → Type 0) → Type 0
@@ -116,21 +116,13 @@ one_step capacity setup past (step.Crash (Some at) choice) no_put = absurd no_pu
 one_step capacity setup past step.Balance no_put = one_is _
 one_step capacity setup past step.End no_put = none_is
 
--- steps leave a past as it is, and add to it
-goes_on : (capacity : ℕ) (setup : Setup) (past : List Entry) (steps : List Step) (end : List Entry) →
-    LegalFrom capacity setup past steps end → (more : List Entry) × (end ≡ more ++ past)
-goes_on capacity setup past [] end legal = ([], legal)
-goes_on capacity setup past (s ∷ steps) end legal =
-    let rest = goes_on capacity setup (legal.0 ++ past) steps end legal.2 in
-    (rest.0 ++ legal.0, rest.1 ∙ sym (append_assoc rest.0 legal.0 past))
-
 -- where some steps lead to one past, they and more lead on from it
 leads_on : (capacity : ℕ) (setup : Setup) (past : List Entry) (played rest : List Step) (end later : List Entry) →
     All NamesNoPut played → LegalFrom capacity setup past played end →
     LegalFrom capacity setup past (played ++ rest) later → (more : List Entry) × (later ≡ more ++ end)
 leads_on capacity setup past [] rest end later no_put legal more =
     subst (λ before. (more : List Entry) × (later ≡ more ++ before)) (sym legal)
-    (goes_on capacity setup past rest later more)
+    (grown capacity setup past rest later more)
 leads_on capacity setup past (s ∷ played) rest end later no_put legal more =
     let same = one_step capacity setup past s (All-head NamesNoPut s played no_put) more.0 legal.0 more.1 legal.1 in
     leads_on capacity setup (legal.0 ++ past) played rest end later (All-tail NamesNoPut s played no_put) legal.2

@@ -12,7 +12,7 @@ use Rattle.cct_model.specs.Legal.{with_end, Legal}
 use Rattle.cct_model.specs.Transcript.{pending, onto}
 use Rattle.cct_laws.specs.Law.{EachEntry}
 use Rattle.cct_laws.proofs.Onto.{onto_each, each_onto}
-use Rattle.cct_laws.proofs.jobs.Telling.{ArePlain, Makes, makes_none, makes_one, makes, unforged, Telling, each_step, any_steps}
+use Rattle.cct_laws.proofs.jobs.Telling.{TellNoExchange, Makes, makes_none, makes_one, makes, unforged, Telling, each_step, any_steps}
 
 -- no entry of a past tells of a forged exchange
 abbrev UnforgedPast : List Entry → Type 0
@@ -23,7 +23,7 @@ abbrev IsAsTold : List Entry → Type 0
 IsAsTold past = HonestPast past ↔ UnforgedPast past
 
 -- entries without an exchange
-plain_told : (news past : List Entry) → ArePlain news → IsAsTold past → IsAsTold (news ++ past)
+plain_told : (news past : List Entry) → TellNoExchange news → IsAsTold past → IsAsTold (news ++ past)
 plain_told [] past plain told = told
 plain_told (entry.Wire addr sent piece ∷ news) past plain told = absurd plain.0
 plain_told (entry.Forged addr ∷ news) past plain told = absurd plain.0

@@ -48,6 +48,14 @@ pub transcript_on : (transcript report : List Entry)
     → onto [] (transcript ++ report) ≡ reverse report ++ onto [] transcript
 transcript_on transcript report = onto-append [] transcript report ∙ onto_is (onto [] transcript) report
 
+-- steps leave a past as it is, and add to it
+pub grown : (capacity : ℕ) (setup : Setup) (past : List Entry) (steps : List Step) (end : List Entry) →
+    LegalFrom capacity setup past steps end → (more : List Entry) × (end ≡ more ++ past)
+grown capacity setup past [] end legal = ([], legal)
+grown capacity setup past (s ∷ steps) end legal =
+    let later = grown capacity setup (legal.0 ++ past) steps end legal.2 in
+    (later.0 ++ legal.0, later.1 ∙ sym (append_assoc later.0 legal.0 past))
+
 -- a legal past, and one step more
 pub legal_from : (capacity : ℕ) (setup : Setup) (past : List Entry) (steps : List Step) (end : List Entry) (s : Step)
     (news : List Entry) → LegalFrom capacity setup past steps end → Entries capacity setup end s news

@@ -13,7 +13,7 @@
 //! - `kept_legal`, `kept_since_legal` and `kept_hopper_legal` of `proofs/Whole.antt`, by which any fact of a device holds
 //!   that each thing that can come keeps; `along` of `proofs/jobs/Seen.antt`, by which one of all entries does;
 //! - `setup_sound`, `steps_of_today` and `front_of_today` of `proofs/text/Scripts.antt`, and there `legal_right` and
-//!   `played_right`, which say four laws at once; `legal_written` of `proofs/text/Texts.antt`;
+//!   `played_right`, which say five laws at once; `legal_written` of `proofs/text/Texts.antt`;
 //! - for a host that restarts over its records `proofs/money/Replaying.antt`, which says what each record more tells, and
 //!   `proofs/money/Restarts.antt`, which says what entries a power cut leaves;
 //! - `on_wire` of `proofs/OnWire.antt`: the entries of a `next`, and after an exchange that was forged the one that tells
@@ -233,7 +233,7 @@ pub fn scripts_are_in_range()
 /// The money of a script that was played up to any of its steps is right. Over an honest wire each device of its setup
 /// posts in order, where a hopper posts nothing; each that keeps the pace loses no coin in silence; and each hopper pays
 /// each order at most once, and closes it with exactly the coins that fell. Whatever the wire does, no id stands in two
-/// of its records.
+/// of its records, and the transcript shows an honest wire exactly if no line tells of a forged exchange.
 pub fn played_scripts_keep_the_laws()
     ensures { (capacity : ℕ) (bytes : List ℕ) (played rest : List Step) (transcript : List Entry)
         → (script bytes).steps ≡ played ++ rest → Legal capacity (script bytes).setup played transcript

@@ -43,6 +43,7 @@ use Rattle.cct_laws.proofs.jobs.Asked.{answers_at}
 use Rattle.cct_laws.proofs.jobs.Brought.{AtDevice, came, took, halted, idled, made_exchange, made_put, AtWork, row_after, wire_of, wire_end, record_end, Brought}
 use Rattle.cct_model.proofs.Doses.{job_undosed}
 use Rattle.cct_laws.proofs.Exchanges.{Replied, Refused, undisturbed_got, undisturbed_refused}
+use Rattle.cct_laws.proofs.Onto.{grown}
 use Rattle.cct_laws.proofs.orders.Ids.{ids_start, put_owned}
 use Rattle.cct_model.proofs.Rows.{waits_before, told_no_waits}
 use Rattle.cct_laws.proofs.jobs.Telling.{Telling, tells, GoesOverForged, over_telling, any_steps}
@@ -496,14 +497,7 @@ job_told capacity setup d c nexts past news s played ids at alone finds told =
     (told_first (LeavesAlone d.addr) d.addr capacity setup past news s told alone)
     (λ pays. told_first (FindsNoneLeft d) d.addr capacity setup past news s told (finds pays)) told.brings)
 
--- a past that goes on
-grown : (capacity : ℕ) (setup : Setup) (past : List Entry) (steps : List Step) (end : List Entry) →
-    LegalFrom capacity setup past steps end → (more : List Entry) × (end ≡ more ++ past)
-grown capacity setup past [] end legal = ([], legal)
-grown capacity setup past (s ∷ steps) end legal =
-    let later = grown capacity setup (legal.0 ++ past) steps end legal.2 in
-    (later.0 ++ legal.0, later.1 ∙ sym (append_assoc later.0 legal.0 past))
-
+-- an end that entries show, they show before and after others
 shows_more : (c : Command) (addr : ℕ) (more news : List Entry) → ShowsEnd c addr news → ShowsEnd c addr (more ++ news)
 shows_more c addr [] news shows = shows
 shows_more c addr (entry.Ended other end ∷ more) news shows = inr (shows_more c addr more news shows)

@@ -18,27 +18,27 @@ use Rattle.cct_model.specs.Transcript.{met, pending}
 use Rattle.cct_laws.proofs.jobs.Brought.{Comes, takes_coin, leaves_coin, leaves_alien, drops_coin, drops_none, jams, jams_none, is_reset, AtDevice, came, took, halted, idled, made_exchange, made_put, wire_end, record_end, poll_end, Brought, of_device, faulted, refused, began_scan, began_sale, nobody, polled, sold, balanced, lost_power, lost_in_put, lost_in_sale, told_of, brought}
 
 -- an entry is no exchange, and tells of none that was forged
-abbrev pub IsPlain : Entry → Type 0
-IsPlain (entry.Wire addr sent piece) = ⊥
-IsPlain (entry.Forged addr) = ⊥
-IsPlain e = ⊤
+abbrev pub TellsNoExchange : Entry → Type 0
+TellsNoExchange (entry.Wire addr sent piece) = ⊥
+TellsNoExchange (entry.Forged addr) = ⊥
+TellsNoExchange e = ⊤
 
-abbrev pub ArePlain : List Entry → Type 0
-ArePlain [] = ⊤
-ArePlain (e ∷ news) = IsPlain e × ArePlain news
+abbrev pub TellNoExchange : List Entry → Type 0
+TellNoExchange [] = ⊤
+TellNoExchange (e ∷ news) = TellsNoExchange e × TellNoExchange news
 
 -- what a step brought makes no exchange; or it is a `next`, and makes one, which may end a job
 pub data Makes : Step → List Entry → Type 0 where
-  makes_none : (s : Step) (news : List Entry) → ArePlain news → Makes s news
+  makes_none : (s : Step) (news : List Entry) → TellNoExchange news → Makes s news
   makes_one : (at addr : ℕ) (sent piece : List ℕ) (end : Option End) →
       Makes (step.Next at) (with_end addr (entry.Wire addr sent piece) end)
 
-plain_end : (addr : ℕ) (e : Entry) (end : Option End) → IsPlain e → ArePlain (with_end addr e end)
+plain_end : (addr : ℕ) (e : Entry) (end : Option End) → TellsNoExchange e → TellNoExchange (with_end addr e end)
 plain_end addr e None plain = (plain, tt)
 plain_end addr e (Some end) plain = (tt, (plain, tt))
 
 came_plain : (d : DeviceSetup) (past : List Met) (s : Step) (e : Entry) (m : Met) (ls : List Line) →
-    Comes d past s e m ls → IsPlain e
+    Comes d past s e m ls → TellsNoExchange e
 came_plain d past _ _ _ _ (takes_coin place accepting test) = tt
 came_plain d past _ _ _ _ (leaves_coin place accepting test) = tt
 came_plain d past _ _ _ _ (leaves_alien accepting) = tt
@@ -77,7 +77,7 @@ makes capacity setup past _ _ (lost_in_put at choice d c since r own at_work is_
 makes capacity setup past _ _ (lost_in_sale at choice id price since none selling) = makes_none _ _ (tt, (tt, tt))
 
 -- entries without an exchange have nothing told after them
-pub unforged : (past news : List Entry) → ArePlain news → forged_after past news ≡ []
+pub unforged : (past news : List Entry) → TellNoExchange news → forged_after past news ≡ []
 unforged past [] plain = refl
 unforged past (entry.Wire addr sent piece ∷ earlier) plain = absurd plain.0
 unforged past (e ∷ earlier) plain = unforged past earlier plain.1
@@ -105,11 +105,11 @@ abbrev IsNoNext : Step → Type 0
 IsNoNext (step.Next addr) = ⊥
 IsNoNext s = ⊤
 
-none_made : (s : Step) (news : List Entry) → IsNoNext s → Makes s news → ArePlain news
+none_made : (s : Step) (news : List Entry) → IsNoNext s → Makes s news → TellNoExchange news
 none_made _ _ other (makes_none s news plain) = plain
 none_made _ _ other (makes_one at addr sent piece end) = absurd other
 
-plain_whole : (past news : List Entry) → ArePlain news → news ≡ forged_after past news ++ news
+plain_whole : (past news : List Entry) → TellNoExchange news → news ≡ forged_after past news ++ news
 plain_whole past news plain = sym (ap (λ front. front ++ news) (unforged past news plain))
 
 told_whole : (capacity : ℕ) (setup : Setup) (past news : List Entry) (s : Step) →

@@ -36,5 +36,6 @@ returns-clause-stands c past stands =
             (one_stands _ _ _ _ _ _ _ (λ d. met d past) stands.order stands.sound found is
             c.befall.ensures.setup c.befall.ensures.lived stands.devices);
         fault = stands.fault ∙ sym tells.1;
+        forged = stands.forged ∙ sym tells.2;
       },
     )

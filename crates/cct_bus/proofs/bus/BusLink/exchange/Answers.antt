@@ -1,7 +1,9 @@
 use Rattle.std.proofs.Common.{◌≡◌, ◌∙◌, ◌≤◌, List, ℕ, ◌∷◌, ◌++◌, length, refl, sym, ap, subst, arith}
+use Rattle.std.specs.Prelude.{not}
 use Rattle.std.specs.List.{All, flat_map}
 use Rattle.cct_model.specs.terms.device.DeviceSetup.{DeviceSetup}
 use Rattle.cct_model.specs.History.{Met}
+use Rattle.cct_model.specs.Honest.{is_honest}
 use Rattle.cct_model.specs.Transcript.{heard_by_devices, heard_by_host, met, pending}
 use Rattle.cct_bus.specs.Device.{Stands, setups_in}
 use Rattle.cct_bus.specs.Room.{most_answered}
@@ -47,6 +49,7 @@ returns c =
               order = ap setups_in (sym back) ∙ c.all_hear.ensures.setups ∙ ap setups_in lent ∙ stands.order;
               devices = subst (λ ds. All (Stands (λ d. met d (entry.Wire addr sent heard ∷ past))) ds) back (exchange_stands past fault new addr sent piece heard same reached hears);
               fault = c.use_up.ensures;
+              forged = ap not (c.is_honest.ensures ∙ ap (λ f. is_honest f sent) same);
             },
           ),
     )
