@@ -436,7 +436,7 @@ fn a_day_agrees_with_its_journal(rt: HostRuntime) -> Result<(), Fail> {
 }
 
 /// How many lines the day tells, with its balance at the end.
-const DAY_LINES: u64 = 187;
+const LINES_TOLD: u64 = 187;
 
 /// The day over a blank disk, with the balance at its end: what is written if the put of this number fails.
 fn written_up_to(alloc: Global, put: u64) -> Result<(Status, String), Fail> {
@@ -450,13 +450,13 @@ fn written_up_to(alloc: Global, put: u64) -> Result<(Status, String), Fail> {
 #[test]
 fn a_day_stops_at_each_fault_of_the_sink(rt: HostRuntime) -> Result<(), Fail> {
     let alloc = rt.alloc();
-    let (ended, whole) = written_up_to(alloc, DAY_LINES + 1)?;
+    let (ended, whole) = written_up_to(alloc, LINES_TOLD + 1)?;
     assert_eq!(rt;
         (ended, whole.as_str().lines().count() as u64),
-        (Status::Done, DAY_LINES)
+        (Status::Done, LINES_TOLD)
     );
     let mut front = String::new(alloc);
-    for (put, line) in (1..=DAY_LINES).zip(whole.as_str().lines()) {
+    for (put, line) in (1..=LINES_TOLD).zip(whole.as_str().lines()) {
         let (status, written) = written_up_to(alloc, put)?;
         assert_eq!(rt;
             (status, written.as_str()),
