@@ -150,7 +150,7 @@ fn report(alloc: Global, puts: &[u64], disk: MemDisk) -> Result<(Status, Vec<u8>
 }
 
 /// What a report tells after the run of a posted coin.
-const LISTED: &[u8] = b"record 0 epoch 2 ffff\nrecord 1 reading 2 1 0 5/1\ntotal 1 0 0 0 0\n";
+const LISTED: &[u8] = b"record 0 epoch 2 ffff 0\nrecord 1 reading 2 1 0 1 5/1\ntotal 1 0 0 0 0\n";
 
 #[test]
 fn a_report_lists_what_a_run_put(rt: HostRuntime) -> Result<(), Fail> {
@@ -245,14 +245,15 @@ fn a_report_stops_at_each_fault_of_the_disk(rt: HostRuntime) -> Result<(), Fail>
 /// A byte that is set on the disk after the run of a posted coin, and how a report then ends. Slots have 32 bytes. Of the
 /// first half the first slot is the header, three have the carry of no record, and after 32 blank ones come those of the
 /// epoch, at place 1152, and of the reading. The second half begins at place 1,048,576, and is blank.
-const POKED: [(u64, u8, Status, &[u8]); 46] = [
+const POKED: [(u64, u8, Status, &[u8]); 51] = [
     // the header
     (0, 0, Status::JournalLost, b"journal alien\n"),
     (0, 0xa4, Status::JournalLost, b"journal alien\n"),
     (1, b'c', Status::JournalLost, b"journal alien\n"),
     (14, b'l', Status::JournalLost, b"journal alien\n"),
     (15, 1, Status::JournalLost, b"journal alien\n"),
-    (15, 3, Status::JournalLost, b"journal alien\n"),
+    (15, 2, Status::JournalLost, b"journal alien\n"),
+    (15, 4, Status::JournalLost, b"journal alien\n"),
     // a generation of the other half, and one above the base
     (16, 1, Status::JournalLost, b"journal alien\n"),
     (16, 2, Status::JournalLost, b"journal alien\n"),
@@ -264,7 +265,7 @@ const POKED: [(u64, u8, Status, &[u8]); 46] = [
         20,
         7,
         Status::Done,
-        b"record 7 epoch 2 ffff\nrecord 8 reading 2 1 0 5/1\ntotal 1 0 0 0 0\n",
+        b"record 7 epoch 2 ffff 0\nrecord 8 reading 2 1 0 1 5/1\ntotal 1 0 0 0 0\n",
     ),
     // the carry: the first byte of a slot, a kind, a sum that no record has, and a slot that isn't used
     (32, 1, Status::JournalLost, b"journal alien\n"),
@@ -278,45 +279,69 @@ const POKED: [(u64, u8, Status, &[u8]); 46] = [
     // the body of the epoch
     (1153, 0, Status::JournalLost, b"journal bad 0\n"),
     (1153, 9, Status::JournalLost, b"journal bad 0\n"),
-    (1157, 1, Status::JournalLost, b"journal bad 0\n"),
+    (1160, 1, Status::JournalLost, b"journal bad 0\n"),
     (1183, 1, Status::JournalLost, b"journal bad 0\n"),
     (
         1154,
         255,
         Status::Done,
-        b"record 0 epoch 255 ffff\nrecord 1 reading 2 1 0 5/1\ntotal 1 0 0 0 0\n",
+        b"record 0 epoch 255 ffff 0\nrecord 1 reading 2 1 0 1 5/1\ntotal 1 0 0 0 0\n",
     ),
     (
         1155,
         0,
         Status::Done,
-        b"record 0 epoch 2 ff00\nrecord 1 reading 2 1 0 5/1\ntotal 1 0 0 0 0\n",
+        b"record 0 epoch 2 ff00 0\nrecord 1 reading 2 1 0 1 5/1\ntotal 1 0 0 0 0\n",
+    ),
+    (
+        1159,
+        255,
+        Status::Done,
+        b"record 0 epoch 2 ffff 16711680\nrecord 1 reading 2 1 0 1 5/1\ntotal 1 0 0 0 0\n",
     ),
     // the body of the reading
     (1185, 0, Status::JournalLost, b"journal bad 1\n"),
-    (1189, 0, Status::JournalLost, b"journal bad 1\n"),
-    (1189, 2, Status::JournalLost, b"journal bad 1\n"),
-    (1189, 6, Status::JournalLost, b"journal bad 1\n"),
-    (1190, 0, Status::JournalLost, b"journal bad 1\n"),
-    (1192, 1, Status::JournalLost, b"journal bad 1\n"),
+    (1194, 0, Status::JournalLost, b"journal bad 1\n"),
+    (1194, 2, Status::JournalLost, b"journal bad 1\n"),
+    (1194, 6, Status::JournalLost, b"journal bad 1\n"),
+    (1195, 0, Status::JournalLost, b"journal bad 1\n"),
+    (1197, 1, Status::JournalLost, b"journal bad 1\n"),
     (1215, 1, Status::JournalLost, b"journal bad 1\n"),
     (
         1188,
         249,
         Status::Done,
-        b"record 0 epoch 2 ffff\nrecord 1 reading 2 1 249 5/1\ntotal 1 249 0 0 0\n",
+        b"record 0 epoch 2 ffff 0\nrecord 1 reading 2 1 249 1 5/1\ntotal 1 249 0 0 0\n",
     ),
     (
         1190,
-        255,
+        1,
         Status::Done,
-        b"record 0 epoch 2 ffff\nrecord 1 reading 2 1 0 255/1\ntotal 1 0 0 0 0\n",
+        b"record 0 epoch 2 ffff 0\nrecord 1 reading 2 1 65536 1 5/1\ntotal 1 65536 0 0 0\n",
     ),
     (
         1191,
         0,
         Status::Done,
-        b"record 0 epoch 2 ffff\nrecord 1 reading 2 1 0 5/0\ntotal 1 0 0 0 0\n",
+        b"record 0 epoch 2 ffff 0\nrecord 1 reading 2 1 0 0 5/1\ntotal 1 0 0 0 0\n",
+    ),
+    (
+        1193,
+        255,
+        Status::Done,
+        b"record 0 epoch 2 ffff 0\nrecord 1 reading 2 1 0 16711681 5/1\ntotal 1 0 0 0 0\n",
+    ),
+    (
+        1195,
+        255,
+        Status::Done,
+        b"record 0 epoch 2 ffff 0\nrecord 1 reading 2 1 0 1 255/1\ntotal 1 0 0 0 0\n",
+    ),
+    (
+        1196,
+        0,
+        Status::Done,
+        b"record 0 epoch 2 ffff 0\nrecord 1 reading 2 1 0 1 5/0\ntotal 1 0 0 0 0\n",
     ),
     // their gates
     (1152, 0, Status::Done, b"total 0 0 0 0 0\n"),
@@ -324,7 +349,7 @@ const POKED: [(u64, u8, Status, &[u8]); 46] = [
         1184,
         0,
         Status::Done,
-        b"record 0 epoch 2 ffff\ntotal 0 0 0 0 0\n",
+        b"record 0 epoch 2 ffff 0\ntotal 0 0 0 0 0\n",
     ),
     // after the end
     (1216, 0xa5, Status::JournalLost, b"journal bad 2\n"),

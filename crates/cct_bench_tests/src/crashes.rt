@@ -7,9 +7,9 @@ use std::test::Fail;
 
 /// How many lines of the script of a posted coin come before the step that puts its reading, and how many lines of its
 /// transcript.
-const SCRIPT_LINES: usize = 27;
+const SCRIPT_LINES: usize = 30;
 
-pub(crate) const TEXT_LINES: usize = 10;
+pub(crate) const TEXT_LINES: usize = 13;
 
 /// A power cut in the place of the put of a reading, and whether its record is kept. Its gate stands at place 1184.
 const READING_LOST: [(&str, bool); 39] = [
@@ -60,16 +60,21 @@ const READING_LOST: [(&str, bool); 39] = [
 ];
 
 /// What is told where the reading is lost, and where it is kept: by the crash, and by a whole round after it.
-pub(crate) const PUT_AGAIN: &[u8] = b"crash 1\nok round 2\n\
-      wire 2 020001e518 020001e518010b02000105010000000000000000eb\nwire 2 020001e617 020001e61701020200fffffd\n\
-      put reading 2 1 0 5/1\nposted 2\n";
+pub(crate) const PUT_AGAIN: &[u8] =
+    b"crash 1\nok round 2\nwire 2 020001e11c 020001e11c01030200010000f9\n\
+      wire 2 020001e518 020001e518010b02000105010000000000000000eb\n\
+      wire 2 020001e617 020001e61701020200fffffd\nwire 2 020001e11c 020001e11c01030200010000f9\n\
+      put reading 2 1 0 1 5/1\nposted 2\n";
 
-pub(crate) const CLEAN: &[u8] = b"crash 2\nkept reading 2 1 0 5/1\nok round 2\n\
-      wire 2 020001e518 020001e518010b02000105010000000000000000eb\nwire 2 020001e617 020001e61701020200fffffd\n\
-      clean 2\nidle 2\n";
+pub(crate) const CLEAN: &[u8] =
+    b"crash 2\nkept reading 2 1 0 1 5/1\nok round 2\nwire 2 020001e11c 020001e11c01030200010000f9\n\
+      wire 2 020001e518 020001e518010b02000105010000000000000000eb\n\
+      wire 2 020001e617 020001e61701020200fffffd\nwire 2 020001e11c 020001e11c01030200010000f9\nclean 2\n\
+      idle 2\n";
 
 /// A whole round, and the end of the script.
-pub(crate) const ROUND: &[u8] = b"round 2\nnext 2\nnext 2\nnext 2\nend\n";
+pub(crate) const ROUND: &[u8] =
+    b"round 2\nnext 2\nnext 2\nnext 2\nnext 2\nnext 2\nend\n";
 
 /// The script of a posted coin up to the step that puts its reading, and in its place this line and these.
 pub(crate) fn crashing(alloc: Global, line: &str, after: &[u8]) -> Result<Vec<u8>, Fail> {
@@ -158,16 +163,16 @@ const AFTER: [(&[u8], &[u8]); 15] = [
     ),
     // the first of a stop's two records is kept: the epoch runs on
     (
-        b"coin 2 5\nstop 2\nnext 2\nnext 2\nnext 2\ncrash 2 4 0\nstart 2 ffff\nstop 2\nbalance\n",
-        b"\ncrash 3\nkept reading 2 2 0 5/1\nno start 2 ffff epochruns\nok stop 2\nbalance 200 0 0 0\n",
+        b"coin 2 5\nstop 2\nnext 2\nnext 2\nnext 2\nnext 2\nnext 2\ncrash 2 4 0\nstart 2 ffff\nstop 2\nbalance\n",
+        b"\ncrash 3\nkept reading 2 2 0 2 5/1\nno start 2 ffff epochruns\nok stop 2\nbalance 200 0 0 0\n",
     ),
     // the end of an epoch is kept, and is lost
     (
-        b"stop 2\nnext 2\nnext 2\nnext 2\ncrash 2 4 0\nround 2\nstart 2 ffff\n",
+        b"stop 2\nnext 2\nnext 2\nnext 2\nnext 2\nnext 2\ncrash 2 4 0\nround 2\nstart 2 ffff\n",
         b"\ncrash 3\nkept epochend 2\nno round 2 noepoch\nok start 2 ffff\n",
     ),
     (
-        b"stop 2\nnext 2\nnext 2\nnext 2\ncrash 2 1 1\nround 2\nstart 2 ffff\n",
+        b"stop 2\nnext 2\nnext 2\nnext 2\nnext 2\nnext 2\ncrash 2 1 1\nround 2\nstart 2 ffff\n",
         b"\ncrash 2\nok round 2\nno start 2 ffff busy\n",
     ),
     // a record that a device's row doesn't put yet
@@ -178,8 +183,8 @@ const AFTER: [(&[u8], &[u8]); 15] = [
     // a fault of the wire and a device outlast the host
     (
         b"coin 2 6\nfault host -\ncrash 7\ncrash 7\nround 2\nnext 2\nnext 2\n",
-        b"\naccepted 2 6 1\nfault host -\ncrash 2\ncrash 2\nok round 2\nwire 2 020001e518 020001e518\n\
-          wire 2 020001e518 020001e518010b02000206010501000000000000e3\n",
+        b"\naccepted 2 6 1\nfault host -\ncrash 2\ncrash 2\nok round 2\n\
+          wire 2 020001e11c 020001e11c\nwire 2 020001e11c 020001e11c01030200020000f8\n",
     ),
 ];
 
@@ -189,8 +194,8 @@ fn after_a_coin(alloc: Global, steps: &[u8]) -> Result<Vec<u8>, Fail> {
         alloc,
         POSTED,
         SETUP_LINES,
-        b"hopper 3 simple 197121 16777214 10\nbegin\nstart 2 ffff\nnext 2\nnext 2\nnext 2\nnext 2\ncoin 2 5\n\
-          round 2\nnext 2\nnext 2\nnext 2\n",
+        b"hopper 3 simple 197121 16777214 10\nbegin\nstart 2 ffff\nnext 2\nnext 2\nnext 2\nnext 2\nnext 2\ncoin 2 5\n\
+          round 2\nnext 2\nnext 2\nnext 2\nnext 2\nnext 2\n",
     )?;
     script.extend_from_slice(steps)?;
     script.extend_from_slice(b"end\n")?;
@@ -222,32 +227,40 @@ fn a_host_goes_on_by_its_records(rt: HostRuntime) -> Result<(), Fail> {
 /// An epoch whose record is kept before its mask is sent ends with the first round.
 const UNSET: &[u8] =
     b"acceptor 2 simple 1 0\nvalue 2 5 100 XX100A\nhopper 3 simple 197121 16777214 10\n\
-      hopper 5 simple 5 0 10\nbegin\nstart 2 0010\nnext 2\ncrash 2 4 0\nstart 2 0010\nnext 2\nnext 2\ncrash 2 4 0\n\
-      coin 2 5\nround 2\nnext 2\nnext 2\nnext 2\nround 2\nstart 2 0010\nend\n";
+      hopper 5 simple 5 0 10\nbegin\nstart 2 0010\nnext 2\ncrash 2 4 0\nstart 2 0010\nnext 2\nnext 2\n\
+      next 2\ncrash 2 4 0\ncoin 2 5\nround 2\nnext 2\nnext 2\nnext 2\nnext 2\nnext 2\nround 2\n\
+      start 2 0010\nend\n";
 
 const UNSET_TEXT: &[u8] =
     b"ok start 2 0010\nwire 2 02000101fc 02000101fc01000200fd\ncrash 0\nok start 2 0010\n\
-      wire 2 02000101fc 02000101fc01000200fd\nwire 2 020001e518 020001e518010b02000000000000000000000000f2\n\
-      crash 1\nkept epoch 2 0010\ninhibited 2 5\nok round 2\n\
-      wire 2 020001e518 020001e518010b02000100020000000000000000ef\nwire 2 020001e617 020001e617010202000000fb\n\
-      put broken 2 0000 1 -\nbroke 2\nno round 2 noepoch\nok start 2 0010\n";
+      wire 2 02000101fc 02000101fc01000200fd\n\
+      wire 2 020001e518 020001e518010b02000000000000000000000000f2\n\
+      wire 2 020001e11c 020001e11c01030200000000fa\ncrash 1\nkept epoch 2 0010 0\ninhibited 2 5\n\
+      ok round 2\nwire 2 020001e11c 020001e11c01030200000000fa\n\
+      wire 2 020001e518 020001e518010b02000100020000000000000000ef\n\
+      wire 2 020001e617 020001e617010202000000fb\nwire 2 020001e11c 020001e11c01030200000000fa\n\
+      put broken 2 0000 1 0 0 -\nbroke 2\nno round 2 noepoch\nok start 2 0010\n";
 
 /// Two orders whose ids stand out of order in the journal.
 const CROSSED: &[u8] =
     b"acceptor 2 simple 1 0\nvalue 2 5 100 XX100A\nhopper 3 simple 197121 16777214 10\n\
-      hopper 5 simple 5 0 10\nbegin\nstart 2 0010\nnext 2\nnext 2\nnext 2\nnext 2\ncoin 2 5\nround 2\nnext 2\nnext 2\n\
-      next 2\npay 3 41 1\npay 5 42 1\nnext 5\nnext 5\nnext 5\nnext 3\nnext 3\nnext 3\ncrash 0\npay 3 43 1\n\
-      vend 42 1\nvend 43 81\nvend 43 80\nend\n";
+      hopper 5 simple 5 0 10\nbegin\nstart 2 0010\nnext 2\nnext 2\nnext 2\nnext 2\nnext 2\ncoin 2 5\n\
+      round 2\nnext 2\nnext 2\nnext 2\nnext 2\nnext 2\npay 3 41 1\npay 5 42 1\nnext 5\nnext 5\nnext 5\n\
+      next 3\nnext 3\nnext 3\ncrash 0\npay 3 43 1\nvend 42 1\nvend 43 81\nvend 43 80\nend\n";
 
-const CROSSED_TEXT: &[u8] = b"ok start 2 0010\nwire 2 02000101fc 02000101fc01000200fd\n\
-      wire 2 020001e518 020001e518010b02000000000000000000000000f2\nput epoch 2 0010\n\
+const CROSSED_TEXT: &[u8] =
+    b"ok start 2 0010\nwire 2 02000101fc 02000101fc01000200fd\n\
+      wire 2 020001e518 020001e518010b02000000000000000000000000f2\n\
+      wire 2 020001e11c 020001e11c01030200000000fa\nput epoch 2 0010 0\n\
       wire 2 020201e7100004 020201e710000401000200fd\nstarted 2\naccepted 2 5 1\nok round 2\n\
-      wire 2 020001e518 020001e518010b02000105010000000000000000eb\nwire 2 020001e617 020001e617010202001000eb\n\
-      put reading 2 1 0 5/1\nposted 2\nok pay 3 41 1\nok pay 5 42 1\nwire 5 050101a4a5b0 050101a4a5b001000500fa\n\
-      wire 5 050001a852 050001a85201030500000000f7\nput opened 42 5 1 0\n\
-      wire 3 030101a4a5b2 030101a4a5b201000300fc\nwire 3 030001a854 030001a85401030300fefffffd\n\
-      put opened 41 3 1 16777214\ncrash 4\nno pay 3 43 1 orderopen 41\nno vend 42 1 oldid 42\n\
-      no vend 43 81 short 80\nok vend 43 80\n";
+      wire 2 020001e11c 020001e11c01030200010000f9\n\
+      wire 2 020001e518 020001e518010b02000105010000000000000000eb\n\
+      wire 2 020001e617 020001e617010202001000eb\nwire 2 020001e11c 020001e11c01030200010000f9\n\
+      put reading 2 1 0 1 5/1\nposted 2\nok pay 3 41 1\nok pay 5 42 1\n\
+      wire 5 050101a4a5b0 050101a4a5b001000500fa\nwire 5 050001a852 050001a85201030500000000f7\n\
+      put opened 42 5 1 0\nwire 3 030101a4a5b2 030101a4a5b201000300fc\n\
+      wire 3 030001a854 030001a85401030300fefffffd\nput opened 41 3 1 16777214\ncrash 4\n\
+      no pay 3 43 1 orderopen 41\nno vend 42 1 oldid 42\nno vend 43 81 short 80\nok vend 43 80\n";
 
 #[test]
 fn a_host_starts_over_any_of_its_records(rt: HostRuntime) -> Result<(), Fail> {

@@ -62,24 +62,27 @@ fn a_line_is_refused_by_its_kind(rt: HostRuntime) -> Result<(), Fail> {
 }
 
 /// How many transcript lines a start tells.
-const START_TEXT_LINES: usize = 6;
+const START_TEXT_LINES: usize = 7;
 
 /// What is played after an acceptor at 2 is started, and what is told.
-const DAMAGED: [(Parts, Parts); 15] = [
+const DAMAGED: [(Parts, Parts); 16] = [
     // a coin that never fell is posted
     (
-        &[b"round 2\nfault host 010b02000105010000000000000000eb\nnext 2\nnext 2\nnext 2\n"],
+        &[b"round 2\nnext 2\nfault host 010b02000105010000000000000000eb\nnext 2\nnext 2\nnext 2\nnext 2\n"],
         &[
-            b"ok round 2\nfault host 010b02000105010000000000000000eb\n\
+            b"ok round 2\nwire 2 020001e11c 020001e11c01030200000000fa\n\
+              fault host 010b02000105010000000000000000eb\n\
               wire 2 020001e518 020001e518010b02000105010000000000000000eb\nforged 2\n\
-              wire 2 020001e617 020001e61701020200fffffd\nput reading 2 1 0 5/1\nposted 2\n",
+              wire 2 020001e617 020001e61701020200fffffd\nwire 2 020001e11c 020001e11c01030200000000fa\n\
+              put reading 2 1 0 0 5/1\nposted 2\n",
         ],
     ),
     // its sum is wrong, and the credits are asked for again
     (
-        &[b"round 2\nfault host 010b02000105010000000000000000ec\nnext 2\nnext 2\n"],
+        &[b"round 2\nnext 2\nfault host 010b02000105010000000000000000ec\nnext 2\nnext 2\n"],
         &[
-            b"ok round 2\nfault host 010b02000105010000000000000000ec\n\
+            b"ok round 2\nwire 2 020001e11c 020001e11c01030200000000fa\n\
+              fault host 010b02000105010000000000000000ec\n\
               wire 2 020001e518 020001e518010b02000105010000000000000000ec\n\
               wire 2 020001e518 020001e518010b02000000000000000000000000f2\n",
         ],
@@ -89,75 +92,87 @@ const DAMAGED: [(Parts, Parts); 15] = [
         &[
             b"round 2\nfault whole ",
             &[b'5'; 1040],
-            b"\nnext 2\nnext 2\nnext 2\n",
+            b"\nnext 2\nnext 2\nnext 2\nnext 2\nnext 2\n",
         ],
         &[
             b"ok round 2\nfault whole ",
             &[b'5'; 1040],
-            b"\nwire 2 020001e518 ",
+            b"\nwire 2 020001e11c ",
             &[b'5'; 1040],
-            b"\nwire 2 020001e518 020001e518010b02000000000000000000000000f2\n\
-              wire 2 020001e617 020001e61701020200fffffd\nclean 2\n",
+            b"\nwire 2 020001e11c 020001e11c01030200000000fa\n\
+              wire 2 020001e518 020001e518010b02000000000000000000000000f2\n\
+              wire 2 020001e617 020001e61701020200fffffd\nwire 2 020001e11c 020001e11c01030200000000fa\nclean 2\n",
         ],
     ),
     // the end of a job comes before
     (
-        &[b"round 2\nnext 2\nfault host 01020200fffffd\nnext 2\n"],
+        &[b"round 2\nnext 2\nnext 2\nnext 2\nfault host 01030200000000fa\nnext 2\n"],
         &[
-            b"ok round 2\nwire 2 020001e518 020001e518010b02000000000000000000000000f2\n\
-              fault host 01020200fffffd\nwire 2 020001e617 020001e61701020200fffffd\nclean 2\nforged 2\n",
+            b"ok round 2\nwire 2 020001e11c 020001e11c01030200000000fa\n\
+              wire 2 020001e518 020001e518010b02000000000000000000000000f2\n\
+              wire 2 020001e617 020001e61701020200fffffd\nfault host 01030200000000fa\n\
+              wire 2 020001e11c 020001e11c01030200000000fa\nclean 2\nforged 2\n",
+        ],
+    ),
+    // coins that never fell make the reading be made again
+    (
+        &[b"round 2\nnext 2\nnext 2\nnext 2\nfault host 01030200050000f5\nnext 2\n"],
+        &[
+            b"ok round 2\nwire 2 020001e11c 020001e11c01030200000000fa\n\
+              wire 2 020001e518 020001e518010b02000000000000000000000000f2\n\
+              wire 2 020001e617 020001e61701020200fffffd\nfault host 01030200050000f5\n\
+              wire 2 020001e11c 020001e11c01030200050000f5\nmoved 2\nforged 2\n",
         ],
     ),
     // a message under the CRC
     (
         &[b"round 2\nfault host 0200b1fe60\nnext 2\n"],
-        &[b"ok round 2\nfault host 0200b1fe60\nwire 2 020001e518 020001e5180200b1fe60\nforged 2\n"],
+        &[b"ok round 2\nfault host 0200b1fe60\nwire 2 020001e11c 020001e11c0200b1fe60\nforged 2\n"],
     ),
     // all that is heard: a message after the echo, one in its place, and the echo alone
     (
-        &[b"round 2\nfault whole 020001e518010b02000105010000000000000000eb\nnext 2\n"],
+        &[b"round 2\nfault whole 020001e11c01030200010000f9\nnext 2\n"],
         &[
-            b"ok round 2\nfault whole 020001e518010b02000105010000000000000000eb\n\
-              wire 2 020001e518 020001e518010b02000105010000000000000000eb\nforged 2\n",
+            b"ok round 2\nfault whole 020001e11c01030200010000f9\n\
+              wire 2 020001e11c 020001e11c01030200010000f9\nforged 2\n",
         ],
     ),
     (
-        &[b"round 2\nfault whole 010b02000105010000000000000000eb\nnext 2\nnext 2\n"],
+        &[b"round 2\nfault whole 01030200010000f9\nnext 2\nnext 2\n"],
         &[
-            b"ok round 2\nfault whole 010b02000105010000000000000000eb\n\
-              wire 2 020001e518 010b02000105010000000000000000eb\nforged 2\n\
-              wire 2 020001e518 020001e518010b02000000000000000000000000f2\n",
+            b"ok round 2\nfault whole 01030200010000f9\nwire 2 020001e11c 01030200010000f9\nforged 2\n\
+              wire 2 020001e11c 020001e11c01030200000000fa\n",
         ],
     ),
     (
-        &[b"round 2\nfault whole 020001e518\nnext 2\n"],
-        &[b"ok round 2\nfault whole 020001e518\nwire 2 020001e518 020001e518\nforged 2\n"],
+        &[b"round 2\nfault whole 020001e11c\nnext 2\n"],
+        &[b"ok round 2\nfault whole 020001e11c\nwire 2 020001e11c 020001e11c\nforged 2\n"],
     ),
     // what the devices hear: another request, and one whose sum is wrong
     (
         &[b"round 2\nfault devices 020001e617\nnext 2\nnext 2\n"],
         &[
-            b"ok round 2\nfault devices 020001e617\nwire 2 020001e518 020001e51801020200fffffd\nforged 2\n\
-              wire 2 020001e518 020001e518010b02000000000000000000000000f2\n",
+            b"ok round 2\nfault devices 020001e617\nwire 2 020001e11c 020001e11c01020200fffffd\nforged 2\n\
+              wire 2 020001e11c 020001e11c01030200000000fa\n",
         ],
     ),
     (
         &[b"round 2\nfault devices 020001e618\nnext 2\n"],
-        &[b"ok round 2\nfault devices 020001e618\nwire 2 020001e518 020001e518\n"],
+        &[b"ok round 2\nfault devices 020001e618\nwire 2 020001e11c 020001e11c\n"],
     ),
     // a fault that another one replaces before an exchange, and one that waits for it
     (
-        &[b"round 2\nfault host 010b02000105010000000000000000eb\nfault host -\nnext 2\n"],
+        &[b"round 2\nfault host 01030200010000f9\nfault host -\nnext 2\n"],
         &[
-            b"ok round 2\nfault host 010b02000105010000000000000000eb\nfault host -\n\
-              wire 2 020001e518 020001e518\n",
+            b"ok round 2\nfault host 01030200010000f9\nfault host -\n\
+              wire 2 020001e11c 020001e11c\n",
         ],
     ),
     (
-        &[b"fault host 010b02000105010000000000000000eb\nnext 2\nbalance\nround 2\nnext 2\n"],
+        &[b"fault host 01030200010000f9\nnext 2\nbalance\nround 2\nnext 2\n"],
         &[
-            b"fault host 010b02000105010000000000000000eb\nidle 2\nbalance 0 0 0 0\nok round 2\n\
-              wire 2 020001e518 020001e518010b02000105010000000000000000eb\nforged 2\n",
+            b"fault host 01030200010000f9\nidle 2\nbalance 0 0 0 0\nok round 2\n\
+              wire 2 020001e11c 020001e11c01030200010000f9\nforged 2\n",
         ],
     ),
     // after an address poll the host may hear anything, but the devices may not

@@ -10,9 +10,11 @@ use std::process::Abort;
 use std::test::Fail;
 
 /// What is told where the reading is put, and by a whole round after it.
-const PUT: &[u8] = b"put reading 2 1 0 5/1\nposted 2\nok round 2\n\
-      wire 2 020001e518 020001e518010b02000105010000000000000000eb\nwire 2 020001e617 020001e61701020200fffffd\n\
-      clean 2\nidle 2\n";
+const PUT: &[u8] =
+    b"put reading 2 1 0 1 5/1\nposted 2\nok round 2\nwire 2 020001e11c 020001e11c01030200010000f9\n\
+      wire 2 020001e518 020001e518010b02000105010000000000000000eb\n\
+      wire 2 020001e617 020001e61701020200fffffd\nwire 2 020001e11c 020001e11c01030200010000f9\nclean 2\n\
+      idle 2\n";
 
 /// The line of a run in the place of the put of the reading, the first call of the disk that is to fail, how many calls this
 /// line makes, how many the whole round after it, and what both tell.
@@ -41,11 +43,11 @@ fn before(call: u64, (_, _, calls, again, _): Run) -> Option<(usize, usize, usiz
     if call <= CALLS_BLANK {
         Some((0, 0, 1))
     } else if number == 0 {
-        Some((3, 0, 1))
+        Some((4, 0, 1))
     } else if number <= calls {
-        Some((10, 1, if again == 0 { 2 } else { 1 }))
+        Some((13, 1, if again == 0 { 2 } else { 1 }))
     } else if number <= calls.saturating_add(again) {
-        Some((14, 1, 2))
+        Some((19, 1, 2))
     } else {
         None
     }
@@ -54,8 +56,8 @@ fn before(call: u64, (_, _, calls, again, _): Run) -> Option<(usize, usize, usiz
 /// What a report lists of none, one and two records.
 const LISTS: [&[u8]; 3] = [
     b"total 0 0 0 0 0\n",
-    b"record 0 epoch 2 ffff\ntotal 0 0 0 0 0\n",
-    b"record 0 epoch 2 ffff\nrecord 1 reading 2 1 0 5/1\ntotal 1 0 0 0 0\n",
+    b"record 0 epoch 2 ffff 0\ntotal 0 0 0 0 0\n",
+    b"record 0 epoch 2 ffff 0\nrecord 1 reading 2 1 0 1 5/1\ntotal 1 0 0 0 0\n",
 ];
 
 /// What a report lists after a power cut.

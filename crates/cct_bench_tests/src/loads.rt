@@ -20,39 +20,39 @@ fn load(
     Ok((status, written))
 }
 
-/// The shortest load, with one fault of the wire.
+/// The shortest load, with two coins and one object that is no coin.
 const SHORT: &[u8] =
-    b"load 0 1\nsteps 23\naccepted 2\nposted 2\nlost 0\nfell 1\nclosed 1\nbalance 10 0 10 0\n";
+    b"load 0 1\nsteps 26\naccepted 2\nposted 2\nlost 0\nfell 1\nclosed 1\nbalance 10 0 10 0\n";
 
 /// How many calls of the disk its four records take.
 const CALLS_PUT: u64 = 16;
 
-/// Loads and their sums: every coin is accepted and posted, and each round pays one. The second has 11 crashes, the
-/// longest 155.
+/// Loads and their sums: every coin is accepted and posted, and each round pays one. The second has 3 crashes, the
+/// longest 159.
 const LOADS: [(&str, &str, &[u8]); 4] = [
     ("0", "1", SHORT),
     (
         "42",
         "300",
-        b"load 42 300\nsteps 5405\naccepted 788\nposted 788\nlost 0\nfell 300\nclosed 300\nbalance 4880 0 3000 0\n",
+        b"load 42 300\nsteps 6006\naccepted 786\nposted 786\nlost 0\nfell 300\nclosed 300\nbalance 4860 0 3000 0\n",
     ),
     (
         "9223372036854775808",
         "40",
-        b"load 9223372036854775808 40\nsteps 725\naccepted 104\nposted 104\nlost 0\nfell 40\nclosed 40\n\
-          balance 640 0 400 0\n",
+        b"load 9223372036854775808 40\nsteps 806\naccepted 108\nposted 108\nlost 0\nfell 40\nclosed 40\n\
+          balance 680 0 400 0\n",
     ),
     (
         "18446744073709551615",
         "50",
-        b"load 18446744073709551615 50\nsteps 905\naccepted 129\nposted 129\nlost 0\nfell 50\nclosed 50\n\
-          balance 790 0 500 0\n",
+        b"load 18446744073709551615 50\nsteps 1006\naccepted 132\nposted 132\nlost 0\nfell 50\nclosed 50\n\
+          balance 820 0 500 0\n",
     ),
 ];
 
 const LONGEST: &[u8] =
-    b"load 7 10000\nsteps 180005\naccepted 26250\nposted 26250\nlost 0\nfell 10000\n\
-      closed 10000\nbalance 162500 0 100000 0\n";
+    b"load 7 10000\nsteps 200006\naccepted 26247\nposted 26247\nlost 0\nfell 10000\n\
+      closed 10000\nbalance 162470 0 100000 0\n";
 
 #[test]
 fn a_load_tells_its_sums(rt: HostRuntime) -> Result<(), Fail> {

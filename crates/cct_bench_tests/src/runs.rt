@@ -9,24 +9,27 @@ use std::test::Fail;
 
 /// Each word of a script that is played, once at least.
 const SCRIPT: &[u8] =
-    b"acceptor 2 simple 1 0\nvalue 2 5 100 XX100A\ntexts 2 A B C D\nhopper 3 simple 7 10 20\nbegin\nstart 2 0010\n\
-      next 2\nnext 2\nnext 2\nnext 2\ncoin 2 5\nalien 2\nround 2\nnext 2\nnext 2\nnext 2\n\
-      fault devices -\nfault host -\nfault whole -\npath 2 5 3\nnext 2\nstop 2\nident 2\nscan\nnext 0\n\
-      pay 3 1 2\nhalt 3\nfall 3\njam 3\nsettle 3\nnext 3\nbalance\nreset 2\nend\n";
+    b"acceptor 2 simple 1 0\nvalue 2 5 100 XX100A\ntexts 2 A B C D\nhopper 3 simple 7 10 20\nbegin\n\
+      start 2 0010\nnext 2\nnext 2\nnext 2\nnext 2\nnext 2\ncoin 2 5\nalien 2\nround 2\nnext 2\nnext 2\n\
+      next 2\nnext 2\nnext 2\nfault devices -\nfault host -\nfault whole -\npath 2 5 3\nnext 2\nstop 2\n\
+      ident 2\nscan\nnext 0\npay 3 1 2\nhalt 3\nfall 3\njam 3\nsettle 3\nnext 3\nbalance\nreset 2\nend\n";
 
-const TRANSCRIPT: &[u8] = b"ok start 2 0010\nwire 2 02000101fc 02000101fc01000200fd\n\
-      wire 2 020001e518 020001e518010b02000000000000000000000000f2\nput epoch 2 0010\n\
+const TRANSCRIPT: &[u8] =
+    b"ok start 2 0010\nwire 2 02000101fc 02000101fc01000200fd\n\
+      wire 2 020001e518 020001e518010b02000000000000000000000000f2\n\
+      wire 2 020001e11c 020001e11c01030200000000fa\nput epoch 2 0010 0\n\
       wire 2 020201e7100004 020201e710000401000200fd\nstarted 2\naccepted 2 5 1\nalien 2\nok round 2\n\
-      wire 2 020001e518 020001e518010b02000200010501000000000000e9\nwire 2 020001e617 020001e617010202001000eb\n\
-      put reading 2 2 0 5/1\nposted 2\nfault devices -\nfault host -\nfault whole -\nok path 2 5 3\n\
-      wire 2 020201d2050321 -\nno stop 2 busy\nno ident 2 busy\nok scan\nwire 0 000001fd02 000001fd020203\n\
-      ok pay 3 1 2\nok halt 3\nnofall 3\nnojam 3\nno settle 3 busy\n\
+      wire 2 020001e11c 020001e11c01030200010000f9\n\
+      wire 2 020001e518 020001e518010b02000200010501000000000000e9\n\
+      wire 2 020001e617 020001e617010202001000eb\nwire 2 020001e11c 020001e11c01030200010000f9\n\
+      put reading 2 2 0 1 5/1\nposted 2\nfault devices -\nfault host -\nfault whole -\nok path 2 5 3\n\
+      wire 2 020201d2050321 -\nno stop 2 busy\nno ident 2 busy\nok scan\n\
+      wire 0 000001fd02 000001fd020203\nok pay 3 1 2\nok halt 3\nnofall 3\nnojam 3\nno settle 3 busy\n\
       wire 3 030101a4a5b2 030101a4a5b201000300fc\nbalance 60 40 0 0\nreset 2\n";
 
 /// How many transcript lines the lines of that script give, one after the other.
-const LINES: [usize; 34] = [
-    0, 0, 0, 0, 0, 1, 1, 1, 1, 2, 1, 1, 1, 1, 1, 2, 1, 1, 1, 1, 1, 1, 1, 1, 1, 1, 1, 1, 1, 1, 1, 1,
-    1, 0,
+const LINES: [usize; 37] = [
+    0, 0, 0, 0, 0, 1, 1, 1, 1, 1, 2, 1, 1, 1, 1, 1, 1, 1, 2, 1, 1, 1, 1, 1, 1, 1, 1, 1, 1, 1, 1, 1, 1, 1, 1, 1, 0,
 ];
 
 /// A coin is posted, and a second round finds nothing to post.
@@ -35,24 +38,28 @@ pub(crate) const POSTED: &[u8] =
       value 2 4 100 XX100A\nvalue 2 5 100 XX100A\nvalue 2 6 100 XX100A\nvalue 2 7 100 XX100A\n\
       value 2 8 100 XX100A\nvalue 2 9 100 XX100A\nvalue 2 10 100 XX100A\nvalue 2 11 100 XX100A\n\
       value 2 12 100 XX100A\nvalue 2 13 100 XX100A\nvalue 2 14 100 XX100A\nvalue 2 15 100 XX100A\n\
-      value 2 16 100 XX100A\nbegin\nstart 2 ffff\nnext 2\nnext 2\nnext 2\nnext 2\ncoin 2 5\n\
-      round 2\nnext 2\nnext 2\nnext 2\nround 2\nnext 2\nnext 2\nend\n";
+      value 2 16 100 XX100A\nbegin\nstart 2 ffff\nnext 2\nnext 2\nnext 2\nnext 2\nnext 2\ncoin 2 5\n\
+      round 2\nnext 2\nnext 2\nnext 2\nnext 2\nnext 2\nround 2\nnext 2\nnext 2\nnext 2\nnext 2\nend\n";
 
-pub(crate) const POSTED_TEXT: &[u8] = b"ok start 2 ffff\nwire 2 02000101fc 02000101fc01000200fd\n\
-      wire 2 020001e518 020001e518010b02000000000000000000000000f2\nput epoch 2 ffff\n\
+pub(crate) const POSTED_TEXT: &[u8] =
+    b"ok start 2 ffff\nwire 2 02000101fc 02000101fc01000200fd\n\
+      wire 2 020001e518 020001e518010b02000000000000000000000000f2\n\
+      wire 2 020001e11c 020001e11c01030200000000fa\nput epoch 2 ffff 0\n\
       wire 2 020201e7ffff16 020201e7ffff1601000200fd\nstarted 2\naccepted 2 5 1\nok round 2\n\
-      wire 2 020001e518 020001e518010b02000105010000000000000000eb\nwire 2 020001e617 020001e61701020200fffffd\n\
-      put reading 2 1 0 5/1\nposted 2\nok round 2\n\
-      wire 2 020001e518 020001e518010b02000105010000000000000000eb\nwire 2 020001e617 020001e61701020200fffffd\n\
-      clean 2\n";
+      wire 2 020001e11c 020001e11c01030200010000f9\n\
+      wire 2 020001e518 020001e518010b02000105010000000000000000eb\n\
+      wire 2 020001e617 020001e61701020200fffffd\nwire 2 020001e11c 020001e11c01030200010000f9\n\
+      put reading 2 1 0 1 5/1\nposted 2\nok round 2\nwire 2 020001e11c 020001e11c01030200010000f9\n\
+      wire 2 020001e518 020001e518010b02000105010000000000000000eb\n\
+      wire 2 020001e617 020001e61701020200fffffd\nwire 2 020001e11c 020001e11c01030200010000f9\nclean 2\n";
 
 /// How many transcript lines each line of its script gives.
-const POSTED_LINES: [usize; 32] = [
-    0, 0, 0, 0, 0, 0, 0, 0, 0, 0, 0, 0, 0, 0, 0, 0, 0, 0, 1, 1, 1, 1, 2, 1, 1, 1, 1, 2, 1, 1, 2, 0,
+const POSTED_LINES: [usize; 37] = [
+    0, 0, 0, 0, 0, 0, 0, 0, 0, 0, 0, 0, 0, 0, 0, 0, 0, 0, 1, 1, 1, 1, 1, 2, 1, 1, 1, 1, 1, 1, 2, 1, 1, 1, 1, 2, 0,
 ];
 
 /// How many of its lines come before the coin.
-pub(crate) const START_LINES: usize = 23;
+pub(crate) const START_LINES: usize = 24;
 
 /// A script, how many transcript lines each of its lines gives, and its transcript.
 const SCRIPTS: [(&[u8], &[usize], &[u8]); 2] = [
@@ -254,7 +261,7 @@ fn words_and_disk_come_before_the_script(rt: HostRuntime) -> Result<(), Fail> {
 /// transcript are written, and the last line. All of its script comes by the first take.
 const ONE_FAULT: [(&[u64], &[u64], &[u64], Status, usize, &[u8]); 3] = [
     (&[], &[3], &[], Status::WriteFault, 2, b""),
-    (&[2], &[], &[], Status::ReadFault, 16, b"readfault\n"),
+    (&[2], &[], &[], Status::ReadFault, 21, b"readfault\n"),
     (&[], &[], &[1], Status::DiskFault, 0, b"diskfault\n"),
 ];
 
@@ -297,21 +304,25 @@ pub(crate) fn play_posted(alloc: Global, call: u64) -> Result<(Status, Vec<u8>, 
 const ROUNDS: u32 = 32_732;
 
 /// The event counter is then 92, the number of rounds modulo 255. No event is new to a host that starts again.
-const TURNED_TEXT: &[u8] = b"\nput reading 2 92 0 1/1\nposted 2\ncrash 32733\nok round 2\n\
-      wire 2 020001e518 020001e518010b02005c010101010101010101018c\nwire 2 020001e617 020001e61701020200fffffd\n\
-      clean 2\nidle 2\n";
+const TURNED_TEXT: &[u8] =
+    b"\nput reading 2 92 0 32732 1/1\nposted 2\ncrash 32733\nok round 2\n\
+      wire 2 020001e11c 020001e11c01030200dc7f009f\n\
+      wire 2 020001e518 020001e518010b02005c010101010101010101018c\n\
+      wire 2 020001e617 020001e61701020200fffffd\nwire 2 020001e11c 020001e11c01030200dc7f009f\nclean 2\n\
+      idle 2\n";
 
 /// The carry has the sums of all that were put before.
-const TURNED_REPORT: &[u8] = b"record 32732 reading 2 92 0 1/1\ntotal 32732 0 0 0 0\n";
+const TURNED_REPORT: &[u8] =
+    b"record 32732 reading 2 92 0 32732 1/1\ntotal 32732 0 0 0 0\n";
 
 #[test]
 fn a_full_half_is_followed_by_the_other(rt: HostRuntime) -> Result<(), Fail> {
     let alloc = rt.alloc();
     let mut script = lines_and(alloc, POSTED, START_LINES, b"")?;
     for _ in 0..ROUNDS {
-        script.extend_from_slice(b"coin 2 1\nround 2\nnext 2\nnext 2\nnext 2\n")?;
+        script.extend_from_slice(b"coin 2 1\nround 2\nnext 2\nnext 2\nnext 2\nnext 2\nnext 2\n")?;
     }
-    script.extend_from_slice(b"crash 0\nround 2\nnext 2\nnext 2\nnext 2\nend\n")?;
+    script.extend_from_slice(b"crash 0\nround 2\nnext 2\nnext 2\nnext 2\nnext 2\nnext 2\nend\n")?;
     let blank = disk(alloc, DISK, &[])?;
     let (status, written, disk) = play(alloc, &["run"], script, 4096, &[], &[], blank)?;
     assert_eq!(rt; status, Status::Done);

@@ -107,11 +107,12 @@ fn a_coin_is_posted(rt: HostRuntime) -> Result<(), Fail> {
         Err((_, why)) => return Err(Fail::from(why)),
     };
 
-    // A start has four rows: two exchanges, the record of the epoch, and the mask. Each `next` makes one attempt of one.
+    // A start has five rows: three exchanges, the record of the epoch, and the mask. Each `next` makes one attempt of one.
     host.command(&Command::Start {
         addr: 2,
         mask: 0xffff,
     })?;
+    next(&mut host, &mut line)?;
     next(&mut host, &mut line)?;
     next(&mut host, &mut line)?;
     next(&mut host, &mut line)?;
@@ -125,12 +126,15 @@ fn a_coin_is_posted(rt: HostRuntime) -> Result<(), Fail> {
         panic!(rt; "the acceptor is started");
     };
 
-    // A coin falls in while no exchange is made. A round reads the credits and the mask, and puts what it read.
+    // A coin falls in while no exchange is made. A round reads the credits and the mask, before and after them the number of
+    // coins that were accepted, and puts what it read.
     assert_eq!(rt;
         line.acceptor.insert(5),
         Inserted::Accepted(Coin { place: 5, path: 1 })
     );
     host.command(&Command::Round { addr: 2 })?;
+    next(&mut host, &mut line)?;
+    next(&mut host, &mut line)?;
     next(&mut host, &mut line)?;
     next(&mut host, &mut line)?;
     next(&mut host, &mut line)?;

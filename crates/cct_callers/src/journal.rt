@@ -12,10 +12,11 @@ use cct_journal::{Journal, JournalNo, OpenNo, ReadNo};
 use cct_lines::{CarryEpoch, Devices, Record, Setup};
 use std::test::Fail;
 
-/// An epoch begins at the acceptor of address 2: it is to accept all its coins.
+/// An epoch begins at the acceptor of address 2, which accepted no coin yet: it is to accept all its coins.
 const BEGUN: Record = Record::Epoch {
     addr: 2,
     mask: 0xffff,
+    accepts: 0,
 };
 
 /// It ends.
@@ -114,6 +115,7 @@ fn a_record_outlives_a_power_cut(rt: HostRuntime) -> Result<(), Fail> {
         addr: 2,
         mask: 0xffff,
         counter: 0,
+        accepts: 0,
     };
     assert_eq!(rt; journal.carry().epochs.as_slice(), [epoch].as_slice());
     Ok(())

@@ -15,9 +15,9 @@ type Lines = &'static [(u8, &'static str)];
 
 const STARTS: Lines = &[
     (1, "start 2 ffff"),
-    (4, "next 2"),
+    (5, "next 2"),
     (1, "start 4 ffff"),
-    (4, "next 4"),
+    (5, "next 4"),
 ];
 
 /// Five coins are posted at each of two acceptors.
@@ -28,14 +28,14 @@ const ROUNDS: Lines = &[
     (1, "coin 2 4"),
     (1, "coin 2 5"),
     (1, "round 2"),
-    (3, "next 2"),
+    (5, "next 2"),
     (1, "coin 4 1"),
     (1, "coin 4 2"),
     (1, "coin 4 3"),
     (1, "coin 4 4"),
     (1, "coin 4 5"),
     (1, "round 4"),
-    (3, "next 4"),
+    (5, "next 4"),
 ];
 
 /// Six payouts of three hoppers, of which one jams and one is settled after a power cut, and a sale.
@@ -72,7 +72,7 @@ const PAYOUTS: Lines = &[
     (1, "next 1"),
 ];
 
-const STOPS: Lines = &[(1, "stop 2"), (4, "next 2"), (1, "stop 4"), (4, "next 4")];
+const STOPS: Lines = &[(1, "stop 2"), (6, "next 2"), (1, "stop 4"), (6, "next 4")];
 
 /// Each open order is settled, and each running epoch is read. Where none is open or runs, the command is refused.
 const TAIL: Lines = &[
@@ -83,9 +83,9 @@ const TAIL: Lines = &[
     (1, "settle 6"),
     (3, "next 6"),
     (1, "round 2"),
-    (3, "next 2"),
+    (5, "next 2"),
     (1, "round 4"),
-    (3, "next 4"),
+    (5, "next 4"),
     (1, "balance"),
 ];
 
@@ -212,9 +212,12 @@ impl Told {
         match field(entry, 0) {
             "reading" => {
                 self.lost = self.lost.saturating_add(number(entry, 3));
-                self.add_coins(entry);
+                self.add_coins(field(entry, 1), field(entry, 5));
             }
-            "broken" => self.add_coins(entry),
+            "broken" => {
+                self.lost = self.lost.saturating_add(number(entry, 4));
+                self.add_coins(field(entry, 1), field(entry, 6));
+            }
             "closed" => {
                 self.paid = self.paid.saturating_add(number(entry, 2));
                 self.unpaid = self.unpaid.saturating_add(number(entry, 3));
@@ -230,12 +233,12 @@ impl Told {
     }
 
     /// The coins of a record of an acceptor.
-    fn add_coins(&mut self, entry: &str) {
-        let posted = coins(field(entry, 4));
+    fn add_coins(&mut self, addr: &str, posted: &str) {
+        let posted = coins(posted);
         self.posted = self.posted.saturating_add(posted);
         self.worth = self
             .worth
-            .saturating_add(posted.saturating_mul(value_of(field(entry, 1))));
+            .saturating_add(posted.saturating_mul(value_of(addr)));
     }
 
     /// What a report tells of these records.
@@ -431,12 +434,12 @@ fn a_day_agrees_with_its_journal(rt: HostRuntime) -> Result<(), Fail> {
         .iter()
         .filter(|told| told.as_str().starts_with("put "))
         .count();
-    assert_eq!(rt; (day.steps.len(), puts), (167, 25));
+    assert_eq!(rt; (day.steps.len(), puts), (189, 25));
     Ok(())
 }
 
 /// How many lines the day tells, with its balance at the end.
-const LINES_TOLD: u64 = 187;
+const LINES_TOLD: u64 = 209;
 
 /// The day over a blank disk, with the balance at its end: what is written if the put of this number fails.
 fn written_up_to(alloc: Global, put: u64) -> Result<(Status, String), Fail> {

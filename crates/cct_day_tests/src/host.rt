@@ -19,16 +19,19 @@ use std::alloc::Global;
 use std::process::Abort;
 use std::test::Fail;
 
-/// The replies of an acceptor that is started, takes a coin of place 5, and is read: an acknowledgement, no credits, an
-/// acknowledgement, one credit, and the mask. After these come those of a hopper that is to pay two coins: an
-/// acknowledgement, life count 0, an acknowledgement; none to three questions how far it is; then two coins paid, and
-/// life count 2.
-const REPLIES: [&[u8]; 13] = [
+/// The replies of an acceptor that is started, takes a coin of place 5, and is read: an acknowledgement, no credits, no
+/// accepted coin, an acknowledgement; one accepted coin, one credit, the mask, and one accepted coin. After these come those
+/// of a hopper that is to pay two coins: an acknowledgement, life count 0, an acknowledgement; none to three questions how
+/// far it is; then two coins paid, and life count 2.
+const REPLIES: [&[u8]; 16] = [
     b"\x01\0\x02\0\xfd",
     b"\x01\x0b\x02\0\0\0\0\0\0\0\0\0\0\0\0\xf2",
+    b"\x01\x03\x02\0\0\0\0\xfa",
     b"\x01\0\x02\0\xfd",
+    b"\x01\x03\x02\0\x01\0\0\xf9",
     b"\x01\x0b\x02\0\x01\x05\x01\0\0\0\0\0\0\0\0\xeb",
     b"\x01\x02\x02\0\xff\xff\xfd",
+    b"\x01\x03\x02\0\x01\0\0\xf9",
     b"\x01\0\x03\0\xfc",
     b"\x01\x03\x03\0\0\0\0\xf9",
     b"\x01\0\x03\0\xfc",
@@ -178,6 +181,7 @@ fn start(host: &mut Host<'_, MemDisk>, link: &mut Told) -> Result<(), Fail>
     next(host, 2, link)?;
     next(host, 2, link)?;
     next(host, 2, link)?;
+    next(host, 2, link)?;
     next(host, 2, link)
 }
 
@@ -188,6 +192,8 @@ fn start_and_read(host: &mut Host<'_, MemDisk>, link: &mut Told) -> Result<(), F
 {
     start(host, link)?;
     host.command(&Command::Round { addr: 2 })?;
+    next(host, 2, link)?;
+    next(host, 2, link)?;
     next(host, 2, link)?;
     next(host, 2, link)
 }
@@ -234,7 +240,8 @@ fn a_round_wants_room_for_a_record(rt: HostRuntime) -> Result<(), Fail> {
     assert!(rt;
         tally.add(&Record::Epoch {
             addr: 2,
-            mask: 0xffff
+            mask: 0xffff,
+            accepts: 0
         })
     );
     assert!(rt; tally.many() == journal.used());

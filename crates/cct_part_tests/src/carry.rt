@@ -29,14 +29,15 @@ const SUMS: [(usize, usize); 8] = [
     (2, 9),
 ];
 
-/// Sums of values and of numbers, an epoch at 2 with mask 0x0010 and counter 3, and an order 258 of 4 coins at 3, before
-/// which the hopper's life count was 16,777,214.
+/// Sums of values and of numbers, an epoch at 2 with mask 0x0010, event counter 3 and accept counter 0x060504, and an order
+/// 258 of 4 coins at 3, before which the hopper's life count was 16,777,214.
 fn worked() -> Carry {
     let mut epochs = CarryEpochs::new();
     epochs.push(CarryEpoch {
         addr: 2,
         mask: 0x0010,
         counter: 3,
+        accepts: 0x0006_0504,
     });
     let mut orders = CarryOrders::new();
     orders.push(CarryOrder {
@@ -68,7 +69,7 @@ fn bodies() -> [[u8; BODY]; BODIES] {
         ]),
         body(&[10, 7, 0, 0, 0, 0, 0, 0, 0, 1, 2, 0, 0, 0, 0, 0, 0, 3]),
         body(&[11, 0, 1, 0, 0, 0, 0, 0, 0, 5, 0, 0, 0, 1]),
-        body(&[12, 2, 0x10, 0, 3]),
+        body(&[12, 2, 0x10, 0, 3, 4, 5, 6]),
         body(&[5, 3, 2, 1, 0, 0, 4, 0xfe, 0xff, 0xff]),
     ]
 }

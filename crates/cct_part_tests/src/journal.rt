@@ -24,7 +24,7 @@ pub(crate) const ONE_EACH: u64 = 2368;
 const THREE_EACH: u64 = 2496;
 
 // What the first half of a new journal begins with: its header, and a carry of three bodies without a sum.
-const HEADER: [u8; 32] = *b"\xa5CCTALK JOURNAL\x02\0\0\0\0\0\0\0\0\x03\0\0\0\0\0\0\0";
+const HEADER: [u8; 32] = *b"\xa5CCTALK JOURNAL\x03\0\0\0\0\0\0\0\0\x03\0\0\0\0\0\0\0";
 
 // What a body may be after a power cut: not yet written, written, and written at even places alone; and bytes that
 // rise by one from the first on.

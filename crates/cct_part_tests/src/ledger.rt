@@ -183,6 +183,7 @@ fn carry_of_first() -> Carry
         addr: 2,
         mask: 0xffff,
         counter: 1,
+        accepts: 1,
     });
     let mut orders = CarryOrders::new();
     orders.push(CarryOrder {
@@ -223,17 +224,21 @@ fn record_of(puts: Puts) -> Record {
         Epoch => Record::Epoch {
             addr: 2,
             mask: 0xffff,
+            accepts: 0,
         },
         Reading(addr, place) => Record::Reading {
             addr,
             counter: 1,
             lost: 0,
+            accepts: 1,
             posted: coin(place),
         },
         Broken(place) => Record::Broken {
             addr: 2,
             mask_seen: 0,
             counter: 1,
+            lost: 9,
+            accepts: 11,
             posted: coin(place),
         },
         EpochEnd => Record::EpochEnd { addr: 2 },
@@ -308,6 +313,7 @@ fn a_journal_of_the_dearest_coins(rt: HostRuntime) -> Result<(), Fail> {
         addr: 2,
         counter: 5,
         lost: 0,
+        accepts: 5,
         posted: five_coins(),
     };
     for _record in 0..65_535u32 {

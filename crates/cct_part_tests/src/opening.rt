@@ -11,9 +11,9 @@ const LEN: usize = 2496;
 
 // The header of a first half without records before it, and that of a second half with two of them. A carry has three
 // bodies, and one for each epoch and each order.
-const FIRST: [u8; 32] = *b"\xa5CCTALK JOURNAL\x02\0\0\0\0\0\0\0\0\x03\0\0\0\0\0\0\0";
+const FIRST: [u8; 32] = *b"\xa5CCTALK JOURNAL\x03\0\0\0\0\0\0\0\0\x03\0\0\0\0\0\0\0";
 
-const SECOND: [u8; 32] = *b"\xa5CCTALK JOURNAL\x02\x01\0\0\0\x02\0\0\0\x05\0\0\0\0\0\0\0";
+const SECOND: [u8; 32] = *b"\xa5CCTALK JOURNAL\x03\x01\0\0\0\x02\0\0\0\x05\0\0\0\0\0\0\0";
 
 // The image with these bytes from a place on.
 fn laid(image: [u8; LEN], at: usize, bytes: &[u8]) -> [u8; LEN] {
@@ -48,7 +48,7 @@ fn turned_journal() -> [u8; LEN] {
         &[10, 6, 0, 0, 0, 0, 0, 0, 0, 1, 0, 0, 0, 0, 0, 0, 0, 2],
     );
     let image = laid(image, 1345, &[11, 3, 0, 0, 0, 0, 0, 0, 0, 150]);
-    let image = laid(image, 1377, &[12, 2, 2, 1, 5]);
+    let image = laid(image, 1377, &[12, 2, 2, 1, 5, 7, 8, 9]);
     let image = laid(image, 1409, &[5, 3, 7, 0, 0, 0, 4, 232, 3, 0]);
     laid(image, 2400, &[0xa5, 4, 9])
 }
@@ -60,6 +60,7 @@ fn carry_of_two() -> Carry {
         addr: 2,
         mask: 0x0102,
         counter: 5,
+        accepts: 0x0009_0807,
     });
     let mut orders = CarryOrders::new();
     orders.push(CarryOrder {
@@ -121,14 +122,15 @@ fn check_found(
 }
 
 // One byte of the header or of the carry, and what makes it wrong there.
-const DAMAGES: [(usize, u8); 26] = [
+const DAMAGES: [(usize, u8); 27] = [
     // the gate, the title and the version
     (0, 0xa4),
     (0, 0),
     (1, b'c'),
     (14, b'M'),
     (15, 1),
-    (15, 3),
+    (15, 2),
+    (15, 4),
     // a generation that is odd, or above the base
     (16, 1),
     (16, 2),

@@ -1,6 +1,6 @@
 // Bodies worked out by hand, both ways, and bodies that spell no record.
-ghost use Rattle.std.specs.Prelude.{◌≡◌, ◌≤◌, [], ◌∷◌};
-ghost use Rattle.cct_record.specs.Body.{Encodable};
+ghost use Rattle.std.specs.Prelude.{◌≡◌, ◌≤◌, [], ◌∷◌, All};
+ghost use Rattle.cct_record.specs.Body.{Encodable, IsPlaced};
 
 use cct_lines::{Coin, Coins, Record};
 use cct_record::{encode, read};
@@ -27,7 +27,7 @@ fn one_coin(place: u8, path: u8) -> Coins
 }
 
 fn five_coins() -> Coins
-    ensures { Encodable (Record.Reading 0 0 0 result) }
+    ensures { All IsPlaced result }
 {
     let mut coins = one_coin(5, 1);
     coins.push(Coin { place: 8, path: 16 });
@@ -63,30 +63,43 @@ fn a_record_of_an_epoch_has_one_body(rt: HostRuntime) -> Result<(), Fail> {
     let epoch = Record::Epoch {
         addr: 2,
         mask: 0x8005,
+        accepts: 0x0003_0201,
     };
-    check(&rt, alloc, &epoch, &[1, 2, 0x05, 0x80])?;
+    check(&rt, alloc, &epoch, &[1, 2, 0x05, 0x80, 1, 2, 3])?;
     let reading = Record::Reading {
         addr: 2,
         counter: 1,
         lost: 0,
+        accepts: 1,
         posted: one_coin(5, 1),
     };
-    check(&rt, alloc, &reading, &[2, 2, 1, 0, 1, 5, 1])?;
+    check(
+        &rt,
+        alloc,
+        &reading,
+        &[2, 2, 1, 0, 0, 0, 1, 0, 0, 1, 5, 1],
+    )?;
     let full = Record::Reading {
         addr: 255,
         counter: 254,
-        lost: 250,
+        lost: 16_777_215,
+        accepts: 16_777_210,
         posted: five_coins(),
     };
-    let bytes = [2, 255, 254, 250, 5, 5, 1, 8, 16, 1, 255, 255, 0, 2, 2];
+    let bytes = [
+        2, 255, 254, 255, 255, 255, 250, 255, 255, 5, 5, 1, 8, 16, 1, 255, 255, 0, 2, 2,
+    ];
     check(&rt, alloc, &full, &bytes)?;
     let broken = Record::Broken {
         addr: 3,
         mask_seen: 0xfffe,
         counter: 0,
+        lost: 258,
+        accepts: 65_536,
         posted: one_coin(16, 8),
     };
-    check(&rt, alloc, &broken, &[3, 3, 0, 0xfe, 0xff, 1, 16, 8])?;
+    let bytes = [3, 3, 0, 0xfe, 0xff, 2, 1, 0, 0, 0, 1, 1, 16, 8];
+    check(&rt, alloc, &broken, &bytes)?;
     check(&rt, alloc, &Record::EpochEnd { addr: 9 }, &[4, 9])
 }
 
@@ -136,18 +149,20 @@ fn another_body_is_refused(rt: HostRuntime) {
         &[9, 2],
         &[255; 31],
         // a byte after the fields
-        &[1, 2, 1, 0, 1],
-        &[2, 2, 1, 0, 0, 5, 1],
+        &[1, 2, 1, 0, 0, 0, 0, 1],
+        &[2, 2, 1, 0, 0, 0, 1, 0, 0, 0, 5, 1],
         &[
             4, 9, 0, 0, 0, 0, 0, 0, 0, 0, 0, 0, 0, 0, 0, 0, 0, 0, 0, 0, 0, 0, 0, 0, 0, 0, 0, 0, 0,
             0, 1,
         ],
         &[8, 1, 0, 0, 0, 1, 0, 0, 0, 1],
         // six coins
-        &[2, 2, 6, 0, 6, 1, 1, 1, 1, 1, 1, 1, 1, 1, 1, 1, 1],
+        &[
+            2, 2, 6, 0, 0, 0, 6, 0, 0, 6, 1, 1, 1, 1, 1, 1, 1, 1, 1, 1, 1, 1,
+        ],
         // coin place 0
-        &[2, 2, 1, 0, 1, 0, 1],
-        &[3, 2, 1, 0, 0, 2, 1, 1, 0, 0],
+        &[2, 2, 1, 0, 0, 0, 1, 0, 0, 1, 0, 1],
+        &[3, 2, 1, 0, 0, 0, 0, 0, 2, 0, 0, 2, 1, 1, 0, 0],
     ];
     for fields in refused {
         assert!(rt; read(&body(fields)).is_none(), "{fields:?}");

@@ -1,6 +1,6 @@
 //! A journal that turns. Within the first turns each disk call fails once, where a write is torn, and the power is cut after
 //! each. And one turns a hundred times, with an epoch and two orders open over each turn: its sums are counted by hand.
-ghost use Rattle.std.specs.Prelude.{◌≡◌, ◌≤◌, false, IfOk};
+ghost use Rattle.std.specs.Prelude.{◌≡◌, ◌≤◌, ◌<◌, ◌^◌, false, IfOk};
 ghost use Rattle.cct_model.specs.Carried.{IsRightly};
 ghost use Rattle.cct_model.specs.Setup.{IsSoundSetup};
 ghost use Rattle.cct_record.specs.Body.{Encodable};
@@ -19,7 +19,8 @@ use std::alloc::Global;
 use std::process::Abort;
 use std::test::Fail;
 
-/// The records that are put, one after the other: an epoch begins, a coin is posted, and an order is opened and closed.
+/// The records that are put, one after the other: an epoch begins, a coin is posted by which the accept counter is 0 again,
+/// and an order is opened and closed.
 fn record(index: u32) -> Record
     ensures { Encodable result }
 {
@@ -27,11 +28,13 @@ fn record(index: u32) -> Record
         0 => Record::Epoch {
             addr: 2,
             mask: 0xffff,
+            accepts: 0x00ff_ffff,
         },
         1 => Record::Reading {
             addr: 2,
             counter: 1,
             lost: 0,
+            accepts: 0,
             posted: one_coin(),
         },
         2 => Record::Opened {
@@ -48,13 +51,14 @@ fn record(index: u32) -> Record
     }
 }
 
-/// The epoch of the acceptor alone.
-fn epoch(counter: u8) -> CarryEpochs {
+/// The epoch of the acceptor alone, by its event counter and its accept counter.
+fn epoch(counter: u8, accepts: u32) -> CarryEpochs {
     let mut epochs = CarryEpochs::new();
     epochs.push(CarryEpoch {
         addr: 2,
         mask: 0xffff,
         counter,
+        accepts,
     });
     epochs
 }
@@ -75,10 +79,10 @@ fn order() -> CarryOrders {
 fn carry_of(records: u32) -> Carry {
     let mut carry = Carry::empty();
     if records > 0 {
-        carry.epochs = epoch(0);
+        carry.epochs = epoch(0, 0x00ff_ffff);
     }
     if records > 1 {
-        carry.epochs = epoch(1);
+        carry.epochs = epoch(1, 0);
         carry.posted = 1;
         carry.value = 100;
     }
@@ -542,6 +546,7 @@ impl<'s> Books<'s> {
                 addr: 2,
                 counter: 5,
                 lost: 0,
+                accepts: 4,
                 posted: five_coins(),
             },
         )?;
@@ -557,7 +562,7 @@ impl<'s> Books<'s> {
         opened.put(rt, &opening(1))
     }
 
-    /// Half a round: a coin is posted and an event lost, and the second order is closed. The first one stays open.
+    /// Half a round: one coin is posted and another one lost, and the second order is closed. The first one stays open.
     fn half_round(self, rt: &impl Abort, round: u32) -> Result<Books<'s>, Fail> {
         let posted = self.put(
             rt,
@@ -565,6 +570,7 @@ impl<'s> Books<'s> {
                 addr: 2,
                 counter: counter_of(round),
                 lost: 1,
+                accepts: accepts_of(round),
                 posted: one_coin(),
             },
         )?;
@@ -583,6 +589,13 @@ impl<'s> Books<'s> {
 /// The event counter that a round reads.
 fn counter_of(round: u32) -> u8 {
     (round % 255) as u8 + 1
+}
+
+/// The accept counter that a round reads, one of the first 255: it was 4 after five coins, and each round has two.
+fn accepts_of(round: u32) -> u32
+    ensures { result < 2 ^ 24 }
+{
+    2 * u32::from(counter_of(round)) + 2
 }
 
 /// Four coins of the hopper at 3 are ordered.
@@ -664,7 +677,7 @@ fn carry_after(rounds: u32) -> Carry {
         paid: 3 * closed,
         unpaid: closed,
         sold: 10 * many,
-        epochs: epoch(counter_of(rounds)),
+        epochs: epoch(counter_of(rounds), accepts_of(rounds)),
         orders: orders_after(rounds),
     }
 }
@@ -742,7 +755,7 @@ fn last_carry() -> Carry {
         paid: 294,
         unpaid: 98,
         sold: 990,
-        epochs: epoch(100),
+        epochs: epoch(100, 202),
         orders: orders_after(99),
     }
 }
