@@ -73,8 +73,7 @@ pub(crate) const CLEAN: &[u8] =
       idle 2\n";
 
 /// A whole round, and the end of the script.
-pub(crate) const ROUND: &[u8] =
-    b"round 2\nnext 2\nnext 2\nnext 2\nnext 2\nnext 2\nend\n";
+pub(crate) const ROUND: &[u8] = b"round 2\nnext 2\nnext 2\nnext 2\nnext 2\nnext 2\nend\n";
 
 /// The script of a posted coin up to the step that puts its reading, and in its place this line and these.
 pub(crate) fn crashing(alloc: Global, line: &str, after: &[u8]) -> Result<Vec<u8>, Fail> {
@@ -248,8 +247,7 @@ const CROSSED: &[u8] =
       round 2\nnext 2\nnext 2\nnext 2\nnext 2\nnext 2\npay 3 41 1\npay 5 42 1\nnext 5\nnext 5\nnext 5\n\
       next 3\nnext 3\nnext 3\ncrash 0\npay 3 43 1\nvend 42 1\nvend 43 81\nvend 43 80\nend\n";
 
-const CROSSED_TEXT: &[u8] =
-    b"ok start 2 0010\nwire 2 02000101fc 02000101fc01000200fd\n\
+const CROSSED_TEXT: &[u8] = b"ok start 2 0010\nwire 2 02000101fc 02000101fc01000200fd\n\
       wire 2 020001e518 020001e518010b02000000000000000000000000f2\n\
       wire 2 020001e11c 020001e11c01030200000000fa\nput epoch 2 0010 0\n\
       wire 2 020201e7100004 020201e710000401000200fd\nstarted 2\naccepted 2 5 1\nok round 2\n\

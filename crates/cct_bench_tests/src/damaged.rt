@@ -68,7 +68,9 @@ const START_TEXT_LINES: usize = 7;
 const DAMAGED: [(Parts, Parts); 16] = [
     // a coin that never fell is posted
     (
-        &[b"round 2\nnext 2\nfault host 010b02000105010000000000000000eb\nnext 2\nnext 2\nnext 2\nnext 2\n"],
+        &[
+            b"round 2\nnext 2\nfault host 010b02000105010000000000000000eb\nnext 2\nnext 2\nnext 2\nnext 2\n",
+        ],
         &[
             b"ok round 2\nwire 2 020001e11c 020001e11c01030200000000fa\n\
               fault host 010b02000105010000000000000000eb\n\

@@ -1,5 +1,5 @@
-//! Tests of the bench: runs, power cuts in the midst of a script, disks that fail, bytes that are damaged or forged, the words
-//! of the command line, reports and loads.
+//! Tests of the bench: runs, coins that are lost, power cuts in the midst of a script, disks that fail, bytes that are damaged
+//! or forged, the words of the command line, reports and loads.
 #![tactic(auto)]
 
 #[cfg(test)]
@@ -12,5 +12,7 @@ mod damaged;
 mod faults;
 #[cfg(test)]
 mod loads;
+#[cfg(test)]
+mod losses;
 #[cfg(test)]
 mod runs;

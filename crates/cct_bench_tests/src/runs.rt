@@ -14,8 +14,7 @@ const SCRIPT: &[u8] =
       next 2\nnext 2\nnext 2\nfault devices -\nfault host -\nfault whole -\npath 2 5 3\nnext 2\nstop 2\n\
       ident 2\nscan\nnext 0\npay 3 1 2\nhalt 3\nfall 3\njam 3\nsettle 3\nnext 3\nbalance\nreset 2\nend\n";
 
-const TRANSCRIPT: &[u8] =
-    b"ok start 2 0010\nwire 2 02000101fc 02000101fc01000200fd\n\
+const TRANSCRIPT: &[u8] = b"ok start 2 0010\nwire 2 02000101fc 02000101fc01000200fd\n\
       wire 2 020001e518 020001e518010b02000000000000000000000000f2\n\
       wire 2 020001e11c 020001e11c01030200000000fa\nput epoch 2 0010 0\n\
       wire 2 020201e7100004 020201e710000401000200fd\nstarted 2\naccepted 2 5 1\nalien 2\nok round 2\n\
@@ -29,7 +28,8 @@ const TRANSCRIPT: &[u8] =
 
 /// How many transcript lines the lines of that script give, one after the other.
 const LINES: [usize; 37] = [
-    0, 0, 0, 0, 0, 1, 1, 1, 1, 1, 2, 1, 1, 1, 1, 1, 1, 1, 2, 1, 1, 1, 1, 1, 1, 1, 1, 1, 1, 1, 1, 1, 1, 1, 1, 1, 0,
+    0, 0, 0, 0, 0, 1, 1, 1, 1, 1, 2, 1, 1, 1, 1, 1, 1, 1, 2, 1, 1, 1, 1, 1, 1, 1, 1, 1, 1, 1, 1, 1,
+    1, 1, 1, 1, 0,
 ];
 
 /// A coin is posted, and a second round finds nothing to post.
@@ -41,8 +41,7 @@ pub(crate) const POSTED: &[u8] =
       value 2 16 100 XX100A\nbegin\nstart 2 ffff\nnext 2\nnext 2\nnext 2\nnext 2\nnext 2\ncoin 2 5\n\
       round 2\nnext 2\nnext 2\nnext 2\nnext 2\nnext 2\nround 2\nnext 2\nnext 2\nnext 2\nnext 2\nend\n";
 
-pub(crate) const POSTED_TEXT: &[u8] =
-    b"ok start 2 ffff\nwire 2 02000101fc 02000101fc01000200fd\n\
+pub(crate) const POSTED_TEXT: &[u8] = b"ok start 2 ffff\nwire 2 02000101fc 02000101fc01000200fd\n\
       wire 2 020001e518 020001e518010b02000000000000000000000000f2\n\
       wire 2 020001e11c 020001e11c01030200000000fa\nput epoch 2 ffff 0\n\
       wire 2 020201e7ffff16 020201e7ffff1601000200fd\nstarted 2\naccepted 2 5 1\nok round 2\n\
@@ -55,7 +54,8 @@ pub(crate) const POSTED_TEXT: &[u8] =
 
 /// How many transcript lines each line of its script gives.
 const POSTED_LINES: [usize; 37] = [
-    0, 0, 0, 0, 0, 0, 0, 0, 0, 0, 0, 0, 0, 0, 0, 0, 0, 0, 1, 1, 1, 1, 1, 2, 1, 1, 1, 1, 1, 1, 2, 1, 1, 1, 1, 2, 0,
+    0, 0, 0, 0, 0, 0, 0, 0, 0, 0, 0, 0, 0, 0, 0, 0, 0, 0, 1, 1, 1, 1, 1, 2, 1, 1, 1, 1, 1, 1, 2, 1,
+    1, 1, 1, 2, 0,
 ];
 
 /// How many of its lines come before the coin.
@@ -304,16 +304,14 @@ pub(crate) fn play_posted(alloc: Global, call: u64) -> Result<(Status, Vec<u8>, 
 const ROUNDS: u32 = 32_732;
 
 /// The event counter is then 92, the number of rounds modulo 255. No event is new to a host that starts again.
-const TURNED_TEXT: &[u8] =
-    b"\nput reading 2 92 0 32732 1/1\nposted 2\ncrash 32733\nok round 2\n\
+const TURNED_TEXT: &[u8] = b"\nput reading 2 92 0 32732 1/1\nposted 2\ncrash 32733\nok round 2\n\
       wire 2 020001e11c 020001e11c01030200dc7f009f\n\
       wire 2 020001e518 020001e518010b02005c010101010101010101018c\n\
       wire 2 020001e617 020001e61701020200fffffd\nwire 2 020001e11c 020001e11c01030200dc7f009f\nclean 2\n\
       idle 2\n";
 
 /// The carry has the sums of all that were put before.
-const TURNED_REPORT: &[u8] =
-    b"record 32732 reading 2 92 0 32732 1/1\ntotal 32732 0 0 0 0\n";
+const TURNED_REPORT: &[u8] = b"record 32732 reading 2 92 0 32732 1/1\ntotal 32732 0 0 0 0\n";
 
 #[test]
 fn a_full_half_is_followed_by_the_other(rt: HostRuntime) -> Result<(), Fail> {

@@ -103,8 +103,7 @@ const POSTED: &str =
       value 2 16 100 XX100A\nbegin\nstart 2 ffff\nnext 2\nnext 2\nnext 2\nnext 2\nnext 2\ncoin 2 5\n\
       round 2\nnext 2\nnext 2\nnext 2\nnext 2\nnext 2\nround 2\nnext 2\nnext 2\nnext 2\nnext 2\nend\n";
 
-const POSTED_TEXT: &str =
-    "ok start 2 ffff\nwire 2 02000101fc 02000101fc01000200fd\n\
+const POSTED_TEXT: &str = "ok start 2 ffff\nwire 2 02000101fc 02000101fc01000200fd\n\
       wire 2 020001e518 020001e518010b02000000000000000000000000f2\n\
       wire 2 020001e11c 020001e11c01030200000000fa\nput epoch 2 ffff 0\n\
       wire 2 020201e7ffff16 020201e7ffff1601000200fd\nstarted 2\naccepted 2 5 1\nok round 2\n\

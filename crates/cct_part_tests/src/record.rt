@@ -73,12 +73,7 @@ fn a_record_of_an_epoch_has_one_body(rt: HostRuntime) -> Result<(), Fail> {
         accepts: 1,
         posted: one_coin(5, 1),
     };
-    check(
-        &rt,
-        alloc,
-        &reading,
-        &[2, 2, 1, 0, 0, 0, 1, 0, 0, 1, 5, 1],
-    )?;
+    check(&rt, alloc, &reading, &[2, 2, 1, 0, 0, 0, 1, 0, 0, 1, 5, 1])?;
     let full = Record::Reading {
         addr: 255,
         counter: 254,
