@@ -42,15 +42,15 @@ round_fits id number place low =
     either (place == 1) _ _ (coin_or_alien_fits number) (
     either (place == 2) _ _ (coin_or_loss_fits number) (
     either (place == 3) (step.Command (command.Round 2)) _ (tt, refl) (
-    either (nat_lt place 8) (step.Next 2) _ (tt, refl) (
-    either (place == 8) (step.Command (command.Pay 3 id 1)) _ ((low, lit≤ tt, lit≤ tt), refl) (
-    either (place == 13) (step.Fall 3) _ (tt, refl) (
-    either (nat_lt place 17) (step.Next 3) _ (tt, refl) (crash_or_balance_fits number))))))))
+    either (nat_lt place 10) (step.Next 2) _ (tt, refl) (
+    either (place == 10) (step.Command (command.Pay 3 id 1)) _ ((low, lit≤ tt, lit≤ tt), refl) (
+    either (place == 15) (step.Fall 3) _ (tt, refl) (
+    either (nat_lt place 19) (step.Next 3) _ (tt, refl) (crash_or_balance_fits number))))))))
 
 line_fits : (seed n : ℕ) → Fits (line_at seed n)
 unfolding line_at
 line_fits seed n =
-    either (nat_lt n 5) _ _ (opening_fits n) (round_fits ((n - 5) / 18 + 1) (drawn seed n) ((n - 5) % 18) (omega arith))
+    either (nat_lt n 6) _ _ (opening_fits n) (round_fits ((n - 6) / 20 + 1) (drawn seed n) ((n - 6) % 20) (omega arith))
 
 -- each line can be spelt
 pub line_in_range : (seed n : ℕ) → IsInRange (line_at seed n)

@@ -14,7 +14,7 @@ setup_lines_taken : setup_script.refused ≡ Some (record { number = 19; why = k
 unfolding script read_form setup_line ranged id_in added most_lines number_text
 setup_lines_taken = refl
 
-drawn_by_seed_0 : map (drawn 0) (5 ∷ 6 ∷ 7 ∷ 22 ∷ []) ≡ 6560617 ∷ 7872740 ∷ 9184864 ∷ 12089500 ∷ []
+drawn_by_seed_0 : map (drawn 0) (6 ∷ 7 ∷ 8 ∷ 25 ∷ []) ≡ 7872740 ∷ 9184864 ∷ 10496987 ∷ 16025871 ∷ []
 unfolding drawn
 drawn_by_seed_0 = refl
 
@@ -26,10 +26,13 @@ one_round :
     ∷ step.Next 2
     ∷ step.Next 2
     ∷ step.Next 2
-    ∷ step.Coin 2 10
+    ∷ step.Next 2
     ∷ step.Coin 2 5
-    ∷ step.Fault (fault.HostHears [])
+    ∷ step.Alien 2
+    ∷ step.Coin 2 12
     ∷ step.Command (command.Round 2)
+    ∷ step.Next 2
+    ∷ step.Next 2
     ∷ step.Next 2
     ∷ step.Next 2
     ∷ step.Next 2
@@ -48,16 +51,19 @@ one_round :
 unfolding lines_before line_at drawn
 one_round = refl
 
--- an object that is no coin, a coin where a reply could be lost, and a power cut; and the payment of the last round
+-- an object that is no coin, a coin where a reply could be lost, a lost reply, and a power cut; and the payment of the last
+-- round
 with_great_seeds :
-    line_at 18446744073709551613 6
-    ∷ line_at 18446744073709551613 7
-    ∷ line_at 18446744073709551613 22
-    ∷ line_at 18446744073709551615 179995
+    line_at 18446744073709551614 7
+    ∷ line_at 18446744073709551615 8
+    ∷ line_at 18446744073709551599 8
+    ∷ line_at 18446744073709551601 25
+    ∷ line_at 18446744073709551615 199996
     ∷ []
     ≡ step.Alien 2
-    ∷ step.Coin 2 4
-    ∷ step.Crash None 2
+    ∷ step.Coin 2 8
+    ∷ step.Fault (fault.HostHears [])
+    ∷ step.Crash None 3
     ∷ step.Command (command.Pay 3 10000 1)
     ∷ []
 unfolding line_at drawn

@@ -62,18 +62,18 @@ round_line id number place =
     else if place == 1 then coin_or_alien number
     else if place == 2 then coin_or_loss number
     else if place == 3 then step.Command (command.Round 2)
-    else if nat_lt place 8 then step.Next 2
-    else if place == 8 then step.Command (command.Pay 3 id 1)
-    else if place == 13 then step.Fall 3
-    else if nat_lt place 17 then step.Next 3
+    else if nat_lt place 10 then step.Next 2
+    else if place == 10 then step.Command (command.Pay 3 id 1)
+    else if place == 15 then step.Fall 3
+    else if nat_lt place 19 then step.Next 3
     else crash_or_balance number
 
--- A line of a load, by its number from 0 on: five before the first round, and then 18 a round, whose payment has the
+-- A line of a load, by its number from 0 on: six before the first round, and then 20 a round, whose payment has the
 -- number of the round as id, from 1 on.
 unfoldable pub line_at : ℕ → ℕ → Step
 line_at seed n =
-    if nat_lt n 5 then opening_line n
-    else round_line ((n - 5) / 18 + 1) (drawn seed n) ((n - 5) % 18)
+    if nat_lt n 6 then opening_line n
+    else round_line ((n - 6) / 20 + 1) (drawn seed n) ((n - 6) % 20)
 
 -- The lines of a load before one of them, in order.
 unfoldable pub lines_before : ℕ → ℕ → List Step
@@ -82,4 +82,4 @@ lines_before seed (suc n) = lines_before seed n ++ line_at seed n ∷ []
 
 -- The lines of a load of so many rounds.
 abbrev pub load_steps : ℕ → ℕ → List Step
-load_steps seed rounds = lines_before seed (5 + 18 * rounds)
+load_steps seed rounds = lines_before seed (6 + 20 * rounds)

@@ -13,16 +13,16 @@ const ACCEPTOR: u8 = 2;
 const HOPPER: u8 = 3;
 
 /// The lines before the first round: the start of an epoch.
-const OPENING: u32 = 5;
+const OPENING: u32 = 6;
 
 /// The lines of a round.
-const ROUND: u32 = 18;
+const ROUND: u32 = 20;
 
-/// Line `n` of the load that a seed gives, from line 0 on: five lines that start an epoch, and then 18 a round, of 10,000
-/// rounds at most. It names devices of the load's setup alone, and its numbers are in the ranges of a script's lines.
+/// Line `n` of the load that a seed gives, from line 0 on: six lines that start an epoch, and then 20 a round, of at
+/// most 10,000 rounds. It names devices of the load's setup alone, and its numbers are in the ranges of a script's lines.
 #[tactic(auto, using(crate::proofs::Lines::line_in_range, crate::proofs::Lines::line_known))]
 pub fn nth_line(seed: u64, n: u32) -> Step
-    requires { n < 5 + 18 * 10000 }
+    requires { n < 6 + 20 * 10000 }
     ensures value { result ≡ line_at seed n }
     ensures in_range { IsInRange result }
     ensures known { IsTrue (is_known load_setup result) }
@@ -33,7 +33,7 @@ pub fn nth_line(seed: u64, n: u32) -> Step
 /// Line `n` of the load.
 #[tactic(auto, unfolding(crate::specs::Load::line_at))]
 fn line_at(seed: u64, n: u32) -> Step
-    requires { n < 5 + 18 * 10000 }
+    requires { n < 6 + 20 * 10000 }
     ensures { result ≡ line_at seed n }
 {
     if n < OPENING {
@@ -67,7 +67,7 @@ fn opening_line(n: u32) -> Step
     }
 }
 
-/// The line at a place of a round, 0 to 17. The payment of the round has this id.
+/// The line at a place of a round, 0 to 19. The payment of the round has this id.
 fn round_line(id: u32, number: u64, place: u32) -> Step
     ensures { result ≡ round_line id number place }
 {
@@ -76,14 +76,14 @@ fn round_line(id: u32, number: u64, place: u32) -> Step
         1 => coin_or_alien(number),
         2 => coin_or_loss(number),
         3 => Step::Command(Command::Round { addr: ACCEPTOR }),
-        4..=7 => Step::Next { addr: ACCEPTOR },
-        8 => Step::Command(Command::Pay {
+        4..=9 => Step::Next { addr: ACCEPTOR },
+        10 => Step::Command(Command::Pay {
             addr: HOPPER,
             id,
             count: 1,
         }),
-        13 => Step::Fall { addr: HOPPER },
-        9..=16 => Step::Next { addr: HOPPER },
+        15 => Step::Fall { addr: HOPPER },
+        11..=18 => Step::Next { addr: HOPPER },
         _ => crash_or_balance(number),
     }
 }

@@ -80,12 +80,12 @@ module _ {D : Type 0} {g : Ghosts D} (world : World D g) (load : Load) (left : D
   }
 
   -- a step wasn't played
-  pub stopped_in : (why : CrashNo) → StoppedWithin world load.seed (5 + 18 * load.rounds) left why
+  pub stopped_in : (why : CrashNo) → StoppedWithin world load.seed (6 + 20 * load.rounds) left why
       → Written (first_line load ∷ []) → PlaysLoad world load (load_end.Unplayed why) left Written Breaks
   stopped_in why within wrote =
       let n = within.0 in
       let lines = within.2 in
-      let behind = lines_behind load.seed n (5 + 18 * load.rounds) within.1 in
+      let behind = lines_behind load.seed n (6 + 20 * load.rounds) within.1 in
       record {
         played = lines_before load.seed n;
         unplayed = line_at load.seed n ∷ behind.0;
@@ -104,8 +104,8 @@ module _ {D : Type 0} {g : Ghosts D} (world : World D g) (load : Load) (left : D
   module _ (next : World D g) (sums : LoadSums) (told : Totals) (same : setup_of next ≡ load_setup)
       (tells : (past : List Entry) → StandsFor next past → told ≡ totals (setup_of next) past)
       (lasts : Outlasts g.size g.honest g.seen g.cuts (disk_of world) (disk_of next)) (is : left ≡ disk_of next)
-      (lines : PlayedLines world load.seed (5 + 18 * load.rounds)
-      (Became world next sums load.seed (5 + 18 * load.rounds))) where
+      (lines : PlayedLines world load.seed (6 + 20 * load.rounds)
+      (Became world next sums load.seed (6 + 20 * load.rounds))) where
     abbrev steps : List Step
     steps = load_steps load.seed load.rounds
 

@@ -60,4 +60,4 @@ pub load_begins : (capacity seed rounds : ℕ) (played unplayed others more : Li
     Begins first second ⊎ Begins second first
 load_begins capacity seed rounds played unplayed others more first second is other_is legal other_legal =
     fronts_begin capacity load_setup (load_steps seed rounds) played unplayed others more first second
-    (lines_name seed (5 + 18 * rounds)) is other_is legal other_legal
+    (lines_name seed (6 + 20 * rounds)) is other_is legal other_legal

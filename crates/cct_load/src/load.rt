@@ -67,9 +67,9 @@ impl LoadDesk {
         requires fresh { StandsFor world [] }
         requires sums { SumsUp self.old.sums [] [] }
         ensures played { IfOk result (λ next. (setup_of next ≡ load_setup)
-            × PlayedLines world.entry load.seed (5 + 18 * load.rounds)
-            (Became world.entry next self.new.sums load.seed (5 + 18 * load.rounds))) }
-        ensures stopped { IfErr result (λ e. StoppedWithin world.entry load.seed (5 + 18 * load.rounds) e.0 e.1) }
+            × PlayedLines world.entry load.seed (6 + 20 * load.rounds)
+            (Became world.entry next self.new.sums load.seed (6 + 20 * load.rounds))) }
+        ensures stopped { IfErr result (λ e. StoppedWithin world.entry load.seed (6 + 20 * load.rounds) e.0 e.1) }
         ensures disk { MatchResult result
             (λ next. DiskServes D.size D.honest D.seen D.cuts D.faults (disk_of world.entry) (disk_of next) ⊥ ⊥)
             (λ e. DiskServes D.size D.honest D.seen D.cuts D.faults (disk_of world.entry) e.0 (e.1 ≡ WorldNo.Disk)

@@ -20,7 +20,7 @@ step-requires-clause-played g c =
 pub returns-in-Err-clause-stopped : goal.returns-in-Err-clause-stopped
 returns-in-Err-clause-stopped g c =
     goes_stops c.args.world c.loop-line.world c.in-Err.stopped.0 c.in-Err.stopped.1 c.loop-line.self.sums
-    c.args.load.seed c.loop-line.line (5 + 18 * c.args.load.rounds) c.nth_line-step.result c.loop-line-test.true
+    c.args.load.seed c.loop-line.line (6 + 20 * c.args.load.rounds) c.nth_line-step.result c.loop-line-test.true
     c.step.new.report.items c.nth_line-step.ensures.value c.loop-line.invariant c.in-Err.ensures.unplayed
 
 pub returns-in-Err-clause-disk : goal.returns-in-Err-clause-disk
