@@ -17,6 +17,7 @@ use crate::counted::Counted;
 use crate::job::Job;
 use crate::owed::Owed;
 use crate::payout::{Closing, Payout};
+use crate::reading;
 use crate::stage::{ReadBy, Recorded, Stage};
 use crate::target::target_at;
 use cct_epoch::EpochState;
@@ -60,13 +61,9 @@ impl Job {
             Command::Start { addr, mask } => {
                 first_try(target_at(setup, addr), Stage::StartResets { mask })
             }
-            Command::Round { addr } => first_try(
-                target_at(setup, addr),
-                Stage::CountsBefore {
-                    read_by: ReadBy::Round,
-                    recorded: recorded_in(epoch),
-                },
-            ),
+            Command::Round { addr } => {
+                reading::counts(target_at(setup, addr), ReadBy::Round, recorded_in(epoch))
+            }
             Command::Stop { addr } => first_try(
                 target_at(setup, addr),
                 Stage::StopInhibits {

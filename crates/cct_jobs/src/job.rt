@@ -233,8 +233,9 @@ impl Job {
     pub fn hear(&mut self, sent: &[u8], heard: &[u8])
         requires asks { need_of self.old ≡ Need.Exchange }
         // It goes on only by the wanted reply; a row without it is tried again. But a start sends its mask once, and
-        // goes on only from event counter 0; an acceptor's accept counter is read before and after its credits and mask; a payment sends its dispense once and goes on whatever is heard. An order
-        // is closed by the life count alone, under its own id.
+        // goes on only from event counter 0; a payment sends its dispense once and goes on whatever is heard. A reading
+        // is judged beside the accept counters that were read before it and after it. An order is closed by the life
+        // count alone, under its own id.
         ensures device { HearsDevice self.old sent.now heard.now self.new }
         // An address is listed by its acknowledgement.
         ensures scan { HearsPolled self.old sent.now heard.now self.new }

@@ -7,7 +7,7 @@ ghost use Rattle.cct_model.specs.Reply as shown;
 ghost use Rattle.cct_model.specs.Reply.{reply_shown};
 ghost use Rattle.cct_model.specs.Request.{form_of};
 ghost use Rattle.cct_msg.specs.Forms.{form_shown};
-ghost use Rattle.cct_jobs.specs.declared.stage.Stage.TheVariants.{CountsAfter};
+ghost use Rattle.cct_jobs.specs.declared.stage.Stage.TheVariants.{CountsAfter, CountsBefore, Looks, Reads};
 ghost use Rattle.cct_jobs.specs.Ahead.{stage_ahead, reading_ahead};
 ghost use Rattle.cct_jobs.specs.Jobs.{FitsAccepts, IsOfReading, request_of, round_after, stop_after};
 ghost use Rattle.cct_jobs.specs.Onward.{KeepsTo, LeadsTo};
@@ -29,55 +29,21 @@ pub(crate) fn answered(job: &mut Job, device: Target, stage: Stage, reply: &Repl
     ensures keeps { KeepsTo (stage_ahead device stage) job.new }
 {
     match stage {
-        Stage::StopInhibits { recorded } => {
-            let read_by = ReadBy::Stop;
-            *job = first_try(device, Stage::CountsBefore { read_by, recorded });
-        }
+        Stage::StopInhibits { recorded } => *job = counts(device, ReadBy::Stop, recorded),
         Stage::CountsBefore { read_by, recorded } => {
-            let before = count_in(reply);
-            *job = first_try(
-                device,
-                Stage::Reads {
-                    read_by,
-                    recorded,
-                    before,
-                },
-            );
+            *job = reads(device, read_by, recorded, count_in(reply));
         }
         Stage::Reads {
             read_by,
             recorded,
             before,
-        } => {
-            let credits = credits_in(reply);
-            *job = first_try(
-                device,
-                Stage::Looks {
-                    read_by,
-                    recorded,
-                    before,
-                    credits,
-                },
-            );
-        }
+        } => *job = looks(device, read_by, recorded, before, credits_in(reply)),
         Stage::Looks {
             read_by,
             recorded,
             before,
             credits,
-        } => {
-            let mask_seen = mask_in(reply);
-            *job = first_try(
-                device,
-                Stage::CountsAfter {
-                    read_by,
-                    recorded,
-                    before,
-                    credits,
-                    mask_seen,
-                },
-            );
-        }
+        } => *job = counts_again(device, read_by, recorded, before, credits, mask_in(reply)),
         Stage::CountsAfter {
             read_by,
             recorded,
@@ -92,6 +58,71 @@ pub(crate) fn answered(job: &mut Job, device: Target, stage: Stage, reply: &Repl
         }
         _ => unreachable!(),
     }
+}
+
+/// The round or the stop at its first accept counter.
+pub(crate) fn counts(device: Target, read_by: ReadBy, recorded: Recorded) -> Job
+    ensures { result ≡ Job.Asks device (CountsBefore read_by recorded) 0 }
+{
+    first_try(device, Stage::CountsBefore { read_by, recorded })
+}
+
+/// The round or the stop at its credits.
+fn reads(device: Target, read_by: ReadBy, recorded: Recorded, before: Counted) -> Job
+    ensures { result ≡ Job.Asks device (Reads read_by recorded before) 0 }
+{
+    first_try(
+        device,
+        Stage::Reads {
+            read_by,
+            recorded,
+            before,
+        },
+    )
+}
+
+/// The round or the stop at its look at the mask.
+fn looks(
+    device: Target,
+    read_by: ReadBy,
+    recorded: Recorded,
+    before: Counted,
+    credits: Credits,
+) -> Job
+    ensures { result ≡ Job.Asks device (Looks read_by recorded before credits) 0 }
+{
+    first_try(
+        device,
+        Stage::Looks {
+            read_by,
+            recorded,
+            before,
+            credits,
+        },
+    )
+}
+
+/// The round or the stop at its second accept counter.
+fn counts_again(
+    device: Target,
+    read_by: ReadBy,
+    recorded: Recorded,
+    before: Counted,
+    credits: Credits,
+    mask_seen: u16,
+) -> Job
+    ensures { result ≡ Job.Asks device (CountsAfter read_by recorded before credits mask_seen) 0 }
+{
+    first_try(
+        device,
+        Stage::CountsAfter {
+            read_by,
+            recorded,
+            before,
+            credits,
+            mask_seen,
+        },
+    )
 }
 
 /// The credits that the reply to the question for them is.

@@ -24,13 +24,13 @@ returns-in-Start-clause-rows c = λ d there here.
 pub returns-in-Round-clause-device : goal.returns-in-Round-clause-device
 returns-in-Round-clause-device c = λ d there serial here.
     first_stage c.args.setup.now.devices c.in-Round.addr d c.target_at-in-Round.result (CountsBefore Round c.recorded_in.result) c.args.command.now
-    (command.Round c.in-Round.addr) c.args.epoch.now _ c.first_try-in-Round.result c.first_try-in-Round.ensures c.in-Round.is refl there c.target_at-in-Round.ensures
+    (command.Round c.in-Round.addr) c.args.epoch.now _ c.counts.result c.counts.ensures c.in-Round.is refl there c.target_at-in-Round.ensures
     refl (λ is. tt) c.recorded_in.ensures
 
 pub returns-in-Round-clause-rows : goal.returns-in-Round-clause-rows
 returns-in-Round-clause-rows c = λ d there here.
     begun_ahead c.args.setup.now.devices c.in-Round.addr d c.target_at-in-Round.result c.args.command.now (command.Round c.in-Round.addr) _ c.in-Round.is refl
-    there c.target_at-in-Round.ensures (ap ahead c.first_try-in-Round.ensures)
+    there c.target_at-in-Round.ensures (ap ahead c.counts.ensures)
 
 pub returns-in-Stop-clause-device : goal.returns-in-Stop-clause-device
 returns-in-Stop-clause-device c = λ d there serial here.
