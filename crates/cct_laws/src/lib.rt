@@ -184,9 +184,9 @@ pub fn coins_up_to_the_mark_are_tallied()
     ensures { EachAcceptor (λ d transcript. Pace (lines_in d transcript) → Tallies (lines_in d transcript)) }
 {}
 
-/// Where a job of an acceptor ends because its reading has to be made again, a coin was accepted meanwhile: after the accept
-/// counter was read that stands before the credits, and before the last one was. It holds in every legal transcript over
-/// an honest wire, at any pace.
+/// If a job of an acceptor ends because its reading has to be made again, a coin was accepted meanwhile: after the accept
+/// counter was read the first time, before the credits, and before it was read the second time. It holds in every legal
+/// transcript over an honest wire, at any pace. It doesn't say that the next reading posts that coin.
 pub fn a_reading_made_again_met_a_coin()
     ensures { EachAcceptor (λ d transcript. MovesWithCoins (lines_in d transcript)) }
 {}
@@ -259,8 +259,8 @@ pub fn scripts_are_in_range()
 /// The money of a script that was played up to any of its steps is right. Over an honest wire each device of its setup
 /// posts in order, where a hopper posts nothing; each that keeps the pace loses no coin in silence, and its coins up to the
 /// mark are as many as its records post and tell to be lost; and each hopper pays each order at most once, and closes it
-/// with exactly the coins that fell. Whatever the wire does, no id stands in two
-/// of its records, and the transcript shows an honest wire exactly if no line tells of a forged exchange.
+/// with exactly the coins that fell. Whatever the wire does, no id stands in two of its records, and the transcript shows
+/// an honest wire exactly if no line tells of a forged exchange.
 pub fn played_scripts_keep_the_laws()
     ensures { (capacity : ℕ) (bytes : List ℕ) (played rest : List Step) (transcript : List Entry)
         → (script bytes).steps ≡ played ++ rest → Legal capacity (script bytes).setup played transcript

@@ -1,5 +1,5 @@
 -- What an acceptor's credits, then its mask and then its accept counter tell, where they are read while an epoch runs.
-use Rattle.std.proofs.Common.{◌≡◌, ◌≢◌, ℕ, ◌+◌, ◌-◌, ◌<◌, ◌≤◌, ◌==◌, ◌&&◌, inl, inr, min, cond, Bool, true, false, List, [], ◌++◌, length, take, drop, reverse, replicate, refl, ap, sym, ◌∙◌, subst, subst₂, Option, Some, None, arith, eqb-true, take-append-drop, length-append, length-take}
+use Rattle.std.proofs.Common.{◌≡◌, ◌≢◌, ℕ, ◌+◌, ◌-◌, ◌<◌, ◌≤◌, ◌==◌, ◌&&◌, inl, inr, min, cond, Bool, true, false, List, [], ◌++◌, length, take, drop, reverse, replicate, refl, ap, sym, ◌∙◌, subst, subst₂, Option, Some, arith, eqb-true, take-append-drop, length-append, length-take}
 use Rattle.std.specs.Prelude.{◌^◌}
 use Rattle.std.proofs.lemmas.Bool.{le-leb, and_parts}
 use Rattle.std.proofs.lemmas.Bool.Decides.{nat_tests}
@@ -18,7 +18,7 @@ use Rattle.cct_model.specs.Claims.{AreNewest, IsNear, fewer}
 use Rattle.cct_epoch.proofs.Counters.{distance_most, counter_same, counter_zero}
 use Rattle.cct_laws.proofs.acceptor.Newest.{coins_among-append, take_front, posted_newest}
 use Rattle.cct_laws.proofs.acceptor.World.{World, Silent, After, IsLive, Tracks, mask_at, count_from, count_at}
-use Rattle.cct_laws.proofs.acceptor.Fits.{ReadSoFar, Notes, StateOf, Runs, IsRunning, Begun, Reads, Counts, HeldIn, Held, Sees, SeesIn, Posts, Breaks, Nears, Ready}
+use Rattle.cct_laws.proofs.acceptor.Fits.{ReadSoFar, Notes, StateOf, Runs, IsRunning, Begun, Reads, Counts, HeldIn, Sees, SeesIn, Posts, Breaks, Nears, Ready}
 
 -- what is read of an acceptor
 abbrev pub credits_at : World → Credits
@@ -214,6 +214,7 @@ counts_differ mask seen before now moves same = clash (sym moves ∙ no_move mas
   where
     no_move : (mask seen before now : ℕ) → before ≡ now → shows_move mask seen before now ≡ false
     no_move mask seen before now same = grind (arith, nat_tests)
+
     clash : true ≡ false → ⊥
     clash e = cc
 

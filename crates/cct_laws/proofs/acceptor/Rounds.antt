@@ -1,7 +1,6 @@
 -- How the rows that read an acceptor in its epoch, and what they put, keep what holds of it.
 use Rattle.std.proofs.Common.{◌≡◌, ℕ, le_refl, true, List, ◌∷◌, refl, sym, ◌∙◌, subst, Option, Some, None, ap}
 use Rattle.std.specs.Prelude.{⊤}
-use Rattle.cct_model.specs.terms.coin.Credits.{Credits}
 use Rattle.cct_model.specs.terms.device.DeviceSetup.{DeviceSetup}
 use Rattle.cct_model.specs.terms.request.Request.{Request}
 use Rattle.cct_model.specs.terms.request.Request.TheVariants.{ReadCredits, GetMask, AcceptCount}
@@ -16,16 +15,13 @@ use Rattle.cct_model.specs.lines.entry.End.TheVariants.{Broke}
 use Rattle.cct_model.specs.Reply.{Reply}
 use Rattle.cct_model.specs.Reply as reply
 use Rattle.cct_model.specs.History.{Met, heard}
-use Rattle.cct_model.specs.Acceptor.{credits_of, mask_of, accept_count, accepted_coins}
+use Rattle.cct_model.specs.Acceptor.{credits_of, mask_of, accept_count}
 use Rattle.cct_model.specs.Device.{IsAcceptor}
 use Rattle.cct_model.specs.Line.{Line, exchange, put}
 use Rattle.cct_model.specs.Job.{works, job, with_line, epoch, judged_in, end_of_moving, end_of_reading, address_of}
-use Rattle.cct_model.specs.Claims as claims
-use Rattle.cct_model.specs.Claims.{coins, looking, mark, base}
-use Rattle.cct_laws.specs.Moving.{counting}
 use Rattle.cct_laws.specs.DeviceJobs.{Fate, with_ended}
 use Rattle.cct_laws.proofs.acceptor.World.{World, world, Shut, count_from, count_at, on_nothing}
-use Rattle.cct_laws.proofs.acceptor.Fits.{ReadSoFar, read_so_far, Notes, notes_in, Begins, HeldIn, SeesIn, Posts, PostsAs, BreaksAs, Ready, IsRunning, CountsAt, FitsAt, Fits, IfOver, if_over, IsStill, ends_epoch, AfterCredits, AfterMask, AfterCount, AfterReading}
+use Rattle.cct_laws.proofs.acceptor.Fits.{read_so_far, Notes, notes_in, Begins, HeldIn, SeesIn, Posts, PostsAs, BreaksAs, Ready, CountsAt, FitsAt, Fits, IfOver, if_over, IsStill, ends_epoch, AfterCredits, AfterMask, AfterCount, AfterReading}
 use Rattle.cct_laws.proofs.acceptor.Moves.{Sound, Keeps, KeepsAsk, AtRows, IsOtherEnd, keeps_ended, keeps_with_ended, answered_at, next_at, by_fate}
 use Rattle.cct_laws.proofs.acceptor.Readings.{held_now, sees_now, ready_now}
 use Rattle.cct_laws.proofs.acceptor.Items.{reading_fewer, keeps_clean, keeps_moved, sound_reading, sound_broken}

@@ -14,7 +14,7 @@ use Rattle.cct_model.specs.Reply.{Reply}
 use Rattle.cct_model.specs.History.{Met, heard}
 use Rattle.cct_model.specs.Line.{Line, exchange, put}
 use Rattle.cct_model.specs.Job.{works, job, puts, epoch, Noted}
-use Rattle.cct_model.specs.Claims.{coins, mark, base, Near}
+use Rattle.cct_model.specs.Claims.{coins, mark, Near}
 use Rattle.cct_model.specs.Rows.{Then, ends_as, if_posted, reading, epoch_end, TableRow, asks_for, puts_due, from, first, rest, end_kept, sent_once}
 use Rattle.cct_model.proofs.Rows.{Behind, behind_answer}
 use Rattle.cct_laws.specs.DeviceJobs.{Fate, with_ended}

@@ -1,12 +1,12 @@
 -- Where posts are in order and no coin is lost in silence, the coins up to the mark are as many as all that were posted and
 -- all that were told to be lost.
-use Rattle.std.proofs.Common.{◌≡◌, ℕ, ◌+◌, ◌-◌, ◌≤◌, List, [], ◌∷◌, length, take, refl, ap, arith, length-take}
+use Rattle.std.proofs.Common.{◌≡◌, ℕ, ◌+◌, ◌-◌, ◌≤◌, List, [], ◌∷◌, length, refl, ap, arith, length-take}
 use Rattle.cct_model.specs.terms.coin.Coin.{Coin}
 use Rattle.cct_model.specs.lines.record.Record.{Record}
 use Rattle.cct_model.specs.lines.record.Record.TheVariants as record_of
 use Rattle.cct_model.specs.lines.entry.End.TheVariants.{Clean}
 use Rattle.cct_model.specs.Line.{Line, put, ended}
-use Rattle.cct_model.specs.Claims.{coins, reading, looking, mark, part, told_by, GoesOn, PostsOf, OrderAt, UnpostedOf, CoverAt, InOrder, Covers, Pace, tally, Tallies}
+use Rattle.cct_model.specs.Claims.{coins, reading, looking, mark, part, OrderAt, UnpostedOf, CoverAt, InOrder, Covers, Pace, Tallies}
 use Rattle.cct_laws.specs.Law.{lines_in}
 use Rattle.cct_laws.specs.Scope.{EachAcceptor}
 use Rattle.cct_laws.proofs.acceptor.Posts.{legal_in_order, legal_covers}

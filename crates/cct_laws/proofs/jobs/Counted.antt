@@ -1,6 +1,6 @@
 -- The accept counters that a job read tell how many coins had come, as the lines of its acceptor do. So where a reading has
 -- to be made again, a coin came between the two.
-use Rattle.std.proofs.Common.{◌≡◌, ◌≢◌, ℕ, ◌+◌, ◌<◌, ◌≤◌, ◌==◌, ◌&&◌, not, Bool, true, false, cond, List, [], ◌∷◌, ◌++◌, length, refl, ap, sym, ◌∙◌, subst, Option, Some, None, arith, rules, eq-eqb}
+use Rattle.std.proofs.Common.{◌≡◌, ◌≢◌, ℕ, ◌+◌, ◌<◌, ◌≤◌, ◌==◌, ◌&&◌, not, Bool, true, false, cond, List, [], ◌∷◌, length, refl, ap, sym, ◌∙◌, subst, Option, Some, None, arith, rules, eq-eqb}
 use Rattle.std.specs.Prelude.{⊤, ◌%◌, ◌^◌}
 use Rattle.std.specs.Option.{option_or}
 use Rattle.std.proofs.Math.Arith.{lt_of_le-ne}
@@ -9,7 +9,6 @@ use Rattle.cct_model.specs.terms.device.DeviceSetup.{DeviceSetup}
 use Rattle.cct_model.specs.terms.request.Request.{Request}
 use Rattle.cct_model.specs.terms.request.Request.TheVariants.{AcceptCount}
 use Rattle.cct_model.specs.lines.record.Record.{Record}
-use Rattle.cct_model.specs.lines.record.Record.TheVariants as record_of
 use Rattle.cct_model.specs.lines.command.Command.{Command}
 use Rattle.cct_model.specs.lines.command.Command.TheVariants as command
 use Rattle.cct_model.specs.lines.entry.End.{End}
@@ -18,14 +17,14 @@ use Rattle.cct_model.specs.declared.judging.Judged.{Judged}
 use Rattle.cct_model.specs.declared.judging.Judged.TheVariants.{Nothing, Reading, Broken}
 use Rattle.cct_model.specs.declared.judging.Judged.TheVariants as judged_of
 use Rattle.cct_model.specs.declared.judging.EpochState.{EpochState}
-use Rattle.cct_model.specs.declared.judging.EpochState.TheVariants.{Idle, Running}
+use Rattle.cct_model.specs.declared.judging.EpochState.TheVariants.{Running}
 use Rattle.cct_model.specs.Acceptor.{accepted_coins, accept_count}
 use Rattle.cct_model.specs.Claims.{behind, coins, reading}
 use Rattle.cct_model.specs.Device.{IsAcceptor, reply_of}
 use Rattle.cct_model.specs.History.{Met}
-use Rattle.cct_model.specs.Job.{accepts_line, accepts_reply, accepts_read, accepts_before, at_credits, credits_line, credits_read, mask_read, judged_by, judged_in, address_of, ident_requests, end_of_credits, end_of_reading, end_of_moving}
+use Rattle.cct_model.specs.Job.{accepts_line, accepts_reply, accepts_read, accepts_before, at_credits, credits_line, credits_read, mask_read, judged_by, judged_in, address_of, ident_requests}
 use Rattle.cct_model.specs.Line.{Line, accepted, exchange, put, ended}
-use Rattle.cct_model.specs.Reading.{judge, shows_move}
+use Rattle.cct_model.specs.Reading.{judge}
 use Rattle.cct_model.specs.Reply.{Reply}
 use Rattle.cct_model.specs.Reply as reply
 use Rattle.cct_model.specs.Rows.{Then, goes_on, ends_as, if_quiet, if_judged, if_unmoved, path_told, if_posted, if_closed, TableRow, asks_for, asks_once, waits_for_coins, puts_due, rows_of, left, end_by_answer, end_answered, end_of}

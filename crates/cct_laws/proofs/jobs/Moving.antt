@@ -1,6 +1,6 @@
 -- A job whose exchanges no fault disturbs ends because its reading has to be made again only if a coin was accepted between
 -- its two readings of the accept counter, whatever the wire does to others.
-use Rattle.std.proofs.Common.{◌≡◌, ℕ, suc, cond, true, Bool, List, [], ◌∷◌, ◌++◌, length, refl, ap, sym, ◌∙◌, subst, subst₂, Option, Some, None, inl, inr, append_assoc}
+use Rattle.std.proofs.Common.{◌≡◌, ℕ, suc, cond, true, List, [], ◌∷◌, ◌++◌, length, refl, ap, sym, ◌∙◌, subst, Option, Some, None, append_assoc}
 use Rattle.std.specs.Prelude.{⊤}
 use Rattle.std.proofs.lemmas.List.{append_cancel_right}
 use Rattle.cct_model.specs.terms.device.DeviceSetup.{DeviceSetup}
@@ -14,12 +14,11 @@ use Rattle.cct_model.specs.lines.command.WireFault.TheVariants as fault
 use Rattle.cct_model.specs.lines.entry.End.{End}
 use Rattle.cct_model.specs.lines.entry.Entry.{Entry}
 use Rattle.cct_model.specs.lines.entry.Entry.TheVariants as entry
-use Rattle.cct_model.specs.Acceptor.{accepts, accepted_coins}
+use Rattle.cct_model.specs.Acceptor.{accepted_coins}
 use Rattle.cct_model.specs.Claims.{coins}
 use Rattle.cct_model.specs.Device.{IsAcceptor, reply_of}
 use Rattle.cct_model.specs.Exchange.{ask, asked, asks_of}
 use Rattle.cct_model.specs.History.{Met}
-use Rattle.cct_model.specs.Honest.{forged_after}
 use Rattle.cct_model.specs.Job.{works, job, with_line, epoch, sends, puts, judged_in, noted_in, address_of}
 use Rattle.cct_model.specs.Legal.{with_end, LegalFrom}
 use Rattle.cct_model.specs.Line.{Line, exchange, put, taken, ended}
@@ -40,9 +39,9 @@ use Rattle.cct_laws.proofs.Replies.{start_of}
 use Rattle.cct_laws.proofs.jobs.Asked.{asked_at, undisturbed_accepting}
 use Rattle.cct_laws.proofs.jobs.Brought.{Comes, takes_coin, leaves_coin, leaves_alien, drops_coin, drops_none, jams, jams_none, is_reset, AtDevice, came, took, halted, idled, made_exchange, made_put, AtWork, row_after, wire_of, wire_end, record_end, Brought}
 use Rattle.cct_laws.proofs.jobs.Counted.{counted_now, counted_before, Counted, counted_none, counted_same, counted_line, read_counts, answer_tells, put_tells}
-use Rattle.cct_laws.proofs.jobs.Ending.{IsPlayed, works_same, no_free, first_clear, passed_no_end, none_lost, work_first, work_later, told_first, round_suits}
-use Rattle.cct_laws.proofs.jobs.Seen.{Passes, ArePassed, loose, loose_line, loose_met, Lost, bare, kept_here, kept_elsewhere, seen_here, seen_aside, seen_lost, seen_from, passed_same, passed_job, lines_wire, lines_put, lines_taken, lines_ended, lines_kept, lines_kept_elsewhere, along, along_from, ids_told}
-use Rattle.cct_laws.proofs.jobs.Telling.{Telling, tells, GoesOverForged, over_telling, any_steps}
+use Rattle.cct_laws.proofs.jobs.Ending.{IsPlayed, works_same, no_free, first_clear, none_lost, work_first, work_later, told_first, round_suits}
+use Rattle.cct_laws.proofs.jobs.Seen.{ArePassed, loose, loose_line, loose_met, Lost, bare, kept_here, kept_elsewhere, seen_here, seen_aside, seen_lost, seen_from, passed_same, passed_job, lines_wire, lines_put, lines_taken, lines_ended, lines_kept, lines_kept_elsewhere, along_from, ids_told}
+use Rattle.cct_laws.proofs.jobs.Telling.{tells, GoesOverForged, over_telling, any_steps}
 use Rattle.cct_laws.proofs.orders.Ids.{ids_start, put_owned}
 
 -- an acceptor has accepted as many coins as its lines tell, whatever the wire does

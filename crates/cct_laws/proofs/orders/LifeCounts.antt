@@ -1,7 +1,6 @@
 -- No order is ever closed with life counts that don't fit it.
 use Rattle.std.proofs.Common.{◌≡◌, ℕ, ◌==◌, ◌||◌, cond, true, false, Bool, List, [], ◌++◌, refl, subst, Option, Some, None, rules, sym, ap, ◌∷◌, ◌∙◌}
 use Rattle.std.specs.Prelude.{⊤}
-use Rattle.cct_model.specs.terms.coin.Credits.{Credits}
 use Rattle.cct_model.specs.terms.wire.CheckKind.{CheckKind}
 use Rattle.cct_model.specs.terms.wire.CheckKind.TheVariants.{Simple, Crc}
 use Rattle.cct_model.specs.terms.device.DeviceBody.{DeviceBody}
@@ -26,7 +25,7 @@ use Rattle.cct_model.specs.Device.{IsHopper}
 use Rattle.cct_model.specs.Setup.{IsSoundSetup}
 use Rattle.cct_model.specs.Line.{Line, exchange, put}
 use Rattle.cct_model.specs.Order.{order}
-use Rattle.cct_model.specs.Job.{job, epoch, puts, judged_in, judged_by, credits_read, mask_read, accepts_before, accepts_read, noted_in, ident_requests, end_of_close, address_of}
+use Rattle.cct_model.specs.Job.{job, epoch, puts, judged_in, credits_read, mask_read, accepts_before, accepts_read, noted_in, ident_requests, end_of_close, address_of}
 use Rattle.cct_model.specs.Rows.{row, end_of, TableRow, Due, puts_due, rows_of, Then, end_kept, new_epoch, ends_as, end_by_record, if_posted, if_closed, reading, asks_for, epoch_end, asks_once, waits_for_coins, new_order, rest, sale, order_end, done}
 use Rattle.cct_model.specs.Scan.{end_of_scan, end_by_row, scan_row, scan_tries}
 use Rattle.cct_model.specs.Legal.{with_end}
