@@ -8,9 +8,9 @@ use Rattle.cct_model.specs.declared.judging.EpochState.TheVariants.{Idle, Runnin
 use Rattle.cct_model.specs.lines.entry.End.TheVariants.{Clean, Moved}
 use Rattle.cct_model.specs.History.{Met}
 use Rattle.cct_model.specs.Line.{Line, accepted, put, ended}
-use Rattle.cct_model.specs.Job.{epoch, counted, credits_line}
+use Rattle.cct_model.specs.Job.{job, epoch, counted, credits_line}
 use Rattle.cct_model.specs.Claims.{coins, reading, behind, mark, base, Near, IsNear}
-use Rattle.cct_laws.specs.Moving.{counting}
+use Rattle.cct_laws.specs.Moving.{counting, IsNoStop}
 use Rattle.cct_laws.proofs.acceptor.World.{World, world, Shut, Silent, count_from, closed}
 use Rattle.cct_laws.proofs.acceptor.Fits.{read_so_far, StateOf, TracksIn, Posts, Breaks, Nears, IsIdle}
 use Rattle.cct_laws.proofs.acceptor.Moves.{Sound, Keeps, sound_line}
@@ -47,9 +47,10 @@ keeps_clean d past lines sound nears = record {
 
 -- a reading has to be made again
 pub keeps_moved : (d : DeviceSetup) (past : List Met) (lines : List Line) → Sound d past lines →
-    length (coins (counting (reading lines))) < length (coins (counting lines)) → Keeps d past (ended Moved ∷ lines)
-keeps_moved d past lines sound moved = record {
-  sound = sound_line d past past lines (ended Moved) tt (λ near. tt) moved sound.told sound.marked sound.state sound;
+    length (coins (counting (reading lines))) < length (coins (counting lines)) → IsNoStop (job lines) →
+    Keeps d past (ended Moved ∷ lines)
+keeps_moved d past lines sound moved other = record {
+  sound = sound_line d past past lines (ended Moved) tt (λ near. tt) (moved, other) sound.told sound.marked sound.state sound;
   fits = tt;
 }
 
