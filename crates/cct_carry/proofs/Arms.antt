@@ -10,6 +10,7 @@ use Rattle.cct_model.specs.lines.carry.CarryEpoch.{CarryEpoch}
 use Rattle.cct_model.specs.lines.carry.CarryOrder.{CarryOrder}
 use Rattle.cct_model.specs.Carried.{addr_of_epoch, addr_of_order, set_with}
 use Rattle.cct_model.specs.Carry.{carry_with, epoch_entry, epoch_held, order_with, owner_by}
+use Rattle.cct_model.specs.declared.judging.EpochState.TheVariants.{Running}
 use Rattle.cct_model.specs.Exchange.{device_at}
 use Rattle.cct_model.specs.Job.{counted}
 use Rattle.cct_model.specs.Money.{amount, coins_of, coins_value}
@@ -52,39 +53,40 @@ none_worth : (setup : Setup) (addr : ℕ) (n : ℕ) → coins_of setup addr 0 + 
 none_worth setup addr n = omega arith
 
 module _ (setup : Setup) (c : Carry) where
-  pub with_epoch : (addr mask : ℕ) → CanGoOn setup c (record_of.Epoch addr mask accepts)
+  pub with_epoch : (addr mask accepts : ℕ) → CanGoOn setup c (record_of.Epoch addr mask accepts)
       → carry_with setup (record_of.Epoch addr mask accepts) c
       ≡ record c {
-        epochs = set_with addr_of_epoch addr (Some (record { addr = addr; mask = mask; counter = 0 })) c.epochs;
+        epochs = set_with addr_of_epoch addr (epoch_entry addr (Running mask 0 accepts)) c.epochs;
       }
-  with_epoch addr mask can =
+  with_epoch addr mask accepts can =
       same_carry (carry_with setup (record_of.Epoch addr mask accepts) c) _ (omega arith) (omega arith) (omega arith)
       (omega arith) (omega arith) (omega arith) (omega arith) (omega arith) (omega arith) refl
       (same_orders addr c can.safe.rightly.orders_rise)
 
-  pub with_reading : (addr counter lost : ℕ) (posted : List Coin)
+  pub with_reading : (addr counter lost accepts : ℕ) (posted : List Coin)
       → CanGoOn setup c (record_of.Reading addr counter lost accepts posted)
       → carry_with setup (record_of.Reading addr counter lost accepts posted) c
       ≡ record c {
         value = c.value + coins_value (device_at setup.devices addr) posted;
         posted = c.posted + length posted;
         lost = c.lost + lost;
-        epochs = set_with addr_of_epoch addr (epoch_entry addr (counted counter (epoch_held addr c))) c.epochs;
+        epochs = set_with addr_of_epoch addr (epoch_entry addr (counted counter accepts (epoch_held addr c))) c.epochs;
       }
-  with_reading addr counter lost posted can =
+  with_reading addr counter lost accepts posted can =
       same_carry (carry_with setup (record_of.Reading addr counter lost accepts posted) c) _ (omega arith) (omega arith)
       (omega arith) (omega arith) (omega arith) (omega arith) (omega arith) (omega arith) (omega arith) refl
       (same_orders addr c can.safe.rightly.orders_rise)
 
-  pub with_broken : (addr seen counter : ℕ) (posted : List Coin)
+  pub with_broken : (addr seen counter lost accepts : ℕ) (posted : List Coin)
       → CanGoOn setup c (record_of.Broken addr seen counter lost accepts posted)
       → carry_with setup (record_of.Broken addr seen counter lost accepts posted) c
       ≡ record c {
         value = c.value + coins_value (device_at setup.devices addr) posted;
         posted = c.posted + length posted;
+        lost = c.lost + lost;
         epochs = set_with addr_of_epoch addr None c.epochs;
       }
-  with_broken addr seen counter posted can =
+  with_broken addr seen counter lost accepts posted can =
       same_carry (carry_with setup (record_of.Broken addr seen counter lost accepts posted) c) _ (omega arith) (omega arith)
       (omega arith) (omega arith) (omega arith) (omega arith) (omega arith) (omega arith) (omega arith) refl
       (same_orders addr c can.safe.rightly.orders_rise)

@@ -90,7 +90,7 @@ order_back (Some o) = refl
 entry_addr : (addr : ℕ) (state : EpochState) (x : CarryEpoch) → epoch_entry addr state ≡ Some x → x.addr ≡ addr
 entry_addr addr Idle x is = absurd cc
 entry_addr addr (Running mask counter accepts) x is =
-    ap (λ (y : CarryEpoch). y.addr) (sym (same_some (record { addr = addr; mask = mask; counter = counter }) x is))
+    ap (λ (y : CarryEpoch). y.addr) (sym (same_some (record { addr = addr; mask = mask; counter = counter; accepts = accepts }) x is))
 
 pub epoch_keys : (before : List Record) → HasAddress addr_of_epoch (epoch_at before)
 epoch_keys before d x is = by_kind (is_acceptor d.body) is

@@ -33,12 +33,12 @@ record IsEpochAt (setup : Setup) (addr : ℕ) (e : CarryEpoch) : Type 0 where
   pub fits : EpochFits e
   pub there : acceptor_there (device_at setup.devices e.addr) ≡ true
 
-epoch_made : (setup : Setup) (addr mask counter : ℕ) → addr < 256 → mask < 2 ^ 16 → counter < 256
-    → acceptor_there (device_at setup.devices addr) ≡ true
-    → IsEpochAt setup addr (record { addr = addr; mask = mask; counter = counter })
-epoch_made setup addr mask counter addr_fits mask_fits counter_fits there = record {
+epoch_made : (setup : Setup) (addr mask counter accepts : ℕ) → addr < 256 → mask < 2 ^ 16 → counter < 256
+    → accepts < 2 ^ 24 → acceptor_there (device_at setup.devices addr) ≡ true
+    → IsEpochAt setup addr (record { addr = addr; mask = mask; counter = counter; accepts = accepts })
+epoch_made setup addr mask counter accepts addr_fits mask_fits counter_fits accepts_fits there = record {
   here = refl;
-  fits = record { addr = addr_fits; mask = mask_fits; counter = counter_fits };
+  fits = record { addr = addr_fits; mask = mask_fits; counter = counter_fits; accepts = accepts_fits };
   there = there;
 }
 
@@ -53,17 +53,17 @@ same_epoch : (addr : ℕ) (found : Option CarryEpoch) → IfSome found (λ e. ad
     → epoch_entry addr (epoch_from found) ≡ found
 same_epoch addr None here = refl
 same_epoch addr (Some e) here =
-    let entry : ℕ → CarryEpoch = λ a. record { addr = a; mask = e.mask; counter = e.counter } in
+    let entry : ℕ → CarryEpoch = λ a. record { addr = a; mask = e.mask; counter = e.counter; accepts = e.accepts } in
     ap (λ a. Some (entry a)) (sym here)
 
--- a reading moves the counter of an epoch
-epoch_counted : (setup : Setup) (addr counter : ℕ) (found : Option CarryEpoch) → counter < 256
-    → IfSome found (IsEpochAt setup addr)
-    → IfSome (epoch_entry addr (counted counter (epoch_from found))) (IsEpochAt setup addr)
-epoch_counted setup addr counter None fits held = tt
-epoch_counted setup addr counter (Some e) fits held =
-    epoch_made setup addr e.mask counter (subst (λ a. a < 256) held.here held.fits.addr) held.fits.mask fits
-    (subst (λ a. acceptor_there (device_at setup.devices a) ≡ true) held.here held.there)
+-- a reading moves the counters of an epoch
+epoch_counted : (setup : Setup) (addr counter accepts : ℕ) (found : Option CarryEpoch) → counter < 256
+    → accepts < 2 ^ 24 → IfSome found (IsEpochAt setup addr)
+    → IfSome (epoch_entry addr (counted counter accepts (epoch_from found))) (IsEpochAt setup addr)
+epoch_counted setup addr counter accepts None fits accepts_fits held = tt
+epoch_counted setup addr counter accepts (Some e) fits accepts_fits held =
+    epoch_made setup addr e.mask counter accepts (subst (λ a. a < 256) held.here held.fits.addr) held.fits.mask fits
+    accepts_fits (subst (λ a. acceptor_there (device_at setup.devices a) ≡ true) held.here held.there)
 
 -- the epoch that a carry has at an address
 held_epoch : (setup : Setup) (many addr : ℕ) (c : Carry) → IsSafe setup many c
@@ -89,9 +89,9 @@ next_epoch : (setup : Setup) (many : ℕ) (c : Carry) (r : Record) → IsSafe se
     → follows_carry setup c r ≡ true → IsInReach r
     → IfSome (new_epoch c (owner_by c r) r) (IsEpochAt setup (owner_by c r))
 next_epoch setup many c (record_of.Epoch addr mask accepts) safe ok fits =
-    epoch_made setup addr mask 0 fits.0 fits.1 (lit< tt) (and_parts _ _ (and_parts _ _ (and_parts _ _ ok).0).0).0
+    epoch_made setup addr mask 0 accepts fits.0 fits.1 (lit< tt) fits.2 (and_parts _ _ (and_parts _ _ (and_parts _ _ ok).0).0).0
 next_epoch setup many c (record_of.Reading addr counter lost accepts posted) safe ok fits =
-    epoch_counted setup addr counter (first_with addr_of_epoch addr c.epochs) fits.0
+    epoch_counted setup addr counter accepts (first_with addr_of_epoch addr c.epochs) fits.0 fits.2
     (held_epoch setup many addr c safe)
 next_epoch setup many c (record_of.Broken addr seen counter lost accepts posted) safe ok fits = tt
 next_epoch setup many c (record_of.EpochEnd addr) safe ok fits = tt
@@ -432,8 +432,8 @@ record AddsFew (setup : Setup) (c : Carry) (r : Record) : Type 0 where
   pub id : id_of r < 2 ^ 32
 
 posts_few : (r : Record) → IsInReach r → length (posts_of r) ≤ EVENTS
-posts_few (record_of.Reading addr counter lost accepts posted) fits = fits.2
-posts_few (record_of.Broken addr seen counter lost accepts posted) fits = fits
+posts_few (record_of.Reading addr counter lost accepts posted) fits = fits.3
+posts_few (record_of.Broken addr seen counter lost accepts posted) fits = fits.1
 posts_few (record_of.Epoch addr mask accepts) fits = omega arith
 posts_few (record_of.EpochEnd addr) fits = omega arith
 posts_few (record_of.Opened id addr count life) fits = omega arith
@@ -441,8 +441,9 @@ posts_few (record_of.Closed id paid unpaid) fits = omega arith
 posts_few (record_of.Odd id life_before life_after) fits = omega arith
 posts_few (record_of.Sold id price) fits = omega arith
 
-lost_few : (r : Record) → IsInReach r → coins_lost r < 256
+lost_few : (r : Record) → IsInReach r → coins_lost r < 2 ^ 24
 lost_few (record_of.Reading addr counter lost accepts posted) fits = fits.1
+lost_few (record_of.Broken addr seen counter lost accepts posted) fits = fits.0
 lost_few r fits = lit< tt
 
 paid_few : (r : Record) → IsInReach r → coins_paid r < 256
@@ -567,8 +568,8 @@ safe_next setup many c r sound devices safe ok fits =
 -- a record that can be spelt is in reach
 pub in_reach : (r : Record) → InRange r → IsInReach r
 in_reach (record_of.Epoch addr mask accepts) fits = fits
-in_reach (record_of.Reading addr counter lost accepts posted) fits = (fits.1, fits.2, fits.3.few)
-in_reach (record_of.Broken addr seen counter lost accepts posted) fits = fits.3.few
+in_reach (record_of.Reading addr counter lost accepts posted) fits = (fits.1, fits.2, fits.3, fits.4.few)
+in_reach (record_of.Broken addr seen counter lost accepts posted) fits = (fits.3, fits.5.few)
 in_reach (record_of.EpochEnd addr) fits = tt
 in_reach (record_of.Opened id addr count life) fits = fits
 in_reach (record_of.Closed id paid unpaid) fits = (fits.1, fits.2)

@@ -11,9 +11,10 @@ use Rattle.cct_model.specs.Setup.{IsSoundSetup}
 
 -- The numbers of a record that a carry keeps or adds up fit their bytes, and its coins fit a record.
 abbrev pub IsInReach : Record → Type 0
-IsInReach (record_of.Epoch addr mask accepts) = (addr < 256) × (mask < 2 ^ 16)
-IsInReach (record_of.Reading addr counter lost accepts posted) = (counter < 256) × (lost < 256) × (length posted ≤ EVENTS)
-IsInReach (record_of.Broken addr seen counter lost accepts posted) = length posted ≤ EVENTS
+IsInReach (record_of.Epoch addr mask accepts) = (addr < 256) × (mask < 2 ^ 16) × (accepts < 2 ^ 24)
+IsInReach (record_of.Reading addr counter lost accepts posted) =
+    (counter < 256) × (lost < 2 ^ 24) × (accepts < 2 ^ 24) × (length posted ≤ EVENTS)
+IsInReach (record_of.Broken addr seen counter lost accepts posted) = (lost < 2 ^ 24) × (length posted ≤ EVENTS)
 IsInReach (record_of.EpochEnd addr) = ⊤
 IsInReach (record_of.Opened id addr count life) = (id < 2 ^ 32) × (addr < 256) × (count < 256) × (life < 2 ^ 24)
 IsInReach (record_of.Closed id paid unpaid) = (paid < 256) × (unpaid < 256)

@@ -17,7 +17,7 @@ pub(crate) fn follows(setup: &Setup, carry: &Carry, entry: &Record) -> bool
     ensures { result ≡ follows_carry setup.now carry.now entry.now }
 {
     match entry {
-        Record::Epoch { addr, mask } => may_begin(setup, carry, *addr, *mask),
+        Record::Epoch { addr, mask, .. } => may_begin(setup, carry, *addr, *mask),
         Record::Reading { addr, .. } => epoch_runs(carry, *addr),
         Record::Broken { addr, .. } => epoch_runs(carry, *addr),
         Record::EpochEnd { addr } => epoch_runs(carry, *addr),

@@ -4,6 +4,7 @@ ghost use Rattle.cct_model.specs.terms.coin.TheConstants.{EVENTS};
 ghost use Rattle.cct_model.specs.terms.device.TheConstants.{DEVICES};
 ghost use Rattle.cct_model.specs.Carried.{addr_of_epoch, addr_of_order, set_with};
 ghost use Rattle.cct_model.specs.Carry.{carry_with, epoch_entry, epoch_held, order_entry, order_with};
+ghost use Rattle.cct_model.specs.declared.judging.EpochState.TheVariants.{Running};
 ghost use Rattle.cct_model.specs.Exchange.{device_at};
 ghost use Rattle.cct_model.specs.Job.{counted};
 ghost use Rattle.cct_model.specs.Money as money;
@@ -24,18 +25,28 @@ pub(crate) fn go_on(setup: &Setup, carry: &mut Carry, entry: &Record)
     ensures in_reach { IsInReach entry.now }
 {
     match entry {
-        Record::Epoch { addr, mask } => begin(carry, *addr, *mask),
+        Record::Epoch {
+            addr,
+            mask,
+            accepts,
+        } => begin(carry, *addr, *mask, *accepts),
         Record::Reading {
             addr,
             counter,
             lost,
+            accepts,
             posted,
         } => {
-            post(setup, carry, *addr, posted.as_slice());
-            read(carry, *addr, *counter, *lost);
+            post(setup, carry, *addr, posted.as_slice(), *lost);
+            read(carry, *addr, *counter, *accepts);
         }
-        Record::Broken { addr, posted, .. } => {
-            post(setup, carry, *addr, posted.as_slice());
+        Record::Broken {
+            addr,
+            lost,
+            posted,
+            ..
+        } => {
+            post(setup, carry, *addr, posted.as_slice(), *lost);
             end(carry, *addr);
         }
         Record::EpochEnd { addr } => end(carry, *addr),
@@ -59,58 +70,58 @@ pub(crate) fn go_on(setup: &Setup, carry: &mut Carry, entry: &Record)
     }
 }
 
-/// An epoch begins at an address.
-fn begin(carry: &mut Carry, addr: u8, mask: u16)
-    requires { length (set_with addr_of_epoch addr (Some (record { addr = addr; mask = mask; counter = 0 })) carry.old.epochs)
-        ≤ DEVICES }
+/// An epoch begins at an address, with an accept counter.
+fn begin(carry: &mut Carry, addr: u8, mask: u16, accepts: u32)
+    requires { length (set_with addr_of_epoch addr (epoch_entry addr (Running mask 0 accepts)) carry.old.epochs) ≤ DEVICES }
     ensures { carry.new
         ≡ record carry.old {
-          epochs = set_with addr_of_epoch addr (Some (record { addr = addr; mask = mask; counter = 0 })) carry.old.epochs;
+          epochs = set_with addr_of_epoch addr (epoch_entry addr (Running mask 0 accepts)) carry.old.epochs;
         } }
 {
     let epoch = CarryEpoch {
         addr,
         mask,
         counter: 0,
+        accepts,
     };
     set_epoch(&mut carry.epochs, addr, Some(epoch));
 }
 
-/// Coins are posted that the acceptor at an address took.
-fn post(setup: &Setup, carry: &mut Carry, addr: u8, coins: &[Coin])
+/// Coins are posted that the acceptor at an address took, and so many others told to be lost.
+fn post(setup: &Setup, carry: &mut Carry, addr: u8, coins: &[Coin], lost: u32)
     requires few { length coins.now ≤ EVENTS }
     requires value { carry.old.value + money.coins_value (device_at setup.now.devices addr) coins.now < 2 ^ 64 }
     requires posted { carry.old.posted + length coins.now < 2 ^ 64 }
+    requires lost { carry.old.lost + lost < 2 ^ 64 }
     ensures { carry.new
         ≡ record carry.old {
           value = carry.old.value + money.coins_value (device_at setup.now.devices addr) coins.now;
           posted = carry.old.posted + length coins.now;
+          lost = carry.old.lost + lost;
         } }
 {
     carry.value += coins_value(setup, addr, coins);
     carry.posted += coins.len() as u64;
+    carry.lost += u64::from(lost);
 }
 
-/// A reading moves the counter of the epoch at an address, and tells events to be lost.
-fn read(carry: &mut Carry, addr: u8, counter: u8, lost: u8)
-    requires lost { carry.old.lost + lost < 2 ^ 64 }
-    requires room { length (set_with addr_of_epoch addr (epoch_entry addr (counted counter (epoch_held addr carry.old)))
-        carry.old.epochs) ≤ DEVICES }
+/// A reading moves the counters of the epoch at an address.
+fn read(carry: &mut Carry, addr: u8, counter: u8, accepts: u32)
+    requires { length (set_with addr_of_epoch addr
+        (epoch_entry addr (counted counter accepts (epoch_held addr carry.old))) carry.old.epochs) ≤ DEVICES }
     ensures { carry.new
         ≡ record carry.old {
-          lost = carry.old.lost + lost;
-          epochs = set_with addr_of_epoch addr (epoch_entry addr (counted counter (epoch_held addr carry.old)))
+          epochs = set_with addr_of_epoch addr (epoch_entry addr (counted counter accepts (epoch_held addr carry.old)))
               carry.old.epochs;
         } }
 {
-    let epoch = counted(carry, addr, counter);
-    carry.lost += u64::from(lost);
+    let epoch = counted(carry, addr, counter, accepts);
     set_epoch(&mut carry.epochs, addr, epoch);
 }
 
-/// The epoch at an address with another counter, or none.
-fn counted(carry: &Carry, addr: u8, counter: u8) -> Option<CarryEpoch>
-    ensures { result ≡ epoch_entry addr (counted counter (epoch_held addr carry.now)) }
+/// The epoch at an address with other counters, or none.
+fn counted(carry: &Carry, addr: u8, counter: u8, accepts: u32) -> Option<CarryEpoch>
+    ensures { result ≡ epoch_entry addr (counted counter accepts (epoch_held addr carry.now)) }
 {
     match epoch_held(carry, addr) {
         EpochState::Idle => None,
@@ -118,6 +129,7 @@ fn counted(carry: &Carry, addr: u8, counter: u8) -> Option<CarryEpoch>
             addr,
             mask,
             counter,
+            accepts,
         }),
     }
 }

@@ -35,7 +35,18 @@ fn running(entry: Option<CarryEpoch>) -> EpochState
     ensures { result ≡ epoch_from entry }
 {
     match entry {
-        Some(CarryEpoch { mask, counter, .. }) => EpochState::Running { mask, counter },
+        Some(
+            CarryEpoch {
+                mask,
+                counter,
+                accepts,
+                ..
+            },
+        ) => EpochState::Running {
+            mask,
+            counter,
+            accepts,
+        },
         None => EpochState::Idle,
     }
 }

@@ -45,8 +45,10 @@ after_change content disk = record disk { content = content; changes = disk.chan
 
 -- a disk after a write that failed, and that tore its range
 abbrev pub after_torn : ℕ → ℕ → List ℕ → MemoryDisk → MemoryDisk
-after_torn choice at bytes disk =
-    record (after_change (written_torn choice at bytes disk.content) disk) { faults = next_count disk.faults }
+after_torn choice at bytes disk = record (after_fault disk) {
+  content = written_torn choice at bytes disk.content;
+  changes = disk.changes + 1;
+}
 
 -- a disk after a cut
 pub record IsAfterCut (choice : ℕ) (old new : MemoryDisk) : Type 0 where

@@ -6,7 +6,8 @@ ghost use Rattle.cct_edge.specs.Memory.{FailsNext};
 ghost use Rattle.cct_disk.specs.Content.{written, settled, unsynced_in, may_leave, left_since, ElapsesTo};
 ghost use Rattle.cct_disk.specs.Disk.{SameOutside, Follows, IsWithin, Only};
 ghost use Rattle.cct_disk.specs.Traced.{IsTraced, HasRoom, PassesRoom};
-ghost use Rattle.cct_disk.specs.Memory.{blank, Answers, AnswersTorn, IsAfterCut, LacksRoom, MemoryGoesOn, MemoryOutlasts, after_change, after_read};
+ghost use Rattle.cct_disk.specs.Memory.{blank, Answers, AnswersTorn, IsAfterCut, LacksRoom, after_change, after_read};
+ghost use Rattle.cct_disk.specs.Memory.{MemoryGoesOn, MemoryOutlasts};
 ghost use Rattle.cct_disk.specs.Laws.{fits_bytes, bytes_are_image, now_counts, now_only};
 
 use crate::Disk;

@@ -44,17 +44,17 @@ const LEFT_OF_TWO_WRITES: [(u64, [u8; 4]); 7] = [
     (u64::MAX, [10, 0, 1, 40]),
 ];
 
-// What stood on a disk of 8, all synced, before a write of 1, 2 and 3 at place 3 was torn.
-const STOOD: [u8; 8] = [10, 20, 30, 40, 50, 60, 70, 80];
+// What stood on a disk of 5, all synced, before a write of 1, 2 and 3 at place 1 was torn.
+const STOOD: [u8; 5] = [10, 20, 30, 40, 50];
 
-// What stands there after it, by the choice.
-const TORN: [(u64, [u8; 8]); 6] = [
-    (0, STOOD),
-    (1, [10, 20, 30, 1, 2, 3, 70, 80]),
-    (2, [10, 20, 30, 40, 2, 60, 70, 80]),
-    (3, [10, 20, 30, 6, 7, 8, 70, 80]),
-    (133, [10, 20, 30, 136, 137, 138, 70, 80]),
-    (u64::MAX, [10, 20, 30, 2, 3, 4, 70, 80]),
+// By the choice of such a write what stands there after it, and by the choice of a cut what stands there after that.
+const TORN: [(u64, [u8; 5], u64, [u8; 5]); 6] = [
+    (0, STOOD, 5, [10, 6, 7, 8, 50]),
+    (1, [10, 1, 2, 3, 50], 0, STOOD),
+    (2, [10, 20, 2, 40, 50], 1, [10, 20, 2, 40, 50]),
+    (3, [10, 4, 5, 6, 50], 0, STOOD),
+    (133, [10, 134, 135, 136, 50], 2, [10, 20, 135, 40, 50]),
+    (u64::MAX, [10, 0, 1, 2, 50], 3, [10, 4, 5, 6, 50]),
 ];
 
 fn blank(alloc: Global, len: u64) -> Result<MemDisk, Fail> {
@@ -153,32 +153,24 @@ fn of_calls_that_are_told_to_fail_only_a_write_is_torn(rt: HostRuntime) -> Resul
 #[test]
 fn a_torn_write_leaves_each_byte_by_its_choice(rt: HostRuntime) -> Result<(), Fail> {
     let alloc = rt.alloc();
-    for (choice, want) in TORN {
-        let mut disk = TornDisk::new(alloc, 8, [3].to_vec(alloc)?, choice)?;
-        assert!(rt; disk.len() == 8);
+    for (choice, torn, cut, want) in TORN {
+        let mut disk = TornDisk::new(alloc, 5, [3].to_vec(alloc)?, choice)?;
+        assert!(rt; disk.len() == 5);
         assert!(rt; is_written(&mut disk, 0, &STOOD) && is_synced(&mut disk));
-        assert!(rt; !is_written(&mut disk, 3, &[1, 2, 3]));
-        assert_eq!(rt; read_from(&mut disk, 0), Some(want), "{choice}");
-        // The disk goes on, and keeps what it is told to keep.
-        assert!(rt; is_synced(&mut disk) && is_cut(&mut disk, 0));
-        assert_eq!(rt; read_from(&mut disk, 0), Some(want), "{choice}");
-        assert!(rt; is_written(&mut disk, 3, &[1, 2, 3]));
-        assert_eq!(rt; read_from(&mut disk, 3), Some([1, 2, 3]), "{choice}");
-    }
-    Ok(())
-}
-
-#[test]
-fn a_cut_may_change_what_a_torn_write_left(rt: HostRuntime) -> Result<(), Fail> {
-    let alloc = rt.alloc();
-    for (choice, torn) in TORN {
-        for (cut, want) in [(0, STOOD), (1, torn), (5, [10, 20, 30, 8, 9, 10, 70, 80])] {
-            let mut disk = TornDisk::new(alloc, 8, [3].to_vec(alloc)?, choice)?;
-            assert!(rt; is_written(&mut disk, 0, &STOOD) && is_synced(&mut disk));
-            assert!(rt; !is_written(&mut disk, 3, &[1, 2, 3]));
-            assert!(rt; is_cut(&mut disk, cut));
-            assert_eq!(rt; read_from(&mut disk, 0), Some(want), "{choice}, {cut}");
-        }
+        assert!(rt; !is_written(&mut disk, 1, &[1, 2, 3]));
+        assert_eq!(rt; read_from(&mut disk, 0), Some(torn), "{choice}");
+        assert!(rt; is_cut(&mut disk, cut));
+        assert_eq!(rt;
+            read_from(&mut disk, 0),
+            Some(want),
+            "a cut by {cut} after {choice}"
+        );
+        assert!(rt; is_written(&mut disk, 1, &[1, 2, 3]) && is_synced(&mut disk));
+        assert_eq!(rt;
+            read_from(&mut disk, 0),
+            Some([10, 1, 2, 3, 50]),
+            "the disk goes on"
+        );
     }
     Ok(())
 }

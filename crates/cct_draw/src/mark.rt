@@ -123,6 +123,8 @@ pub enum Mark {
     Ended(Label),
     /// A job ended so that somebody is to look, as `broke 2` (`docs/OPERATING.md`).
     Alarm(Label),
+    /// The exchange before it was forged, as `forged 2`.
+    Forged(Label),
     /// The host lost its power, and started again over so many records.
     Crash {
         records: u32,

@@ -66,6 +66,7 @@ fn draw_of_host<K: Sink>(pen: &mut Pen<'_, K>, mark: &Mark, times: u64) {
             words,
             times,
         ),
+        Mark::Forged(words) => draw_words(pen, Shape::Alarm, b"to be looked at: ", words, times),
         Mark::Put(record) => draw_record(pen, Shape::Put, b"put: ", record, times),
         Mark::Kept(record) => draw_record(pen, Shape::Kept, b"kept: ", record, times),
         Mark::Note(words) => draw_note(pen, words, times),

@@ -63,7 +63,8 @@ fn add_texts(
     picture.add(4, words, Mark::Refused(words))?;
     picture.add(5, words, Mark::Ended(words))?;
     picture.add(6, words, Mark::Alarm(words))?;
-    picture.add(7, words, Mark::Note(words))
+    picture.add(7, words, Mark::Forged(words))?;
+    picture.add(8, words, Mark::Note(words))
 }
 
 /// A picture with a lane for each address, in whose texts each byte follows each other one.
@@ -194,8 +195,8 @@ fn a_picture_is_well_formed_whatever_its_texts_hold(rt: HostRuntime) -> Result<(
     let (answer, sink) = write(alloc, &picture_of_all_bytes(alloc)?, 0)?;
     assert!(rt; answer.is_ok());
     assert!(rt; is_well_formed(alloc, sink.bytes())?);
-    // seven marks for each of 256 addresses, 200 to a page
-    assert!(rt; has_text(sink.bytes(), b">page 9 of 9, lines "));
+    // eight marks for each of 256 addresses, 200 to a page
+    assert!(rt; has_text(sink.bytes(), b">page 11 of 11, lines "));
     assert!(rt; has_text(sink.bytes(), b">device 255<"));
     let (answer, sink) = write(alloc, &Picture::new(alloc), 0)?;
     assert!(rt; answer.is_ok());

@@ -25,10 +25,6 @@ pub counter_same : (new old : ℕ) → distance (counter old) (counter (new + ol
 unfolding distance
 counter_same new old none = grind (arith, nat_tests)
 
--- the counter is 0 before the first event alone
-pub counter_none : (n : ℕ) → counter n ≡ 0 → n ≡ 0
-counter_none n none = grind (arith, nat_tests)
-
--- and a later counter is 0 only where an earlier one is
+-- a later counter is 0 only if an earlier one is
 pub counter_zero : (new old : ℕ) → counter (new + old) ≡ 0 → counter old ≡ 0
 counter_zero new old first = grind (arith, nat_tests)

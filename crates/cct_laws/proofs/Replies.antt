@@ -1,14 +1,14 @@
--- What a device of a kind replies of its own: an acceptor that is asked for its credits or its mask, and a hopper that is
--- asked how its payout goes, to stop it, or for its life count.
+-- What a device of a kind replies of its own: an acceptor that is asked for its credits, its mask or its accept counter,
+-- and a hopper that is asked how its payout goes, to stop it, or for its life count.
 use Rattle.std.proofs.Common.{◌≡◌, ℕ, List, [], refl, Some}
 use Rattle.cct_model.specs.terms.device.DeviceBody.{DeviceBody}
 use Rattle.cct_model.specs.terms.device.DeviceBody.TheVariants.{Acceptor, Hopper}
 use Rattle.cct_model.specs.terms.device.DeviceSetup.{DeviceSetup}
 use Rattle.cct_model.specs.terms.request.Request.{Request}
-use Rattle.cct_model.specs.terms.request.Request.TheVariants.{ReadCredits, GetMask, GetStatus, StopNow, GetLife}
+use Rattle.cct_model.specs.terms.request.Request.TheVariants.{ReadCredits, GetMask, AcceptCount, GetStatus, StopNow, GetLife}
 use Rattle.cct_model.specs.Reply as reply
 use Rattle.cct_model.specs.History.{Met}
-use Rattle.cct_model.specs.Acceptor.{credits_of, mask_of, acceptor_reply}
+use Rattle.cct_model.specs.Acceptor.{credits_of, mask_of, accept_count, acceptor_reply}
 use Rattle.cct_model.specs.Hopper.{hopper_reply, status_of, remaining, life_count}
 use Rattle.cct_model.specs.Device.{IsAcceptor, IsHopper, common_reply, own_reply, reply_of}
 use Rattle.cct_model.specs.Reply.{Reply}
@@ -41,6 +41,11 @@ pub replied_mask : (d : DeviceSetup) (past : List Met) → IsAcceptor d.body →
     reply_of d past GetMask ≡ Some (reply.mask (mask_of past))
 unfolding reply_of common_reply acceptor_reply
 replied_mask d past accepting = acceptor_is d.serial d.body past GetMask accepting
+
+pub replied_accepts : (d : DeviceSetup) (past : List Met) → IsAcceptor d.body →
+    reply_of d past AcceptCount ≡ Some (reply.accepts (accept_count (start_of d.body) past))
+unfolding reply_of common_reply acceptor_reply
+replied_accepts d past accepting = acceptor_is d.serial d.body past AcceptCount accepting
 
 pub replied_status : (d : DeviceSetup) (past : List Met) → IsHopper d.body →
     reply_of d past GetStatus ≡ Some (status_of d.serial past)

@@ -16,4 +16,5 @@ pub mod Rounds
 pub mod Safety
 pub mod Starts
 pub mod Stops
+pub mod Tallies
 pub mod World

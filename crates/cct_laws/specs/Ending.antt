@@ -8,13 +8,15 @@ use Rattle.cct_model.specs.lines.command.Step.{Step}
 use Rattle.cct_model.specs.lines.command.Step.TheVariants as step
 use Rattle.cct_model.specs.lines.command.WireFault.TheVariants.{Clear}
 use Rattle.cct_model.specs.lines.entry.End.{End}
-use Rattle.cct_model.specs.lines.entry.End.TheVariants.{Started, Unquiet, Clean, Posted, Broke, Stopped, Told, PathSet, Closed, OddLife, Sold}
+use Rattle.cct_model.specs.lines.entry.End.TheVariants.{Started, Unquiet, Clean, Posted, Broke, Moved, Stopped, Told, PathSet, Closed, OddLife, Sold}
 use Rattle.cct_model.specs.lines.entry.Entry.{Entry}
 use Rattle.cct_model.specs.lines.entry.Entry.TheVariants as entry
 use Rattle.cct_model.specs.Exchange.{asked}
 use Rattle.cct_model.specs.Hopper.{remaining}
 use Rattle.cct_model.specs.Rows.{rows_of}
-use Rattle.cct_model.specs.Transcript.{pending, met}
+use Rattle.cct_model.specs.Line.{ended}
+use Rattle.cct_model.specs.Transcript.{pending, met, lines_of}
+use Rattle.cct_laws.specs.Moving.{MovedAt}
 
 -- So many `next` at an address after a step.
 abbrev pub nexts_after : ℕ → Step → ℕ → ℕ
@@ -52,14 +54,17 @@ abbrev pub nexts_needed : DeviceSetup → Command → List Step → ℕ
 nexts_needed d c steps = if is_payment c then row_count d c + halts_at d.addr steps else row_count d c
 
 -- The ends of a job that got its answers: a start that started, or whose acceptor wasn't quiet; a round or a stop that
--- came to its end, or broke; an order that was closed. An identification and a path were told, and a sale was made.
+-- came to its end, that broke, or whose reading has to be made again; an order that was closed. An identification and a
+-- path were told, and a sale was made.
 abbrev pub IsEndOf : Command → End → Type 0
 IsEndOf (command.Start addr mask) Started = ⊤
 IsEndOf (command.Start addr mask) (Unquiet counter) = ⊤
 IsEndOf (command.Round addr) Clean = ⊤
 IsEndOf (command.Round addr) Posted = ⊤
 IsEndOf (command.Round addr) Broke = ⊤
+IsEndOf (command.Round addr) Moved = ⊤
 IsEndOf (command.Stop addr) Broke = ⊤
+IsEndOf (command.Stop addr) Moved = ⊤
 IsEndOf (command.Stop addr) Stopped = ⊤
 IsEndOf (command.Pay addr id count) Closed = ⊤
 IsEndOf (command.Pay addr id count) OddLife = ⊤
@@ -80,8 +85,8 @@ ShowsEnd c addr (e ∷ news) = ShowsEnd c addr news
 abbrev pub EndsAs : Command → ℕ → List Entry → List Entry → Type 0
 EndsAs c addr past end = (news : List Entry) × (end ≡ news ++ past) × ShowsEnd c addr news
 
--- A past goes on to another, and between them a round ends that got its answers: nothing came, a reading was put, or a
--- break.
+-- A past goes on to another, and between them a round ends that got its answers: nothing came, a reading was put, a
+-- break, or the reading has to be made again.
 abbrev pub EndsRound : ℕ → List Entry → List Entry → Type 0
 EndsRound addr past end = EndsAs (command.Round addr) addr past end
 
@@ -107,6 +112,17 @@ LeavesAlone addr past e = ⊤
 -- power wasn't cut. Faults for later exchanges, and for those of other addresses, may be set.
 abbrev pub IsUndisturbed : ℕ → List Entry → List Entry → Type 0
 IsUndisturbed addr past end = (news : List Entry) → end ≡ news ++ past → EachWhileRunning (LeavesAlone addr) addr past news
+
+-- An entry is no end of a device's job by which a reading has to be made again, or a coin was accepted between the two
+-- readings of the accept counter.
+abbrev pub IsMovedByCoin : DeviceSetup → List Entry → Entry → Type 0
+IsMovedByCoin d past (entry.Ended addr end) = addr ≡ d.addr → MovedAt (lines_of d past) (ended end)
+IsMovedByCoin d past e = ⊤
+
+-- A past goes on to another, and if the job at a device ended because its reading has to be made again, a coin was accepted
+-- while it was made.
+abbrev pub IsOnlyMovedByCoins : DeviceSetup → List Entry → List Entry → Type 0
+IsOnlyMovedByCoins d past end = (news : List Entry) → end ≡ news ++ past → EachWhileRunning (IsMovedByCoin d) d.addr past news
 
 -- Where an exchange asks a hopper how its payout goes, no coin is left to pay.
 abbrev pub FindsNoneLeft : DeviceSetup → List Entry → Entry → Type 0

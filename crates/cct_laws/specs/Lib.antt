@@ -9,6 +9,7 @@ pub mod KeptBoth
 pub mod KeptHopper
 pub mod Law
 pub mod LifeCounts
+pub mod Moving
 pub mod PaidOut
 pub mod Recorded
 pub mod Restart

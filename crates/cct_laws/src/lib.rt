@@ -13,7 +13,7 @@
 //! - `kept_legal`, `kept_since_legal` and `kept_hopper_legal` of `proofs/Whole.antt`, by which any fact of a device holds
 //!   that each thing that can come keeps; `along` of `proofs/jobs/Seen.antt`, by which one of all entries does;
 //! - `setup_sound`, `steps_of_today` and `front_of_today` of `proofs/text/Scripts.antt`, and there `legal_right` and
-//!   `played_right`, which say five laws at once; `legal_written` of `proofs/text/Texts.antt`;
+//!   `played_right`, which say six laws at once; `legal_written` of `proofs/text/Texts.antt`;
 //! - for a host that restarts over its records `proofs/money/Replaying.antt`, which says what each record more tells, and
 //!   `proofs/money/Restarts.antt`, which says what entries a power cut leaves;
 //! - `on_wire` of `proofs/OnWire.antt`: the entries of a `next`, and after an exchange that was forged the one that tells
@@ -42,7 +42,7 @@ ghost use Rattle.cct_model.specs.lines.command.WireFault.TheVariants.{Clear};
 ghost use Rattle.cct_model.specs.lines.entry.Entry.{Entry};
 ghost use Rattle.cct_model.specs.terms.wire.TheConstants.{BROADCAST};
 ghost use Rattle.cct_model.specs.Acceptor.{accepts, events, credits_of};
-ghost use Rattle.cct_model.specs.Claims.{AllPast, InOrder, Covers, Pace};
+ghost use Rattle.cct_model.specs.Claims.{AllPast, InOrder, Covers, Pace, Tallies};
 ghost use Rattle.cct_model.specs.Device.{IsAcceptor};
 ghost use Rattle.cct_model.specs.Exchange.{ask, by_address};
 ghost use Rattle.cct_model.specs.Job.{works, job, epoch, sends, puts, Noted};
@@ -71,10 +71,11 @@ ghost use Rattle.cct_laws.specs.Coins.{all_fallen, all_paid};
 ghost use Rattle.cct_laws.specs.LifeCounts.{FitsLife};
 ghost use Rattle.cct_laws.specs.PaidOut.{is_paid_out};
 ghost use Rattle.cct_laws.specs.Recorded.{HasNoJob, IsRestart, open_orders, totals_in};
-ghost use Rattle.cct_laws.specs.Ending.{nexts_at, EndsRound, IsUndisturbed, nexts_needed, is_payment, EndsAs, AlwaysFindsNoneLeft};
+ghost use Rattle.cct_laws.specs.Ending.{nexts_at, EndsRound, IsUndisturbed, IsOnlyMovedByCoins, nexts_needed, is_payment, EndsAs, AlwaysFindsNoneLeft};
 ghost use Rattle.cct_laws.specs.Faults.{FailsByFault, EchoFailsByFault, EndsByFaults, is_dispense, FailsByFaultBut};
 ghost use Rattle.cct_model.specs.Honest.{Honest, IsAllUnforged, IsHonestFault};
 ghost use Rattle.cct_laws.specs.Law.{AreOfToday, AreRising, Begins, EachEntry, HasBytes, IsAnswered, IsOf, IsUnanswered, NamesNoPut, lines_in};
+ghost use Rattle.cct_laws.specs.Moving.{MovesWithCoins};
 ghost use Rattle.cct_laws.specs.Right.{IsRight};
 ghost use Rattle.cct_laws.specs.Scope.{EachAcceptor, EachHopper, EachTranscript, IsCommandFor};
 ghost use Rattle.cct_laws.specs.SinceEpoch.{since_epoch_in, mask_set_in, IsMaskedBy, MayBreak, HaveCauses};
@@ -118,33 +119,45 @@ pub fn an_honest_exchange_gets_the_reply_or_nothing()
         → IsUnanswered setup d past q ⊎ IsAnswered setup d past q }
 {}
 
-/// A round that was just taken at an acceptor ends within three `next` at its address, where no fault is set for one of
-/// its own exchanges and the power isn't cut before. Nothing came, a reading is put, or a break. Its past is legal.
-/// Whatever else comes between them doesn't hinder it: coins, resets, commands, the jobs of other devices, and faults
-/// set for the exchanges of those, or of later jobs. It doesn't say what the round posts.
+/// A round that was just taken at an acceptor ends within five `next` at its address, where no fault is set for one of
+/// its own exchanges and the power isn't cut before. Nothing came, a reading is put, a break, or the reading has to be made
+/// again; and that only if a coin was accepted between its two readings of the accept counter. Its past is legal. Whatever
+/// else comes between them doesn't hinder it: coins, resets, commands, the jobs of other devices, and faults set for the
+/// exchanges of those, or of later jobs. It doesn't say what the round posts.
 pub fn a_round_without_a_fault_ends()
-    ensures { (capacity : ℕ) (setup : Setup) (before : List Step) (past : List Entry) (d : DeviceSetup)
+    ensures ends { (capacity : ℕ) (setup : Setup) (before : List Step) (past : List Entry) (d : DeviceSetup)
         (steps : List Step) (end : List Entry)
         → IsSoundSetup setup → IsOf setup d → IsAcceptor d.body → LegalFrom capacity setup [] before past
         → job (lines_of d past) ≡ works (Round d.addr) []
-        → 3 ≤ nexts_at d.addr steps → LegalFrom capacity setup past steps end → IsUndisturbed d.addr past end
+        → 5 ≤ nexts_at d.addr steps → LegalFrom capacity setup past steps end → IsUndisturbed d.addr past end
         → EndsRound d.addr past end }
+    ensures moved { (capacity : ℕ) (setup : Setup) (before : List Step) (past : List Entry) (d : DeviceSetup)
+        (steps : List Step) (end : List Entry)
+        → IsSoundSetup setup → IsOf setup d → IsAcceptor d.body → LegalFrom capacity setup [] before past
+        → job (lines_of d past) ≡ works (Round d.addr) [] → LegalFrom capacity setup past steps end
+        → IsUndisturbed d.addr past end → IsOnlyMovedByCoins d past end }
 {}
 
 /// Every job at a device that was just taken ends in the same way, within as many `next` at its address as it has rows,
-/// and for a payment one more for each halt. A start ends within 4, a stop within 5, a payment within 7, a settlement
+/// and for a payment one more for each halt. A start ends within 5, a stop within 7, a payment within 7, a settlement
 /// within 3, an identification within one for each of its questions, the setting of a path within 2. A payment and a
 /// settlement do so where no coin is left to pay whenever the hopper is asked how its payout goes. The end is one of a
-/// job that got its answers, never one for want of an answer. It doesn't say which coins were paid, nor that coins
-/// fall.
+/// job that got its answers, never one for want of an answer. That a reading has to be made again ends a stop too only if
+/// a coin was accepted between its two readings of the accept counter. It doesn't say which coins were paid, nor that
+/// coins fall.
 pub fn a_job_without_a_fault_ends()
-    ensures { (capacity : ℕ) (setup : Setup) (before : List Step) (past : List Entry) (d : DeviceSetup)
+    ensures ends { (capacity : ℕ) (setup : Setup) (before : List Step) (past : List Entry) (d : DeviceSetup)
         (command : Command) (steps : List Step) (end : List Entry)
         → IsCommandFor setup d command → LegalFrom capacity setup [] before past
         → job (lines_of d past) ≡ works command [] → nexts_needed d command steps ≤ nexts_at d.addr steps
         → LegalFrom capacity setup past steps end → IsUndisturbed d.addr past end
         → (is_payment command ≡ true → AlwaysFindsNoneLeft d past end)
         → EndsAs command d.addr past end }
+    ensures moved { (capacity : ℕ) (setup : Setup) (before : List Step) (past : List Entry) (d : DeviceSetup)
+        (command : Command) (steps : List Step) (end : List Entry)
+        → IsCommandFor setup d command → IsAcceptor d.body → LegalFrom capacity setup [] before past
+        → job (lines_of d past) ≡ works command [] → LegalFrom capacity setup past steps end
+        → IsUndisturbed d.addr past end → IsOnlyMovedByCoins d past end }
 {}
 
 /// Posts are accepted coins in their order, none twice, for every acceptor of the setup, in every legal transcript over
@@ -155,14 +168,27 @@ pub fn posts_in_order()
     ensures { EachAcceptor (λ d transcript. InOrder (lines_in d transcript)) }
 {}
 
-/// No coin that came before a completed reading is lost in silence in such a transcript. A reading reports as lost at
-/// least the coins of its part that it doesn't post, and a clean end and the end of an epoch have no coin in theirs. The
-/// premise is the pace: fewer than 255 objects, coins or not, come between the reading of each record that begins an
-/// epoch or is a reading, and that of each record or clean end up to the next record. It doesn't say which coins were
-/// lost, nor that as many coins were lost as are reported. After a break it says nothing of the coins of the part that
-/// it doesn't post.
+/// No coin that came before a completed reading is lost in silence in such a transcript. A reading or a break tells as lost
+/// exactly the coins of its part that it doesn't post, and a clean end and the end of an epoch have no coin in theirs. So
+/// it is whenever the acceptor is reset, and however many other objects come. The premise is the pace: fewer than 2^24
+/// coins are accepted from each record that begins an epoch up to the next such record. It doesn't say which coins were
+/// lost.
 pub fn none_lost_in_silence()
     ensures { EachAcceptor (λ d transcript. Pace (lines_in d transcript) → Covers (lines_in d transcript)) }
+{}
+
+/// The coins up to the mark are exactly as many as all records of the acceptor together post and tell to be lost, under the
+/// same pace. The mark is the number of coins up to which its last record or clean end tells. So what was posted and what
+/// was told to be lost is together what was accepted, up to the last reading that told anything.
+pub fn coins_up_to_the_mark_are_tallied()
+    ensures { EachAcceptor (λ d transcript. Pace (lines_in d transcript) → Tallies (lines_in d transcript)) }
+{}
+
+/// If a job of an acceptor ends because its reading has to be made again, a coin was accepted meanwhile: after the accept
+/// counter was read the first time, before the credits, and before it was read the second time. It holds in every legal
+/// transcript over an honest wire, at any pace. It doesn't say that the next reading posts that coin.
+pub fn a_reading_made_again_met_a_coin()
+    ensures { EachAcceptor (λ d transcript. MovesWithCoins (lines_in d transcript)) }
 {}
 
 /// A job at a device ends for want of an answer exactly after the third failed try in succession of one of its rows. In
@@ -231,9 +257,10 @@ pub fn scripts_are_in_range()
 {}
 
 /// The money of a script that was played up to any of its steps is right. Over an honest wire each device of its setup
-/// posts in order, where a hopper posts nothing; each that keeps the pace loses no coin in silence; and each hopper pays
-/// each order at most once, and closes it with exactly the coins that fell. Whatever the wire does, no id stands in two
-/// of its records, and the transcript shows an honest wire exactly if no line tells of a forged exchange.
+/// posts in order, where a hopper posts nothing; each that keeps the pace loses no coin in silence, and its coins up to the
+/// mark are as many as its records post and tell to be lost; and each hopper pays each order at most once, and closes it
+/// with exactly the coins that fell. Whatever the wire does, no id stands in two of its records, and the transcript shows
+/// an honest wire exactly if no line tells of a forged exchange.
 pub fn played_scripts_keep_the_laws()
     ensures { (capacity : ℕ) (bytes : List ℕ) (played rest : List Step) (transcript : List Entry)
         → (script bytes).steps ≡ played ++ rest → Legal capacity (script bytes).setup played transcript
@@ -291,17 +318,18 @@ pub fn no_coin_is_accepted_without_an_epoch()
 /// the acceptor heard the epoch's own header 231 since the Epoch record, and was not reset after that. It doesn't say
 /// that a start whose 231 was sent is answered.
 pub fn a_running_epoch_sets_its_mask_or_none()
-    ensures { EachAcceptor (λ d transcript. (mask counter : ℕ) → epoch (lines_in d transcript) ≡ Running mask counter accepts
+    ensures { EachAcceptor (λ d transcript. (mask counter accepts : ℕ)
+        → epoch (lines_in d transcript) ≡ Running mask counter accepts
         → IsMaskedBy mask (since_epoch_in d transcript) (met d (onto [] transcript))) }
 {}
 
 /// While an epoch runs at an acceptor that didn't hear the epoch's header 231 since the Epoch record, or was reset
 /// after that, none of its events since its last reset is a credit. So no pair of its credit buffer is one.
 pub fn after_a_reset_no_event_is_a_credit()
-    ensures events { EachAcceptor (λ d transcript. (mask counter : ℕ)
+    ensures events { EachAcceptor (λ d transcript. (mask counter accepts : ℕ)
         → epoch (lines_in d transcript) ≡ Running mask counter accepts → mask_set_in (since_epoch_in d transcript) ≡ None
         → coins_among (events (met d (onto [] transcript))) ≡ []) }
-    ensures pairs { EachAcceptor (λ d transcript. (mask counter : ℕ)
+    ensures pairs { EachAcceptor (λ d transcript. (mask counter accepts : ℕ)
         → epoch (lines_in d transcript) ≡ Running mask counter accepts → mask_set_in (since_epoch_in d transcript) ≡ None
         → coins_among (credits_of (met d (onto [] transcript))).pairs ≡ []) }
 {}
@@ -311,8 +339,8 @@ pub fn after_a_reset_no_event_is_a_credit()
 /// the moment when it was put. It doesn't say that such an epoch breaks: that takes a round or a stop that reads the
 /// mask.
 pub fn a_break_has_its_cause()
-    ensures waiting { EachAcceptor (λ d transcript. (command : Command) (since : List Line) (addr seen counter : ℕ)
-        (posted : List Coin)
+    ensures waiting { EachAcceptor (λ d transcript. (command : Command) (since : List Line)
+        (addr seen counter lost accepts : ℕ) (posted : List Coin)
         → job (lines_in d transcript) ≡ works command since
         → row d command since (epoch (lines_in d transcript)) (order (lines_in d transcript))
         ≡ puts (Broken addr seen counter lost accepts posted)

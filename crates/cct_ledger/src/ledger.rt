@@ -199,9 +199,9 @@ impl<'s> Ledger<'s> {
         ensures setup { setup_of self.new ≡ setup_of self.old }
         ensures reserved { reserved_of self.new ≡ reserved_of self.old }
         ensures counted { applied self.new ≡ applied self.old + 1 }
-        ensures reading { (counter lost : ℕ)
+        ensures reading { (counter lost accepts : ℕ)
             → GoesOn self.old self.new (record_of.Reading addr counter lost accepts coins.now) }
-        ensures broken { (seen counter : ℕ)
+        ensures broken { (seen counter lost accepts : ℕ)
             → GoesOn self.old self.new (record_of.Broken addr seen counter lost accepts coins.now) }
     {
         self.available += coins_value(self.setup, addr, coins.as_slice());

@@ -25,6 +25,7 @@ pub(crate) fn mark_of(
         Some(Entry::No { .. }) => Mark::Refused(label_after(b"no ", line)),
         Some(Entry::Ended { end, .. }) => end_mark(end, line),
         Some(Entry::Fault(fault)) => fault_mark(&fault, line),
+        Some(Entry::Forged { .. }) => Mark::Forged(Label::new(line)),
         Some(entry) => device_mark(&entry, line),
         None => Mark::Note(Label::new(line)),
     };

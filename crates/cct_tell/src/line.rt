@@ -39,6 +39,8 @@ const RESET: &[u8] = b"reset";
 
 const IDLE: &[u8] = b"idle";
 
+const FORGED: &[u8] = b"forged";
+
 const CRASH: &[u8] = b"crash";
 
 const BALANCE: &[u8] = b"balance";
@@ -174,6 +176,9 @@ fn inhibited_line(rest: &[&[u8]]) -> Option<Entry> {
 fn host_line(word: &[u8], rest: &[&[u8]]) -> Option<Entry> {
     match word {
         _ if word == IDLE => Some(Entry::Idle {
+            addr: one_byte(rest)?,
+        }),
+        _ if word == FORGED => Some(Entry::Forged {
             addr: one_byte(rest)?,
         }),
         _ if word == CRASH => Some(Entry::Crash {

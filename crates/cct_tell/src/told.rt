@@ -23,6 +23,7 @@ impl fmt::Display for Told<'_> {
             Entry::Listing { entry, .. } => write_record("", entry, f),
             Entry::No { why, .. } => write!(f, "    refused, since {why}\n"),
             Entry::Fault(fault) => write_fault(fault, f),
+            Entry::Forged { .. } => write_forged(f),
             Entry::Ended { end, .. } => write_end(*end, f),
             _ => write_sums(self.0, f),
         }
@@ -57,6 +58,13 @@ fn write_fault<W: fmt::Write>(fault: &WireFault, f: &mut fmt::Formatter<W>) -> f
             f.write_str("    in the next exchange this is all that the host hears\n")
         }
     }
+}
+
+/// Writes what it means that the exchange of a step was forged.
+fn write_forged<W: fmt::Write>(f: &mut fmt::Formatter<W>) -> fmt::Result {
+    f.write_str(
+        "    the fault of this exchange put bytes there that are a message: the promises on coins and orders do not speak of this run\n",
+    )
 }
 
 /// Writes what an end means at which somebody is to look.

@@ -1,5 +1,6 @@
 use Rattle.cct_laws.proofs.jobs.Ending.{round_ends}
+use Rattle.cct_laws.proofs.jobs.Moving.{round_moves}
 use Rattle.cct_laws.proofs.a_round_without_a_fault_ends.Goals as goal
 
 pub returns : goal.returns
-returns c = round_ends
+returns c = record { ends = round_ends; moved = round_moves }

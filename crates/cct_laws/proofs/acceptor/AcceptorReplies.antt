@@ -186,11 +186,11 @@ read_by d past place false test sane high = path_replied d past place sane (plac
 pub acceptor_replied : (d : DeviceSetup) (past : List Met) (c : Command) → Sane d → IsCommand c →
     is_for_acceptor c ≡ true → EachRow (Asks (Replied d past)) (rows_of d c)
 acceptor_replied d past (command.Start addr mask) sane known suited =
-    (reset_replied d past, (credits_replied d past sane, (tt, (set_mask_replied d past mask sane, tt))))
+    (reset_replied d past, (credits_replied d past sane, (accepts_replied d past sane, (tt, (set_mask_replied d past mask sane, tt)))))
 acceptor_replied d past (command.Round addr) sane known suited =
-    (credits_replied d past sane, (mask_replied d past sane, (tt, tt)))
+    (accepts_replied d past sane, (credits_replied d past sane, (mask_replied d past sane, (accepts_replied d past sane, (tt, tt)))))
 acceptor_replied d past (command.Stop addr) sane known suited =
-    (set_master_replied d past 0 sane, (credits_replied d past sane, (mask_replied d past sane, (tt, (tt, tt)))))
+    (set_master_replied d past 0 sane, (accepts_replied d past sane, (credits_replied d past sane, (mask_replied d past sane, (accepts_replied d past sane, (tt, (tt, tt)))))))
 acceptor_replied d past (command.Ident addr) sane known suited =
     each_asked (Replied d past) (ident_requests d.body)
     (ident_replied d past d.body sane.sound (owns_by d past d.body sane.accepting sane))

@@ -1,34 +1,34 @@
 -- What holds of an acceptor is kept by all that can come over an honest wire.
-use Rattle.std.proofs.Common.{◌≡◌, true, List, [], ◌∷◌, refl, ap, sym, subst, Option, Some, None, le_refl, arith, rules}
+use Rattle.std.proofs.Common.{◌≡◌, ◌∙◌, ℕ, true, List, [], ◌∷◌, refl, ap, sym, subst, Option, Some, None, le_refl, arith, rules}
 use Rattle.cct_model.specs.terms.device.DeviceSetup.{DeviceSetup}
 use Rattle.cct_model.specs.terms.request.Request.{Request}
-use Rattle.cct_model.specs.terms.request.Request.TheVariants.{SimplePoll, AddressPoll, ResetDevice, ReadCredits, SetMaster, GetMask, SetMask}
-use Rattle.cct_model.specs.terms.coin.Credits.{Credits}
+use Rattle.cct_model.specs.terms.request.Request.TheVariants.{SimplePoll, AddressPoll, ResetDevice, ReadCredits, SetMaster, GetMask, AcceptCount, SetMask}
 use Rattle.cct_model.specs.lines.record.Record.{Record}
 use Rattle.cct_model.specs.lines.record.Record.TheVariants as record_of
 use Rattle.cct_model.specs.declared.judging.Judged.{Judged}
 use Rattle.cct_model.specs.lines.command.Command.{Command}
 use Rattle.cct_model.specs.lines.command.Command.TheVariants as command
 use Rattle.cct_model.specs.lines.entry.End.{End}
-use Rattle.cct_model.specs.lines.entry.End.TheVariants.{Clean}
+use Rattle.cct_model.specs.lines.entry.End.TheVariants.{Clean, Moved}
 use Rattle.cct_model.specs.Reply.{Reply}
 use Rattle.cct_model.specs.Script.{IsCommand}
 use Rattle.cct_model.specs.History.{Met, heard}
 use Rattle.cct_model.specs.Device.{IsAcceptor}
 use Rattle.cct_model.specs.Line.{Line, exchange, put, restarted}
 use Rattle.cct_model.specs.Order.{order}
-use Rattle.cct_model.specs.Job.{works, job, sends, puts, ident_requests, Noted, noted_in, epoch, credits_read, judged_in, address_of}
+use Rattle.cct_model.specs.Job.{works, job, sends, puts, ident_requests, Noted, noted_in, begin_row, epoch, judged_in, address_of}
 use Rattle.cct_model.specs.Rows.{Then, ends_as, if_quiet, if_posted, new_epoch, reading, epoch_end, TableRow, asks_for, asks_once, waits_for_coins, puts_due, row, rows_of, rest, from, first, done, sent_once, end_of, end_kept, end_by_record}
 use Rattle.cct_model.proofs.Rows.{EachRow, EachBefore, before_on, fact_after, Behind, behind_answer, behind_record, PutEnds, each_told, put_end}
 use Rattle.cct_laws.specs.DeviceJobs.{Fate, unheard, silenced, answered, IsForOthers, is_for_acceptor, with_ended}
 use Rattle.cct_laws.proofs.EitherKind.{for_acceptor}
 use Rattle.cct_laws.specs.SinceEpoch.{IsKept}
 use Rattle.cct_model.specs.Claims.{mark, base, InOrder, Covers, Pace}
-use Rattle.cct_laws.proofs.acceptor.World.{World, world, closed, on_nothing}
-use Rattle.cct_laws.proofs.acceptor.Fits.{ReadSoFar, read_so_far, StateOf, FitsAt, Fits, at_on}
-use Rattle.cct_laws.proofs.acceptor.Moves.{Sound, sound_line, sound_exchange, keeps_ended, Keeps, KeepsAsk, AtRows, IfOther, IsMild, IsNeutral, keeps_accepted, keeps_inhibited, keeps_alien, keeps_reset, keeps_taken, keeps_with_ended, answered_at, next_at, on_heard, fits_at, by_fate, request_is, entry_is, IsOtherEnd}
+use Rattle.cct_laws.specs.Moving.{MovesWithCoins}
+use Rattle.cct_laws.proofs.acceptor.World.{World, world, count_at, closed, on_nothing}
+use Rattle.cct_laws.proofs.acceptor.Fits.{ReadSoFar, read_so_far, Notes, notes_in, StateOf, FitsAt, Fits, at_on}
+use Rattle.cct_laws.proofs.acceptor.Moves.{Sound, sound_line, near_of, sound_exchange, keeps_ended, Keeps, KeepsAsk, AtRows, IfOther, IsMild, IsNeutral, keeps_accepted, keeps_inhibited, keeps_alien, keeps_reset, keeps_taken, keeps_with_ended, answered_at, next_at, on_heard, fits_at, by_fate, request_is, entry_is, IsOtherEnd}
 use Rattle.cct_laws.proofs.acceptor.Starts.{resets, reads_quiet, unsure, opens, begins}
-use Rattle.cct_laws.proofs.acceptor.Rounds.{reads, looks}
+use Rattle.cct_laws.proofs.acceptor.Rounds.{reads, looks, counts}
 use Rattle.cct_laws.proofs.acceptor.Stops.{shuts, over_put, judged_put}
 use Rattle.cct_laws.proofs.acceptor.Leads.{Leads, leads}
 use Rattle.cct_model.specs.declared.judging.EpochState.{EpochState}
@@ -48,26 +48,28 @@ neutral_mild (SetMaster value) neutral = absurd neutral
 neutral_mild q neutral = tt
 
 neutral_told : (w : World) (lines : List Line) (c : Command) (since : List Line) (rows : List TableRow) (q : Request)
-    (y : Reply) → IsNeutral q → FitsAt w (read_so_far lines) rows (credits_read since) (judged_in c since (epoch lines)) →
-    FitsAt w (read_so_far (exchange (Some q) (Some y) ∷ lines)) rows (credits_read (exchange (Some q) (Some y) ∷ since))
+    (y : Reply) → IsNeutral q → FitsAt w (read_so_far lines) rows (notes_in since) (judged_in c since (epoch lines)) →
+    FitsAt w (read_so_far (exchange (Some q) (Some y) ∷ lines)) rows (notes_in (exchange (Some q) (Some y) ∷ since))
     (judged_in c (exchange (Some q) (Some y) ∷ since) (epoch lines))
 neutral_told w lines c since rows ReadCredits y neutral fits = absurd neutral
 neutral_told w lines c since rows GetMask y neutral fits = absurd neutral
+neutral_told w lines c since rows AcceptCount y neutral fits = absurd neutral
 neutral_told w lines c since rows q y neutral fits = fits
 
-neutral_passes : (w : World) (b : ReadSoFar) (q : Request) (behind : Then) (rows : List TableRow) (credits : Option Credits)
-    (judged : Judged) → IsNeutral q → FitsAt w b (asks_for q behind ∷ rows) credits judged →
-    FitsAt w b rows credits judged
-neutral_passes w b ResetDevice behind rows credits judged neutral fits = absurd neutral
-neutral_passes w b ReadCredits behind rows credits judged neutral fits = absurd neutral
-neutral_passes w b GetMask behind rows credits judged neutral fits = absurd neutral
-neutral_passes w b (SetMaster value) behind rows credits judged neutral fits = absurd neutral
-neutral_passes w b q behind rows credits judged neutral fits = fits
+neutral_passes : (w : World) (b : ReadSoFar) (q : Request) (behind : Then) (rows : List TableRow) (notes : Notes)
+    (judged : Judged) → IsNeutral q → FitsAt w b (asks_for q behind ∷ rows) notes judged →
+    FitsAt w b rows notes judged
+neutral_passes w b ResetDevice behind rows notes judged neutral fits = absurd neutral
+neutral_passes w b ReadCredits behind rows notes judged neutral fits = absurd neutral
+neutral_passes w b GetMask behind rows notes judged neutral fits = absurd neutral
+neutral_passes w b AcceptCount behind rows notes judged neutral fits = absurd neutral
+neutral_passes w b (SetMaster value) behind rows notes judged neutral fits = absurd neutral
+neutral_passes w b q behind rows notes judged neutral fits = fits
 
 asks_neutral : (d : DeviceSetup) (past : List Met) (lines : List Line) (c : Command) (since : List Line) (q : Request)
     (behind : Then) (rows : List TableRow) (asked : Option Request) (got : Option Reply) →
     AtRows d past lines c since (asks_for q behind ∷ rows) → IsNeutral q → Behind IsOtherEnd behind →
-    FitsAt (world past lines) (read_so_far lines) (asks_for q behind ∷ rows) (credits_read since)
+    FitsAt (world d past lines) (read_so_far lines) (asks_for q behind ∷ rows) (notes_in since)
     (judged_in c since (epoch lines)) →
     Fate d past q asked got → KeepsAsk d past lines c since q asked got
 asks_neutral d past lines c since q behind rows asked got at neutral other fits fate =
@@ -75,15 +77,15 @@ asks_neutral d past lines c since q behind rows asked got at neutral other fits 
     by_fate d past lines c since q asked got (ap sent_once at.rest_is) mild at.is_job at.keeps (λ y gives.
     let now = heard (Some q) ∷ past in
     let line = exchange (Some q) (Some y) in
-    let on = on_heard past lines q mild in
+    let on = on_heard d past lines q mild in
     let later =
-    neutral_passes (world past lines) (read_so_far lines) q behind rows (credits_read since) (judged_in c since (epoch lines))
+    neutral_passes (world d past lines) (read_so_far lines) q behind rows (notes_in since) (judged_in c since (epoch lines))
     neutral fits in
     answered_at d past lines c since (asks_for q behind ∷ rows) q y at
     (keeps_with_ended d now (line ∷ lines) _ (behind_answer IsOtherEnd behind y _ other)
     (next_at d past lines c since (asks_for q behind) rows q y at refl on
-    (neutral_told (world now lines) lines c since rows q y neutral
-    (at_on (world past lines) (world now lines) (read_so_far lines) rows (credits_read since) (judged_in c since (epoch lines))
+    (neutral_told (world d now lines) lines c since rows q y neutral
+    (at_on (world d past lines) (world d now lines) (read_so_far lines) rows (notes_in since) (judged_in c since (epoch lines))
     on later))))) fate
 
 -- or that is sent once
@@ -95,18 +97,18 @@ neutral_once d past lines c since q end other rows asked got at neutral is_end i
     let now = heard None ∷ past in
     unsure d past now lines c since q end other rows at
     (keeps_ended d now (exchange (Some q) None ∷ lines) other is_other
-    (sound_exchange past now lines (Some q) None (on_nothing (world past lines)) at.keeps.sound))
+    (sound_exchange d past now lines (Some q) None (on_nothing (world d past lines)) at.keeps.sound))
 neutral_once d past lines c since q end other rows asked got at neutral is_end is_other silenced =
     let now = heard (Some q) ∷ past in
     unsure d past now lines c since q end other rows at
     (keeps_ended d now (exchange (Some q) None ∷ lines) other is_other
-    (sound_exchange past now lines (Some q) None (on_heard past lines q (neutral_mild q neutral)) at.keeps.sound))
+    (sound_exchange d past now lines (Some q) None (on_heard d past lines q (neutral_mild q neutral)) at.keeps.sound))
 neutral_once d past lines c since q end other rows asked got at neutral is_end is_other (answered y gives) =
     let now = heard (Some q) ∷ past in
     let line = exchange (Some q) (Some y) in
     answered_at d past lines c since (asks_once q (ends_as end) (ends_as other) ∷ rows) q y at
     (keeps_ended d now (line ∷ lines) end is_end
-    (sound_exchange past now lines (Some q) (Some y) (on_heard past lines q (neutral_mild q neutral)) at.keeps.sound))
+    (sound_exchange d past now lines (Some q) (Some y) (on_heard d past lines q (neutral_mild q neutral)) at.keeps.sound))
 
 -- a job at the acceptor asks something: what the first of its rows asks
 
@@ -120,7 +122,7 @@ as_asked d past lines c since x q asked got row keeps =
 asks_at : (d : DeviceSetup) (past : List Met) (lines : List Line) (c : Command) (since : List Line)
     (rows : List TableRow) (p : Noted) (q : Request) (asked : Option Request) (got : Option Reply) →
     IsAcceptor d.body → EachBefore Leads rows → AtRows d past lines c since rows →
-    FitsAt (world past lines) (read_so_far lines) rows (credits_read since) (judged_in c since (epoch lines)) →
+    FitsAt (world d past lines) (read_so_far lines) rows (notes_in since) (judged_in c since (epoch lines)) →
     first (address_of c) (judged_in c since (epoch lines)) p rows ≡ sends q → Fate d past q asked got →
     KeepsAsk d past lines c since q asked got
 asks_at d past lines c since [] p q asked got accepting each at fits row = absurd cc
@@ -139,6 +141,9 @@ asks_at d past lines c since (asks_for (SetMaster value) behind ∷ rows) p q as
 asks_at d past lines c since (asks_for GetMask behind ∷ rows) p q asked got accepting each at fits row =
     as_asked d past lines c since GetMask q asked got row
     (looks d past lines c since behind rows asked got accepting at each.0.0 each.0.1 fits.0 fits.1)
+asks_at d past lines c since (asks_for AcceptCount behind ∷ rows) p q asked got accepting each at fits row =
+    as_asked d past lines c since AcceptCount q asked got row
+    (counts d past lines c since behind rows asked got accepting at each.0.0 each.0.1 fits)
 asks_at d past lines c since (asks_for x behind ∷ rows) p q asked got accepting each at fits row =
     as_asked d past lines c since x q asked got row
     (asks_neutral d past lines c since x behind rows asked got at each.0.0 each.0.1 fits)
@@ -172,46 +177,54 @@ keeps_asks d past lines c since q asked got accepting suited in_range is_job row
     (fits_at d past lines c since is_job keeps) (rest_asks d c since (epoch lines) (order lines) q row_is) fate
 
 -- it puts a record: what the first of its rows puts
+
+begun_is : (addr mask count : ℕ) (found : Option ℕ) (r : Record) → found ≡ Some count →
+    begin_row addr mask found ≡ puts r → record_of.Epoch addr mask count ≡ r
+begun_is addr mask count found r is row =
+    entry_is (record_of.Epoch addr mask count) r (subst (λ o. begin_row addr mask o ≡ puts r) is row)
+
 puts_at : (d : DeviceSetup) (past : List Met) (lines : List Line) (c : Command) (since : List Line)
     (rows : List TableRow) (p : Noted) (r : Record) → job lines ≡ works c since → rest d c since ≡ rows →
-    EachBefore Leads rows →
-    FitsAt (world past lines) (read_so_far lines) rows (credits_read since) (judged_in c since (epoch lines)) →
+    p.accepts ≡ (notes_in since).now → EachBefore Leads rows →
+    FitsAt (world d past lines) (read_so_far lines) rows (notes_in since) (judged_in c since (epoch lines)) →
     first (address_of c) (judged_in c since (epoch lines)) p (from rows (judged_in c since (epoch lines))) ≡ puts r →
     Keeps d past lines → Keeps d past (with_ended (end_kept rows r) (put r ∷ lines))
-puts_at d past lines c since [] p r is_job rest_is each fits row keeps = absurd cc
-puts_at d past lines c since (asks_for q behind ∷ rows) p r is_job rest_is each fits row keeps = absurd cc
-puts_at d past lines c since (asks_once q behind without ∷ rows) p r is_job rest_is each fits row keeps = absurd cc
-puts_at d past lines c since (waits_for_coins ∷ rows) p r is_job rest_is each fits row keeps = absurd each.0
-puts_at d past lines c since (puts_due (new_epoch mask) behind ∷ rows) p r is_job rest_is each fits row keeps =
+puts_at d past lines c since [] p r is_job rest_is noted each fits row keeps = absurd cc
+puts_at d past lines c since (asks_for q behind ∷ rows) p r is_job rest_is noted each fits row keeps = absurd cc
+puts_at d past lines c since (asks_once q behind without ∷ rows) p r is_job rest_is noted each fits row keeps = absurd cc
+puts_at d past lines c since (waits_for_coins ∷ rows) p r is_job rest_is noted each fits row keeps = absurd each.0
+puts_at d past lines c since (puts_due (new_epoch mask) behind ∷ rows) p r is_job rest_is noted each fits row keeps =
     subst (λ e. Keeps d past (with_ended (end_by_record behind e) (put e ∷ lines)))
-    (entry_is (record_of.Epoch (address_of c) mask) r row)
-    (keeps_with_ended d past _ _ (behind_record IsOtherEnd behind (record_of.Epoch (address_of c) mask) each.0.1)
+    (begun_is (address_of c) mask (count_at (world d past lines)) p.accepts r (noted ∙ fits.2) row)
+    (keeps_with_ended d past _ _
+    (behind_record IsOtherEnd behind (record_of.Epoch (address_of c) mask (count_at (world d past lines))) each.0.1)
     (begins d past lines c since (puts_due (new_epoch mask) behind) rows (address_of c) mask each.0.0 is_job rest_is
-    each.0.2 fits.0 fits.1 fits.2 keeps))
-puts_at d past lines c since (puts_due reading (if_posted of_reading) ∷ rows) p r is_job rest_is each fits row keeps =
+    each.0.2 fits.0 fits.1 keeps))
+puts_at d past lines c since (puts_due reading (if_posted of_reading) ∷ rows) p r is_job rest_is noted each fits row keeps =
     judged_put d past lines c since of_reading rows (address_of c) (judged_in c since (epoch lines)) p r is_job rest_is
     each.0.0 each.0.1 fits.0 fits.1 row keeps
-puts_at d past lines c since (puts_due epoch_end (ends_as end) ∷ rows) p r is_job rest_is each fits row keeps =
+puts_at d past lines c since (puts_due epoch_end (ends_as end) ∷ rows) p r is_job rest_is noted each fits row keeps =
     over_put d past lines (address_of c) (puts_due epoch_end (ends_as end) ∷ rows) end r refl each.0 row fits.shut
     (λ near. omega (arith, fits.marked)) keeps.sound
-puts_at d past lines c since (puts_due due behind ∷ rows) p r is_job rest_is each fits row keeps = absurd each.0
+puts_at d past lines c since (puts_due due behind ∷ rows) p r is_job rest_is noted each fits row keeps = absurd each.0
 
 keeps_puts : (d : DeviceSetup) (past : List Met) (lines : List Line) (c : Command) (since : List Line) (r : Record) →
     is_for_acceptor c ≡ true → IsCommand c →
     job lines ≡ works c since → row d c since (epoch lines) (order lines) ≡ puts r → Keeps d past lines →
     Keeps d past (with_ended (end_of d c (put r) since (epoch lines)) (put r ∷ lines))
 keeps_puts d past lines c since r suited in_range is_job row_is keeps =
-    puts_at d past lines c since (rest d c since) (noted_in since (order lines)) r is_job refl
+    puts_at d past lines c since (rest d c since) (noted_in since (order lines)) r is_job refl refl
     (left_leads d c since suited in_range) (fits_at d past lines c since is_job keeps) row_is keeps
 
 -- the power is cut
 keeps_restarted : (d : DeviceSetup) (past : List Met) (lines : List Line) → Keeps d past lines → Keeps d past (restarted ∷ lines)
 keeps_restarted d past lines keeps = record {
-  sound = sound_line past past lines restarted tt (λ _. tt) keeps.sound.marked keeps.sound.state keeps.sound;
+  sound = sound_line d past past lines restarted tt (λ _. tt) tt keeps.sound.told keeps.sound.marked keeps.sound.state
+      keeps.sound;
   fits = tt;
 }
 
--- no put ends a job clean
+-- no put ends a job clean, or because a reading has to be made again
 other_puts : (d : DeviceSetup) (c : Command) → EachRow (PutEnds IsOtherEnd) (rows_of d c)
 other_puts d (command.Ident addr) = each_told (PutEnds IsOtherEnd) (λ q. tt) (λ q. tt) (ident_requests d.body)
 other_puts d c = search rules
@@ -222,40 +235,51 @@ put_other d c r since state = put_end IsOtherEnd d c r since state (other_puts d
 
 -- what holds after another end held before it
 unended : (d : DeviceSetup) (past : List Met) (lines : List Line) (end : Option End) → IfOther end → Keeps d past (with_ended end lines) →
-    Sound past lines
+    Sound d past lines
 unended d past lines None other keeps = keeps.sound
 unended d past lines (Some Clean) other keeps = absurd other
+unended d past lines (Some Moved) other keeps = absurd other
 unended d past lines (Some end) other keeps = record {
   in_order = keeps.sound.in_order.1;
-  covers = λ pace. (keeps.sound.covers (tt, pace)).1;
+  covers = λ pace. (keeps.sound.covers (near_of lines pace, pace)).1;
+  moves = keeps.sound.moves.1;
+  told = keeps.sound.told;
   marked = keeps.sound.marked;
   state = keeps.sound.state;
 }
 
 -- a record after a power cut tells what it would have told before it
-sound_kept : (past : List Met) (lines : List Line) (r : Record) → Sound past (put r ∷ lines) →
-    Sound past (put r ∷ restarted ∷ lines)
-sound_kept past lines (record_of.Epoch addr mask accepts) sound = record {
+sound_kept : (d : DeviceSetup) (past : List Met) (lines : List Line) (r : Record) → Sound d past (put r ∷ lines) →
+    Sound d past (put r ∷ restarted ∷ lines)
+sound_kept d past lines (record_of.Epoch addr mask accepts) sound = record {
   in_order = (sound.in_order.0, (tt, sound.in_order.1));
   covers = λ pace. let before = sound.covers (pace.0, pace.1.1) in (before.0, (tt, before.1));
+  moves = (tt, (tt, sound.moves.1));
+  told = sound.told;
   marked = sound.marked;
   state = sound.state;
 }
-sound_kept past lines (record_of.Reading addr counter lost accepts posted) sound = record {
+sound_kept d past lines (record_of.Reading addr counter lost accepts posted) sound = record {
   in_order = (sound.in_order.0, (tt, sound.in_order.1));
   covers = λ pace. let before = sound.covers (pace.0, pace.1.1) in (before.0, (tt, before.1));
+  moves = (tt, (tt, sound.moves.1));
+  told = sound.told;
   marked = sound.marked;
   state = sound.state;
 }
-sound_kept past lines (record_of.Broken addr seen counter lost accepts posted) sound = record {
+sound_kept d past lines (record_of.Broken addr seen counter lost accepts posted) sound = record {
   in_order = (sound.in_order.0, (tt, sound.in_order.1));
   covers = λ pace. let before = sound.covers (pace.0, pace.1.1) in (before.0, (tt, before.1));
+  moves = (tt, (tt, sound.moves.1));
+  told = sound.told;
   marked = sound.marked;
   state = sound.state;
 }
-sound_kept past lines r sound = record {
+sound_kept d past lines r sound = record {
   in_order = (sound.in_order.0, (tt, sound.in_order.1));
   covers = λ pace. let before = sound.covers (pace.0, pace.1.1) in (before.0, (tt, before.1));
+  moves = (tt, (tt, sound.moves.1));
+  told = sound.told;
   marked = sound.marked;
   state = sound.state;
 }
@@ -264,17 +288,19 @@ keeps_kept_record : (d : DeviceSetup) (past : List Met) (lines : List Line) (c :
     (r : Record) → Keeps d past (with_ended (end_of d c (put r) since (epoch lines)) (put r ∷ lines)) →
     Keeps d past (put r ∷ restarted ∷ lines)
 keeps_kept_record d past lines c since r keeps = record {
-  sound = sound_kept past lines r (unended d past (put r ∷ lines) _ (put_other d c r since (epoch lines)) keeps);
+  sound = sound_kept d past lines r (unended d past (put r ∷ lines) _ (put_other d c r since (epoch lines)) keeps);
   fits = tt;
 }
 
 -- bytes that change nothing
 
-keeps_same : (d : DeviceSetup) (past now : List Met) (lines : List Line) → world now lines ≡ world past lines → Keeps d past lines → Keeps d now lines
+keeps_same : (d : DeviceSetup) (past now : List Met) (lines : List Line) → world d now lines ≡ world d past lines → Keeps d past lines → Keeps d now lines
 keeps_same d past now lines same keeps = record {
   sound = record {
     in_order = keeps.sound.in_order;
     covers = keeps.sound.covers;
+    moves = keeps.sound.moves;
+    told = ap (λ (w : World). w.accepted) same ∙ keeps.sound.told;
     marked = keeps.sound.marked;
     state = subst (λ w. StateOf w (mark lines) (base lines) (epoch lines)) (sym same) keeps.sound.state;
   };
@@ -293,8 +319,10 @@ keeps_start d = record {
   sound = record {
     in_order = tt;
     covers = λ _. tt;
+    moves = tt;
+    told = refl;
     marked = le_refl 0;
-    state = record { shut = closed (world [] []) refl; marked = refl };
+    state = record { shut = closed (world d [] []) refl; marked = refl };
   };
   fits = tt;
 }
@@ -327,3 +355,7 @@ kept_in_order d past lines keeps = keeps.sound.in_order
 -- under the pace no coin is lost in silence
 pub kept_covers : (d : DeviceSetup) (past : List Met) (lines : List Line) → Keeps d past lines → Pace lines → Covers lines
 kept_covers d past lines keeps = keeps.sound.covers
+
+-- where a reading had to be made again, a coin was accepted meanwhile
+pub kept_moves : (d : DeviceSetup) (past : List Met) (lines : List Line) → Keeps d past lines → MovesWithCoins lines
+kept_moves d past lines keeps = keeps.sound.moves

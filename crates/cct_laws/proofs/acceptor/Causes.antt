@@ -30,7 +30,7 @@ put_caused : (d : DeviceSetup) (past : List Entry) (c : Command) (since : List L
 put_caused d past c since (record_of.Broken addr seen counter lost accepts posted) accepting ranged at_work is_row masks =
     λ here.
     let in_range = subst (IsRanged d) at_work.job_is ranged in
-    masks_break d (since_epoch d past) (met d past) (lines_of d past) c since addr seen counter posted
+    masks_break d (since_epoch d past) (met d past) (lines_of d past) c since addr seen counter lost accepts posted
     (for_acceptor d.body c accepting in_range.1) in_range.0 at_work.job_is at_work.is_here is_row masks
 put_caused d past c since r accepting ranged at_work is_row masks = tt
 

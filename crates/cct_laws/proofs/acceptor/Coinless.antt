@@ -16,9 +16,9 @@ use Rattle.cct_model.specs.lines.command.Command.{Command}
 use Rattle.cct_model.specs.lines.command.Command.TheVariants as command
 use Rattle.cct_model.specs.lines.command.Step.{Step}
 use Rattle.cct_model.specs.lines.entry.End.{End}
-use Rattle.cct_model.specs.lines.entry.End.TheVariants.{Clean}
+use Rattle.cct_model.specs.lines.entry.End.TheVariants.{Clean, Moved}
 use Rattle.cct_model.specs.lines.entry.Entry.{Entry}
-use Rattle.cct_model.specs.Claims.{InOrder, Covers, Pace}
+use Rattle.cct_model.specs.Claims.{InOrder, Covers, Pace, Tallies}
 use Rattle.cct_model.specs.Device.{IsHopper}
 use Rattle.cct_model.specs.Reply.{Reply}
 use Rattle.cct_model.specs.History.{Met}
@@ -40,6 +40,7 @@ use Rattle.cct_laws.proofs.acceptor.Acceptors.{put_other}
 use Rattle.cct_laws.proofs.EitherKind.{for_hopper, kind_of}
 use Rattle.cct_laws.proofs.acceptor.Moves.{IfOther, IsOtherEnd, failure_other}
 use Rattle.cct_laws.proofs.acceptor.Posts.{legal_in_order, legal_covers}
+use Rattle.cct_laws.proofs.acceptor.Tallies.{tallied}
 use Rattle.cct_model.proofs.Rows.{RowHolds, puts_only, EachRow, answer_end, DueHolds, AnswerEnds, told_only, each_told, each_put}
 use Rattle.cct_laws.proofs.Whole.{kept_hopper_legal}
 
@@ -104,6 +105,7 @@ puts_of_order d c work state owed r suited is_row =
 coinless_ended : (lines : List Line) (end : Option End) → IfOther end → Coinless lines → Coinless (with_ended end lines)
 coinless_ended lines None other less = less
 coinless_ended lines (Some Clean) other less = absurd other
+coinless_ended lines (Some Moved) other less = absurd other
 coinless_ended lines (Some end) other less =
     record { in_order = (tt, less.in_order); covers = (tt, less.covers) }
 
@@ -190,3 +192,13 @@ each_covers capacity setup steps transcript d sound own in_range legal honest pa
       | inl accepting ↦ legal_covers capacity setup steps transcript d sound own accepting in_range legal honest pace
       | inr paying ↦ (legal_coinless capacity setup steps transcript d sound own paying in_range legal honest).1
     ]
+
+-- and the coins up to the mark are as many as its records post and tell to be lost
+pub each_tallies : (capacity : ℕ) (setup : Setup) (steps : List Step) (transcript : List Entry)
+    (d : DeviceSetup) → IsSoundSetup setup → IsOf setup d → All IsInRange steps →
+    Legal capacity setup steps transcript → Honest transcript → Pace (lines_in d transcript) →
+    Tallies (lines_in d transcript)
+each_tallies capacity setup steps transcript d sound own in_range legal honest pace =
+    tallied (lines_in d transcript)
+    (each_in_order capacity setup steps transcript d sound own in_range legal honest)
+    (each_covers capacity setup steps transcript d sound own in_range legal honest pace)

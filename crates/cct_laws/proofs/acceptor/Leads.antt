@@ -3,7 +3,7 @@
 use Rattle.std.proofs.Common.{◌≡◌, ◌≤◌, ◌==◌, true, List, [], ◌∷◌, refl, rules}
 use Rattle.cct_model.specs.terms.device.DeviceSetup.{DeviceSetup}
 use Rattle.cct_model.specs.terms.request.Request.{Request}
-use Rattle.cct_model.specs.terms.request.Request.TheVariants.{ResetDevice, ReadCredits, SetMaster, GetMask, SetMask}
+use Rattle.cct_model.specs.terms.request.Request.TheVariants.{ResetDevice, ReadCredits, SetMaster, GetMask, AcceptCount, SetMask}
 use Rattle.cct_model.specs.lines.command.Command.{Command}
 use Rattle.cct_model.specs.lines.command.Command.TheVariants as command
 use Rattle.cct_model.specs.lines.entry.End.TheVariants.{Told}
@@ -13,17 +13,20 @@ use Rattle.cct_model.specs.Script.{IsCommand}
 use Rattle.cct_model.proofs.Requests.{Each}
 use Rattle.cct_model.proofs.Rows.{Behind, EachBefore}
 use Rattle.cct_laws.specs.DeviceJobs.{is_for_acceptor}
-use Rattle.cct_laws.proofs.acceptor.Fits.{AfterReset, AfterQuiet, AfterCredits, AfterShut, AfterMask, AfterEpoch}
-use Rattle.cct_laws.proofs.acceptor.Moves.{IsOtherEnd, IsNeutral, neutral_if, ident_neutral}
-use Rattle.cct_laws.proofs.acceptor.Rounds.{IsAfterLook, IsAfterReading}
+use Rattle.cct_model.specs.declared.judging.Judged.{Judged}
+use Rattle.cct_laws.proofs.acceptor.World.{World}
+use Rattle.cct_laws.proofs.acceptor.Fits.{ReadSoFar, Notes, FitsAt, AfterReset, AfterCredits, AfterShut, AfterMask, AfterCount, AfterEpoch}
+use Rattle.cct_laws.proofs.acceptor.Moves.{IsOtherEnd, IsNeutral, neutral_if, IsTold, ident_told, told_fits}
+use Rattle.cct_laws.proofs.acceptor.Rounds.{IsAfterCount, IsAfterReading}
 use Rattle.cct_laws.proofs.acceptor.Stops.{IsOverNext}
 
 abbrev pub Leads : TableRow → List TableRow → Type 0
 Leads (asks_for ResetDevice behind) rows = Behind IsOtherEnd behind × AfterReset rows
-Leads (asks_for ReadCredits if_quiet) rows = AfterQuiet rows
+Leads (asks_for ReadCredits if_quiet) rows = AfterReset rows
 Leads (asks_for ReadCredits behind) rows = Behind IsOtherEnd behind × AfterCredits rows
 Leads (asks_for (SetMaster value) behind) rows = (value ≡ 0) × Behind IsOtherEnd behind × AfterShut rows
-Leads (asks_for GetMask behind) rows = IsAfterLook behind × AfterMask rows
+Leads (asks_for GetMask behind) rows = Behind IsOtherEnd behind × AfterMask rows
+Leads (asks_for AcceptCount behind) rows = IsAfterCount behind rows × AfterCount rows
 Leads (asks_for q behind) rows = IsNeutral q × Behind IsOtherEnd behind
 Leads (asks_once (SetMask mask) (ends_as end) (ends_as other)) rows = (1 ≤ mask) × IsOtherEnd end × IsOtherEnd other
 Leads (asks_once q (ends_as end) (ends_as other)) rows = IsNeutral q × IsOtherEnd end × IsOtherEnd other
@@ -38,39 +41,71 @@ neutral_leads : (q : Request) (behind : Then) (rows : List TableRow) → IsNeutr
 neutral_leads ResetDevice behind rows neutral other = absurd neutral
 neutral_leads ReadCredits behind rows neutral other = absurd neutral
 neutral_leads GetMask behind rows neutral other = absurd neutral
+neutral_leads AcceptCount behind rows neutral other = absurd neutral
 neutral_leads (SetMaster value) behind rows neutral other = absurd neutral
 neutral_leads q behind rows neutral other = (neutral, other)
 
-told_leads : (qs : List Request) → Each IsNeutral qs → EachBefore Leads (telling qs)
+-- or one that tells, the accept counter too
+asked_leads : (q : Request) (behind : Then) (rows : List TableRow) → IsTold q → IsAfterCount behind rows →
+    AfterCount rows → Behind IsOtherEnd behind → Leads (asks_for q behind) rows
+asked_leads AcceptCount behind rows told after next other = (after, next)
+asked_leads ResetDevice behind rows told after next other = absurd told
+asked_leads ReadCredits behind rows told after next other = absurd told
+asked_leads GetMask behind rows told after next other = absurd told
+asked_leads (SetMaster value) behind rows told after next other = absurd told
+asked_leads q behind rows told after next other = (told, other)
+
+told_next : (q : Request) (behind : Then) (rows : List TableRow) → IsTold q →
+    ((w : World) (b : ReadSoFar) (notes : Notes) (judged : Judged) → FitsAt w b (asks_for q behind ∷ rows) notes judged) →
+    AfterCount (asks_for q behind ∷ rows)
+told_next ReadCredits behind rows told fits = absurd told
+told_next q behind rows told fits = fits
+
+told_leads : (qs : List Request) → Each IsTold qs → EachBefore Leads (telling qs)
 told_leads [] each = tt
-told_leads (q ∷ []) each = (neutral_leads q (ends_as Told) [] each.0 tt, tt)
-told_leads (q ∷ r ∷ qs) each =
-    (neutral_leads q goes_on (telling (r ∷ qs)) each.0 tt, told_leads (r ∷ qs) each.1)
+told_leads (q ∷ []) each = (asked_leads q (ends_as Told) [] each.0 tt (λ w b notes judged. tt) tt, tt)
+told_leads (q ∷ r ∷ []) each = (
+  asked_leads q goes_on (telling (r ∷ [])) each.0 tt
+      (told_next r _ [] each.1.0 (λ w b notes judged. told_fits w b (r ∷ []) notes judged each.1)) tt,
+  told_leads (r ∷ []) each.1,
+)
+told_leads (q ∷ r ∷ s ∷ qs) each = (
+  asked_leads q goes_on (telling (r ∷ s ∷ qs)) each.0 tt
+      (told_next r _ (telling (s ∷ qs)) each.1.0
+      (λ w b notes judged. told_fits w b (r ∷ s ∷ qs) notes judged each.1)) tt,
+  told_leads (r ∷ s ∷ qs) each.1,
+)
 
 -- the table
 pub leads : (d : DeviceSetup) (c : Command) → is_for_acceptor c ≡ true → IsCommand c → EachBefore Leads (rows_of d c)
 leads d (command.Start addr mask) suited some = (
-  (tt, λ w b credits judged idle silent. (idle, silent)),
+  (tt, λ w b notes judged idle silent. (idle, silent)),
   (
-    (λ w b credits judged idle silent few. (idle, silent, few)),
-    ((some, tt, λ w b credits judged waits. waits), ((some, tt, tt), tt)),
+    λ w b notes judged idle silent. (idle, silent),
+    ((tt, tt), ((some, tt, λ w b notes judged waits. waits), ((some, tt, tt), tt))),
   ),
 )
 leads d (command.Round addr) suited range = (
-  (tt, λ w b credits judged held still. (held, still)),
-  ((tt, λ w b credits judged ready still. (ready, still)), ((tt, tt), tt)),
+  (tt, λ w b notes judged begins shut. (begins, shut)),
+  (
+    (tt, λ w b notes judged held still. (held, still)),
+    ((tt, λ w b notes judged sees still. (sees, still)), ((tt, tt), ((tt, tt), tt))),
+  ),
 )
 leads d (command.Stop addr) suited range = (
-  (refl, tt, λ w b credits judged running shut. (running, shut)),
+  (refl, tt, λ w b notes judged running shut. (running, shut)),
   (
-    (tt, λ w b credits judged held still. (held, still)),
+    (tt, λ w b notes judged begins shut. (begins, shut)),
     (
-      (tt, λ w b credits judged ready still. (ready, still)),
-      (((refl, λ w b credits judged rests. rests), tt), (tt, tt)),
+      (tt, λ w b notes judged held still. (held, still)),
+      (
+        (tt, λ w b notes judged sees still. (sees, still)),
+        ((tt, tt), (((refl, λ w b notes judged rests. rests), tt), (tt, tt))),
+      ),
     ),
   ),
 )
-leads d (command.Ident addr) suited range = told_leads (ident_requests d.body) (ident_neutral d.body)
+leads d (command.Ident addr) suited range = told_leads (ident_requests d.body) (ident_told d.body)
 leads d (command.Path addr place path) suited range = (
   neutral_leads _ goes_on _ (neutral_if (place == 0) _ _ tt tt) tt,
   (neutral_leads _ (path_told place) [] (neutral_if (place == 0) _ _ tt tt) (λ number. tt), tt),

@@ -20,16 +20,15 @@ use Rattle.cct_model.specs.terms.coin.Coin.{Coin}
 use Rattle.cct_model.specs.Device.{IsAcceptor}
 use Rattle.cct_model.specs.Line.{Line, exchange, put}
 use Rattle.cct_model.specs.Order.{order}
-use Rattle.cct_model.specs.Job.{works, job, sends, puts, noted_in, epoch, counted, epoch_by, address_of, credits_read, judged_in, Noted}
+use Rattle.cct_model.specs.Job.{works, job, sends, puts, noted_in, epoch, counted, epoch_by, address_of, judged_in, Noted}
 use Rattle.cct_model.specs.Rows.{ends_as, TableRow, asks_for, asks_once, waits_for_coins, puts_due, row, rest, first}
 use Rattle.cct_model.specs.Script.{IsCommand}
-use Rattle.cct_model.specs.terms.coin.Credits.{Credits}
 use Rattle.cct_laws.proofs.EitherKind.{for_acceptor}
 use Rattle.cct_laws.specs.DeviceJobs.{is_for_acceptor, Fate, unheard, silenced, answered, IsForOthers, with_ended}
 use Rattle.cct_laws.specs.SinceEpoch.{since_record, mask_set_in, IsMaskedBy, MayBreak, IsKeptSince}
 use Rattle.cct_model.proofs.Rows.{EachBefore}
 use Rattle.cct_laws.proofs.acceptor.World.{World, Silent, IsLive, mask_at, world}
-use Rattle.cct_laws.proofs.acceptor.Fits.{ReadSoFar, read_so_far, StateOf, IsRunning, FitsAt}
+use Rattle.cct_laws.proofs.acceptor.Fits.{ReadSoFar, read_so_far, Notes, notes_in, StateOf, IsRunning, FitsAt}
 use Rattle.cct_laws.proofs.acceptor.Moves.{Keeps, fits_at, request_is}
 use Rattle.cct_laws.proofs.acceptor.Acceptors.{left_leads, keeps_kept}
 use Rattle.cct_laws.proofs.acceptor.Leads.{Leads}
@@ -49,23 +48,24 @@ pub record Masks (d : DeviceSetup) (since past : List Met) (lines : List Line) :
 
 -- a request sets no mask, but the epoch's own before its first reading
 abbrev Asks : EpochState → Request → Type 0
-Asks state (SetMask mask) = state ≡ Running mask 0
+Asks state (SetMask mask) = (accepts : ℕ) × (state ≡ Running mask 0 accepts)
 Asks state q = ⊤
 
-running_is : (mask counter other : ℕ) → Running mask counter accepts ≡ Running other 0 → other ≡ mask
-running_is mask counter other same = cc
+running_is : (mask counter accepts other count : ℕ) → Running mask counter accepts ≡ Running other 0 count → other ≡ mask
+running_is mask counter accepts other count same = cc
 
-asked_by : (mask counter : ℕ) (q : Request) (since past : List Met) → Asks (Running mask counter accepts) q → IsMaskedBy mask since past → IsMaskedBy mask (heard (Some q) ∷ since) (heard (Some q) ∷ past)
-asked_by mask counter ResetDevice since past asks masked = inr (refl, refl)
-asked_by mask counter (SetMask other) since past asks masked = inl (ap Some (running_is mask counter other asks), running_is mask counter other asks)
-asked_by mask counter (SetMaster value) since past asks masked = masked
-asked_by mask counter (SetPath place path) since past asks masked = masked
-asked_by mask counter (SetDefault path) since past asks masked = masked
-asked_by mask counter q since past asks masked = masked
+asked_by : (mask counter accepts : ℕ) (q : Request) (since past : List Met) → Asks (Running mask counter accepts) q → IsMaskedBy mask since past → IsMaskedBy mask (heard (Some q) ∷ since) (heard (Some q) ∷ past)
+asked_by mask counter accepts ResetDevice since past asks masked = inr (refl, refl)
+asked_by mask counter accepts (SetMask other) since past asks masked =
+    let same = running_is mask counter accepts other asks.0 asks.1 in inl (ap Some same, same)
+asked_by mask counter accepts (SetMaster value) since past asks masked = masked
+asked_by mask counter accepts (SetPath place path) since past asks masked = masked
+asked_by mask counter accepts (SetDefault path) since past asks masked = masked
+asked_by mask counter accepts q since past asks masked = masked
 
 asked_masked : (state : EpochState) (q : Request) (since past : List Met) → Asks state q → MaskedIn state since past → MaskedIn state (heard (Some q) ∷ since) (heard (Some q) ∷ past)
 asked_masked Idle q since past asks masked = tt
-asked_masked (Running mask counter accepts) q since past asks masked = asked_by mask counter q since past asks masked
+asked_masked (Running mask counter accepts) q since past asks masked = asked_by mask counter accepts q since past asks masked
 
 -- what changes no setting
 same_masked : (state : EpochState) (m : Met) (since past : List Met) → mask_set_in (m ∷ since) ≡ mask_set_in since → mask_of (m ∷ past) ≡ mask_of past → MaskedIn state since past → MaskedIn state (m ∷ since) (m ∷ past)
@@ -84,27 +84,27 @@ reset_masked Idle since past = tt
 reset_masked (Running mask counter accepts) since past = inr (refl, refl)
 
 -- what the rows of a job send
-first_asks : (w : World) (b : ReadSoFar) (addr : ℕ) (credits : Option Credits) (judged : Judged) (p : Noted)
-    (rows : List TableRow) (q : Request) → EachBefore Leads rows → FitsAt w b rows credits judged →
+first_asks : (w : World) (b : ReadSoFar) (addr : ℕ) (notes : Notes) (judged : Judged) (p : Noted)
+    (rows : List TableRow) (q : Request) → EachBefore Leads rows → FitsAt w b rows notes judged →
     first addr judged p rows ≡ sends q → Asks b.epoch q
-first_asks w b addr credits judged p [] q each fits row = absurd cc
-first_asks w b addr credits judged p (asks_for (SetMask mask) behind ∷ rows) q each fits row = absurd each.0.0
-first_asks w b addr credits judged p (asks_for x behind ∷ rows) q each fits row =
+first_asks w b addr notes judged p [] q each fits row = absurd cc
+first_asks w b addr notes judged p (asks_for (SetMask mask) behind ∷ rows) q each fits row = absurd each.0.0
+first_asks w b addr notes judged p (asks_for x behind ∷ rows) q each fits row =
     subst (Asks b.epoch) (request_is x q row) tt
-first_asks w b addr credits judged p (asks_once (SetMask mask) (ends_as end) (ends_as other) ∷ rows) q each fits row =
-    subst (Asks b.epoch) (request_is (SetMask mask) q row) fits.running
-first_asks w b addr credits judged p (asks_once x (ends_as end) (ends_as other) ∷ rows) q each fits row =
+first_asks w b addr notes judged p (asks_once (SetMask mask) (ends_as end) (ends_as other) ∷ rows) q each fits row =
+    subst (Asks b.epoch) (request_is (SetMask mask) q row) (fits.accepts, fits.running)
+first_asks w b addr notes judged p (asks_once x (ends_as end) (ends_as other) ∷ rows) q each fits row =
     subst (Asks b.epoch) (request_is x q row) tt
-first_asks w b addr credits judged p (asks_once x behind without ∷ rows) q each fits row = absurd each.0
-first_asks w b addr credits judged p (waits_for_coins ∷ rows) q each fits row = absurd each.0
-first_asks w b addr credits judged p (puts_due due behind ∷ rows) q each fits row =
+first_asks w b addr notes judged p (asks_once x behind without ∷ rows) q each fits row = absurd each.0
+first_asks w b addr notes judged p (waits_for_coins ∷ rows) q each fits row = absurd each.0
+first_asks w b addr notes judged p (puts_due due behind ∷ rows) q each fits row =
     absurd (due_sends addr judged p due q row)
 
 row_asks : (d : DeviceSetup) (past : List Met) (lines : List Line) (c : Command) (work : List Line) (q : Request) →
     is_for_acceptor c ≡ true → IsCommand c → job lines ≡ works c work → Keeps d past lines →
     row d c work (epoch lines) (order lines) ≡ sends q → Asks (epoch lines) q
 row_asks d past lines c work q suited in_range is_job keeps row_is =
-    first_asks (world past lines) (read_so_far lines) (address_of c) (credits_read work) (judged_in c work (epoch lines))
+    first_asks (world d past lines) (read_so_far lines) (address_of c) (notes_in work) (judged_in c work (epoch lines))
     (noted_in work (order lines)) (rest d c work) q (left_leads d c work suited in_range)
     (fits_at d past lines c work is_job keeps) (rest_asks d c work (epoch lines) (order lines) q row_is)
 
@@ -122,14 +122,14 @@ with_ended_masked (Some end) lines since past masked = masked
 
 -- a record that a job puts
 
-counted_masked : (counter : ℕ) (state : EpochState) (since past : List Met) → MaskedIn state since past → MaskedIn (counted counter state) since past
-counted_masked counter Idle since past masked = tt
-counted_masked counter (Running mask before) since past masked = masked
+counted_masked : (counter accepts : ℕ) (state : EpochState) (since past : List Met) → MaskedIn state since past → MaskedIn (counted counter accepts state) since past
+counted_masked counter accepts Idle since past masked = tt
+counted_masked counter accepts (Running mask before earlier) since past masked = masked
 
-put_masked : (d : DeviceSetup) (state : EpochState) (r : Record) (since past : List Met) (lines : List Line) → Puts d (world past lines) state r → MaskedIn state since past → MaskedIn (epoch_by r state) (since_record d r since) past
+put_masked : (d : DeviceSetup) (state : EpochState) (r : Record) (since past : List Met) (lines : List Line) → Puts d (world d past lines) state r → MaskedIn state since past → MaskedIn (epoch_by r state) (since_record d r since) past
 put_masked d state (record_of.Epoch addr mask accepts) since past lines puts_it masked =
     subst (λ b. IsMaskedBy mask (cond b [] since) past) (sym (eq-eqb addr d.addr puts_it.0)) (inr (refl, puts_it.1.masked))
-put_masked d state (record_of.Reading addr counter lost accepts posted) since past lines puts_it masked = counted_masked counter state since past masked
+put_masked d state (record_of.Reading addr counter lost accepts posted) since past lines puts_it masked = counted_masked counter accepts state since past masked
 put_masked d state (record_of.Broken addr seen counter lost accepts posted) since past lines puts_it masked = tt
 put_masked d state (record_of.EpochEnd addr) since past lines puts_it masked = tt
 put_masked d state r since past lines puts_it masked = masked
@@ -182,18 +182,18 @@ live_silent : (w : World) (mask : ℕ) → mask ≢ 0 → mask_at w ≡ 0 → Is
 live_silent w mask some none (inl set) = absurd (some (sym set ∙ none))
 live_silent w mask some none (inr silent) = silent
 
-pub masks_silent : (d : DeviceSetup) (since past : List Met) (lines : List Line) (mask counter : ℕ) → epoch lines ≡ Running mask counter accepts → mask_set_in since ≡ None → Masks d since past lines → coins_among (events past) ≡ []
-masks_silent d since past lines mask counter running none holds =
-    let w = world past lines in
+pub masks_silent : (d : DeviceSetup) (since past : List Met) (lines : List Line) (mask counter accepts : ℕ) → epoch lines ≡ Running mask counter accepts → mask_set_in since ≡ None → Masks d since past lines → coins_among (events past) ≡ []
+masks_silent d since past lines mask counter accepts running none holds =
+    let w = world d past lines in
     let runs = subst (StateOf w (mark lines) (base lines)) running holds.keeps.sound.state in
     let masked : IsMaskedBy mask since past = subst (λ s. MaskedIn s since past) running holds.masked in
     (live_silent w mask runs.tracks.nonzero (mask_none mask since past none masked) runs.live).none
 
 -- and where an acceptor is silent whose epoch runs, the epoch's mask doesn't stand
-silent_unset : (state : EpochState) (since past : List Met) (lines : List Line) → Silent (world past lines) → IsRunning state → StateOf (world past lines) (mark lines) (base lines) state → MaskedIn state since past → mask_set_in since ≡ None
-silent_unset Idle since past lines silent running is masked = absurd running
-silent_unset (Running mask counter accepts) since past lines silent running is (inl set) = absurd (is.tracks.nonzero (sym set.1 ∙ silent.masked))
-silent_unset (Running mask counter accepts) since past lines silent running is (inr unset) = unset.0
+silent_unset : (d : DeviceSetup) (state : EpochState) (since past : List Met) (lines : List Line) → Silent (world d past lines) → IsRunning state → StateOf (world d past lines) (mark lines) (base lines) state → MaskedIn state since past → mask_set_in since ≡ None
+silent_unset d Idle since past lines silent running is masked = absurd running
+silent_unset d (Running mask counter accepts) since past lines silent running is (inl set) = absurd (is.tracks.nonzero (sym set.1 ∙ silent.masked))
+silent_unset d (Running mask counter accepts) since past lines silent running is (inr unset) = unset.0
 
 -- then a reset came since the epoch began, or no mask was heard
 unset_cause : (since : List Met) → mask_set_in since ≡ None → MayBreak since
@@ -206,8 +206,8 @@ unset_cause (m ∷ since) none = unset_cause since none
 
 -- a job that has a break to put
 pub masks_break : (d : DeviceSetup) (since past : List Met) (lines : List Line) (c : Command) (work : List Line)
-    (addr seen counter : ℕ) (posted : List Coin) → is_for_acceptor c ≡ true → IsCommand c → job lines ≡ works c work → address_of c ≡ d.addr →
+    (addr seen counter lost accepts : ℕ) (posted : List Coin) → is_for_acceptor c ≡ true → IsCommand c → job lines ≡ works c work → address_of c ≡ d.addr →
     row d c work (epoch lines) (order lines) ≡ puts (record_of.Broken addr seen counter lost accepts posted) → Masks d since past lines → MayBreak since
-masks_break d since past lines c work addr seen counter posted suited in_range is_job here is_row holds =
+masks_break d since past lines c work addr seen counter lost accepts posted suited in_range is_job here is_row holds =
     let puts_it = row_puts d past lines c work (record_of.Broken addr seen counter lost accepts posted) suited in_range is_job here is_row holds.keeps in
-    unset_cause since (silent_unset (epoch lines) since past lines puts_it.1 puts_it.0 holds.keeps.sound.state holds.masked)
+    unset_cause since (silent_unset d (epoch lines) since past lines puts_it.1 puts_it.0 holds.keeps.sound.state holds.masked)

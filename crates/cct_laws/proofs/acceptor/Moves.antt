@@ -4,76 +4,88 @@ use Rattle.std.specs.Prelude.{⊤}
 use Rattle.cct_model.specs.terms.coin.Coin.{Coin}
 use Rattle.cct_model.specs.terms.device.DeviceSetup.{DeviceSetup}
 use Rattle.cct_model.specs.terms.request.Request.{Request}
-use Rattle.cct_model.specs.terms.request.Request.TheVariants.{ResetDevice, SetMask, SetMaster, SetPath, SetDefault, ReadCredits, GetMask}
+use Rattle.cct_model.specs.terms.request.Request.TheVariants.{ResetDevice, SetMask, SetMaster, SetPath, SetDefault, ReadCredits, GetMask, AcceptCount}
 use Rattle.cct_model.specs.lines.record.Record.{Record}
 use Rattle.cct_model.specs.declared.judging.EpochState.{EpochState}
 use Rattle.cct_model.specs.declared.judging.EpochState.TheVariants.{Idle, Running}
 use Rattle.cct_model.specs.lines.command.Command.{Command}
 use Rattle.cct_model.specs.lines.command.Command.TheVariants as command
 use Rattle.cct_model.specs.lines.entry.End.{End}
-use Rattle.cct_model.specs.lines.entry.End.TheVariants.{Clean}
+use Rattle.cct_model.specs.lines.entry.End.TheVariants.{Clean, Moved}
 use Rattle.cct_model.specs.Reply.{Reply}
 use Rattle.cct_model.specs.History.{Met, heard}
 use Rattle.cct_model.specs.History as met
-use Rattle.cct_model.specs.Acceptor.{accepts, path_of}
+use Rattle.cct_model.specs.Acceptor.{accepts, accepted_coins, path_of}
 use Rattle.cct_model.specs.Device.{reply_of}
 use Rattle.cct_model.specs.Line.{Line, accepted, inhibited, exchange, taken, ended}
 use Rattle.cct_model.specs.Line as line
-use Rattle.cct_model.specs.Job.{works, job, with_line, epoch, credits_read, judged_in, sends, puts, ident_requests}
+use Rattle.cct_model.specs.Job.{works, job, with_line, epoch, judged_in, sends, puts, ident_requests}
 use Rattle.cct_model.specs.Rows.{Then, TableRow, asks_for, telling, rows_of, end_of, end_answered, ends_first, after, rest, left, sent_once}
 use Rattle.cct_model.proofs.Requests.{Each}
 use Rattle.cct_model.proofs.Rows.{IfEnd, EachRow, BareEnds, each_told, failed_end, after_none, ended_leaves}
-use Rattle.cct_model.specs.terms.coin.Credits.{Credits}
 use Rattle.cct_model.specs.terms.device.DeviceBody.{DeviceBody}
 use Rattle.cct_model.specs.terms.device.DeviceBody.TheVariants.{Acceptor, Hopper}
 use Rattle.cct_model.specs.declared.judging.Judged.{Judged}
 use Rattle.cct_model.specs.declared.judging.Judged.TheVariants.{Nothing}
 use Rattle.cct_model.specs.Refusal.{start_refusal, running_refusal}
-use Rattle.cct_model.specs.Claims.{coins, mark, base, OrderAt, CoverAt, PaceAt, InOrder, Covers, Pace}
+use Rattle.cct_model.specs.Claims.{coins, mark, base, OrderAt, CoverAt, Near, PaceAt, InOrder, Covers, Pace}
+use Rattle.cct_laws.specs.Moving.{MovedAt, MovesWithCoins}
 use Rattle.cct_laws.specs.DeviceJobs.{is_for_acceptor, Fate, unheard, silenced, answered, with_ended, IsTaken}
 use Rattle.cct_laws.proofs.acceptor.World.{World, world, On, on_coin, on_piece, on_reset, on_master, on_path, on_default, on_nothing}
-use Rattle.cct_laws.proofs.acceptor.Fits.{ReadSoFar, read_so_far, StateOf, IsIdle, IsRunning, FitsAt, Fits, state_on, at_on, fits_on}
+use Rattle.cct_laws.proofs.acceptor.Fits.{ReadSoFar, read_so_far, Notes, notes_in, StateOf, IsIdle, IsRunning, CountsAt, FitsAt, Fits, state_on, at_on, fits_on}
 use Rattle.cct_model.proofs.RowEnds.{failed_stays}
 
 -- what holds after every line
-pub record Sound (past : List Met) (lines : List Line) : Type 0 where
+pub record Sound (d : DeviceSetup) (past : List Met) (lines : List Line) : Type 0 where
   pub in_order : InOrder lines
   pub covers : Pace lines → Covers lines
+  pub moves : MovesWithCoins lines
+  pub told : accepted_coins past ≡ length (coins lines)
   pub marked : mark lines ≤ length (coins lines)
-  pub state : StateOf (world past lines) (mark lines) (base lines) (epoch lines)
+  pub state : StateOf (world d past lines) (mark lines) (base lines) (epoch lines)
 
 -- what holds after every step
 pub record Keeps (d : DeviceSetup) (past : List Met) (lines : List Line) : Type 0 where
-  pub sound : Sound past lines
-  pub fits : Fits d (world past lines) (read_so_far lines) (job lines)
+  pub sound : Sound d past lines
+  pub fits : Fits d (world d past lines) (read_so_far lines) (job lines)
 
 -- what a line has to show
-pub sound_line : (past now : List Met) (lines : List Line) (line : Line) → OrderAt lines line → (PaceAt lines line → CoverAt lines line) →
-    mark (line ∷ lines) ≤ length (coins (line ∷ lines)) → StateOf (world now (line ∷ lines)) (mark (line ∷ lines)) (base (line ∷ lines)) (epoch (line ∷ lines)) →
-    Sound past lines → Sound now (line ∷ lines)
-sound_line past now lines line order cover marked state sound = record {
+pub sound_line : (d : DeviceSetup) (past now : List Met) (lines : List Line) (line : Line) → OrderAt lines line →
+    (PaceAt lines line → CoverAt lines line) → MovedAt lines line →
+    accepted_coins now ≡ length (coins (line ∷ lines)) → mark (line ∷ lines) ≤ length (coins (line ∷ lines)) →
+    StateOf (world d now (line ∷ lines)) (mark (line ∷ lines)) (base (line ∷ lines)) (epoch (line ∷ lines)) →
+    Sound d past lines → Sound d now (line ∷ lines)
+sound_line d past now lines line order cover moved told marked state sound = record {
   in_order = (order, sound.in_order);
   covers = λ pace. (cover pace.0, sound.covers pace.1);
+  moves = (moved, sound.moves);
+  told = told;
   marked = marked;
   state = state;
 }
+
+-- the pace holds of the last line
+pub near_of : (lines : List Line) → Pace lines → Near lines
+near_of [] pace = tt
+near_of (line ∷ lines) pace = pace.0
 
 -- an object
 
 record IsPiece (lines : List Line) (line : Line) : Type 0 where
   orders : OrderAt lines line
   covers : CoverAt lines line
+  moves : MovedAt lines line
   book_stays : read_so_far (line ∷ lines) ≡ read_so_far lines
   job_stays : job (line ∷ lines) ≡ job lines
 
-keeps_piece : (d : DeviceSetup) (past now : List Met) (lines : List Line) (line : Line) → IsPiece lines line → On (world past lines) (world now (line ∷ lines)) → Keeps d past lines → Keeps d now (line ∷ lines)
+keeps_piece : (d : DeviceSetup) (past now : List Met) (lines : List Line) (line : Line) → IsPiece lines line → On (world d past lines) (world d now (line ∷ lines)) → Keeps d past lines → Keeps d now (line ∷ lines)
 keeps_piece d past now lines line piece on keeps =
-    let v = world now (line ∷ lines) in
+    let v = world d now (line ∷ lines) in
     let same = sym piece.book_stays in
-    let state = state_on (world past lines) v (mark lines) (base lines) (epoch lines) on keeps.sound.state in
-    let fits = fits_on d (world past lines) v (read_so_far lines) (job lines) on keeps.fits in
+    let state = state_on (world d past lines) v (mark lines) (base lines) (epoch lines) on keeps.sound.state in
+    let fits = fits_on d (world d past lines) v (read_so_far lines) (job lines) on keeps.fits in
     record {
-      sound = sound_line past now lines line piece.orders (λ _. piece.covers)
+      sound = sound_line d past now lines line piece.orders (λ _. piece.covers) piece.moves (on.told keeps.sound.told)
           (subst (λ (b : ReadSoFar). b.mark ≤ length (coins (line ∷ lines))) same (omega (arith, keeps.sound.marked, on.longer)))
           (subst (λ (b : ReadSoFar). StateOf v b.mark b.base b.epoch) same state) keeps.sound;
       fits = subst (Fits d v (read_so_far (line ∷ lines))) (sym piece.job_stays) (subst (λ (b : ReadSoFar). Fits d v b (job lines)) same fits);
@@ -82,44 +94,47 @@ keeps_piece d past now lines line piece on keeps =
 pub keeps_accepted : (d : DeviceSetup) (past : List Met) (lines : List Line) (place : ℕ) → 1 ≤ place → accepts past place ≡ true →
     Keeps d past lines → Keeps d (met.coin place ∷ past) (accepted (record { place = place; path = path_of past place }) ∷ lines)
 keeps_accepted d past lines place has_place is keeps =
-    let w = world past lines in
+    let w = world d past lines in
     let coin : Coin = record { place = place; path = path_of past place } in
-    let on = subst (λ b. On w (record { events = cond b (record { a = place; b = path_of past place }) (record { a = 0; b = 2 }) ∷ w.events; settings = w.settings; coins = coin ∷ w.coins; arrivals = suc w.arrivals }))
+    let on = subst (λ b. On w (record { events = cond b (record { a = place; b = path_of past place }) (record { a = 0; b = 2 }) ∷ w.events; settings = w.settings; coins = coin ∷ w.coins; start = w.start; accepted = cond b (suc w.accepted) w.accepted }))
     (sym is) (on_coin w coin has_place is) in
-    keeps_piece d past (met.coin place ∷ past) lines (accepted coin) (record { orders = tt; covers = tt; book_stays = refl; job_stays = refl }) on keeps
+    keeps_piece d past (met.coin place ∷ past) lines (accepted coin) (record { orders = tt; covers = tt; moves = tt; book_stays = refl; job_stays = refl }) on keeps
 
 pub keeps_inhibited : (d : DeviceSetup) (past : List Met) (lines : List Line) (place : ℕ) → accepts past place ≡ false →
     Keeps d past lines → Keeps d (met.coin place ∷ past) (inhibited place ∷ lines)
 keeps_inhibited d past lines place is keeps =
-    let w = world past lines in
-    let on = subst (λ b. On w (record { events = cond b (record { a = place; b = path_of past place }) (record { a = 0; b = 2 }) ∷ w.events; settings = w.settings; coins = w.coins; arrivals = suc w.arrivals }))
+    let w = world d past lines in
+    let on = subst (λ b. On w (record { events = cond b (record { a = place; b = path_of past place }) (record { a = 0; b = 2 }) ∷ w.events; settings = w.settings; coins = w.coins; start = w.start; accepted = cond b (suc w.accepted) w.accepted }))
     (sym is) (on_piece w 2) in
-    keeps_piece d past (met.coin place ∷ past) lines (inhibited place) (record { orders = tt; covers = tt; book_stays = refl; job_stays = refl }) on keeps
+    keeps_piece d past (met.coin place ∷ past) lines (inhibited place) (record { orders = tt; covers = tt; moves = tt; book_stays = refl; job_stays = refl }) on keeps
 
 pub keeps_alien : (d : DeviceSetup) (past : List Met) (lines : List Line) → Keeps d past lines → Keeps d (met.alien ∷ past) (line.alien ∷ lines)
 keeps_alien d past lines keeps =
-    keeps_piece d past (met.alien ∷ past) lines line.alien (record { orders = tt; covers = tt; book_stays = refl; job_stays = refl }) (on_piece (world past lines) 1) keeps
+    keeps_piece d past (met.alien ∷ past) lines line.alien (record { orders = tt; covers = tt; moves = tt; book_stays = refl; job_stays = refl }) (on_piece (world d past lines) 1) keeps
 
 pub keeps_reset : (d : DeviceSetup) (past : List Met) (lines : List Line) → Keeps d past lines → Keeps d (met.reset ∷ past) (line.reset ∷ lines)
 keeps_reset d past lines keeps =
-    keeps_piece d past (met.reset ∷ past) lines line.reset (record { orders = tt; covers = tt; book_stays = refl; job_stays = refl }) (on_reset (world past lines)) keeps
+    keeps_piece d past (met.reset ∷ past) lines line.reset (record { orders = tt; covers = tt; moves = tt; book_stays = refl; job_stays = refl }) (on_reset (world d past lines)) keeps
 
 -- the end of a job
 
--- an end but a clean one
+-- an end but a clean one, and but one by which a reading has to be made again
 abbrev pub IsOtherEnd : End → Type 0
 IsOtherEnd Clean = ⊥
+IsOtherEnd Moved = ⊥
 IsOtherEnd end = ⊤
 
 abbrev pub IfOther : Option End → Type 0
 IfOther found = IfEnd IsOtherEnd found
 
-sound_ended : (past : List Met) (lines : List Line) (end : End) → IsOtherEnd end → Sound past lines → Sound past (ended end ∷ lines)
-sound_ended past lines Clean other sound = absurd other
-sound_ended past lines end other sound = sound_line past past lines (ended end) tt (λ _. tt) sound.marked sound.state sound
+sound_ended : (d : DeviceSetup) (past : List Met) (lines : List Line) (end : End) → IsOtherEnd end → Sound d past lines → Sound d past (ended end ∷ lines)
+sound_ended d past lines Clean other sound = absurd other
+sound_ended d past lines Moved other sound = absurd other
+sound_ended d past lines end other sound =
+    sound_line d past past lines (ended end) tt (λ _. tt) tt sound.told sound.marked sound.state sound
 
-pub keeps_ended : (d : DeviceSetup) (past : List Met) (lines : List Line) (end : End) → IsOtherEnd end → Sound past lines → Keeps d past (ended end ∷ lines)
-keeps_ended d past lines end other sound = record { sound = sound_ended past lines end other sound; fits = tt }
+pub keeps_ended : (d : DeviceSetup) (past : List Met) (lines : List Line) (end : End) → IsOtherEnd end → Sound d past lines → Keeps d past (ended end ∷ lines)
+keeps_ended d past lines end other sound = record { sound = sound_ended d past lines end other sound; fits = tt }
 
 pub keeps_with_ended : (d : DeviceSetup) (past : List Met) (lines : List Line) (end : Option End) → IfOther end → Keeps d past lines → Keeps d past (with_ended end lines)
 keeps_with_ended d past lines None other keeps = keeps
@@ -129,7 +144,7 @@ keeps_with_ended d past lines (Some end) other keeps = keeps_ended d past lines 
 
 idle_taken : (mask : ℕ) (d : DeviceSetup) (state : EpochState) → start_refusal mask d state ≡ None → IsIdle state
 idle_taken mask d Idle fine = tt
-idle_taken mask d (Running running counter) fine = absurd cc
+idle_taken mask d (Running running counter accepts) fine = absurd cc
 
 running_taken : (state : EpochState) → running_refusal state ≡ None → IsRunning state
 running_taken Idle fine = absurd cc
@@ -140,6 +155,7 @@ abbrev pub IsNeutral : Request → Type 0
 IsNeutral ResetDevice = ⊥
 IsNeutral ReadCredits = ⊥
 IsNeutral GetMask = ⊥
+IsNeutral AcceptCount = ⊥
 IsNeutral (SetMaster value) = ⊥
 IsNeutral (SetMask mask) = ⊥
 IsNeutral q = ⊤
@@ -148,36 +164,62 @@ pub neutral_if : (b : Bool) (q r : Request) → IsNeutral q → IsNeutral r → 
 neutral_if true q r one other = one
 neutral_if false q r one other = other
 
-pub ident_neutral : (body : DeviceBody) → Each IsNeutral (ident_requests body)
-ident_neutral (Acceptor accepts values ids) = search rules
-ident_neutral (Hopper life value) = search rules
+-- or one that reads the accept counter
+abbrev pub IsTold : Request → Type 0
+IsTold AcceptCount = ⊤
+IsTold q = IsNeutral q
 
-neutral_fits : (w : World) (b : ReadSoFar) (q : Request) (behind : Then) (rows : List TableRow) (credits : Option Credits)
-    (judged : Judged) → IsNeutral q → FitsAt w b rows credits judged →
-    FitsAt w b (asks_for q behind ∷ rows) credits judged
-neutral_fits w b ResetDevice behind rows credits judged neutral fits = absurd neutral
-neutral_fits w b ReadCredits behind rows credits judged neutral fits = absurd neutral
-neutral_fits w b GetMask behind rows credits judged neutral fits = absurd neutral
-neutral_fits w b (SetMaster value) behind rows credits judged neutral fits = absurd neutral
-neutral_fits w b q behind rows credits judged neutral fits = fits
+pub ident_told : (body : DeviceBody) → Each IsTold (ident_requests body)
+ident_told (Acceptor accepts values ids) = search rules
+ident_told (Hopper life value) = search rules
 
-told_fits : (w : World) (b : ReadSoFar) (qs : List Request) (credits : Option Credits) (judged : Judged) →
-    Each IsNeutral qs → FitsAt w b (telling qs) credits judged
-told_fits w b [] credits judged each = tt
-told_fits w b (q ∷ []) credits judged each = neutral_fits w b q _ [] credits judged each.0 tt
-told_fits w b (q ∷ r ∷ qs) credits judged each =
-    neutral_fits w b q _ (telling (r ∷ qs)) credits judged each.0 (told_fits w b (r ∷ qs) credits judged each.1)
+neutral_fits : (w : World) (b : ReadSoFar) (q : Request) (behind : Then) (rows : List TableRow) (notes : Notes)
+    (judged : Judged) → IsNeutral q → FitsAt w b rows notes judged →
+    FitsAt w b (asks_for q behind ∷ rows) notes judged
+neutral_fits w b ResetDevice behind rows notes judged neutral fits = absurd neutral
+neutral_fits w b ReadCredits behind rows notes judged neutral fits = absurd neutral
+neutral_fits w b GetMask behind rows notes judged neutral fits = absurd neutral
+neutral_fits w b AcceptCount behind rows notes judged neutral fits = absurd neutral
+neutral_fits w b (SetMaster value) behind rows notes judged neutral fits = absurd neutral
+neutral_fits w b q behind rows notes judged neutral fits = fits
+
+-- rows that tell need nothing, after the accept counter too
+told_counts : (w : World) (b : ReadSoFar) (q : Request) (behind : Then) (rows : List TableRow) (notes : Notes) →
+    IsTold q → CountsAt w b (asks_for q behind ∷ rows) notes
+told_counts w b ReadCredits behind rows notes told = absurd told
+told_counts w b q behind rows notes told = tt
+
+asked_fits : (w : World) (b : ReadSoFar) (q : Request) (behind : Then) (rows : List TableRow) (notes : Notes)
+    (judged : Judged) → IsTold q → CountsAt w b rows notes → FitsAt w b rows notes judged →
+    FitsAt w b (asks_for q behind ∷ rows) notes judged
+asked_fits w b AcceptCount behind rows notes judged told counts fits = counts
+asked_fits w b ResetDevice behind rows notes judged told counts fits = absurd told
+asked_fits w b ReadCredits behind rows notes judged told counts fits = absurd told
+asked_fits w b GetMask behind rows notes judged told counts fits = absurd told
+asked_fits w b (SetMaster value) behind rows notes judged told counts fits = absurd told
+asked_fits w b q behind rows notes judged told counts fits = fits
+
+pub told_fits : (w : World) (b : ReadSoFar) (qs : List Request) (notes : Notes) (judged : Judged) →
+    Each IsTold qs → FitsAt w b (telling qs) notes judged
+told_fits w b [] notes judged each = tt
+told_fits w b (q ∷ []) notes judged each = asked_fits w b q _ [] notes judged each.0 tt tt
+told_fits w b (q ∷ r ∷ []) notes judged each =
+    asked_fits w b q _ (telling (r ∷ [])) notes judged each.0 (told_counts w b r _ [] notes each.1.0)
+    (told_fits w b (r ∷ []) notes judged each.1)
+told_fits w b (q ∷ r ∷ s ∷ qs) notes judged each =
+    asked_fits w b q _ (telling (r ∷ s ∷ qs)) notes judged each.0
+    (told_counts w b r _ (telling (s ∷ qs)) notes each.1.0) (told_fits w b (r ∷ s ∷ qs) notes judged each.1)
 
 begun_fits : (d : DeviceSetup) (w : World) (b : ReadSoFar) (c : Command) → is_for_acceptor c ≡ true → IsTaken d c b.epoch →
-    FitsAt w b (rows_of d c) None Nothing
+    FitsAt w b (rows_of d c) (notes_in []) Nothing
 begun_fits d w b (command.Start addr mask) played fine = idle_taken mask d b.epoch fine
 begun_fits d w b (command.Round addr) played fine = (running_taken b.epoch fine, tt)
 begun_fits d w b (command.Stop addr) played fine = running_taken b.epoch fine
 begun_fits d w b (command.Ident addr) played fine =
-    told_fits w b (ident_requests d.body) None Nothing (ident_neutral d.body)
+    told_fits w b (ident_requests d.body) (notes_in []) Nothing (ident_told d.body)
 begun_fits d w b (command.Path addr place path) played fine =
-    neutral_fits w b _ _ _ None Nothing (neutral_if (place == 0) _ _ tt tt)
-    (neutral_fits w b _ _ _ None Nothing (neutral_if (place == 0) _ _ tt tt) tt)
+    neutral_fits w b _ _ _ (notes_in []) Nothing (neutral_if (place == 0) _ _ tt tt)
+    (neutral_fits w b _ _ _ (notes_in []) Nothing (neutral_if (place == 0) _ _ tt tt) tt)
 begun_fits d w b (command.Pay addr id count) played fine = absurd cc
 begun_fits d w b (command.Settle addr) played fine = absurd cc
 begun_fits d w b c played fine = search rules
@@ -189,8 +231,8 @@ judged_none c (Running mask counter accepts) = refl
 begins_fits : (d : DeviceSetup) (w : World) (b : ReadSoFar) (c : Command) → is_for_acceptor c ≡ true →
     IsTaken d c b.epoch → Fits d w b (works c [])
 begins_fits d w b c played fine =
-    subst (λ judged. FitsAt w b (after (rows_of d c) 0) None judged) (sym (judged_none c b.epoch))
-    (subst (λ rows. FitsAt w b rows None Nothing) (sym (after_none (rows_of d c))) (begun_fits d w b c played fine))
+    subst (λ judged. FitsAt w b (after (rows_of d c) 0) (notes_in []) judged) (sym (judged_none c b.epoch))
+    (subst (λ rows. FitsAt w b rows (notes_in []) Nothing) (sym (after_none (rows_of d c))) (begun_fits d w b c played fine))
 
 taken_fits : (d : DeviceSetup) (w : World) (lines : List Line) (c : Command) → is_for_acceptor c ≡ true →
     IsTaken d c (epoch lines) → Fits d w (read_so_far lines) (job (taken c ∷ lines))
@@ -200,32 +242,33 @@ taken_fits d w lines c played fine = begins_fits d w (read_so_far lines) c playe
 pub keeps_taken : (d : DeviceSetup) (past : List Met) (lines : List Line) (c : Command) → is_for_acceptor c ≡ true → IsTaken d c (epoch lines) →
     Keeps d past lines → Keeps d past (taken c ∷ lines)
 keeps_taken d past lines c played fine keeps = record {
-  sound = sound_line past past lines (taken c) tt (λ _. tt) keeps.sound.marked keeps.sound.state keeps.sound;
-  fits = taken_fits d (world past lines) lines c played fine;
+  sound = sound_line d past past lines (taken c) tt (λ _. tt) tt keeps.sound.told keeps.sound.marked keeps.sound.state
+      keeps.sound;
+  fits = taken_fits d (world d past lines) lines c played fine;
 }
 
 -- an exchange
 
-pub sound_exchange : (past now : List Met) (lines : List Line) (asked : Option Request) (got : Option Reply) → On (world past lines) (world now lines) →
-    Sound past lines → Sound now (exchange asked got ∷ lines)
-sound_exchange past now lines asked got on sound =
-    sound_line past now lines (exchange asked got) tt (λ _. tt) sound.marked
-    (state_on (world past lines) (world now lines) (mark lines) (base lines) (epoch lines) on sound.state) sound
+pub sound_exchange : (d : DeviceSetup) (past now : List Met) (lines : List Line) (asked : Option Request) (got : Option Reply) → On (world d past lines) (world d now lines) →
+    Sound d past lines → Sound d now (exchange asked got ∷ lines)
+sound_exchange d past now lines asked got on sound =
+    sound_line d past now lines (exchange asked got) tt (λ _. tt) tt (on.told sound.told) sound.marked
+    (state_on (world d past lines) (world d now lines) (mark lines) (base lines) (epoch lines) on sound.state) sound
 
 -- what a job needs after an exchange
 abbrev pub FitsBehind : DeviceSetup → List Met → List Line → Command → List Line → Type 0
 FitsBehind d now lines c since =
-    FitsAt (world now lines) (read_so_far lines) (rest d c since) (credits_read since) (judged_in c since (epoch lines))
+    FitsAt (world d now lines) (read_so_far lines) (rest d c since) (notes_in since) (judged_in c since (epoch lines))
 
 pub keeps_exchange : (d : DeviceSetup) (past now : List Met) (lines : List Line) (c : Command) (since : List Line) (asked : Option Request) (got : Option Reply) → job lines ≡ works c since →
-    On (world past lines) (world now lines) → Sound past lines → FitsBehind d now (exchange asked got ∷ lines) c (exchange asked got ∷ since) → Keeps d now (exchange asked got ∷ lines)
+    On (world d past lines) (world d now lines) → Sound d past lines → FitsBehind d now (exchange asked got ∷ lines) c (exchange asked got ∷ since) → Keeps d now (exchange asked got ∷ lines)
 keeps_exchange d past now lines c since asked got is_job on sound fits = record {
-  sound = sound_exchange past now lines asked got on sound;
-  fits = subst (λ j. Fits d (world now lines) (read_so_far (exchange asked got ∷ lines)) (with_line (exchange asked got) j)) (sym is_job) fits;
+  sound = sound_exchange d past now lines asked got on sound;
+  fits = subst (λ j. Fits d (world d now lines) (read_so_far (exchange asked got ∷ lines)) (with_line (exchange asked got) j)) (sym is_job) fits;
 }
 
 pub fits_at : (d : DeviceSetup) (past : List Met) (lines : List Line) (c : Command) (since : List Line) → job lines ≡ works c since → Keeps d past lines → FitsBehind d past lines c since
-fits_at d past lines c since is_job keeps = subst (Fits d (world past lines) (read_so_far lines)) is_job keeps.fits
+fits_at d past lines c since is_job keeps = subst (Fits d (world d past lines) (read_so_far lines)) is_job keeps.fits
 
 -- what comes of an exchange
 abbrev pub KeepsAsk : DeviceSetup → List Met → List Line → Command → List Line → Request → Option Request → Option Reply → Type 0
@@ -240,22 +283,23 @@ pub failure_other : (d : DeviceSetup) (c : Command) (q : Request) (since : List 
     IfOther (end_of d c (exchange (Some q) None) since state)
 failure_other d c q since state = failed_end IsOtherEnd d c q since state (bare_other d c) tt
 
--- it tells nothing of credits, a mask or a reading
+-- it tells nothing of credits, a mask, an accept counter or a reading
 unanswered_fits : (d : DeviceSetup) (now : List Met) (lines : List Line) (c : Command) (since : List Line) (q : Request) →
-    FitsAt (world now lines) (read_so_far lines) (rest d c (exchange (Some q) None ∷ since)) (credits_read since) (judged_in c since (epoch lines)) →
+    FitsAt (world d now lines) (read_so_far lines) (rest d c (exchange (Some q) None ∷ since)) (notes_in since) (judged_in c since (epoch lines)) →
     FitsBehind d now (exchange (Some q) None ∷ lines) c (exchange (Some q) None ∷ since)
 unanswered_fits d now lines c since ReadCredits fits = fits
 unanswered_fits d now lines c since GetMask fits = fits
+unanswered_fits d now lines c since AcceptCount fits = fits
 unanswered_fits d now lines c since q fits = fits
 
 -- an exchange without its reply is tried again, or ends the job
 keeps_failed : (d : DeviceSetup) (past now : List Met) (lines : List Line) (c : Command) (since : List Line) (q : Request) → sent_once (rest d c since) ≡ false → job lines ≡ works c since →
-    On (world past lines) (world now lines) → Keeps d past lines →
+    On (world d past lines) (world d now lines) → Keeps d past lines →
     Keeps d now (with_ended (end_of d c (exchange (Some q) None) since (epoch lines)) (exchange (Some q) None ∷ lines))
 keeps_failed d past now lines c since q again is_job on keeps =
     let line = exchange (Some q) None in
-    let before = at_on (world past lines) (world now lines) (read_so_far lines) (rest d c since) (credits_read since) (judged_in c since (epoch lines)) on (fits_at d past lines c since is_job keeps) in
-    let stays = subst (λ n. FitsAt (world now lines) (read_so_far lines) (after (rows_of d c) n) (credits_read since) (judged_in c since (epoch lines))) (sym (failed_stays (rows_of d c) (Some q) since again)) before in
+    let before = at_on (world d past lines) (world d now lines) (read_so_far lines) (rest d c since) (notes_in since) (judged_in c since (epoch lines)) on (fits_at d past lines c since is_job keeps) in
+    let stays = subst (λ n. FitsAt (world d now lines) (read_so_far lines) (after (rows_of d c) n) (notes_in since) (judged_in c since (epoch lines))) (sym (failed_stays (rows_of d c) (Some q) since again)) before in
     keeps_with_ended d now (line ∷ lines) _ (failure_other d c q since (epoch lines))
     (keeps_exchange d past now lines c since (Some q) None is_job on keeps.sound (unanswered_fits d now lines c since q stays))
 
@@ -265,22 +309,22 @@ IsMild (SetMask mask) = ⊥
 IsMild (SetMaster value) = value ≡ 0
 IsMild q = ⊤
 
-pub on_heard : (past : List Met) (lines : List Line) (q : Request) → IsMild q → On (world past lines) (world (heard (Some q) ∷ past) lines)
-on_heard past lines ResetDevice mild = on_reset (world past lines)
-on_heard past lines (SetMask mask) mild = absurd mild
-on_heard past lines (SetMaster value) mild = subst (λ n. On (world past lines) (world (heard (Some (SetMaster n)) ∷ past) lines)) (sym mild) (on_master (world past lines))
-on_heard past lines (SetPath place path) mild = on_path (world past lines) place path
-on_heard past lines (SetDefault path) mild = on_default (world past lines) path
-on_heard past lines q mild = on_nothing (world past lines)
+pub on_heard : (d : DeviceSetup) (past : List Met) (lines : List Line) (q : Request) → IsMild q → On (world d past lines) (world d (heard (Some q) ∷ past) lines)
+on_heard d past lines ResetDevice mild = on_reset (world d past lines)
+on_heard d past lines (SetMask mask) mild = absurd mild
+on_heard d past lines (SetMaster value) mild = subst (λ n. On (world d past lines) (world d (heard (Some (SetMaster n)) ∷ past) lines)) (sym mild) (on_master (world d past lines))
+on_heard d past lines (SetPath place path) mild = on_path (world d past lines) place path
+on_heard d past lines (SetDefault path) mild = on_default (world d past lines) path
+on_heard d past lines q mild = on_nothing (world d past lines)
 
 -- so what is left to show is what the reply brings
 pub by_fate : (d : DeviceSetup) (past : List Met) (lines : List Line) (c : Command) (since : List Line) (q : Request) (asked : Option Request) (got : Option Reply) →
     sent_once (rest d c since) ≡ false → IsMild q → job lines ≡ works c since → Keeps d past lines →
     ((y : Reply) → reply_of d past q ≡ Some y → KeepsAsk d past lines c since q (Some q) (Some y)) → Fate d past q asked got → KeepsAsk d past lines c since q asked got
 by_fate d past lines c since q asked got again mild is_job keeps replied unheard =
-    keeps_failed d past (heard None ∷ past) lines c since q again is_job (on_nothing (world past lines)) keeps
+    keeps_failed d past (heard None ∷ past) lines c since q again is_job (on_nothing (world d past lines)) keeps
 by_fate d past lines c since q asked got again mild is_job keeps replied silenced =
-    keeps_failed d past (heard (Some q) ∷ past) lines c since q again is_job (on_heard past lines q mild) keeps
+    keeps_failed d past (heard (Some q) ∷ past) lines c since q again is_job (on_heard d past lines q mild) keeps
 by_fate d past lines c since q asked got again mild is_job keeps replied (answered y gives) = replied y gives
 
 -- a job stands at these rows
@@ -307,15 +351,15 @@ answered_at d past lines c since rows q y at keeps =
 -- and leaves those after it
 pub next_at : (d : DeviceSetup) (past : List Met) (lines : List Line) (c : Command) (since : List Line) (r : TableRow)
     (rows : List TableRow) (q : Request) (y : Reply) → AtRows d past lines c since (r ∷ rows) →
-    ends_first (r ∷ rows) (Some y) ≡ true → On (world past lines) (world (heard (Some q) ∷ past) lines) →
-    FitsAt (world (heard (Some q) ∷ past) lines) (read_so_far (exchange (Some q) (Some y) ∷ lines)) rows
-    (credits_read (exchange (Some q) (Some y) ∷ since)) (judged_in c (exchange (Some q) (Some y) ∷ since) (epoch lines)) →
+    ends_first (r ∷ rows) (Some y) ≡ true → On (world d past lines) (world d (heard (Some q) ∷ past) lines) →
+    FitsAt (world d (heard (Some q) ∷ past) lines) (read_so_far (exchange (Some q) (Some y) ∷ lines)) rows
+    (notes_in (exchange (Some q) (Some y) ∷ since)) (judged_in c (exchange (Some q) (Some y) ∷ since) (epoch lines)) →
     Keeps d (heard (Some q) ∷ past) (exchange (Some q) (Some y) ∷ lines)
 next_at d past lines c since r rows q y at ends on fits =
     let line = exchange (Some q) (Some y) in
     let now = heard (Some q) ∷ past in
     keeps_exchange d past now lines c since (Some q) (Some y) at.is_job on at.keeps.sound
-    (subst (λ later. FitsAt (world now lines) (read_so_far (line ∷ lines)) later (credits_read (line ∷ since))
+    (subst (λ later. FitsAt (world d now lines) (read_so_far (line ∷ lines)) later (notes_in (line ∷ since))
     (judged_in c (line ∷ since) (epoch lines)))
     (sym (ended_leaves (rows_of d c) (Some q) (Some y) since r rows at.rest_is ends)) fits)
 

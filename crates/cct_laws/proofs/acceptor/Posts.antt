@@ -1,12 +1,13 @@
--- In every legal transcript over an honest wire posts are accepted coins in their order, and under the pace none is lost in
--- silence.
+-- In every legal transcript over an honest wire posts are accepted coins in their order, under the pace none is lost in
+-- silence, and where a reading had to be made again, a coin was accepted meanwhile.
 use Rattle.std.proofs.Common.{[]}
 use Rattle.cct_model.specs.Claims.{InOrder, Covers, Pace}
 use Rattle.cct_model.specs.Transcript.{met, onto}
 use Rattle.cct_laws.specs.Law.{lines_in}
+use Rattle.cct_laws.specs.Moving.{MovesWithCoins}
 use Rattle.cct_laws.specs.Scope.{EachAcceptor}
 use Rattle.cct_laws.proofs.acceptor.Moves.{Keeps}
-use Rattle.cct_laws.proofs.acceptor.Acceptors.{keeps_kept, kept_in_order, kept_covers}
+use Rattle.cct_laws.proofs.acceptor.Acceptors.{keeps_kept, kept_in_order, kept_covers, kept_moves}
 use Rattle.cct_laws.proofs.Whole.{kept_legal}
 
 -- what holds of the lines holds in every legal transcript
@@ -23,3 +24,8 @@ legal_in_order capacity setup steps transcript d sound own accepting in_range le
 pub legal_covers : EachAcceptor (λ d transcript. Pace (lines_in d transcript) → Covers (lines_in d transcript))
 legal_covers capacity setup steps transcript d sound own accepting in_range legal honest =
     kept_covers d _ _ (legal_keeps capacity setup steps transcript d sound own accepting in_range legal honest)
+
+-- where a reading had to be made again, a coin was accepted meanwhile
+pub legal_moves : EachAcceptor (λ d transcript. MovesWithCoins (lines_in d transcript))
+legal_moves capacity setup steps transcript d sound own accepting in_range legal honest =
+    kept_moves d _ _ (legal_keeps capacity setup steps transcript d sound own accepting in_range legal honest)

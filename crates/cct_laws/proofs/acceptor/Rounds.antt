@@ -1,14 +1,13 @@
 -- How the rows that read an acceptor in its epoch, and what they put, keep what holds of it.
-use Rattle.std.proofs.Common.{◌≡◌, ℕ, true, List, ◌∷◌, refl, sym, ◌∙◌, subst, Option, Some, None, ap}
+use Rattle.std.proofs.Common.{◌≡◌, ℕ, le_refl, true, List, ◌∷◌, refl, sym, ◌∙◌, subst, Option, Some, None, ap}
 use Rattle.std.specs.Prelude.{⊤}
-use Rattle.cct_model.specs.terms.coin.Credits.{Credits}
 use Rattle.cct_model.specs.terms.device.DeviceSetup.{DeviceSetup}
 use Rattle.cct_model.specs.terms.request.Request.{Request}
-use Rattle.cct_model.specs.terms.request.Request.TheVariants.{ReadCredits, GetMask}
+use Rattle.cct_model.specs.terms.request.Request.TheVariants.{ReadCredits, GetMask, AcceptCount}
 use Rattle.cct_model.specs.lines.record.Record.{Record}
 use Rattle.cct_model.specs.lines.record.Record.TheVariants as record_of
 use Rattle.cct_model.specs.declared.judging.Judged.{Judged}
-use Rattle.cct_model.specs.declared.judging.Judged.TheVariants.{Nothing, Reading, Broken}
+use Rattle.cct_model.specs.declared.judging.Judged.TheVariants.{Nothing, Moved, Reading, Broken}
 use Rattle.cct_model.specs.lines.command.Command.{Command}
 use Rattle.cct_model.specs.lines.entry.End.{End}
 use Rattle.cct_model.specs.terms.coin.Coin.{Coin}
@@ -16,42 +15,44 @@ use Rattle.cct_model.specs.lines.entry.End.TheVariants.{Broke}
 use Rattle.cct_model.specs.Reply.{Reply}
 use Rattle.cct_model.specs.Reply as reply
 use Rattle.cct_model.specs.History.{Met, heard}
-use Rattle.cct_model.specs.Acceptor.{credits_of, mask_of}
+use Rattle.cct_model.specs.Acceptor.{credits_of, mask_of, accept_count}
 use Rattle.cct_model.specs.Device.{IsAcceptor}
 use Rattle.cct_model.specs.Line.{Line, exchange, put}
-use Rattle.cct_model.specs.Job.{works, job, with_line, epoch, credits_read, judged_in, judged_by, end_of_reading, address_of}
-use Rattle.cct_model.specs.Claims as claims
-use Rattle.cct_model.specs.Claims.{coins, arrivals, looking, mark, base}
+use Rattle.cct_model.specs.Job.{works, job, with_line, epoch, judged_in, end_of_moving, end_of_reading, address_of}
 use Rattle.cct_laws.specs.DeviceJobs.{Fate, with_ended}
-use Rattle.cct_laws.proofs.acceptor.World.{world, Shut, on_nothing}
-use Rattle.cct_laws.proofs.acceptor.Fits.{read_so_far, HeldIn, Posts, PostsAs, BreaksAs, Ready, IsRunning, FitsAt, Fits, IfOver, if_over, IsStill, ends_epoch, AfterCredits, AfterMask, AfterReading}
+use Rattle.cct_laws.proofs.acceptor.World.{World, world, Shut, count_from, count_at, on_nothing}
+use Rattle.cct_laws.proofs.acceptor.Fits.{read_so_far, Notes, notes_in, Begins, HeldIn, SeesIn, Posts, PostsAs, BreaksAs, Ready, CountsAt, FitsAt, Fits, IfOver, if_over, IsStill, ends_epoch, AfterCredits, AfterMask, AfterCount, AfterReading}
 use Rattle.cct_laws.proofs.acceptor.Moves.{Sound, Keeps, KeepsAsk, AtRows, IsOtherEnd, keeps_ended, keeps_with_ended, answered_at, next_at, by_fate}
-use Rattle.cct_laws.proofs.acceptor.Readings.{held_now, ready_now}
-use Rattle.cct_laws.proofs.acceptor.Items.{reading_fewer, keeps_clean, sound_reading, sound_broken}
-use Rattle.cct_laws.proofs.Replies.{replied_credits, replied_mask}
-use Rattle.cct_model.specs.Rows.{Then, if_judged, if_posted, reading, TableRow, asks_for, puts_due, rows_of, rest, end_by_answer, end_kept, sent_once}
+use Rattle.cct_laws.proofs.acceptor.Readings.{held_now, sees_now, ready_now}
+use Rattle.cct_laws.proofs.acceptor.Items.{reading_fewer, keeps_clean, keeps_moved, sound_reading, sound_broken}
+use Rattle.cct_laws.proofs.Replies.{start_of, replied_credits, replied_mask, replied_accepts}
+use Rattle.cct_model.specs.Rows.{Then, if_judged, if_unmoved, if_posted, new_epoch, reading, TableRow, asks_for, puts_due, rows_of, rest, end_by_answer, end_kept, sent_once}
 use Rattle.cct_model.proofs.Rows.{Behind, behind_answer, put_leaves}
 
 -- what an acceptor's credits tell an epoch
-pub held_at : (past : List Met) (lines : List Line) → IsRunning (epoch lines) → Sound past lines →
-    HeldIn (world past lines) (read_so_far (exchange (Some ReadCredits) (Some (reply.credits (credits_of past))) ∷ lines)) (epoch lines) (Some (credits_of past))
-held_at past lines running sound = held_now (world past lines) (mark lines) (base lines) (epoch lines) (coins (looking lines)) sound.marked running sound.state
+held_at : (d : DeviceSetup) (past : List Met) (lines since : List Line) → Begins (world d past lines) (read_so_far lines) (notes_in since) → Sound d past lines →
+    HeldIn (world d past lines) (read_so_far (exchange (Some ReadCredits) (Some (reply.credits (credits_of past))) ∷ lines)) (epoch lines)
+    (notes_in (exchange (Some ReadCredits) (Some (reply.credits (credits_of past))) ∷ since))
+held_at d past lines since begins sound =
+    let line = exchange (Some ReadCredits) (Some (reply.credits (credits_of past))) in
+    held_now (world d past lines) (read_so_far (line ∷ lines)) (epoch lines) (notes_in (line ∷ since)) refl refl
+    sound.marked begins.running (record { read = begins.read; goes_on = begins.goes_on; few = begins.few }) sound.state
 
 -- the credits are read
 pub reads : (d : DeviceSetup) (past : List Met) (lines : List Line) (c : Command) (since : List Line) (behind : Then)
     (rows : List TableRow) (asked : Option Request) (got : Option Reply) → IsAcceptor d.body →
     AtRows d past lines c since (asks_for ReadCredits behind ∷ rows) → Behind IsOtherEnd behind → AfterCredits rows →
-    IsRunning (epoch lines) → IfOver (ends_epoch rows) (Shut (world past lines)) → Fate d past ReadCredits asked got →
-    KeepsAsk d past lines c since ReadCredits asked got
-reads d past lines c since behind rows asked got accepting at other next running shut fate =
-    let w = world past lines in
+    Begins (world d past lines) (read_so_far lines) (notes_in since) → IfOver (ends_epoch rows) (Shut (world d past lines)) →
+    Fate d past ReadCredits asked got → KeepsAsk d past lines c since ReadCredits asked got
+reads d past lines c since behind rows asked got accepting at other next begins shut fate =
+    let w = world d past lines in
     let now = heard (Some ReadCredits) ∷ past in
     let y = reply.credits (credits_of past) in
     let line = exchange (Some ReadCredits) (Some y) in
     let b = read_so_far (line ∷ lines) in
     let still = if_over (ends_epoch rows) (Shut w) (IsStill w b) (λ is. (is, refl)) shut in
     let kept = next_at d past lines c since (asks_for ReadCredits behind) rows ReadCredits y at refl (on_nothing w)
-    (next w b (Some (credits_of past)) _ (held_at past lines running at.keeps.sound) still) in
+    (next w b (notes_in (line ∷ since)) _ (held_at d past lines since begins at.keeps.sound) still) in
     let replied : KeepsAsk d past lines c since ReadCredits (Some ReadCredits) (Some y) =
     answered_at d past lines c since (asks_for ReadCredits behind ∷ rows) ReadCredits y at
     (keeps_with_ended d now (line ∷ lines) _ (behind_answer IsOtherEnd behind y _ other) kept) in
@@ -59,54 +60,111 @@ reads d past lines c since behind rows asked got accepting at other next running
     (λ z gives. subst (λ found. KeepsAsk d past lines c since ReadCredits (Some ReadCredits) found)
     (sym (replied_credits d past accepting) ∙ gives) replied) fate
 
--- what the mask tells besides
-pub ready_at : (past : List Met) (lines : List Line) (addr : ℕ) (credits : Option Credits) → Sound past lines → HeldIn (world past lines) (read_so_far lines) (epoch lines) credits →
-    Ready (world past lines) (read_so_far (exchange (Some GetMask) (Some (reply.mask (mask_of past))) ∷ lines)) (judged_by addr (epoch lines) credits (Some (mask_of past)))
-ready_at past lines addr credits sound held =
-    ready_now (world past lines) (mark lines) (base lines) (epoch lines) (coins (claims.reading lines)) (coins (looking lines)) (arrivals (claims.reading lines)) addr credits
-    sound.marked (reading_fewer lines) sound.state held
-
--- a reading that means nothing ends the round clean
-round_judged : (d : DeviceSetup) (now : List Met) (lines : List Line) (judged : Judged) → Ready (world now lines) (read_so_far lines) judged → Keeps d now lines → Keeps d now (with_ended (end_of_reading judged) lines)
-round_judged d now lines Nothing ready keeps = keeps_clean d now lines keeps.sound ready
-round_judged d now lines (Reading entry) ready keeps = keeps
-round_judged d now lines (Broken entry) ready keeps = keeps
-
--- how a job goes on after its look at the mask
-abbrev pub IsAfterLook : Then → Type 0
-IsAfterLook if_judged = ⊤
-IsAfterLook behind = Behind IsOtherEnd behind
-
-looked : (d : DeviceSetup) (now : List Met) (lines : List Line) (behind : Then) (y : Reply) (judged : Judged) →
-    IsAfterLook behind → Ready (world now lines) (read_so_far lines) judged → Keeps d now lines →
-    Keeps d now (with_ended (end_by_answer behind y judged) lines)
-looked d now lines if_judged y judged other ready keeps = round_judged d now lines judged ready keeps
-looked d now lines behind y judged other ready keeps =
-    keeps_with_ended d now lines (end_by_answer behind y judged) (behind_answer IsOtherEnd behind y judged other) keeps
-
 -- the mask is read
 pub looks : (d : DeviceSetup) (past : List Met) (lines : List Line) (c : Command) (since : List Line) (behind : Then)
     (rows : List TableRow) (asked : Option Request) (got : Option Reply) → IsAcceptor d.body →
-    AtRows d past lines c since (asks_for GetMask behind ∷ rows) → IsAfterLook behind → AfterMask rows →
-    HeldIn (world past lines) (read_so_far lines) (epoch lines) (credits_read since) →
-    IfOver (ends_epoch rows) (IsStill (world past lines) (read_so_far lines)) → Fate d past GetMask asked got →
+    AtRows d past lines c since (asks_for GetMask behind ∷ rows) → Behind IsOtherEnd behind → AfterMask rows →
+    HeldIn (world d past lines) (read_so_far lines) (epoch lines) (notes_in since) →
+    IfOver (ends_epoch rows) (IsStill (world d past lines) (read_so_far lines)) → Fate d past GetMask asked got →
     KeepsAsk d past lines c since GetMask asked got
 looks d past lines c since behind rows asked got accepting at other next held still fate =
-    let w = world past lines in
+    let w = world d past lines in
     let now = heard (Some GetMask) ∷ past in
     let y = reply.mask (mask_of past) in
     let line = exchange (Some GetMask) (Some y) in
-    let judged = judged_by (address_of c) (epoch lines) (credits_read since) (Some (mask_of past)) in
-    let ready : Ready w (read_so_far (line ∷ lines)) judged =
-    ready_at past lines (address_of c) (credits_read since) at.keeps.sound held in
+    let sees : SeesIn w (read_so_far (line ∷ lines)) (epoch lines) (notes_in (line ∷ since)) =
+    sees_now w (read_so_far lines) (epoch lines) (notes_in since) (reading_fewer lines) at.keeps.sound.state held in
     let kept = next_at d past lines c since (asks_for GetMask behind) rows GetMask y at refl (on_nothing w)
-    (next w (read_so_far (line ∷ lines)) (credits_read since) judged ready still) in
+    (next w (read_so_far (line ∷ lines)) (notes_in (line ∷ since)) _ sees still) in
     let replied : KeepsAsk d past lines c since GetMask (Some GetMask) (Some y) =
     answered_at d past lines c since (asks_for GetMask behind ∷ rows) GetMask y at
-    (looked d now (line ∷ lines) behind y judged other ready kept) in
+    (keeps_with_ended d now (line ∷ lines) _ (behind_answer IsOtherEnd behind y _ other) kept) in
     by_fate d past lines c since GetMask asked got (ap sent_once at.rest_is) tt at.is_job at.keeps
     (λ z gives. subst (λ found. KeepsAsk d past lines c since GetMask (Some GetMask) found)
     (sym (replied_mask d past accepting) ∙ gives) replied) fate
+
+-- the accept counter is read
+
+-- it tells all coins that were accepted
+count_is : (d : DeviceSetup) (past : List Met) (lines : List Line) → Sound d past lines →
+    accept_count (start_of d.body) past ≡ count_at (world d past lines)
+count_is d past lines sound = ap (λ coins. count_from (start_of d.body) coins) sound.told
+
+abbrev counted_by : World → Line
+counted_by w = exchange (Some AcceptCount) (Some (reply.accepts (count_at w)))
+
+-- after it the rows fit, whatever the row after it is
+counted_fits : (d : DeviceSetup) (past : List Met) (lines : List Line) (c : Command) (since : List Line)
+    (rows : List TableRow) → Sound d past lines → AfterCount rows →
+    CountsAt (world d past lines) (read_so_far lines) rows (notes_in since) →
+    FitsAt (world d past lines) (read_so_far (counted_by (world d past lines) ∷ lines)) rows
+    (notes_in (counted_by (world d past lines) ∷ since))
+    (judged_in c (counted_by (world d past lines) ∷ since) (epoch lines))
+counted_fits d past lines c since (puts_due (new_epoch mask) behind ∷ rows) sound next fits = (fits.0, fits.1, refl)
+counted_fits d past lines c since (puts_due reading behind ∷ rows) sound next fits = (
+  ready_now (world d past lines) (read_so_far lines) (epoch lines) (address_of c) (notes_in since) sound.marked
+      (reading_fewer lines) sound.state fits.0,
+  fits.1,
+)
+counted_fits d past lines c since (asks_for ReadCredits behind ∷ rows) sound next fits =
+    next (world d past lines) (read_so_far (counted_by (world d past lines) ∷ lines)) _ _
+    (record { running = fits.0; read = refl; goes_on = sound.marked; few = le_refl _ }) fits.1
+counted_fits d past lines c since rows sound next fits =
+    next (world d past lines) (read_so_far (counted_by (world d past lines) ∷ lines))
+    (notes_in (counted_by (world d past lines) ∷ since))
+    (judged_in c (counted_by (world d past lines) ∷ since) (epoch lines))
+
+-- a reading that means nothing ends a round clean, and one that has to be made again ends it too
+round_judged : (d : DeviceSetup) (now : List Met) (lines : List Line) (judged : Judged) → Ready (world d now lines) (read_so_far lines) judged → Keeps d now lines → Keeps d now (with_ended (end_of_reading judged) lines)
+round_judged d now lines Nothing ready keeps = keeps_clean d now lines keeps.sound ready
+round_judged d now lines Moved ready keeps = keeps_moved d now lines keeps.sound ready
+round_judged d now lines (Reading entry) ready keeps = keeps
+round_judged d now lines (Broken entry) ready keeps = keeps
+
+-- and a stop
+stop_judged : (d : DeviceSetup) (now : List Met) (lines : List Line) (judged : Judged) → Ready (world d now lines) (read_so_far lines) judged → Keeps d now lines → Keeps d now (with_ended (end_of_moving judged) lines)
+stop_judged d now lines Nothing ready keeps = keeps
+stop_judged d now lines Moved ready keeps = keeps_moved d now lines keeps.sound ready
+stop_judged d now lines (Reading entry) ready keeps = keeps
+stop_judged d now lines (Broken entry) ready keeps = keeps
+
+-- how a job goes on after it, by the row after it
+abbrev pub IsAfterCount : Then → List TableRow → Type 0
+IsAfterCount if_judged (puts_due reading after ∷ rows) = ⊤
+IsAfterCount if_unmoved (puts_due reading after ∷ rows) = ⊤
+IsAfterCount behind rows = Behind IsOtherEnd behind
+
+counted_ends : (d : DeviceSetup) (now : List Met) (lines : List Line) (behind : Then) (rows : List TableRow)
+    (y : Reply) (notes : Notes) (judged : Judged) → IsAfterCount behind rows →
+    FitsAt (world d now lines) (read_so_far lines) rows notes judged → Keeps d now lines →
+    Keeps d now (with_ended (end_by_answer behind y judged) lines)
+counted_ends d now lines if_judged (puts_due reading after ∷ rows) y notes judged other fits keeps =
+    round_judged d now lines judged fits.0 keeps
+counted_ends d now lines if_unmoved (puts_due reading after ∷ rows) y notes judged other fits keeps =
+    stop_judged d now lines judged fits.0 keeps
+counted_ends d now lines behind rows y notes judged other fits keeps =
+    keeps_with_ended d now lines (end_by_answer behind y judged) (behind_answer IsOtherEnd behind y judged other) keeps
+
+pub counts : (d : DeviceSetup) (past : List Met) (lines : List Line) (c : Command) (since : List Line) (behind : Then)
+    (rows : List TableRow) (asked : Option Request) (got : Option Reply) → IsAcceptor d.body →
+    AtRows d past lines c since (asks_for AcceptCount behind ∷ rows) → IsAfterCount behind rows → AfterCount rows →
+    CountsAt (world d past lines) (read_so_far lines) rows (notes_in since) → Fate d past AcceptCount asked got →
+    KeepsAsk d past lines c since AcceptCount asked got
+counts d past lines c since behind rows asked got accepting at other next needs fate =
+    let w = world d past lines in
+    let now = heard (Some AcceptCount) ∷ past in
+    let y = reply.accepts (count_at w) in
+    let line = exchange (Some AcceptCount) (Some y) in
+    let fits = counted_fits d past lines c since rows at.keeps.sound next needs in
+    let kept = next_at d past lines c since (asks_for AcceptCount behind) rows AcceptCount y at refl (on_nothing w) fits in
+    let replied : KeepsAsk d past lines c since AcceptCount (Some AcceptCount) (Some y) =
+    answered_at d past lines c since (asks_for AcceptCount behind ∷ rows) AcceptCount y at
+    (counted_ends d now (line ∷ lines) behind rows y (notes_in (line ∷ since)) (judged_in c (line ∷ since) (epoch lines))
+    other fits kept) in
+    by_fate d past lines c since AcceptCount asked got (ap sent_once at.rest_is) tt at.is_job at.keeps
+    (λ z gives. subst (λ found. KeepsAsk d past lines c since AcceptCount (Some AcceptCount) found)
+    (ap (λ n. Some (reply.accepts n)) (sym (count_is d past lines at.keeps.sound)) ∙ sym (replied_accepts d past accepting)
+    ∙ gives) replied) fate
 
 -- how a job goes on after a reading that it puts
 abbrev pub IsAfterReading : Option End → List TableRow → Type 0
@@ -115,22 +173,22 @@ IsAfterReading None rows = (ends_epoch rows ≡ true) × AfterReading rows
 
 -- what was judged is put: a reading goes into the epoch, and a break ends the job
 reading_put : (d : DeviceSetup) (past : List Met) (lines : List Line) (c : Command) (since : List Line) (r : TableRow)
-    (rows : List TableRow) (addr k lost : ℕ) (posted : List Coin) (of_reading : Option End) → job lines ≡ works c since →
+    (rows : List TableRow) (addr k lost accepts : ℕ) (posted : List Coin) (of_reading : Option End) → job lines ≡ works c since →
     rest d c since ≡ r ∷ rows → IsAfterReading of_reading rows →
-    Posts (world past lines) (read_so_far lines) k lost posted → IfOver (ends_epoch rows) (IsStill (world past lines) (read_so_far lines)) →
+    Posts (world d past lines) (read_so_far lines) k lost accepts posted → IfOver (ends_epoch rows) (IsStill (world d past lines) (read_so_far lines)) →
     Keeps d past lines →
     Keeps d past (with_ended of_reading (put (record_of.Reading addr k lost accepts posted) ∷ lines))
-reading_put d past lines c since r rows addr k lost posted (Some end) is_job rest_is other posts still keeps =
-    keeps_ended d past _ end other (sound_reading past lines addr k lost posted posts keeps.sound)
-reading_put d past lines c since r rows addr k lost posted None is_job rest_is next posts still keeps =
-    let w = world past lines in
+reading_put d past lines c since r rows addr k lost accepts posted (Some end) is_job rest_is other posts still keeps =
+    keeps_ended d past _ end other (sound_reading d past lines addr k lost accepts posted posts keeps.sound)
+reading_put d past lines c since r rows addr k lost accepts posted None is_job rest_is next posts still keeps =
+    let w = world d past lines in
     let line = put (record_of.Reading addr k lost accepts posted) in
     let b = read_so_far (line ∷ lines) in
     let is_still = subst (λ over. IfOver over (IsStill w (read_so_far lines))) next.0 still in
     record {
-      sound = sound_reading past lines addr k lost posted posts keeps.sound;
+      sound = sound_reading d past lines addr k lost accepts posted posts keeps.sound;
       fits = subst (λ j. Fits d w b (with_line line j)) (sym is_job)
-          (subst (λ later. FitsAt w b later (credits_read (line ∷ since)) (judged_in c (line ∷ since) b.epoch))
+          (subst (λ later. FitsAt w b later (notes_in (line ∷ since)) (judged_in c (line ∷ since) b.epoch))
           (sym (put_leaves (rows_of d c) since r rows rest_is))
           (next.1 w b _ _ (record { shut = is_still.0; marked = is_still.1 })));
     }
@@ -138,16 +196,16 @@ reading_put d past lines c since r rows addr k lost posted None is_job rest_is n
 pub posts_put : (d : DeviceSetup) (past : List Met) (lines : List Line) (c : Command) (since : List Line)
     (rows : List TableRow) (entry : Record) (of_reading : Option End) → job lines ≡ works c since →
     rest d c since ≡ puts_due reading (if_posted of_reading) ∷ rows → IsAfterReading of_reading rows →
-    PostsAs (world past lines) (read_so_far lines) entry → IfOver (ends_epoch rows) (IsStill (world past lines) (read_so_far lines)) →
+    PostsAs (world d past lines) (read_so_far lines) entry → IfOver (ends_epoch rows) (IsStill (world d past lines) (read_so_far lines)) →
     Keeps d past lines →
     Keeps d past (with_ended (end_kept (puts_due reading (if_posted of_reading) ∷ rows) entry) (put entry ∷ lines))
 posts_put d past lines c since rows (record_of.Reading addr k lost accepts posted) of_reading is_job rest_is next posts still keeps =
-    reading_put d past lines c since _ rows addr k lost posted of_reading is_job rest_is next posts still keeps
+    reading_put d past lines c since _ rows addr k lost accepts posted of_reading is_job rest_is next posts still keeps
 posts_put d past lines c since rows entry of_reading is_job rest_is next posts still keeps = absurd posts
 
 pub breaks_put : (d : DeviceSetup) (past : List Met) (lines : List Line) (rows : List TableRow) (entry : Record)
-    (of_reading : Option End) → BreaksAs (world past lines) (read_so_far lines) entry → Sound past lines →
+    (of_reading : Option End) → BreaksAs (world d past lines) (read_so_far lines) entry → Sound d past lines →
     Keeps d past (with_ended (end_kept (puts_due reading (if_posted of_reading) ∷ rows) entry) (put entry ∷ lines))
 breaks_put d past lines rows (record_of.Broken a seen k lost accepts posted) of_reading breaks sound =
-    keeps_ended d past _ Broke tt (sound_broken past lines a seen k posted breaks sound)
+    keeps_ended d past _ Broke tt (sound_broken d past lines a seen k lost accepts posted breaks sound)
 breaks_put d past lines rows entry of_reading breaks sound = absurd breaks

@@ -51,36 +51,36 @@ pub legal_shut : EachAcceptor (λ d transcript. epoch (lines_in d transcript) �
 legal_shut capacity setup steps transcript d sound own accepting in_range legal honest idle place =
     let lines = lines_in d transcript in
     let masks = legal_masks capacity setup steps transcript d sound own accepting in_range legal honest in
-    (subst (StateOf (world (met d (onto [] transcript)) lines) (mark lines) (base lines)) idle masks.keeps.sound.state).shut place
+    (subst (StateOf (world d (met d (onto [] transcript)) lines) (mark lines) (base lines)) idle masks.keeps.sound.state).shut place
 
 -- while an epoch runs, its mask is set or none is
-pub legal_masked : EachAcceptor (λ d transcript. (mask counter : ℕ) → epoch (lines_in d transcript) ≡ Running mask
-    counter → IsMaskedBy mask (since_epoch_in d transcript) (met d (onto [] transcript)))
-legal_masked capacity setup steps transcript d sound own accepting in_range legal honest mask counter running =
+pub legal_masked : EachAcceptor (λ d transcript. (mask counter accepts : ℕ) → epoch (lines_in d transcript) ≡ Running mask
+    counter accepts → IsMaskedBy mask (since_epoch_in d transcript) (met d (onto [] transcript)))
+legal_masked capacity setup steps transcript d sound own accepting in_range legal honest mask counter accepts running =
     subst (λ s. MaskedIn s (since_epoch_in d transcript) (met d (onto [] transcript))) running (legal_masks capacity setup steps transcript d sound own accepting in_range legal honest).masked
 
 -- and where none is, no event is a coin
-pub legal_silent : EachAcceptor (λ d transcript. (mask counter : ℕ) → epoch (lines_in d transcript) ≡ Running mask
-    counter → mask_set_in (since_epoch_in d transcript) ≡ None → coins_among (events (met d (onto [] transcript))) ≡
+pub legal_silent : EachAcceptor (λ d transcript. (mask counter accepts : ℕ) → epoch (lines_in d transcript) ≡ Running mask
+    counter accepts → mask_set_in (since_epoch_in d transcript) ≡ None → coins_among (events (met d (onto [] transcript))) ≡
     [])
-legal_silent capacity setup steps transcript d sound own accepting in_range legal honest mask counter running none =
-    masks_silent d (since_epoch_in d transcript) (met d (onto [] transcript)) (lines_in d transcript) mask counter running none (legal_masks capacity setup steps transcript d sound own accepting in_range legal honest)
+legal_silent capacity setup steps transcript d sound own accepting in_range legal honest mask counter accepts running none =
+    masks_silent d (since_epoch_in d transcript) (met d (onto [] transcript)) (lines_in d transcript) mask counter accepts running none (legal_masks capacity setup steps transcript d sound own accepting in_range legal honest)
 
-pub legal_unread : EachAcceptor (λ d transcript. (mask counter : ℕ) → epoch (lines_in d transcript) ≡ Running mask
-    counter → mask_set_in (since_epoch_in d transcript) ≡ None → coins_among (credits_of (met d (onto []
+pub legal_unread : EachAcceptor (λ d transcript. (mask counter accepts : ℕ) → epoch (lines_in d transcript) ≡ Running mask
+    counter accepts → mask_set_in (since_epoch_in d transcript) ≡ None → coins_among (credits_of (met d (onto []
     transcript))).pairs ≡ [])
-legal_unread capacity setup steps transcript d sound own accepting in_range legal honest mask counter running none =
-    buffer_none (events (met d (onto [] transcript))) (legal_silent capacity setup steps transcript d sound own accepting in_range legal honest mask counter running none)
+legal_unread capacity setup steps transcript d sound own accepting in_range legal honest mask counter accepts running none =
+    buffer_none (events (met d (onto [] transcript))) (legal_silent capacity setup steps transcript d sound own accepting in_range legal honest mask counter accepts running none)
 
 -- a break has its cause
-pub legal_caused : EachAcceptor (λ d transcript. (c : Command) (since : List Line) (addr seen counter : ℕ) (posted :
+pub legal_caused : EachAcceptor (λ d transcript. (c : Command) (since : List Line) (addr seen counter lost accepts : ℕ) (posted :
     List Coin) → job (lines_in d transcript) ≡ works c since → row d c since (epoch (lines_in d transcript)) (order
     (lines_in d transcript)) ≡ puts (record_of.Broken addr seen counter lost accepts posted) → MayBreak (since_epoch_in d
     transcript))
-legal_caused capacity setup steps transcript d sound own accepting in_range legal honest c since addr seen counter posted is_job is_row =
+legal_caused capacity setup steps transcript d sound own accepting in_range legal honest c since addr seen counter lost accepts posted is_job is_row =
     let here : address_of c ≡ d.addr = subst (IsAt d.addr) is_job (job_at d (onto [] transcript)) in
     let ranged = subst (IsRanged d) is_job (ranged_legal capacity setup steps transcript d sound own in_range legal) in
-    masks_break d (since_epoch_in d transcript) (met d (onto [] transcript)) (lines_in d transcript) c since addr seen counter posted
+    masks_break d (since_epoch_in d transcript) (met d (onto [] transcript)) (lines_in d transcript) c since addr seen counter lost accepts posted
     (for_acceptor d.body c accepting ranged.1) ranged.0 is_job here is_row
     (legal_masks capacity setup steps transcript d sound own accepting in_range legal honest)
 

@@ -1,5 +1,5 @@
 -- How the rows that begin an epoch keep what holds of an acceptor.
-use Rattle.std.proofs.Common.{◌≡◌, ℕ, ◌+◌, ◌≤◌, ◌==◌, inl, cond, Bool, true, false, List, [], ◌∷◌, ◌++◌, length, refl, ap, sym, ◌∙◌, subst, Option, Some, None, arith, eqb-true, append-nil}
+use Rattle.std.proofs.Common.{◌≡◌, ℕ, ◌≤◌, inl, cond, Bool, true, false, List, [], ◌∷◌, ◌++◌, length, refl, ap, sym, ◌∙◌, subst, Option, Some, None, arith, le_refl, append-nil}
 use Rattle.cct_model.specs.terms.device.DeviceSetup.{DeviceSetup}
 use Rattle.cct_model.specs.terms.request.Request.{Request}
 use Rattle.cct_model.specs.terms.request.Request.TheVariants.{ResetDevice, ReadCredits, SetMask}
@@ -15,11 +15,10 @@ use Rattle.cct_model.specs.History.{Met, heard}
 use Rattle.cct_model.specs.Acceptor.{counter, credits_of}
 use Rattle.cct_model.specs.Device.{IsAcceptor}
 use Rattle.cct_model.specs.Line.{Line, exchange, put}
-use Rattle.cct_model.specs.Job.{works, job, with_line, epoch, credits_read, judged_in, tries}
+use Rattle.cct_model.specs.Job.{works, job, with_line, epoch, judged_in, tries}
 use Rattle.cct_laws.specs.DeviceJobs.{Fate, unheard, silenced, answered, with_ended}
-use Rattle.cct_epoch.proofs.Counters.{counter_none}
-use Rattle.cct_laws.proofs.acceptor.World.{World, world, After, Silent, with_settings, on_reset, on_nothing, silent_fresh}
-use Rattle.cct_laws.proofs.acceptor.Fits.{ReadSoFar, read_so_far, StateOf, IsIdle, Waits, FitsAt, Fits, AfterReset, AfterQuiet, AfterEpoch}
+use Rattle.cct_laws.proofs.acceptor.World.{World, world, After, Silent, count_at, with_settings, on_reset, on_nothing, silent_fresh}
+use Rattle.cct_laws.proofs.acceptor.Fits.{ReadSoFar, read_so_far, notes_in, StateOf, IsIdle, Waits, FitsAt, Fits, AfterReset, AfterEpoch}
 use Rattle.cct_laws.proofs.acceptor.Moves.{Sound, Keeps, KeepsAsk, AtRows, IsOtherEnd, sound_line, sound_exchange, keeps_ended, keeps_with_ended, answered_at, next_at, by_fate}
 use Rattle.cct_laws.proofs.acceptor.Items.{sound_epoch}
 use Rattle.cct_laws.proofs.Replies.{replied_credits}
@@ -38,43 +37,40 @@ resets d past lines c since behind rows asked got at other next idle fate =
     let line = exchange (Some ResetDevice) (Some y) in
     answered_at d past lines c since (asks_for ResetDevice behind ∷ rows) ResetDevice y at
     (keeps_with_ended d now (line ∷ lines) _ (behind_answer IsOtherEnd behind y _ other)
-    (next_at d past lines c since (asks_for ResetDevice behind) rows ResetDevice y at refl (on_reset (world past lines))
-    (next (world now lines) (read_so_far (line ∷ lines)) _ _ idle (silent_fresh (world past lines)))))) fate
+    (next_at d past lines c since (asks_for ResetDevice behind) rows ResetDevice y at refl (on_reset (world d past lines))
+    (next (world d now lines) (read_so_far (line ∷ lines)) _ _ idle (silent_fresh (world d past lines)))))) fate
 
 -- another counter than 0 ends the start
-start_counted : (d : DeviceSetup) (now : List Met) (lines : List Line) (k : ℕ) (quiet : Bool) → (k == 0) ≡ quiet → Sound now lines → (k ≡ 0 → Keeps d now lines) →
+start_counted : (d : DeviceSetup) (now : List Met) (lines : List Line) (k : ℕ) (quiet : Bool) → Keeps d now lines →
     Keeps d now (with_ended (cond quiet None (Some (Unquiet k))) lines)
-start_counted d now lines k true is sound kept = kept (eqb-true k 0 is)
-start_counted d now lines k false is sound kept = keeps_ended d now lines (Unquiet k) tt sound
+start_counted d now lines k true kept = kept
+start_counted d now lines k false kept = keeps_ended d now lines (Unquiet k) tt kept.sound
 
 -- its credits are read
 pub reads_quiet : (d : DeviceSetup) (past : List Met) (lines : List Line) (c : Command) (since : List Line)
     (rows : List TableRow) (asked : Option Request) (got : Option Reply) → IsAcceptor d.body →
-    AtRows d past lines c since (asks_for ReadCredits if_quiet ∷ rows) → AfterQuiet rows →
-    IsIdle (epoch lines) → Silent (world past lines) → Fate d past ReadCredits asked got →
+    AtRows d past lines c since (asks_for ReadCredits if_quiet ∷ rows) → AfterReset rows →
+    IsIdle (epoch lines) → Silent (world d past lines) → Fate d past ReadCredits asked got →
     KeepsAsk d past lines c since ReadCredits asked got
 reads_quiet d past lines c since rows asked got accepting at next idle silent fate =
-    let w = world past lines in
+    let w = world d past lines in
     let now = heard (Some ReadCredits) ∷ past in
     let y = reply.credits (credits_of past) in
     let line = exchange (Some ReadCredits) (Some y) in
-    let sound : Sound now (line ∷ lines) =
-    sound_exchange past now lines (Some ReadCredits) (Some y) (on_nothing w) at.keeps.sound in
-    let kept : counter (length w.events) ≡ 0 → Keeps d now (line ∷ lines) = λ none.
+    let kept : Keeps d now (line ∷ lines) =
     next_at d past lines c since (asks_for ReadCredits if_quiet) rows ReadCredits y at refl (on_nothing w)
-    (next (world now lines) (read_so_far (line ∷ lines)) _ _ idle silent
-    (omega (arith, counter_none (length w.events) none))) in
+    (next (world d now lines) (read_so_far (line ∷ lines)) _ _ idle silent) in
     let replied : KeepsAsk d past lines c since ReadCredits (Some ReadCredits) (Some y) =
     answered_at d past lines c since (asks_for ReadCredits if_quiet ∷ rows) ReadCredits y at
-    (start_counted d now (line ∷ lines) (counter (length w.events)) _ refl sound kept) in
+    (start_counted d now (line ∷ lines) (counter (length w.events)) _ kept) in
     by_fate d past lines c since ReadCredits asked got (ap sent_once at.rest_is) tt at.is_job at.keeps
     (λ z gives. subst (λ found. KeepsAsk d past lines c since ReadCredits (Some ReadCredits) found)
     (sym (replied_credits d past accepting) ∙ gives) replied) fate
 
 -- the mask is set: the epoch's events are those since the acceptor was read
 
-opened_after : (w : World) (mask m t : ℕ) → Silent w → length w.coins ≡ m → length w.events + t ≤ w.arrivals → After (with_settings w (mask_set mask ∷ w.settings)) 0 m t
-opened_after w mask m t silent marked few = record {
+opened_after : (w : World) (mask m : ℕ) → Silent w → length w.coins ≡ m → After (with_settings w (mask_set mask ∷ w.settings)) 0 m
+opened_after w mask m silent marked = record {
   new = w.events;
   old = [];
   before = w.coins;
@@ -82,25 +78,26 @@ opened_after w mask m t silent marked few = record {
   coins_are = sym (ap (λ cs. cs ++ w.coins) silent.none);
   counted = refl;
   marked = marked;
-  came = few;
 }
 
 opened_state : (w : World) (b : ReadSoFar) (mask : ℕ) → 1 ≤ mask → Waits w b mask → StateOf (with_settings w (mask_set mask ∷ w.settings)) b.mark b.base b.epoch
 opened_state w b mask some waits =
     let v = with_settings w (mask_set mask ∷ w.settings) in
-    let runs : StateOf v b.mark b.base (Running mask 0) = record {
-      begun = waits.begun;
+    let runs : StateOf v b.mark b.base (Running mask 0 waits.accepts) = record {
+      begun = b.mark;
       based = waits.based;
+      least = le_refl b.mark;
       live = inl refl;
-      tracks = record { nonzero = λ none. absurd (omega (arith, some, none)); after = λ is. opened_after w mask b.mark waits.begun waits.silent waits.marked waits.few };
+      tracks = record { nonzero = λ none. absurd (omega (arith, some, none)); after = λ is. opened_after w mask b.mark waits.silent waits.marked };
+      exact = λ near. waits.exact;
     } in
     subst (StateOf v b.mark b.base) (sym waits.running) runs
 
-sound_opened : (past : List Met) (lines : List Line) (mask : ℕ) (got : Option Reply) → 1 ≤ mask → Waits (world past lines) (read_so_far lines) mask → Sound past lines →
-    Sound (heard (Some (SetMask mask)) ∷ past) (exchange (Some (SetMask mask)) got ∷ lines)
-sound_opened past lines mask got some waits sound =
-    sound_line past (heard (Some (SetMask mask)) ∷ past) lines (exchange (Some (SetMask mask)) got) tt (λ _. tt) sound.marked
-    (opened_state (world past lines) (read_so_far lines) mask some waits) sound
+sound_opened : (d : DeviceSetup) (past : List Met) (lines : List Line) (mask : ℕ) (got : Option Reply) → 1 ≤ mask → Waits (world d past lines) (read_so_far lines) mask → Sound d past lines →
+    Sound d (heard (Some (SetMask mask)) ∷ past) (exchange (Some (SetMask mask)) got ∷ lines)
+sound_opened d past lines mask got some waits sound =
+    sound_line d past (heard (Some (SetMask mask)) ∷ past) lines (exchange (Some (SetMask mask)) got) tt (λ _. tt) tt sound.told sound.marked
+    (opened_state (world d past lines) (read_so_far lines) mask some waits) sound
 
 -- what is sent once ends its job without an answer too
 pub unsure : (d : DeviceSetup) (past now : List Met) (lines : List Line) (c : Command) (since : List Line) (q : Request)
@@ -117,45 +114,44 @@ unsure d past now lines c since q end other rows at keeps =
 pub opens : (d : DeviceSetup) (past : List Met) (lines : List Line) (c : Command) (since : List Line) (mask : ℕ)
     (end other : End) (rows : List TableRow) (asked : Option Request) (got : Option Reply) → 1 ≤ mask →
     AtRows d past lines c since (asks_once (SetMask mask) (ends_as end) (ends_as other) ∷ rows) → IsOtherEnd end →
-    IsOtherEnd other → Waits (world past lines) (read_so_far lines) mask → Fate d past (SetMask mask) asked got →
+    IsOtherEnd other → Waits (world d past lines) (read_so_far lines) mask → Fate d past (SetMask mask) asked got →
     KeepsAsk d past lines c since (SetMask mask) asked got
 opens d past lines c since mask end other rows asked got some at is_end is_other waits unheard =
     let now = heard None ∷ past in
     unsure d past now lines c since (SetMask mask) end other rows at
     (keeps_ended d now (exchange (Some (SetMask mask)) None ∷ lines) other is_other
-    (sound_exchange past now lines (Some (SetMask mask)) None (on_nothing (world past lines)) at.keeps.sound))
+    (sound_exchange d past now lines (Some (SetMask mask)) None (on_nothing (world d past lines)) at.keeps.sound))
 opens d past lines c since mask end other rows asked got some at is_end is_other waits silenced =
     let now = heard (Some (SetMask mask)) ∷ past in
     unsure d past now lines c since (SetMask mask) end other rows at
     (keeps_ended d now (exchange (Some (SetMask mask)) None ∷ lines) other is_other
-    (sound_opened past lines mask None some waits at.keeps.sound))
+    (sound_opened d past lines mask None some waits at.keeps.sound))
 opens d past lines c since mask end other rows asked got some at is_end is_other waits (answered y gives) =
     let now = heard (Some (SetMask mask)) ∷ past in
     let line = exchange (Some (SetMask mask)) (Some y) in
     answered_at d past lines c since (asks_once (SetMask mask) (ends_as end) (ends_as other) ∷ rows) (SetMask mask) y at
-    (keeps_ended d now (line ∷ lines) end is_end (sound_opened past lines mask (Some y) some waits at.keeps.sound))
+    (keeps_ended d now (line ∷ lines) end is_end (sound_opened d past lines mask (Some y) some waits at.keeps.sound))
 
 -- the epoch is put
 pub begins : (d : DeviceSetup) (past : List Met) (lines : List Line) (c : Command) (since : List Line) (r : TableRow)
     (rows : List TableRow) (addr mask : ℕ) → 1 ≤ mask → job lines ≡ works c since → rest d c since ≡ r ∷ rows →
-    AfterEpoch mask rows → IsIdle (epoch lines) → Silent (world past lines) →
-    length (world past lines).events + (read_so_far lines).came ≤ (world past lines).arrivals → Keeps d past lines →
-    Keeps d past (put (record_of.Epoch addr mask accepts) ∷ lines)
-begins d past lines c since r rows addr mask some is_job rest_is next idle silent few keeps =
-    let w = world past lines in
-    let line = put (record_of.Epoch addr mask accepts) in
+    AfterEpoch mask rows → IsIdle (epoch lines) → Silent (world d past lines) → Keeps d past lines →
+    Keeps d past (put (record_of.Epoch addr mask (count_at (world d past lines))) ∷ lines)
+begins d past lines c since r rows addr mask some is_job rest_is next idle silent keeps =
+    let w = world d past lines in
+    let line = put (record_of.Epoch addr mask (count_at w)) in
     let b = read_so_far (line ∷ lines) in
     let waits : Waits w b mask = record {
+      accepts = count_at w;
       running = refl;
       silent = silent;
       marked = refl;
-      begun = (read_so_far lines).came;
       based = refl;
-      few = few;
+      exact = refl;
     } in
     record {
-      sound = sound_epoch past lines addr mask some idle silent keeps.sound;
+      sound = sound_epoch d past lines addr mask (count_at w) some idle silent refl keeps.sound;
       fits = subst (λ j. Fits d w b (with_line line j)) (sym is_job)
-          (subst (λ later. FitsAt w b later (credits_read (line ∷ since)) (judged_in c (line ∷ since) b.epoch))
+          (subst (λ later. FitsAt w b later (notes_in (line ∷ since)) (judged_in c (line ∷ since) b.epoch))
           (sym (put_leaves (rows_of d c) since r rows rest_is)) (next w b _ _ waits));
     }

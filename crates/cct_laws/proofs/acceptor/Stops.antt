@@ -7,15 +7,14 @@ use Rattle.cct_model.specs.terms.request.Request.TheVariants.{SetMaster}
 use Rattle.cct_model.specs.lines.record.Record.{Record}
 use Rattle.cct_model.specs.lines.record.Record.TheVariants as record_of
 use Rattle.cct_model.specs.declared.judging.Judged.{Judged}
-use Rattle.cct_model.specs.declared.judging.Judged.TheVariants.{Nothing, Reading, Broken}
+use Rattle.cct_model.specs.declared.judging.Judged.TheVariants.{Nothing, Moved, Reading, Broken}
 use Rattle.cct_model.specs.lines.command.Command.{Command}
 use Rattle.cct_model.specs.lines.entry.End.{End}
 use Rattle.cct_model.specs.Reply.{Reply}
 use Rattle.cct_model.specs.History.{Met, heard}
 use Rattle.cct_model.specs.Line.{Line, exchange, put}
 use Rattle.cct_model.specs.Job.{works, job, puts, epoch, Noted}
-use Rattle.cct_model.specs.Claims as claims
-use Rattle.cct_model.specs.Claims.{coins, arrivals, mark, base, IsNear}
+use Rattle.cct_model.specs.Claims.{coins, mark, Near}
 use Rattle.cct_model.specs.Rows.{Then, ends_as, if_posted, reading, epoch_end, TableRow, asks_for, puts_due, from, first, rest, end_kept, sent_once}
 use Rattle.cct_model.proofs.Rows.{Behind, behind_answer}
 use Rattle.cct_laws.specs.DeviceJobs.{Fate, with_ended}
@@ -35,24 +34,24 @@ shuts d past lines c since value behind rows asked got none at other next runnin
     by_fate d past lines c since (SetMaster value) asked got (ap sent_once at.rest_is) none at.is_job at.keeps (λ y gives.
     let now = heard (Some (SetMaster value)) ∷ past in
     let line = exchange (Some (SetMaster value)) (Some y) in
-    let shut : Shut (world now lines) =
-    subst (λ n. Shut (world (heard (Some (SetMaster n)) ∷ past) lines)) (sym none) (shut_by_master (world past lines)) in
+    let shut : Shut (world d now lines) =
+    subst (λ n. Shut (world d (heard (Some (SetMaster n)) ∷ past) lines)) (sym none) (shut_by_master (world d past lines)) in
     answered_at d past lines c since (asks_for (SetMaster value) behind ∷ rows) (SetMaster value) y at
     (keeps_with_ended d now (line ∷ lines) _ (behind_answer IsOtherEnd behind y _ other)
     (next_at d past lines c since (asks_for (SetMaster value) behind) rows (SetMaster value) y at refl
-    (on_heard past lines (SetMaster value) none)
-    (next (world now lines) (read_so_far (line ∷ lines)) _ _ running shut)))) fate
+    (on_heard d past lines (SetMaster value) none)
+    (next (world d now lines) (read_so_far (line ∷ lines)) _ _ running shut)))) fate
 
 -- the epoch's end is put, and ends the job
 pub over_put : (d : DeviceSetup) (past : List Met) (lines : List Line) (addr : ℕ) (rows : List TableRow) (end : End)
     (r : Record) → end_kept rows (record_of.EpochEnd addr) ≡ Some end → IsOtherEnd end →
-    puts (record_of.EpochEnd addr) ≡ puts r → Shut (world past lines) →
-    (IsNear (base lines) (arrivals (claims.reading lines)) → length (coins lines) ≤ mark lines) → Sound past lines →
+    puts (record_of.EpochEnd addr) ≡ puts r → Shut (world d past lines) →
+    (Near lines → length (coins lines) ≤ mark lines) → Sound d past lines →
     Keeps d past (with_ended (end_kept rows r) (put r ∷ lines))
 over_put d past lines addr rows end r ends other row shut none sound =
     subst (λ e. Keeps d past (with_ended (end_kept rows e) (put e ∷ lines))) (entry_is (record_of.EpochEnd addr) r row)
     (subst (λ found. Keeps d past (with_ended found (put (record_of.EpochEnd addr) ∷ lines))) (sym ends)
-    (keeps_ended d past _ end other (sound_over past lines addr shut none sound)))
+    (keeps_ended d past _ end other (sound_over d past lines addr shut none sound)))
 
 -- only the epoch's end stands after a row that puts what was judged
 abbrev pub IsOverNext : List TableRow → Type 0
@@ -62,9 +61,9 @@ IsOverNext rows = ⊥
 
 -- what was judged is put, or the epoch's end where that is nothing
 none_put : (d : DeviceSetup) (past : List Met) (lines : List Line) (of_reading : Option End) (rows : List TableRow)
-    (addr : ℕ) (p : Noted) (r : Record) → IsOverNext rows → Ready (world past lines) (read_so_far lines) Nothing →
-    IfOver (ends_epoch rows) (IsStill (world past lines) (read_so_far lines)) → first addr Nothing p rows ≡ puts r →
-    Sound past lines →
+    (addr : ℕ) (p : Noted) (r : Record) → IsOverNext rows → Ready (world d past lines) (read_so_far lines) Nothing →
+    IfOver (ends_epoch rows) (IsStill (world d past lines) (read_so_far lines)) → first addr Nothing p rows ≡ puts r →
+    Sound d past lines →
     Keeps d past (with_ended (end_kept (puts_due reading (if_posted of_reading) ∷ rows) r) (put r ∷ lines))
 none_put d past lines of_reading [] addr p r over ready still row sound = absurd cc
 none_put d past lines of_reading (puts_due epoch_end (ends_as end) ∷ rows) addr p r over ready still row sound =
@@ -76,12 +75,13 @@ none_put d past lines of_reading rows addr p r over ready still row sound = absu
 pub judged_put : (d : DeviceSetup) (past : List Met) (lines : List Line) (c : Command) (since : List Line)
     (of_reading : Option End) (rows : List TableRow) (addr : ℕ) (judged : Judged) (p : Noted) (r : Record) →
     job lines ≡ works c since → rest d c since ≡ puts_due reading (if_posted of_reading) ∷ rows →
-    IsAfterReading of_reading rows → IsOverNext rows → Ready (world past lines) (read_so_far lines) judged →
-    IfOver (ends_epoch rows) (IsStill (world past lines) (read_so_far lines)) →
+    IsAfterReading of_reading rows → IsOverNext rows → Ready (world d past lines) (read_so_far lines) judged →
+    IfOver (ends_epoch rows) (IsStill (world d past lines) (read_so_far lines)) →
     first addr judged p (from (puts_due reading (if_posted of_reading) ∷ rows) judged) ≡ puts r → Keeps d past lines →
     Keeps d past (with_ended (end_kept (puts_due reading (if_posted of_reading) ∷ rows) r) (put r ∷ lines))
 judged_put d past lines c since of_reading rows addr Nothing p r is_job rest_is next over ready still row keeps =
     none_put d past lines of_reading rows addr p r over ready still row keeps.sound
+judged_put d past lines c since of_reading rows addr Moved p r is_job rest_is next over ready still row keeps = absurd cc
 judged_put d past lines c since of_reading rows addr (Reading entry) p r is_job rest_is next over ready still row keeps =
     subst (λ e. Keeps d past (with_ended (end_kept (puts_due reading (if_posted of_reading) ∷ rows) e) (put e ∷ lines)))
     (entry_is entry r row) (posts_put d past lines c since rows entry of_reading is_job rest_is next ready still keeps)

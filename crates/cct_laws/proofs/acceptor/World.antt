@@ -1,24 +1,42 @@
--- What holds of an acceptor beside the coins and the objects that its lines tell, and what moves keep it.
+-- What holds of an acceptor beside the coins that its lines tell, and what moves keep it.
 use Rattle.std.proofs.Common.{◌≡◌, ◌≢◌, ℕ, suc, ◌+◌, ◌≤◌, ◌⊎◌, inl, inr, ◌&&◌, Bool, true, false, List, [], ◌∷◌, ◌++◌, length, refl, ap, sym, ◌∙◌, arith, ne_eqb}
+use Rattle.std.specs.Prelude.{◌%◌, ◌^◌}
 use Rattle.std.proofs.lemmas.Bool.Decides.{nat_tests}
 use Rattle.cct_model.specs.terms.coin.Pair.{Pair}
 use Rattle.cct_model.specs.terms.coin.Coin.{Coin}
 use Rattle.cct_model.specs.Setting.{Setting, master_set, path_set, default_set, has_place, mask_in, accepts_in}
 use Rattle.cct_model.specs.Reading.{coins_among}
-use Rattle.cct_model.specs.Acceptor.{counter, settings, events}
+use Rattle.cct_model.specs.terms.device.DeviceSetup.{DeviceSetup}
+use Rattle.cct_model.specs.Acceptor.{counter, settings, events, accepted_coins}
 use Rattle.cct_model.specs.History.{Met}
 use Rattle.cct_model.specs.Line.{Line}
-use Rattle.cct_model.specs.Claims.{coins, arrivals}
+use Rattle.cct_model.specs.Claims.{coins}
+use Rattle.cct_laws.proofs.Replies.{start_of}
 
--- an acceptor's events and settings, beside the coins and the number of objects that the lines of its address tell
+-- an acceptor's events and settings, the number at which its accept counter started and that of the coins that it ever
+-- accepted, beside the coins that the lines of its address tell
 pub record World : Type 0 where
   pub events : List Pair
   pub settings : List Setting
   pub coins : List Coin
-  pub arrivals : ℕ
+  pub start : ℕ
+  pub accepted : ℕ
 
-abbrev pub world : List Met → List Line → World
-world past lines = record { events = events past; settings = settings past; coins = coins lines; arrivals = arrivals lines }
+abbrev pub world : DeviceSetup → List Met → List Line → World
+world d past lines = record {
+  events = events past;
+  settings = settings past;
+  coins = coins lines;
+  start = start_of d.body;
+  accepted = accepted_coins past;
+}
+
+-- the accept counter after so many coins
+abbrev pub count_from : ℕ → ℕ → ℕ
+count_from start coins = (start + coins) % 2 ^ 24
+
+abbrev pub count_at : World → ℕ
+count_at w = count_from w.start (length w.coins)
 
 abbrev pub mask_at : World → ℕ
 mask_at w = mask_in w.settings
@@ -32,9 +50,8 @@ pub record Silent (w : World) : Type 0 where
   pub masked : mask_at w ≡ 0
   pub none : coins_among w.events ≡ []
 
--- a moment has this event counter and this many coins, and since this many objects had come no more came than events are
--- after it
-pub record After (w : World) (k m t : ℕ) : Type 0 where
+-- a moment has this event counter and this many coins
+pub record After (w : World) (k m : ℕ) : Type 0 where
   pub new : List Pair
   pub old : List Pair
   pub before : List Coin
@@ -42,16 +59,15 @@ pub record After (w : World) (k m t : ℕ) : Type 0 where
   pub coins_are : w.coins ≡ coins_among new ++ before
   pub counted : counter (length old) ≡ k
   pub marked : length before ≡ m
-  pub came : length new + t ≤ w.arrivals
 
 -- the mask is that of an epoch, or the acceptor was reset and is silent
 abbrev pub IsLive : World → ℕ → Type 0
 IsLive w mask = (mask_at w ≡ mask) ⊎ Silent w
 
 -- while the mask is that of an epoch, the acceptor is after a moment
-pub record Tracks (w : World) (mask k m t : ℕ) : Type 0 where
+pub record Tracks (w : World) (mask k m : ℕ) : Type 0 where
   pub nonzero : mask ≢ 0
-  pub after : mask_at w ≡ mask → After w k m t
+  pub after : mask_at w ≡ mask → After w k m
 
 -- what a move of the acceptor keeps
 pub record On (w v : World) : Type 0 where
@@ -60,15 +76,16 @@ pub record On (w v : World) : Type 0 where
   pub silent : Silent w → Silent v
   pub live : (mask : ℕ) → IsLive w mask → IsLive v mask
   pub masked : (mask : ℕ) → mask ≢ 0 → mask_at v ≡ mask → mask_at w ≡ mask
-  pub after : (mask k m t : ℕ) → mask ≢ 0 → mask_at v ≡ mask → After w k m t → After v k m t
-  pub few : (t : ℕ) → length w.events + t ≤ w.arrivals → length v.events + t ≤ v.arrivals
+  pub after : (mask k m : ℕ) → mask ≢ 0 → mask_at v ≡ mask → After w k m → After v k m
   pub longer : length w.coins ≤ length v.coins
+  pub starts : v.start ≡ w.start
+  pub told : w.accepted ≡ length w.coins → v.accepted ≡ length v.coins
 
 -- it stays after the moment
-pub tracks_on : (w v : World) (mask k m t : ℕ) → On w v → Tracks w mask k m t → Tracks v mask k m t
-tracks_on w v mask k m t on tracks = record {
+pub tracks_on : (w v : World) (mask k m : ℕ) → On w v → Tracks w mask k m → Tracks v mask k m
+tracks_on w v mask k m on tracks = record {
   nonzero = tracks.nonzero;
-  after = λ is_mask. on.after mask k m t tracks.nonzero is_mask (tracks.after (on.masked mask tracks.nonzero is_mask));
+  after = λ is_mask. on.after mask k m tracks.nonzero is_mask (tracks.after (on.masked mask tracks.nonzero is_mask));
 }
 
 -- a mask of 0 has no place
@@ -86,10 +103,10 @@ closed w zero_mask place = rw (zero_mask, no_place place) refl
 
 -- an object came
 
-came_more : (w : World) (pair : Pair) (coins : List Coin) (k m t : ℕ) →
+came_more : (w : World) (pair : Pair) (coins : List Coin) (accepted k m : ℕ) →
     ((new : List Pair) (before : List Coin) → w.coins ≡ coins_among new ++ before → coins ≡ coins_among (pair ∷ new) ++ before) →
-    After w k m t → After (record { events = pair ∷ w.events; settings = w.settings; coins = coins; arrivals = suc w.arrivals }) k m t
-came_more w pair coins k m t grows after = record {
+    After w k m → After (record { events = pair ∷ w.events; settings = w.settings; coins = coins; start = w.start; accepted = accepted }) k m
+came_more w pair coins accepted k m grows after = record {
   new = pair ∷ after.new;
   old = after.old;
   before = after.before;
@@ -97,12 +114,17 @@ came_more w pair coins k m t grows after = record {
   coins_are = grows after.new after.before after.coins_are;
   counted = after.counted;
   marked = after.marked;
-  came = omega (arith, after.came);
 }
 
 -- an accepted coin
 abbrev pub with_coin : World → Coin → World
-with_coin w coin = record { events = record { a = coin.place; b = coin.path } ∷ w.events; settings = w.settings; coins = coin ∷ w.coins; arrivals = suc w.arrivals }
+with_coin w coin = record {
+  events = record { a = coin.place; b = coin.path } ∷ w.events;
+  settings = w.settings;
+  coins = coin ∷ w.coins;
+  start = w.start;
+  accepted = suc w.accepted;
+}
 
 pub on_coin : (w : World) (coin : Coin) → 1 ≤ coin.place → accepts_in w.settings coin.place ≡ true → On w (with_coin w coin)
 on_coin w coin has_place accepted = record {
@@ -114,10 +136,11 @@ on_coin w coin has_place accepted = record {
     | inr silent ↦ absurd (clash (sym accepted ∙ closed w silent.masked coin.place))
   ];
   masked = λ mask some is. is;
-  after = λ mask k m t some is after. came_more w (record { a = coin.place; b = coin.path }) (coin ∷ w.coins) k m t
+  after = λ mask k m some is after. came_more w (record { a = coin.place; b = coin.path }) (coin ∷ w.coins) (suc w.accepted) k m
       (λ new before known. rw (ne_eqb coin.place 0 (omega (arith, has_place))) (ap (λ cs. coin ∷ cs) known)) after;
-  few = λ t few. omega (arith, few);
   longer = omega arith;
+  starts = refl;
+  told = λ told. ap suc told;
 }
   where
     clash : true ≡ false → ⊥
@@ -125,7 +148,13 @@ on_coin w coin has_place accepted = record {
 
 -- any other object
 abbrev pub with_piece : World → ℕ → World
-with_piece w error = record { events = record { a = 0; b = error } ∷ w.events; settings = w.settings; coins = w.coins; arrivals = suc w.arrivals }
+with_piece w error = record {
+  events = record { a = 0; b = error } ∷ w.events;
+  settings = w.settings;
+  coins = w.coins;
+  start = w.start;
+  accepted = w.accepted;
+}
 
 pub on_piece : (w : World) (error : ℕ) → On w (with_piece w error)
 on_piece w error = record {
@@ -137,14 +166,15 @@ on_piece w error = record {
     | inr silent ↦ inr (record { masked = silent.masked; none = silent.none })
   ];
   masked = λ mask some is. is;
-  after = λ mask k m t some is after. came_more w (record { a = 0; b = error }) w.coins k m t (λ new before known. known) after;
-  few = λ t few. omega (arith, few);
+  after = λ mask k m some is after. came_more w (record { a = 0; b = error }) w.coins w.accepted k m (λ new before known. known) after;
   longer = omega arith;
+  starts = refl;
+  told = λ told. told;
 }
 
 -- a reset
 abbrev pub fresh : World → World
-fresh w = record { events = []; settings = []; coins = w.coins; arrivals = w.arrivals }
+fresh w = record { events = []; settings = []; coins = w.coins; start = w.start; accepted = w.accepted }
 
 pub silent_fresh : (w : World) → Silent (fresh w)
 silent_fresh w = record { masked = refl; none = refl }
@@ -156,17 +186,24 @@ on_reset w = record {
   silent = λ silent. silent_fresh w;
   live = λ mask live. inr (silent_fresh w);
   masked = λ mask some is. absurd (some (sym is));
-  after = λ mask k m t some is after. absurd (some (sym is));
-  few = λ t few. omega (arith, few);
+  after = λ mask k m some is after. absurd (some (sym is));
   longer = omega arith;
+  starts = refl;
+  told = λ told. told;
 }
 
 -- settings were made that accept no more coins, and leave the mask
 abbrev pub with_settings : World → List Setting → World
-with_settings w settings = record { events = w.events; settings = settings; coins = w.coins; arrivals = w.arrivals }
+with_settings w settings = record {
+  events = w.events;
+  settings = settings;
+  coins = w.coins;
+  start = w.start;
+  accepted = w.accepted;
+}
 
-after_settings : (w : World) (settings : List Setting) (k m t : ℕ) → After w k m t → After (with_settings w settings) k m t
-after_settings w settings k m t after = record {
+after_settings : (w : World) (settings : List Setting) (k m : ℕ) → After w k m → After (with_settings w settings) k m
+after_settings w settings k m after = record {
   new = after.new;
   old = after.old;
   before = after.before;
@@ -174,7 +211,6 @@ after_settings w settings k m t after = record {
   coins_are = after.coins_are;
   counted = after.counted;
   marked = after.marked;
-  came = after.came;
 }
 
 pub on_settings : (w : World) (settings : List Setting) → mask_in settings ≡ mask_at w → (Shut w → Shut (with_settings w settings)) → On w (with_settings w settings)
@@ -189,9 +225,10 @@ on_settings w settings same_mask stays_shut =
         | inr silent ↦ inr (stays_silent silent)
       ];
       masked = λ mask some is. sym same_mask ∙ is;
-      after = λ mask k m t some is after. after_settings w settings k m t after;
-      few = λ t few. few;
+      after = λ mask k m some is after. after_settings w settings k m after;
       longer = omega arith;
+      starts = refl;
+      told = λ told. told;
     }
 
 -- the master inhibit closes every place

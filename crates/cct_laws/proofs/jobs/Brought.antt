@@ -317,7 +317,7 @@ unowed (Some o) none = absurd cc
 may_start : (mask : ℕ) (d : DeviceSetup) (state : EpochState) → epoch_refusal state ≡ None →
     value_refusal mask (Some d) ≡ None → start_refusal mask d state ≡ None
 may_start mask d Idle idle none = none
-may_start mask d (Running running counter) idle none = absurd cc
+may_start mask d (Running running counter accepts) idle none = absurd cc
 
 suits_acceptor : (body : DeviceBody) (c : Command) → is_acceptor body ≡ true → is_for_acceptor c ≡ true → suits body c ≡ true
 suits_acceptor (Acceptor accepts values ids) c test suited = suited

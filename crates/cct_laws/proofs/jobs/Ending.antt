@@ -27,7 +27,7 @@ use Rattle.cct_model.specs.Setup.{IsSoundSetup}
 use Rattle.cct_model.specs.Exchange.{ask, asked, asks_of}
 use Rattle.cct_model.specs.Line.{Line, exchange, put, taken}
 use Rattle.cct_model.specs.Order.{order, is_marked, is_stopped}
-use Rattle.cct_model.specs.Job.{free, works, job, with_line, epoch, credits_read, mask_read, sends, puts, Noted, noted_in, state_row, ident_requests, judged_in, address_of, tries}
+use Rattle.cct_model.specs.Job.{free, works, job, with_line, epoch, sends, puts, Noted, noted_in, state_row, ident_requests, judged_in, address_of, tries}
 use Rattle.cct_model.specs.Rows.{end_of, end_answered, rows_of, first, waits_for_coins, can_halt, has_waits, rest, done, ends_first, after, end_failed}
 use Rattle.cct_model.specs.Script.{IsCommand}
 use Rattle.cct_model.specs.Honest.{forged_after}
@@ -264,7 +264,7 @@ puts_there : (setup : Setup) (d : DeviceSetup) (c : Command) (nexts : ℕ) (past
     Goes d c nexts past (with_end d.addr (entry.Put r) (record_end d past c since r))
 puts_there setup d c nexts past since r own ids at_work few enough is_row =
     let state = epoch (lines_of d past) in
-    let reads = judged_reads (address_of c) state (credits_read since) (mask_read since) in
+    let reads = judged_reads c since state in
     goes_by d c nexts past since (put r) (entry.Put r) (end_of d c (put r) since state)
     (ap job (lines_put d past r (put_owned setup past d c since r own ids at_work is_row))
     ∙ ap (with_line (put r)) at_work.job_is) tt (ends_of_put d c r since state)
@@ -315,15 +315,15 @@ halt_there d c nexts past at =
     inr (after, tt)
 
 -- the command of the running job
-works_same : (c at_work : Command) (since others : List Line) → works c since ≡ works at_work others →
+pub works_same : (c at_work : Command) (since others : List Line) → works c since ≡ works at_work others →
     (at_work ≡ c) × (others ≡ since)
 works_same c at_work since others is = (cc, cc)
 
-no_free : (c : Command) (since : List Line) → works c since ≡ free → ⊥
+pub no_free : (c : Command) (since : List Line) → works c since ≡ free → ⊥
 no_free c since is = cc
 
 -- no fault was set for its exchange, and where that asked how a payout goes, nothing was left
-first_clear : (addr : ℕ) (past : List Entry) (sent piece : List ℕ) (end : Option End) →
+pub first_clear : (addr : ℕ) (past : List Entry) (sent piece : List ℕ) (end : Option End) →
     EachWhileRunning (LeavesAlone addr) addr past (with_end addr (entry.Wire addr sent piece) end) →
     pending past ≡ fault.Clear
 first_clear addr past sent piece None alone = alone.0 tt refl
@@ -336,11 +336,11 @@ first_found d past sent piece None finds = finds.0 tt refl
 first_found d past sent piece (Some end) finds = finds.1.0 tt refl
 
 -- what each step brings at the device
-record IsPlayed (setup : Setup) (d : DeviceSetup) (c : Command) : Type 0 where
-  sound : IsSoundSetup setup
-  own : IsOf setup d
-  known : IsCommand c
-  suited : suits d.body c ≡ true
+pub record IsPlayed (setup : Setup) (d : DeviceSetup) (c : Command) : Type 0 where
+  pub sound : IsSoundSetup setup
+  pub own : IsOf setup d
+  pub known : IsCommand c
+  pub suited : suits d.body c ≡ true
 
 asked_there : (setup : Setup) (d : DeviceSetup) (c at_work : Command) (nexts : ℕ) (past : List Entry)
     (since others : List Line) (q : Request) → IsPlayed setup d c → (at_work ≡ c) × (others ≡ since) →
@@ -424,12 +424,12 @@ no_end_more : (addr : ℕ) (e : Entry) (news : List Entry) → HasNoEnd addr (e 
 no_end_more addr (entry.Ended other end) news first others = (first.0, others)
 no_end_more addr e news first others = others
 
-passed_no_end : (d : DeviceSetup) (past news : List Entry) → ArePassed d past news → HasNoEnd d.addr news
+pub passed_no_end : (d : DeviceSetup) (past news : List Entry) → ArePassed d past news → HasNoEnd d.addr news
 passed_no_end d past [] passes = tt
 passed_no_end d past (e ∷ news) passes = no_end_more d.addr e news passes.0.no_end (passed_no_end d past news passes.1)
 
 -- the power isn't cut while the job is running
-none_lost : (d : DeviceSetup) (past news : List Entry) → Lost d past news →
+pub none_lost : (d : DeviceSetup) (past news : List Entry) → Lost d past news →
     EachWhileRunning (LeavesAlone d.addr) d.addr past news → ⊥
 none_lost d past _ bare alone = alone.0 tt
 none_lost d past _ (kept_here c since r at_work is_row owned) alone = alone.1.0 tt
@@ -459,12 +459,12 @@ goes_forged d c nexts past news addr (inr goes) = inr (after, goes.1)
     after = record { since = goes.0.since; job_is = goes.0.job_is; few = goes.0.few; enough = goes.0.enough }
 
 -- what holds of entries of a running job holds of their parts
-work_first : (P : List Entry → Entry → Type 0) (addr : ℕ) (past news later : List Entry) →
+pub work_first : (P : List Entry → Entry → Type 0) (addr : ℕ) (past news later : List Entry) →
     EachWhileRunning P addr past (later ++ news) → EachWhileRunning P addr past news
 work_first P addr past news [] each = each
 work_first P addr past news (e ∷ later) each = work_first P addr past news later each.1
 
-told_first : (P : List Entry → Entry → Type 0) (addr : ℕ) (capacity : ℕ) (setup : Setup) (past news : List Entry)
+pub told_first : (P : List Entry → Entry → Type 0) (addr : ℕ) (capacity : ℕ) (setup : Setup) (past news : List Entry)
     (s : Step) (told : Telling capacity setup past s news) → EachWhileRunning P addr past news →
     EachWhileRunning P addr past told.told
 told_first P addr capacity setup past news s told each =
@@ -476,7 +476,7 @@ no_end_both addr news [] first none = none
 no_end_both addr news (entry.Ended other end ∷ later) first none = (first.0, no_end_both addr news later first.1 none)
 no_end_both addr news (e ∷ later) first none = no_end_both addr news later first none
 
-work_later : (P : List Entry → Entry → Type 0) (addr : ℕ) (past news later : List Entry) → HasNoEnd addr news →
+pub work_later : (P : List Entry → Entry → Type 0) (addr : ℕ) (past news later : List Entry) → HasNoEnd addr news →
     EachWhileRunning P addr past (later ++ news) → EachWhileRunning P addr (news ++ past) later
 work_later P addr past news [] none each = tt
 work_later P addr past news (e ∷ later) none each = (
@@ -600,15 +600,15 @@ job_ends capacity setup before past d c steps end sound own known suited was is_
     (needs_by (is_payment c) (row_count d c) (halts_at d.addr steps) (nexts_at d.addr steps) enough) ids at legal
     undisturbed paid
 
--- a round does so within three `next`
-round_suits : (body : DeviceBody) (addr : ℕ) → IsAcceptor body → suits body (command.Round addr) ≡ true
+-- a round does so within five `next`
+pub round_suits : (body : DeviceBody) (addr : ℕ) → IsAcceptor body → suits body (command.Round addr) ≡ true
 round_suits (Acceptor accepts values ids) addr accepting = refl
 round_suits (Hopper life value) addr accepting = absurd accepting
 
 pub round_ends : (capacity : ℕ) (setup : Setup) (before : List Step) (past : List Entry) (d : DeviceSetup)
     (steps : List Step) (end : List Entry) → IsSoundSetup setup → IsOf setup d → IsAcceptor d.body →
     LegalFrom capacity setup [] before past → job (lines_of d past) ≡ works (command.Round d.addr) [] →
-    3 ≤ nexts_at d.addr steps → LegalFrom capacity setup past steps end → IsUndisturbed d.addr past end →
+    5 ≤ nexts_at d.addr steps → LegalFrom capacity setup past steps end → IsUndisturbed d.addr past end →
     EndsRound d.addr past end
 round_ends capacity setup before past d steps end sound own accepting was is_job enough legal undisturbed =
     job_ends capacity setup before past d (command.Round d.addr) steps end sound own tt

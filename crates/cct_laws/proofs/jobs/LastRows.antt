@@ -9,7 +9,7 @@ use Rattle.cct_model.specs.terms.request.ReplyForm.TheVariants as form
 use Rattle.cct_model.specs.lines.record.Record.{Record}
 use Rattle.cct_model.specs.lines.record.Record.TheVariants as record_of
 use Rattle.cct_model.specs.declared.judging.Judged.{Judged}
-use Rattle.cct_model.specs.declared.judging.Judged.TheVariants.{Nothing, Reading, Broken}
+use Rattle.cct_model.specs.declared.judging.Judged.TheVariants.{Nothing, Moved, Reading, Broken}
 use Rattle.cct_model.specs.lines.command.Command.{Command}
 use Rattle.cct_model.specs.lines.command.Command.TheVariants as command
 use Rattle.cct_model.specs.lines.entry.End.{End}
@@ -130,6 +130,7 @@ reading_last : (addr : ℕ) (judged : Judged) (p : Noted) (end : End) (r : Recor
     first addr judged p (from (puts_due reading (if_posted (Some end)) ∷ []) judged) ≡ puts r →
     end_kept (puts_due reading (if_posted (Some end)) ∷ []) r ≡ None → ⊥
 reading_last addr Nothing p end r reads is none = cc
+reading_last addr Moved p end r reads is none = cc
 reading_last addr (Reading e) p end r reads is none = posted_last end e r reads (same_record e r is) none
 reading_last addr (Broken e) p end r reads is none = broken_last end e r reads (same_record e r is) none
 

@@ -21,6 +21,7 @@ use Rattle.cct_model.specs.lines.entry.Entry.{Entry}
 use Rattle.cct_model.specs.lines.entry.Entry.TheVariants as entry
 use Rattle.cct_model.specs.History.{Met, heard}
 use Rattle.cct_model.specs.History as history
+use Rattle.cct_model.specs.Acceptor.{accepted_coins}
 use Rattle.cct_model.specs.Device.{IsSound}
 use Rattle.cct_model.specs.Setup.{IsSoundSetup}
 use Rattle.cct_model.specs.Exchange.{ask, asked, asks_of, device_at}
@@ -49,7 +50,8 @@ AreForOthers (heard asked ∷ met) = IsForOthers asked × AreForOthers met
 AreForOthers (m ∷ met) = ⊥
 
 -- an entry is none of a device: no line of it but that it took a dispense, which it heard from a damaged wire, and nothing
--- that it met but what is for others. It begins no epoch of it, puts no break of it and ends no job of it
+-- that it met but what is for others. It begins no epoch of it, puts no break of it, ends no job of it and is no coin that
+-- it accepted
 pub record Passes (d : DeviceSetup) (past : List Entry) (e : Entry) : Type 0 where
   pub dosed : AreDoses (own d past e)
   pub no_line : IsHonestAt past e → own d past e ≡ []
@@ -57,6 +59,7 @@ pub record Passes (d : DeviceSetup) (past : List Entry) (e : Entry) : Type 0 whe
   pub goes_on : since_epoch d (e ∷ past) ≡ meets d past e ++ since_epoch d past
   pub no_break : HasCauseAt d past e
   pub no_end : HasNoEnd d.addr (e ∷ [])
+  pub no_coin : (ms : List Met) → accepted_coins (meets d past e ++ ms) ≡ accepted_coins ms
 
 abbrev pub ArePassed : DeviceSetup → List Entry → List Entry → Type 0
 ArePassed d past [] = ⊤
@@ -170,6 +173,8 @@ loose_passes d past addr s e m ls other is =
           goes_on = is.goes_on d past;
           no_break = is.no_break d past;
           no_end = is.no_end d.addr;
+          no_coin = λ ms.
+              ap (λ met. accepted_coins (met ++ ms)) (is.meets_is d past ∙ ap (λ b. cond b (m ∷ []) []) away);
         },
         tt,
       );
@@ -194,6 +199,7 @@ with_end_passes d past addr e (Some end) other passes = (
     goes_on = refl;
     no_break = tt;
     no_end = (other, tt);
+    no_coin = λ ms. refl;
   },
   (passes, tt),
 )
@@ -220,6 +226,7 @@ wire_passes d past addr sent piece other others =
       goes_on = refl;
       no_break = tt;
       no_end = tt;
+      no_coin = λ ms. refl;
     }
 
 put_elsewhere : (d : DeviceSetup) (past : List Entry) (r : Record) → owner past r ≢ d.addr → HasCause d past r
@@ -239,6 +246,7 @@ put_passes d past r away = record {
   goes_on = since_elsewhere d past r (since_epoch d past) away;
   no_break = put_elsewhere d past r away;
   no_end = tt;
+  no_coin = λ ms. refl;
 }
 
 taken_passes : (d : DeviceSetup) (past : List Entry) (c : Command) → address_of c ≢ d.addr →
@@ -250,6 +258,7 @@ taken_passes d past c other = record {
   goes_on = refl;
   no_break = tt;
   no_end = tt;
+  no_coin = λ ms. refl;
 }
 
 -- an entry that is no line of any device, and nothing that one meets
@@ -265,6 +274,7 @@ none_aside d past s e none not_met goes_on no_break no_end no_next = record {
       goes_on = goes_on;
       no_break = no_break;
       no_end = no_end;
+      no_coin = λ ms. ap (λ met. accepted_coins (met ++ ms)) not_met;
     },
     tt,
   );

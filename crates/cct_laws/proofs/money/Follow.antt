@@ -5,7 +5,6 @@ use Rattle.std.specs.Prelude.{⊤}
 use Rattle.std.specs.List.{list_any}
 use Rattle.std.specs.Option.{option_map}
 use Rattle.std.proofs.lemmas.Bool.{and_from, or_parts, ne_eqb, not_from_false}
-use Rattle.cct_model.specs.terms.coin.Credits.{Credits}
 use Rattle.cct_model.specs.terms.device.DeviceBody.{DeviceBody}
 use Rattle.cct_model.specs.terms.device.DeviceBody.TheVariants.{Acceptor, Hopper}
 use Rattle.cct_model.specs.terms.device.DeviceSetup.{DeviceSetup}
@@ -15,6 +14,7 @@ use Rattle.cct_model.specs.lines.record.Record.TheVariants as record_of
 use Rattle.cct_model.specs.lines.command.Command.{Command}
 use Rattle.cct_model.specs.lines.command.Command.TheVariants as command
 use Rattle.cct_model.specs.lines.command.CommandNo.TheVariants.{NoValue}
+use Rattle.cct_model.specs.declared.judging.Judged.{Judged}
 use Rattle.cct_model.specs.declared.judging.EpochState.{EpochState}
 use Rattle.cct_model.specs.declared.judging.EpochState.TheVariants.{Idle, Running}
 use Rattle.cct_model.specs.declared.judging.OpenOrder.{OpenOrder}
@@ -22,7 +22,7 @@ use Rattle.cct_model.specs.Device.{is_acceptor, is_hopper}
 use Rattle.cct_model.specs.Exchange.{device_at, acceptor_there, hopper_there}
 use Rattle.cct_model.specs.Line.{Line}
 use Rattle.cct_model.specs.Order.{close, life_between}
-use Rattle.cct_model.specs.Job.{puts, address_of, credits_read, mask_read, judged_by, judged_in, noted_in, Noted, ident_requests}
+use Rattle.cct_model.specs.Job.{puts, address_of, credits_read, mask_read, accepts_before, accepts_read, judged_in, noted_in, Noted, ident_requests}
 use Rattle.cct_model.specs.Rows.{id_ahead, Then, Due, new_epoch, reading, epoch_end, new_order, order_end, sale, TableRow, asks_for, asks_once, waits_for_coins, puts_due, rows_of, from, rest, first, row}
 use Rattle.cct_model.specs.Records.{is_open, epoch_in, order_in}
 use Rattle.cct_model.specs.Money.{coins_of, available_in}
@@ -148,7 +148,7 @@ start_lets d mask Idle none = (refl, by_found (valueless d.body mask) none)
     by_found : (found : Option ℕ) → option_map NoValue found ≡ None → found ≡ None
     by_found None lets = refl
     by_found (Some place) lets = absurd cc
-start_lets d mask (Running running counter) none = absurd cc
+start_lets d mask (Running running counter accepts) none = absurd cc
 
 -- a round and a stop that their epoch doesn't refuse
 pub runs_by : (state : EpochState) → running_refusal state ≡ None → is_running state ≡ true
@@ -156,10 +156,10 @@ runs_by Idle none = absurd cc
 runs_by (Running mask counter accepts) none = refl
 
 -- an epoch that begins
-begins : (setup : Setup) (before : List Record) (d : DeviceSetup) (addr mask : ℕ) (state : EpochState)
+begins : (setup : Setup) (before : List Record) (d : DeviceSetup) (addr mask accepts : ℕ) (state : EpochState)
     (owed : Option OpenOrder) → Stands setup before d addr state owed → is_acceptor d.body ≡ true → 1 ≤ mask →
     start_refusal mask d state ≡ None → Fits setup before (record_of.Epoch addr mask accepts)
-begins setup before d addr mask state owed at kind least lets =
+begins setup before d addr mask accepts state owed at kind least lets =
     let both = start_lets d mask state lets in
     and_from _ _
     (and_from _ _
@@ -200,12 +200,15 @@ closes setup before addr o life belongs is =
         and_from _ _ own.is_open (eq-eqb _ _ (all ∙ sym (ap count_of own.named)))
     by_test false test = (belongs.owned addr o is).is_open
 
--- a reading and a break
-judged_fits : (setup : Setup) (before : List Record) (addr : ℕ) (state : EpochState) (credits : Option Credits)
-    (seen : Option ℕ) → is_running (epoch_in addr before) ≡ true →
-    JudgedHolds (Fits setup before) (judged_by addr state credits seen)
-judged_fits setup before addr state credits seen runs =
-    judged_holds (Fits setup before) addr state credits seen (λ counter lost posted. runs) (λ mask counter posted. runs)
+-- what was judged fits where an epoch runs
+abbrev JudgedFits : Setup → List Record → ℕ → Judged → Type 0
+JudgedFits setup before addr means = is_running (epoch_in addr before) ≡ true → JudgedHolds (Fits setup before) means
+
+judged_fits : (setup : Setup) (before : List Record) (c : Command) (since : List Line) (state : EpochState) →
+    JudgedFits setup before (address_of c) (judged_in c since state)
+judged_fits setup before c since state runs =
+    judged_holds (Fits setup before) (address_of c) state (credits_read since) (mask_read since) (accepts_before since)
+    (accepts_read since) (λ counter lost accepts posted. runs) (λ mask counter lost accepts posted. runs)
 
 -- the rows of a command put what is in its range
 ranged_rows : (d : DeviceSetup) (c : Command) → IsCommand c → suits d.body c ≡ true →
@@ -219,35 +222,34 @@ ranged_rows d (command.Ident addr) range suited =
 ranged_rows d c range suited = search rules
 
 -- what is put fits, where it is in its range and has what it needs
-due_fits : (setup : Setup) (before : List Record) (d : DeviceSetup) (addr : ℕ) (state : EpochState)
-    (credits : Option Credits) (seen : Option ℕ) (p : Noted) (behind : Then) (rows : List TableRow) (due : Due) →
-    Stands setup before d addr state p.owed → IsRanged d due → DueNeeds d state p.owed due →
-    NewOf before (puts_due due behind ∷ rows) →
-    DueHolds (Fits setup before) addr (judged_by addr state credits seen) p due
-due_fits setup before d addr state credits seen p behind rows (new_epoch mask) at range needs new =
-    begins setup before d addr mask state p.owed at range.0 range.1 needs
-due_fits setup before d addr state credits seen p behind rows reading at range needs new =
-    judged_fits setup before addr state credits seen (ap is_running at.epoch_is ∙ needs)
-due_fits setup before d addr state credits seen p behind rows epoch_end at range needs new =
+due_fits : (setup : Setup) (before : List Record) (d : DeviceSetup) (addr : ℕ) (means : Judged) (state : EpochState)
+    (p : Noted) (behind : Then) (rows : List TableRow) (due : Due) → Stands setup before d addr state p.owed →
+    JudgedFits setup before addr means → IsRanged d due → DueNeeds d state p.owed due →
+    NewOf before (puts_due due behind ∷ rows) → DueHolds (Fits setup before) addr means p due
+due_fits setup before d addr means state p behind rows (new_epoch mask) at judged range needs new = λ accepts read.
+    begins setup before d addr mask accepts state p.owed at range.0 range.1 needs
+due_fits setup before d addr means state p behind rows reading at judged range needs new =
+    judged (ap is_running at.epoch_is ∙ needs)
+due_fits setup before d addr means state p behind rows epoch_end at judged range needs new =
     ap is_running at.epoch_is ∙ needs
-due_fits setup before d addr state credits seen p behind rows (new_order id count) at range needs new = λ life read.
+due_fits setup before d addr means state p behind rows (new_order id count) at judged range needs new = λ life read.
     opens setup before d addr id count life state p.owed at range.0 range.1 range.2 needs (new id refl)
-due_fits setup before d addr state credits seen p behind rows order_end at range needs new = λ o life owed read.
+due_fits setup before d addr means state p behind rows order_end at judged range needs new = λ o life owed read.
     closes setup before addr o life at.belongs (at.order_is ∙ owed)
-due_fits setup before d addr state credits seen p behind rows (sale id price) at range needs new = absurd range
+due_fits setup before d addr means state p behind rows (sale id price) at judged range needs new = absurd range
 
-first_fits : (setup : Setup) (before : List Record) (d : DeviceSetup) (addr : ℕ) (state : EpochState)
-    (credits : Option Credits) (seen : Option ℕ) (p : Noted) (rows : List TableRow) →
-    Stands setup before d addr state p.owed → EachRow (IfPuts (IsRanged d)) rows → NeedsOf d rows state p.owed →
-    NewOf before rows → RowHolds (λ q. ⊤) (Fits setup before) (first addr (judged_by addr state credits seen) p rows)
-first_fits setup before d addr state credits seen p [] at range needs new = tt
-first_fits setup before d addr state credits seen p (asks_for q behind ∷ rows) at range needs new = tt
-first_fits setup before d addr state credits seen p (asks_once q behind without ∷ rows) at range needs new = tt
-first_fits setup before d addr state credits seen p (waits_for_coins ∷ rows) at range needs new =
+first_fits : (setup : Setup) (before : List Record) (d : DeviceSetup) (addr : ℕ) (means : Judged) (state : EpochState)
+    (p : Noted) (rows : List TableRow) → Stands setup before d addr state p.owed → JudgedFits setup before addr means →
+    EachRow (IfPuts (IsRanged d)) rows → NeedsOf d rows state p.owed → NewOf before rows →
+    RowHolds (λ q. ⊤) (Fits setup before) (first addr means p rows)
+first_fits setup before d addr means state p [] at judged range needs new = tt
+first_fits setup before d addr means state p (asks_for q behind ∷ rows) at judged range needs new = tt
+first_fits setup before d addr means state p (asks_once q behind without ∷ rows) at judged range needs new = tt
+first_fits setup before d addr means state p (waits_for_coins ∷ rows) at judged range needs new =
     state_holds (λ q. ⊤) (Fits setup before) p.is_marked tt tt
-first_fits setup before d addr state credits seen p (puts_due due behind ∷ rows) at range needs new =
-    due_holds (λ q. ⊤) (Fits setup before) addr (judged_by addr state credits seen) p due
-    (due_fits setup before d addr state credits seen p behind rows due at range.0 needs.0 new)
+first_fits setup before d addr means state p (puts_due due behind ∷ rows) at judged range needs new =
+    due_holds (λ q. ⊤) (Fits setup before) addr means p due
+    (due_fits setup before d addr means state p behind rows due at judged range.0 needs.0 new)
 
 -- what any job at a device puts fits
 pub row_fits : (setup : Setup) (before : List Record) (d : DeviceSetup) (c : Command) (since : List Line)
@@ -259,7 +261,7 @@ row_fits setup before d c since state owed r at range suited needs new is =
     let rows = rest d c since in
     let means = judged_in c since state in
     subst (RowHolds (λ q. ⊤) (Fits setup before)) is
-    (first_fits setup before d (address_of c) state (credits_read since) (mask_read since) (noted_in since owed)
-    (from rows means) at (each_left (IfPuts (IsRanged d)) d c since state (ranged_rows d c range suited))
+    (first_fits setup before d (address_of c) means state (noted_in since owed) (from rows means) at
+    (judged_fits setup before c since state) (each_left (IfPuts (IsRanged d)) d c since state (ranged_rows d c range suited))
     (each_from (IfPuts (DueNeeds d state owed)) rows means needs)
     (fact_from (NewOf before) (λ behind later fact. fact) rows means new))

@@ -1,8 +1,8 @@
 -- How many records the rows of a job hold, after one line more: a put leaves one less, an exchange and a halt no more,
 -- and a command brings no more than it wants room for.
-use Rattle.std.proofs.Common.{◌≡◌, ◌≢◌, ℕ, suc, ◌+◌, ◌-◌, ◌≤◌, ◌==◌, nat_le, Bool, true, false, cond, List, [], ◌∷◌, ◌++◌, refl, ap, sym, ◌∙◌, subst, Option, Some, None, arith, rules}
+use Rattle.std.proofs.Common.{◌≡◌, ◌≢◌, ℕ, suc, ◌+◌, ◌-◌, ◌≤◌, nat_le, Bool, true, false, cond, List, [], ◌∷◌, ◌++◌, refl, ap, sym, ◌∙◌, subst, Option, Some, None, arith, rules}
 use Rattle.std.specs.Prelude.{⊤, is_some}
-use Rattle.cct_model.specs.terms.coin.TheConstants.{EVENTS}
+use Rattle.cct_model.specs.terms.coin.Coin.{Coin}
 use Rattle.cct_model.specs.terms.coin.Credits.{Credits}
 use Rattle.cct_model.specs.terms.device.DeviceSetup.{DeviceSetup}
 use Rattle.cct_model.specs.terms.request.Request.{Request}
@@ -11,15 +11,15 @@ use Rattle.cct_model.specs.lines.record.Record.TheVariants as record_of
 use Rattle.cct_model.specs.lines.command.Command.{Command}
 use Rattle.cct_model.specs.lines.command.Command.TheVariants as command
 use Rattle.cct_model.specs.declared.judging.Judged.{Judged}
-use Rattle.cct_model.specs.declared.judging.Judged.TheVariants.{Nothing, Reading, Broken}
+use Rattle.cct_model.specs.declared.judging.Judged.TheVariants.{Nothing, Moved, Reading, Broken}
 use Rattle.cct_model.specs.declared.judging.EpochState.{EpochState}
 use Rattle.cct_model.specs.declared.judging.EpochState.TheVariants.{Running}
 use Rattle.cct_model.specs.declared.judging.OpenOrder.{OpenOrder}
 use Rattle.cct_model.specs.Reply.{Reply}
 use Rattle.cct_model.specs.Line.{Line, exchange, put, taken}
 use Rattle.cct_model.specs.Order.{order_by, life_between, close}
-use Rattle.cct_model.specs.Reading.{judge, shows_break, distance, posted_of}
-use Rattle.cct_model.specs.Job.{Job, free, works, with_line, sends, puts, no_row, put_or, close_row, Noted, end_of_close, judged_by, judged_in, noted_in, credits_read, mask_read, address_of, epoch_by, ident_requests}
+use Rattle.cct_model.specs.Reading.{judge}
+use Rattle.cct_model.specs.Job.{Job, free, works, with_line, sends, puts, no_row, put_or, begin_row, close_row, Noted, end_of_close, judged_by, judged_in, noted_in, credits_read, mask_read, accepts_before, accepts_read, address_of, epoch_by, ident_requests}
 use Rattle.cct_model.specs.Rows.{Then, ends_as, Due, new_epoch, reading, epoch_end, new_order, order_end, sale, TableRow, asks_for, asks_once, waits_for_coins, puts_due, rows_of, rows_of_sale, from, done, rest, left, first, due_row, row, end_kept, end_of, puts_in, has_closes, closes_order, need_in}
 use Rattle.cct_model.specs.Refusal.{job_holds, order_holds, need_for}
 use Rattle.cct_model.proofs.Rows.{but_first, after_none, after_next, after_line, fact_after, fact_from, EachBefore, before_on, told_fact}
@@ -29,30 +29,34 @@ use Rattle.cct_laws.specs.KeptHopper.{IsOwed}
 -- what a reading was judged to be is a reading or a break
 abbrev pub IsReading : Judged → Type 0
 IsReading Nothing = ⊤
+IsReading Moved = ⊤
 IsReading (Reading (record_of.Reading addr counter lost accepts posted)) = ⊤
 IsReading (Reading r) = ⊥
 IsReading (Broken (record_of.Broken addr seen counter lost accepts posted)) = ⊤
 IsReading (Broken r) = ⊥
 
-judge_reads : (addr mask counter : ℕ) (c : Credits) (seen : ℕ) → IsReading (judge addr mask counter c seen)
+judge_reads : (addr mask counter accepts : ℕ) (c : Credits) (seen before now : ℕ) →
+    IsReading (judge addr mask counter accepts c seen before now)
 unfolding judge
-judge_reads addr mask counter c seen =
-    by_tests (shows_break mask counter seen c.counter) (distance counter c.counter == 0)
+judge_reads addr mask counter accepts c seen before now = by_tests _ _ _ _ _ _ _ _ _
   where
-    by_tests : (breaks none : Bool) →
-        IsReading (cond breaks (Broken (record_of.Broken addr seen c.counter
-        (posted_of (distance counter c.counter) c.pairs)))
-        (cond none Nothing
-        (Reading (record_of.Reading addr c.counter (distance counter c.counter - EVENTS)
-        (posted_of (distance counter c.counter) c.pairs)))))
-    by_tests true none = tt
-    by_tests false true = tt
-    by_tests false false = tt
+    by_tests : (at read lost to : ℕ) (broken posted : List Coin) (moves breaks none : Bool) →
+        IsReading (cond moves Moved (cond breaks (Broken (record_of.Broken addr at read lost to broken))
+        (cond none Nothing (Reading (record_of.Reading addr read lost to posted)))))
+    by_tests at read lost to broken posted true breaks none = tt
+    by_tests at read lost to broken posted false true none = tt
+    by_tests at read lost to broken posted false false true = tt
+    by_tests at read lost to broken posted false false false = tt
 
-pub judged_reads : (addr : ℕ) (state : EpochState) (credits : Option Credits) (seen : Option ℕ) →
-    IsReading (judged_by addr state credits seen)
-judged_reads addr (Running mask counter accepts) (Some c) (Some seen) = judge_reads addr mask counter c seen
-judged_reads addr state credits seen = tt
+by_reads : (addr : ℕ) (state : EpochState) (credits : Option Credits) (seen before now : Option ℕ) →
+    IsReading (judged_by addr state credits seen before now)
+by_reads addr (Running mask counter accepts) (Some c) (Some seen) (Some before) (Some now) =
+    judge_reads addr mask counter accepts c seen before now
+by_reads addr state credits seen before now = tt
+
+pub judged_reads : (c : Command) (since : List Line) (state : EpochState) → IsReading (judged_in c since state)
+judged_reads c since state =
+    by_reads (address_of c) state (credits_read since) (mask_read since) (accepts_before since) (accepts_read since)
 
 -- what the record that a row puts does to the open order
 
@@ -65,6 +69,7 @@ LeavesOrders r = (owed : Option OpenOrder) → order_by r owed ≡ owed
 
 judged_leaves : (judged : Judged) (r : Record) → IsReading judged → put_or no_row judged ≡ puts r → LeavesOrders r
 judged_leaves Nothing r reads is = absurd cc
+judged_leaves Moved r reads is = absurd cc
 judged_leaves (Reading (record_of.Reading addr counter lost accepts posted)) r reads is =
     subst LeavesOrders (same_record (record_of.Reading addr counter lost accepts posted) r is) (λ owed. refl)
 judged_leaves (Reading other) r reads is = absurd reads
@@ -77,10 +82,14 @@ leaves_orders (new_order id count) = false
 leaves_orders order_end = false
 leaves_orders due = true
 
+begun_leaves : (addr mask : ℕ) (accepts : Option ℕ) (r : Record) → begin_row addr mask accepts ≡ puts r → LeavesOrders r
+begun_leaves addr mask None r is = absurd cc
+begun_leaves addr mask (Some accepts) r is =
+    subst LeavesOrders (same_record (record_of.Epoch addr mask accepts) r is) (λ owed. refl)
+
 due_leaves : (addr : ℕ) (means : Judged) (p : Noted) (due : Due) (r : Record) → IsReading means →
     leaves_orders due ≡ true → due_row addr means p due ≡ puts r → LeavesOrders r
-due_leaves addr means p (new_epoch mask) r reads leaves is =
-    subst LeavesOrders (same_record (record_of.Epoch addr mask accepts) r is) (λ owed. refl)
+due_leaves addr means p (new_epoch mask) r reads leaves is = begun_leaves addr mask p.accepts r is
 due_leaves addr means p reading r reads leaves is = judged_leaves means r reads is
 due_leaves addr means p epoch_end r reads leaves is =
     subst LeavesOrders (same_record (record_of.EpochEnd addr) r is) (λ owed. refl)
@@ -258,7 +267,7 @@ put_least d c since state owed r is =
     subst (λ b. suc (order_holds false (order_by r owed)) ≤ puts_in (from rows means) + order_holds b owed)
     (from_closes rows means)
     (least_first (address_of c) means (noted_in since owed) (from rows means) r
-    (judged_reads (address_of c) state (credits_read since) (mask_read since))
+    (judged_reads c since state)
     (fact_from RowsHoldWell (λ behind later each. each.1) rows means (rest_well d c since)) is)
 
 -- a job that puts a record and goes on leaves one less held
@@ -292,6 +301,7 @@ goes_first addr means later p (puts_due order_end behind ∷ rows) r reads well 
     omega (arith, closed, most)
 goes_first addr Nothing later p (puts_due reading behind ∷ rows) r reads well is none =
     absurd (passed_ends addr p behind rows r well.0 is none)
+goes_first addr Moved later p (puts_due reading behind ∷ rows) r reads well is none = absurd cc
 goes_first addr (Reading e) later p (puts_due reading behind ∷ rows) r reads well is none =
     leaves_less rows later p.owed r (judged_leaves (Reading e) r reads is)
 goes_first addr (Broken e) later p (puts_due reading behind ∷ rows) r reads well is none =
@@ -310,7 +320,7 @@ put_goes_on d c since state owed r is none =
     ≤ holds_with d (works c since) state owed)
     (sym (after_next (rows_of d c) (done (rows_of d c) since)))
     (goes_first (address_of c) (judged_in c since state) later (noted_in since owed) (rest d c since) r
-    (judged_reads (address_of c) state (credits_read since) (mask_read since)) (rest_well d c since) is none)
+    (judged_reads c since state) (rest_well d c since) is none)
 
 -- a command
 

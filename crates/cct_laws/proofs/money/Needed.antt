@@ -10,7 +10,7 @@ use Rattle.cct_model.specs.lines.record.Record.{Record}
 use Rattle.cct_model.specs.lines.command.Command.{Command}
 use Rattle.cct_model.specs.lines.record.Record.TheVariants as record_of
 use Rattle.cct_model.specs.declared.judging.Judged.{Judged}
-use Rattle.cct_model.specs.declared.judging.Judged.TheVariants.{Nothing, Reading, Broken}
+use Rattle.cct_model.specs.declared.judging.Judged.TheVariants.{Nothing, Moved, Reading, Broken}
 use Rattle.cct_model.specs.lines.command.Command.TheVariants as command
 use Rattle.cct_model.specs.lines.command.Step.{Step}
 use Rattle.cct_model.specs.lines.entry.End.{End}
@@ -24,7 +24,7 @@ use Rattle.cct_model.specs.Setup.{IsSoundSetup}
 use Rattle.cct_model.specs.Exchange.{ask, asked}
 use Rattle.cct_model.specs.Line.{Line, exchange, put, taken}
 use Rattle.cct_model.specs.Order.{order_by, order}
-use Rattle.cct_model.specs.Job.{Job, free, works, with_line, job, puts, counted, epoch_by, epoch, Noted, noted_in, judged_in, credits_read, mask_read, address_of, ident_requests}
+use Rattle.cct_model.specs.Job.{Job, free, works, with_line, job, puts, counted, epoch_by, epoch, Noted, noted_in, judged_in, address_of, ident_requests}
 use Rattle.cct_model.specs.Refusal.{start_refusal}
 use Rattle.cct_model.specs.Rows.{Then, if_posted, Due, new_epoch, reading, epoch_end, new_order, order_end, sale, TableRow, asks_for, asks_once, waits_for_coins, puts_due, rows_of, from, done, rest, first, row, end_kept, end_of}
 use Rattle.cct_model.specs.Following.{is_running}
@@ -149,41 +149,41 @@ needs_well d (command.Ident addr) =
     told_fact (EachBefore NeedsWell) tt (λ q behind rows each. (tt, each)) (ident_requests d.body)
 needs_well d c = search rules
 
--- a reading leaves an epoch as it is, but for its counter
-counted_runs : (counter : ℕ) (state : EpochState) → is_running (counted counter state) ≡ is_running state
-counted_runs counter Idle = refl
-counted_runs counter (Running mask before) = refl
+-- a reading leaves an epoch as it is, but for its counters
+counted_runs : (counter accepts : ℕ) (state : EpochState) → is_running (counted counter accepts state) ≡ is_running state
+counted_runs counter accepts Idle = refl
+counted_runs counter accepts (Running mask before earlier) = refl
 
-counted_starts : (d : DeviceSetup) (mask counter : ℕ) (state : EpochState) →
-    start_refusal mask d (counted counter state) ≡ start_refusal mask d state
-counted_starts d mask counter Idle = refl
-counted_starts d mask counter (Running running before) = refl
+counted_starts : (d : DeviceSetup) (mask counter accepts : ℕ) (state : EpochState) →
+    start_refusal mask d (counted counter accepts state) ≡ start_refusal mask d state
+counted_starts d mask counter accepts Idle = refl
+counted_starts d mask counter accepts (Running running before earlier) = refl
 
-due_counted : (d : DeviceSetup) (counter : ℕ) (state : EpochState) (owed : Option OpenOrder) (due : Due) →
-    DueNeeds d state owed due → DueNeeds d (counted counter state) owed due
-due_counted d counter state owed (new_epoch mask) needs = counted_starts d mask counter state ∙ needs
-due_counted d counter state owed reading needs = counted_runs counter state ∙ needs
-due_counted d counter state owed epoch_end needs = counted_runs counter state ∙ needs
-due_counted d counter state owed (new_order id count) needs = needs
-due_counted d counter state owed due needs = tt
+due_counted : (d : DeviceSetup) (counter accepts : ℕ) (state : EpochState) (owed : Option OpenOrder) (due : Due) →
+    DueNeeds d state owed due → DueNeeds d (counted counter accepts state) owed due
+due_counted d counter accepts state owed (new_epoch mask) needs = counted_starts d mask counter accepts state ∙ needs
+due_counted d counter accepts state owed reading needs = counted_runs counter accepts state ∙ needs
+due_counted d counter accepts state owed epoch_end needs = counted_runs counter accepts state ∙ needs
+due_counted d counter accepts state owed (new_order id count) needs = needs
+due_counted d counter accepts state owed due needs = tt
 
-needs_counted : (d : DeviceSetup) (counter : ℕ) (state : EpochState) (owed : Option OpenOrder) (rows : List TableRow) →
-    NeedsOf d rows state owed → NeedsOf d rows (counted counter state) owed
-needs_counted d counter state owed [] needs = tt
-needs_counted d counter state owed (puts_due due behind ∷ rows) needs =
-    (due_counted d counter state owed due needs.0, needs_counted d counter state owed rows needs.1)
-needs_counted d counter state owed (asks_for q behind ∷ rows) needs =
-    (tt, needs_counted d counter state owed rows needs.1)
-needs_counted d counter state owed (asks_once q behind without ∷ rows) needs =
-    (tt, needs_counted d counter state owed rows needs.1)
-needs_counted d counter state owed (waits_for_coins ∷ rows) needs =
-    (tt, needs_counted d counter state owed rows needs.1)
+needs_counted : (d : DeviceSetup) (counter accepts : ℕ) (state : EpochState) (owed : Option OpenOrder)
+    (rows : List TableRow) → NeedsOf d rows state owed → NeedsOf d rows (counted counter accepts state) owed
+needs_counted d counter accepts state owed [] needs = tt
+needs_counted d counter accepts state owed (puts_due due behind ∷ rows) needs =
+    (due_counted d counter accepts state owed due needs.0, needs_counted d counter accepts state owed rows needs.1)
+needs_counted d counter accepts state owed (asks_for q behind ∷ rows) needs =
+    (tt, needs_counted d counter accepts state owed rows needs.1)
+needs_counted d counter accepts state owed (asks_once q behind without ∷ rows) needs =
+    (tt, needs_counted d counter accepts state owed rows needs.1)
+needs_counted d counter accepts state owed (waits_for_coins ∷ rows) needs =
+    (tt, needs_counted d counter accepts state owed rows needs.1)
 
 needs_read : (d : DeviceSetup) (state : EpochState) (owed : Option OpenOrder) (rows : List TableRow) (e r : Record) →
     e ≡ r → IsReading (Reading e) → NeedsOf d rows state owed → NeedsOf d rows (epoch_by r state) (order_by r owed)
 needs_read d state owed rows (record_of.Reading addr counter lost accepts posted) r same reads needs =
     subst (λ x. NeedsOf d rows (epoch_by x state) (order_by x owed)) same
-    (needs_counted d counter state owed rows needs)
+    (needs_counted d counter accepts state owed rows needs)
 needs_read d state owed rows e r same reads needs = absurd reads
 
 break_ends : (behind : Then) (rows : List TableRow) (e r : Record) → e ≡ r → IsReading (Broken e) → BreakEnds behind →
@@ -205,6 +205,7 @@ first_needs d addr means p state (asks_once q behind without ∷ rows) r reads w
 first_needs d addr means p state (waits_for_coins ∷ rows) r reads well held is none needs = absurd cc
 first_needs d addr Nothing p state (puts_due reading behind ∷ rows) r reads well held is none needs =
     absurd (passed_ends addr p behind rows r held.0 is none)
+first_needs d addr Moved p state (puts_due reading behind ∷ rows) r reads well held is none needs = absurd cc
 first_needs d addr (Reading e) p state (puts_due reading behind ∷ rows) r reads well held is none needs =
     needs_read d state p.owed rows e r (same_record e r is) reads needs.1
 first_needs d addr (Broken e) p state (puts_due reading behind ∷ rows) r reads well held is none needs =
@@ -220,7 +221,7 @@ needs_put d c since state owed r is none needs =
     let n = done (rows_of d c) since in
     subst (λ rows. NeedsOf d rows (epoch_by r state) (order_by r owed)) (sym (after_next (rows_of d c) n))
     (first_needs d (address_of c) (judged_in c since state) (noted_in since owed) state (rest d c since) r
-    (judged_reads (address_of c) state (credits_read since) (mask_read since))
+    (judged_reads c since state)
     (fact_after (EachBefore NeedsWell) (before_on NeedsWell) (rows_of d c) n (needs_well d c)) (rest_well d c since) is
     none needs)
 

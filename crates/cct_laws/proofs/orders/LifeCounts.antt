@@ -1,7 +1,6 @@
 -- No order is ever closed with life counts that don't fit it.
 use Rattle.std.proofs.Common.{◌≡◌, ℕ, ◌==◌, ◌||◌, cond, true, false, Bool, List, [], ◌++◌, refl, subst, Option, Some, None, rules, sym, ap, ◌∷◌, ◌∙◌}
 use Rattle.std.specs.Prelude.{⊤}
-use Rattle.cct_model.specs.terms.coin.Credits.{Credits}
 use Rattle.cct_model.specs.terms.wire.CheckKind.{CheckKind}
 use Rattle.cct_model.specs.terms.wire.CheckKind.TheVariants.{Simple, Crc}
 use Rattle.cct_model.specs.terms.device.DeviceBody.{DeviceBody}
@@ -26,7 +25,7 @@ use Rattle.cct_model.specs.Device.{IsHopper}
 use Rattle.cct_model.specs.Setup.{IsSoundSetup}
 use Rattle.cct_model.specs.Line.{Line, exchange, put}
 use Rattle.cct_model.specs.Order.{order}
-use Rattle.cct_model.specs.Job.{job, epoch, puts, judged_in, judged_by, credits_read, mask_read, noted_in, ident_requests, end_of_close, address_of}
+use Rattle.cct_model.specs.Job.{job, epoch, puts, judged_in, credits_read, mask_read, accepts_before, accepts_read, noted_in, ident_requests, end_of_close, address_of}
 use Rattle.cct_model.specs.Rows.{row, end_of, TableRow, Due, puts_due, rows_of, Then, end_kept, new_epoch, ends_as, end_by_record, if_posted, if_closed, reading, asks_for, epoch_end, asks_once, waits_for_coins, new_order, rest, sale, order_end, done}
 use Rattle.cct_model.specs.Scan.{end_of_scan, end_by_row, scan_row, scan_tries}
 use Rattle.cct_model.specs.Legal.{with_end}
@@ -135,10 +134,10 @@ entries_fit past addr e (Some OddLife) fine fit before = absurd fit
 entries_fit past addr e (Some end) fine fit before = (tt, (fine, before))
 
 -- an acceptor's job puts no such record
-judged_fit : (addr : ℕ) (state : EpochState) (credits : Option Credits) (seen : Option ℕ) →
-    JudgedHolds HasFittingLife (judged_by addr state credits seen)
-judged_fit addr state credits seen =
-    judged_holds HasFittingLife addr state credits seen (λ counter lost posted. tt) (λ mask counter posted. tt)
+judged_fit : (c : Command) (since : List Line) (state : EpochState) → JudgedHolds HasFittingLife (judged_in c since state)
+judged_fit c since state =
+    judged_holds HasFittingLife (address_of c) state (credits_read since) (mask_read since) (accepts_before since)
+    (accepts_read since) (λ counter lost accepts posted. tt) (λ mask counter lost accepts posted. tt)
 
 abbrev is_reading_due : Due → Bool
 is_reading_due (new_epoch mask) = true
@@ -163,8 +162,8 @@ acceptor_fit d c since state owed r suited is_row =
   where
     due_fit : (due : Due) → is_reading_due due ≡ true →
         DueHolds HasFittingLife (address_of c) (judged_in c since state) (noted_in since owed) due
-    due_fit (new_epoch mask) is = tt
-    due_fit reading is = judged_fit (address_of c) state (credits_read since) (mask_read since)
+    due_fit (new_epoch mask) is = λ accepts read. tt
+    due_fit reading is = judged_fit c since state
     due_fit epoch_end is = tt
     due_fit due is = absurd cc
 

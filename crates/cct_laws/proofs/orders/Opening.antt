@@ -14,7 +14,7 @@ use Rattle.cct_model.specs.declared.judging.Judged.TheVariants.{Nothing, Reading
 use Rattle.cct_model.specs.declared.judging.OpenOrder.{OpenOrder}
 use Rattle.cct_model.specs.Line.{Line}
 use Rattle.cct_model.specs.Order.{close, life_between}
-use Rattle.cct_model.specs.Job.{credits_read, mask_read, judged_by, ident_requests, Noted, judged_in, noted_in, address_of}
+use Rattle.cct_model.specs.Job.{credits_read, mask_read, accepts_before, accepts_read, ident_requests, Noted, judged_in, noted_in, address_of}
 use Rattle.cct_model.specs.Rows.{id_ahead, row, Due, TableRow, asks_for, asks_once, waits_for_coins, puts_due, new_order, rows_of, from, rest, left, first, done, sale, new_epoch, reading, epoch_end, order_end, Then}
 use Rattle.cct_model.proofs.Rows.{RowHolds, EachRow, each_told, each_left, JudgedHolds, judged_holds, due_holds, state_holds, DueHolds, but_first}
 use Rattle.cct_laws.proofs.jobs.Waits.{OneId, one_id, one_after}
@@ -50,11 +50,12 @@ closes_own o life addr rows = by_test (nat_le (life_between o.life life) o.count
     by_test true = tt
     by_test false = tt
 
-judged_own : (addr : ℕ) (rows : List TableRow) (since : List Line) (state : EpochState) →
-    JudgedHolds (λ r. UsesOwn r addr rows) (judged_by addr state (credits_read since) (mask_read since))
-judged_own addr rows since state =
-    judged_holds (λ r. UsesOwn r addr rows) addr state (credits_read since) (mask_read since) (λ counter lost posted. tt)
-    (λ mask counter posted. tt)
+judged_own : (c : Command) (rows : List TableRow) (since : List Line) (state : EpochState) →
+    JudgedHolds (λ r. UsesOwn r (address_of c) rows) (judged_in c since state)
+judged_own c rows since state =
+    judged_holds (λ r. UsesOwn r (address_of c) rows) (address_of c) state (credits_read since) (mask_read since)
+    (accepts_before since) (accepts_read since) (λ counter lost accepts posted. tt)
+    (λ mask counter lost accepts posted. tt)
 
 -- no row of a device sells
 abbrev SellsNone : TableRow → Type 0
@@ -79,35 +80,34 @@ from_opens id count (waits_for_coins ∷ rows) means one opens = opens
 from_opens id count [] means one opens = opens
 
 -- what the first of these rows puts, beside all that were left
-due_own : (addr : ℕ) (rows all : List TableRow) (due : Due) (behind : Then) (since : List Line) (state : EpochState)
+due_own : (c : Command) (rows all : List TableRow) (due : Due) (behind : Then) (since : List Line) (state : EpochState)
     (p : Noted) → ((id count : ℕ) → Opens id count (puts_due due behind ∷ rows) → Opens id count all) →
     SellsNone (puts_due due behind) →
-    DueHolds (λ r. UsesOwn r addr all) addr (judged_by addr state (credits_read since) (mask_read since)) p due
-due_own addr rows all (new_epoch mask) behind since state p opens none = tt
-due_own addr rows all reading behind since state p opens none = judged_own addr all since state
-due_own addr rows all epoch_end behind since state p opens none = tt
-due_own addr rows all (new_order id count) behind since state p opens none =
+    DueHolds (λ r. UsesOwn r (address_of c) all) (address_of c) (judged_in c since state) p due
+due_own c rows all (new_epoch mask) behind since state p opens none = λ accepts read. tt
+due_own c rows all reading behind since state p opens none = judged_own c all since state
+due_own c rows all epoch_end behind since state p opens none = tt
+due_own c rows all (new_order id count) behind since state p opens none =
     λ life read. (refl, opens id count (refl, refl))
-due_own addr rows all order_end behind since state p opens none = λ o life owed read. closes_own o life addr all
-due_own addr rows all (sale id price) behind since state p opens none = absurd none
+due_own c rows all order_end behind since state p opens none = λ o life owed read. closes_own o life (address_of c) all
+due_own c rows all (sale id price) behind since state p opens none = absurd none
 
-first_own : (addr : ℕ) (rows all : List TableRow) (since : List Line) (state : EpochState) (p : Noted) →
+first_own : (c : Command) (rows all : List TableRow) (since : List Line) (state : EpochState) (p : Noted) →
     ((id count : ℕ) → Opens id count rows → Opens id count all) → EachRow SellsNone rows →
-    RowHolds (λ q. ⊤) (λ r. UsesOwn r addr all)
-    (first addr (judged_by addr state (credits_read since) (mask_read since)) p rows)
-first_own addr [] all since state p opens none = tt
-first_own addr (asks_for q behind ∷ rows) all since state p opens none = tt
-first_own addr (asks_once q behind without ∷ rows) all since state p opens none = tt
-first_own addr (waits_for_coins ∷ rows) all since state p opens none =
-    state_holds (λ q. ⊤) (λ r. UsesOwn r addr all) p.is_marked tt tt
-first_own addr (puts_due due behind ∷ rows) all since state p opens none =
-    due_holds (λ q. ⊤) (λ r. UsesOwn r addr all) addr (judged_by addr state (credits_read since) (mask_read since)) p due
-    (due_own addr rows all due behind since state p opens none.0)
+    RowHolds (λ q. ⊤) (λ r. UsesOwn r (address_of c) all) (first (address_of c) (judged_in c since state) p rows)
+first_own c [] all since state p opens none = tt
+first_own c (asks_for q behind ∷ rows) all since state p opens none = tt
+first_own c (asks_once q behind without ∷ rows) all since state p opens none = tt
+first_own c (waits_for_coins ∷ rows) all since state p opens none =
+    state_holds (λ q. ⊤) (λ r. UsesOwn r (address_of c) all) p.is_marked tt tt
+first_own c (puts_due due behind ∷ rows) all since state p opens none =
+    due_holds (λ q. ⊤) (λ r. UsesOwn r (address_of c) all) (address_of c) (judged_in c since state) p due
+    (due_own c rows all due behind since state p opens none.0)
 
 pub row_own : (d : DeviceSetup) (c : Command) (since : List Line) (state : EpochState) (owed : Option OpenOrder) →
     RowHolds (λ q. ⊤) (λ r. UsesOwn r (address_of c) (rest d c since)) (row d c since state owed)
 row_own d c since state owed =
-    first_own (address_of c) (left d c since state) (rest d c since) since state (noted_in since owed)
+    first_own c (left d c since state) (rest d c since) since state (noted_in since owed)
     (λ id count. from_opens id count (rest d c since) (judged_in c since state)
     (one_after (rows_of d c) (done (rows_of d c) since) (one_id d c)))
     (each_left SellsNone d c since state (sells_none d c))

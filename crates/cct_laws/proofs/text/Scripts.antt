@@ -22,7 +22,7 @@ use Rattle.cct_model.specs.Setup.{IsSoundSetup}
 use Rattle.cct_laws.specs.Law.{HasBytes, AreOfToday}
 use Rattle.cct_laws.specs.Right.{IsRight}
 use Rattle.cct_laws.specs.Scope.{EachTranscript}
-use Rattle.cct_laws.proofs.acceptor.Coinless.{each_in_order, each_covers}
+use Rattle.cct_laws.proofs.acceptor.Coinless.{each_in_order, each_covers, each_tallies}
 use Rattle.cct_laws.proofs.AsTold.{legal_as_told}
 use Rattle.cct_laws.proofs.orders.Payments.{legal_paid, legal_fresh}
 use Rattle.cct_laws.proofs.text.Said.{KeepsSound, IfSaid, IsToday, setup_said, step_said}
@@ -146,6 +146,7 @@ legal_right capacity setup steps transcript sound in_range legal = record {
   fresh = legal_fresh capacity setup steps transcript sound legal;
   in_order = λ d own honest. each_in_order capacity setup steps transcript d sound own in_range legal honest;
   covers = λ d own honest. each_covers capacity setup steps transcript d sound own in_range legal honest;
+  tallies = λ d own honest. each_tallies capacity setup steps transcript d sound own in_range legal honest;
   paid = λ d own paying honest. legal_paid capacity setup steps transcript d sound own paying in_range legal honest;
   as_told = legal_as_told capacity setup steps transcript legal;
 }

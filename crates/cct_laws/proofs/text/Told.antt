@@ -13,7 +13,7 @@ use Rattle.cct_model.specs.terms.request.Request.{Request}
 use Rattle.cct_model.specs.terms.request.Request.TheVariants.{SetMask, GetMask}
 use Rattle.cct_model.specs.lines.record.Record.{Record}
 use Rattle.cct_model.specs.lines.record.Record.TheVariants as record_of
-use Rattle.cct_model.specs.declared.judging.Judged.TheVariants.{Nothing, Reading, Broken}
+use Rattle.cct_model.specs.declared.judging.Judged.TheVariants.{Nothing, Moved, Reading, Broken}
 use Rattle.cct_model.specs.declared.judging.EpochState.{EpochState}
 use Rattle.cct_model.specs.declared.judging.EpochState.TheVariants.{Running}
 use Rattle.cct_model.specs.declared.judging.OpenOrder.{OpenOrder}
@@ -34,7 +34,7 @@ use Rattle.cct_model.specs.Line.{Line, accepted, inhibited, fell, exchange, scan
 use Rattle.cct_model.specs.Line as line
 use Rattle.cct_model.specs.Reading.{judge}
 use Rattle.cct_model.specs.Order.{close, life_between}
-use Rattle.cct_model.specs.Job.{Job, free, works, job, begun, with_line, credits_read, mask_reply, mask_line, mask_read, judged_by, judged_in, Row, noted_in, ident_requests, address_of}
+use Rattle.cct_model.specs.Job.{Job, free, works, job, begun, with_line, credits_read, mask_reply, mask_line, mask_read, accepts_before, accepts_read, judged_by, judged_in, Row, noted_in, ident_requests, address_of}
 use Rattle.cct_model.specs.Rows.{row, end_of, rows_of, done}
 use Rattle.cct_model.specs.Transcript.{pending, heard_by_devices, heard_by_host, met, answers, heard_after, got_by, dispensed_by, doses, doses_of, owner, lines_of}
 use Rattle.cct_model.proofs.Requests.{request_short}
@@ -274,27 +274,31 @@ mask_fits [] h = tt
 mask_fits (l ∷ lines) h = there_or IsMask (mask_line l) (mask_read lines) (line_mask l h.0) (mask_fits lines h.1)
 
 -- what is judged
-judged_by_tests : (breaks none : Bool) (addr seen counter lost : ℕ) (broken posted : List Coin) → IsMask seen →
-    JudgedHolds IsRecord (cond breaks (Broken (record_of.Broken addr seen counter lost accepts broken))
-    (cond none Nothing (Reading (record_of.Reading addr counter lost accepts posted))))
-judged_by_tests true none addr seen counter lost broken posted h = omega (arith, h)
-judged_by_tests false true addr seen counter lost broken posted h = tt
-judged_by_tests false false addr seen counter lost broken posted h = tt
+judged_by_tests : (moves breaks none : Bool) (addr seen counter lost accepts : ℕ) (broken posted : List Coin) →
+    IsMask seen → JudgedHolds IsRecord (cond moves Moved
+    (cond breaks (Broken (record_of.Broken addr seen counter lost accepts broken))
+    (cond none Nothing (Reading (record_of.Reading addr counter lost accepts posted)))))
+judged_by_tests true breaks none addr seen counter lost accepts broken posted h = tt
+judged_by_tests false true none addr seen counter lost accepts broken posted h = omega (arith, h)
+judged_by_tests false false true addr seen counter lost accepts broken posted h = tt
+judged_by_tests false false false addr seen counter lost accepts broken posted h = tt
 
-judge_fits : (addr mask before seen : ℕ) (c : Credits) → IsMask seen →
-    JudgedHolds IsRecord (judge addr mask before c seen)
+judge_fits : (addr mask counter accepts : ℕ) (c : Credits) (seen before now : ℕ) → IsMask seen →
+    JudgedHolds IsRecord (judge addr mask counter accepts c seen before now)
 unfolding judge
-judge_fits addr mask before seen c h = judged_by_tests _ _ addr seen c.counter _ _ _ h
+judge_fits addr mask counter accepts c seen before now h = judged_by_tests _ _ _ addr seen c.counter _ now _ _ h
 
-judged_there : (addr : ℕ) (state : EpochState) (found : Option Credits) (seen : Option ℕ) → IfThere IsMask seen →
-    JudgedHolds IsRecord (judged_by addr state found seen)
-judged_there addr (Running mask before) (Some c) (Some seen) h = judge_fits addr mask before seen c h
-judged_there addr state found seen h = tt
+judged_there : (addr : ℕ) (state : EpochState) (found : Option Credits) (seen before now : Option ℕ) →
+    IfThere IsMask seen → JudgedHolds IsRecord (judged_by addr state found seen before now)
+judged_there addr (Running mask counter accepts) (Some c) (Some seen) (Some before) (Some now) h =
+    judge_fits addr mask counter accepts c seen before now h
+judged_there addr state found seen before now h = tt
 
 judged_fits : (c : Command) (since : List Line) (state : EpochState) → FitsLines since →
     JudgedHolds IsRecord (judged_in c since state)
 judged_fits c since state h =
-    judged_there (address_of c) state (credits_read since) (mask_read since) (mask_fits since h)
+    judged_there (address_of c) state (credits_read since) (mask_read since) (accepts_before since) (accepts_read since)
+    (mask_fits since h)
 
 -- the row of a job
 abbrev pub FitsRow : Row → Type 0
@@ -319,9 +323,9 @@ command_asks : (d : DeviceSetup) (c : Command) (since : List Line) → FitsJob (
     EachRow (Asks FitsAsk) (rows_of d c)
 unfolding data_of
 command_asks d (command.Start addr mask) since h =
-    (tt, (tt, (tt, ((omega arith, (omega (arith, h.0.1.1), tt)), tt))))
-command_asks d (command.Round addr) since h = (tt, (tt, (tt, tt)))
-command_asks d (command.Stop addr) since h = ((omega arith, tt), (tt, (tt, (tt, (tt, tt)))))
+    (tt, (tt, (tt, (tt, ((omega arith, (omega (arith, h.0.1.1), tt)), tt)))))
+command_asks d (command.Round addr) since h = (tt, (tt, (tt, (tt, (tt, tt)))))
+command_asks d (command.Stop addr) since h = ((omega arith, tt), (tt, (tt, (tt, (tt, (tt, (tt, tt)))))))
 command_asks d (command.Pay addr id count) since h = (
   (omega arith, tt),
   (tt, (tt, ((omega arith, (omega arith, (omega arith, (omega (arith, h.0.0.2), tt)))), ((tt, tt), (tt, (tt, tt)))))),
@@ -339,11 +343,12 @@ command_asks d c since h = tt
 command_puts : (d : DeviceSetup) (c : Command) (since : List Line) (state : EpochState) (owed : Option OpenOrder) →
     FitsJob (works c since) →
     EachRow (Puts IsRecord (address_of c) (judged_in c since state) (noted_in since owed)) (rows_of d c)
-command_puts d (command.Start addr mask) since state owed h = (tt, (tt, (omega (arith, h.0.1.1), (tt, tt))))
+command_puts d (command.Start addr mask) since state owed h =
+    (tt, (tt, (tt, ((λ accepts read. omega (arith, h.0.1.1)), (tt, tt)))))
 command_puts d (command.Round addr) since state owed h =
-    (tt, (tt, (judged_fits (command.Round addr) since state h.1, tt)))
+    (tt, (tt, (tt, (tt, (judged_fits (command.Round addr) since state h.1, tt)))))
 command_puts d (command.Stop addr) since state owed h =
-    (tt, (tt, (tt, (judged_fits (command.Stop addr) since state h.1, (tt, tt)))))
+    (tt, (tt, (tt, (tt, (tt, (judged_fits (command.Stop addr) since state h.1, (tt, tt)))))))
 command_puts d (command.Pay addr id count) since state owed h = (
   tt,
   (tt, ((λ life read. tt), (tt, (tt, (tt, ((λ o life is read. close_fits o life), tt)))))),

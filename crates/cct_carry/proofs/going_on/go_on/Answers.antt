@@ -18,7 +18,8 @@ use Rattle.cct_carry.proofs.going_on.go_on.Goals as goal
 pub begin-requires : goal.begin-requires
 begin-requires c =
     let can = subst (λ (r : Record). CanGoOn c.args.setup.now c.args.carry.now r) c.in-Epoch.is c.requires.can in
-    (room_next c.args.setup.now c.args.carry.now (record_of.Epoch c.in-Epoch.addr c.in-Epoch.mask) can (omega arith, omega arith)).epochs
+    let accepts = subst Encodable c.in-Epoch.is c.requires.encodable in
+    (room_next c.args.setup.now c.args.carry.now (record_of.Epoch c.in-Epoch.addr c.in-Epoch.mask c.in-Epoch.accepts) can (omega arith, omega arith, accepts)).epochs
 
 pub post-requires-clause-value : goal.post-requires-clause-value
 post-requires-clause-value c =
@@ -28,13 +29,14 @@ pub post-requires-in-Broken-clause-value : goal.post-requires-in-Broken-clause-v
 post-requires-in-Broken-clause-value c =
     post_room c.args.setup.now c.args.carry.now c.args.entry.now c.in-Broken.addr c.as_slice-in-Broken.result.now c.requires.can c.as_slice-in-Broken.ensures.few
 
-pub read-requires-clause-room : goal.read-requires-clause-room
-read-requires-clause-room c =
+pub read-requires : goal.read-requires
+read-requires c =
     let can = subst (λ (r : Record). CanGoOn c.args.setup.now c.args.carry.now r) c.in-Reading.is c.requires.can in
     let many = ap length c.as_slice.ensures.value in
     let few = c.as_slice.ensures.few in
-    let room = room_next c.args.setup.now c.args.carry.now (record_of.Reading c.in-Reading.addr c.in-Reading.counter c.in-Reading.lost c.in-Reading.posted) can (omega arith, omega arith, omega arith) in
-    let Room : Carry → Type 0 = λ d. length (set_with addr_of_epoch c.in-Reading.addr (epoch_entry c.in-Reading.addr (counted c.in-Reading.counter (epoch_held c.in-Reading.addr d))) d.epochs) ≤ DEVICES in
+    let fits = subst Encodable c.in-Reading.is c.requires.encodable in
+    let room = room_next c.args.setup.now c.args.carry.now (record_of.Reading c.in-Reading.addr c.in-Reading.counter c.in-Reading.lost c.in-Reading.accepts c.in-Reading.posted) can (omega arith, fits.0, fits.1, omega arith) in
+    let Room : Carry → Type 0 = λ d. length (set_with addr_of_epoch c.in-Reading.addr (epoch_entry c.in-Reading.addr (counted c.in-Reading.counter c.in-Reading.accepts (epoch_held c.in-Reading.addr d))) d.epochs) ≤ DEVICES in
     subst Room (sym c.post.ensures) room.epochs
 
 pub end-requires : goal.end-requires
@@ -42,7 +44,8 @@ end-requires c =
     let can = subst (λ (r : Record). CanGoOn c.args.setup.now c.args.carry.now r) c.in-Broken.is c.requires.can in
     let many = ap length c.as_slice-in-Broken.ensures.value in
     let few = c.as_slice-in-Broken.ensures.few in
-    let room = room_next c.args.setup.now c.args.carry.now (record_of.Broken c.in-Broken.addr c.in-Broken.mask_seen c.in-Broken.counter c.in-Broken.posted) can (omega arith) in
+    let fits = subst Encodable c.in-Broken.is c.requires.encodable in
+    let room = room_next c.args.setup.now c.args.carry.now (record_of.Broken c.in-Broken.addr c.in-Broken.mask_seen c.in-Broken.counter c.in-Broken.lost c.in-Broken.accepts c.in-Broken.posted) can (fits.0, omega arith) in
     let Room : Carry → Type 0 = λ d. length (set_with addr_of_epoch c.in-Broken.addr None d.epochs) ≤ DEVICES in
     subst Room (sym c.post-in-Broken.ensures) room.epochs
 
@@ -82,7 +85,7 @@ set_aside-requires-clause-room c =
 pub returns-in-Epoch-clause-next : goal.returns-in-Epoch-clause-next
 returns-in-Epoch-clause-next c =
     let can = subst (λ (r : Record). CanGoOn c.args.setup.now c.args.carry.now r) c.in-Epoch.is c.requires.can in
-    c.begin.ensures ∙ sym (with_epoch c.args.setup.now c.args.carry.now c.in-Epoch.addr c.in-Epoch.mask can)
+    c.begin.ensures ∙ sym (with_epoch c.args.setup.now c.args.carry.now c.in-Epoch.addr c.in-Epoch.mask c.in-Epoch.accepts can)
     ∙ ap (λ (r : Record). carry_with c.args.setup.now r c.args.carry.now) (sym c.in-Epoch.is)
 
 pub returns-in-EpochEnd-clause-next : goal.returns-in-EpochEnd-clause-next
@@ -121,15 +124,15 @@ returns-in-Reading-clause-next c =
     let old = c.args.carry.now in
     let addr = c.in-Reading.addr in
     let read : Carry → Carry = λ d. record d {
-      lost = d.lost + c.in-Reading.lost;
-      epochs = set_with addr_of_epoch addr (epoch_entry addr (counted c.in-Reading.counter (epoch_held addr d))) d.epochs;
+      epochs = set_with addr_of_epoch addr (epoch_entry addr (counted c.in-Reading.counter c.in-Reading.accepts (epoch_held addr d))) d.epochs;
     } in
     let post : List Coin → Carry = λ coins. record old {
       value = old.value + money.coins_value (device_at c.args.setup.now.devices addr) coins;
       posted = old.posted + length coins;
+      lost = old.lost + c.in-Reading.lost;
     } in
     c.read.ensures ∙ ap read (c.post.ensures ∙ ap post c.as_slice.ensures.value)
-    ∙ sym (with_reading c.args.setup.now old c.in-Reading.addr c.in-Reading.counter c.in-Reading.lost c.in-Reading.posted can)
+    ∙ sym (with_reading c.args.setup.now old c.in-Reading.addr c.in-Reading.counter c.in-Reading.lost c.in-Reading.accepts c.in-Reading.posted can)
     ∙ ap (λ (r : Record). carry_with c.args.setup.now r old) (sym c.in-Reading.is)
 
 pub returns-in-Broken-clause-next : goal.returns-in-Broken-clause-next
@@ -141,7 +144,8 @@ returns-in-Broken-clause-next c =
     let post : List Coin → Carry = λ coins. record old {
       value = old.value + money.coins_value (device_at c.args.setup.now.devices addr) coins;
       posted = old.posted + length coins;
+      lost = old.lost + c.in-Broken.lost;
     } in
     c.end.ensures ∙ ap end (c.post-in-Broken.ensures ∙ ap post c.as_slice-in-Broken.ensures.value)
-    ∙ sym (with_broken c.args.setup.now old c.in-Broken.addr c.in-Broken.mask_seen c.in-Broken.counter c.in-Broken.posted can)
+    ∙ sym (with_broken c.args.setup.now old c.in-Broken.addr c.in-Broken.mask_seen c.in-Broken.counter c.in-Broken.lost c.in-Broken.accepts c.in-Broken.posted can)
     ∙ ap (λ (r : Record). carry_with c.args.setup.now r old) (sym c.in-Broken.is)

@@ -25,14 +25,14 @@ returns-in-Reading-clause-takes c =
     let post = c.post.ensures in
     subst (λ r. Takes c.args.self.now c.post.new.self r done) (sym c.in-Reading.is)
     (posted _ _ _ post.setup post.reserved post.counted (λ before beside stands. refl)
-    (post.reading c.in-Reading.counter c.in-Reading.lost))
+    (post.reading c.in-Reading.counter c.in-Reading.lost c.in-Reading.accepts))
 
 pub returns-in-Broken-clause-takes : goal.returns-in-Broken-clause-takes
 returns-in-Broken-clause-takes c =
     let post = c.post-in-Broken.ensures in
     subst (λ r. Takes c.args.self.now c.post-in-Broken.new.self r done) (sym c.in-Broken.is)
     (posted _ _ _ post.setup post.reserved post.counted (λ before beside stands. refl)
-    (post.broken c.in-Broken.mask_seen c.in-Broken.counter))
+    (post.broken c.in-Broken.mask_seen c.in-Broken.counter c.in-Broken.lost c.in-Broken.accepts))
 
 pub returns-in-Opened-clause-takes : goal.returns-in-Opened-clause-takes
 returns-in-Opened-clause-takes c =

@@ -1,0 +1,307 @@
+"""Judges what the program wrote and reported. The Laws are the promises of README.md, read off the lines alone; the Judge
+holds each line against its step, and those of the host against what it does (host.py)."""
+from host import Ask, Books, Device, Job, Wrong, expect, places_of
+from wire import hexed, is_forged
+
+
+# ---- The promises
+
+class Track:
+    """What came to a device. Of an acceptor: its accepted coins; how many of them and of all objects its last readings saw;
+    how many coins its last item counts; whether the mask of its epoch is set. Of a hopper: its order, and what fell for it."""
+
+    def __init__(self):
+        self.coins, self.objects, self.mark = [], 0, 0
+        self.at_credits, self.objects_at_credits, self.at_mask = 0, 0, 0
+        self.paced_from, self.keeps_pace, self.is_set = None, True, False
+        self.order, self.count, self.dispensed, self.fell = None, 0, False, 0
+
+
+class Laws:
+    """Those that need an honest wire hold until a fault is forged. An item is a record of an acceptor, or a clean round."""
+
+    def __init__(self):
+        self.tracks, self.honest = {}, True
+
+    def at(self, addr):
+        return self.tracks.setdefault(int(addr), Track())
+
+    def holds(self, holds, why):
+        expect(holds or not self.honest, why)
+
+    def object(self, addr, coin):
+        """An object fell into an acceptor: a coin that it accepted, or another one. It accepts none without an epoch."""
+        track = self.at(addr)
+        track.objects += 1
+        if coin:
+            track.coins.append(coin)
+            self.holds(track.is_set, 'a coin is accepted, though no epoch set its mask since the reset')
+
+    def fell(self, addr):
+        self.at(addr).fell += 1
+        self.holds(self.at(addr).order and self.at(addr).fell <= self.at(addr).count, 'a coin falls for no open order')
+
+    def exchange(self, ask, data, arrived):
+        """An exchange with what it gave, and whether what was sent arrived. No order is dispensed twice on any wire."""
+        track = self.at(ask.addr)
+        if ask.header == 229 and data is not None:
+            track.at_credits, track.objects_at_credits = len(track.coins), track.objects
+        if ask.header == 230 and data is not None:
+            track.at_mask = len(track.coins)
+        if ask.header == 231 and arrived:
+            track.is_set = True
+        if ask.header == 167:
+            expect(track.order and not track.dispensed, 'a dispense is sent twice, or without an open order')
+            expect(ask.data[3] == track.count, 'a dispense has another count than its order')
+            track.dispensed = True
+
+    def record(self, record):
+        """A record was put or kept."""
+        kind, *fields = record.split(' ')
+        if kind == 'opened':
+            track = self.at(fields[1])
+            track.order, track.count, track.dispensed, track.fell = fields[0], int(fields[2]), False, 0
+        elif kind in ('closed', 'odd'):
+            track = next(track for track in self.tracks.values() if track.order == fields[0])
+            self.holds(kind == 'closed' and track.fell == int(fields[1]), f'{track.fell} coins fell for order {fields[0]}')
+            track.order = None
+        elif kind != 'sold':
+            self.item(kind, *fields)
+
+    def item(self, kind, addr, *fields):
+        """The part of an item is the coins after the mark of the item before it, up to its own mark. It posts the last ones
+        that its reading could show, and no more are missing than it tells as lost; after a break any number may be."""
+        track = self.at(addr)
+        mark = {'reading': track.at_credits, 'clean': track.at_credits, 'broken': track.at_mask}.get(kind, len(track.coins))
+        part, shown = track.coins[track.mark:mark], track.coins[track.mark:track.at_credits]
+        posted = fields[-1].split(',') if kind in ('reading', 'broken') and fields[-1] != '-' else []
+        lost = int(fields[1]) if kind == 'reading' else 0
+        self.pace(kind, track)
+        in_order = track.mark <= mark and posted == shown[len(shown) - len(posted):]
+        self.holds(in_order, f'{kind}: of the coins {shown} not the last')
+        self.holds(kind != 'epoch' or not part, f'the coins {part} were accepted without an epoch')
+        self.holds(kind == 'broken' or not track.keeps_pace or len(part) <= len(posted) + lost, f'{kind}: too few of {part}')
+        self.holds(kind != 'broken' or not track.is_set, 'a break, though the mask arrived and no reset came after it')
+        track.mark = mark
+        track.is_set = track.is_set and kind in ('clean', 'reading')
+
+    def pace(self, kind, track):
+        """Whether fewer than 255 objects came from the reading of an epoch or a reading to that of each item up to the next
+        record. If not, nothing is said any more of what is missing."""
+        if track.paced_from is not None and track.objects_at_credits - track.paced_from >= 255:
+            track.keeps_pace = False
+        if kind != 'clean':
+            track.paced_from = track.objects_at_credits if kind in ('epoch', 'reading') else None
+
+
+# ---- The lines
+
+class Judge:
+    """Holds a transcript against its script, step by step."""
+
+    def __init__(self, script, refused, tells_forged):
+        """A script, the number and kind of its refused line, and whether the program tells what is forged."""
+        self.books, self.laws, self.jobs, self.fault = Books(), Laws(), {}, None
+        self.refused, self.tells_forged = refused, tells_forged
+        self.lines = script.split('\n')[:refused[0] - 1] if refused else script.split('\n')
+        self.written, self.at, self.place, self.step = [], 0, '', 0
+
+    def hold(self, written):
+        """Whether these lines are the transcript; if not, it is Wrong."""
+        self.written, self.at, self.place = written, 0, 'transcript'
+        for self.step, line in enumerate(self.lines, 1):
+            word, *fields = line.split(' ')
+            if line:
+                getattr(self, 'step_' + word)(*fields)
+        if self.refused:
+            self.wants(f'refused {self.refused[0]} {self.refused[1]}')
+        self.ends()
+
+    def hold_report(self, reported):
+        """Whether these lines are the report of the records of that transcript."""
+        self.written, self.at, self.place = reported, 0, 'report'
+        for line in self.books.report():
+            self.wants(line)
+        self.ends()
+
+    def ends(self):
+        expect(self.at == len(self.written), f'more lines are written: {self.written[self.at:self.at + 3]}')
+
+    def taken(self):
+        """The next line that is written."""
+        expect(self.at < len(self.written), 'a line is missing at the end')
+        self.at += 1
+        return self.written[self.at - 1]
+
+    def wants(self, *lines):
+        """The next line that is written, which has to be one of these."""
+        line = self.taken()
+        expect(line in lines, f'written is {line!r}, and not {" or ".join(map(repr, lines))}')
+        return line
+
+    def step_acceptor(self, addr, *fields):
+        self.books.devices[int(addr)] = Device('acceptor', *fields)
+
+    def step_hopper(self, addr, *fields):
+        self.books.devices[int(addr)] = Device('hopper', *fields)
+
+    def step_value(self, addr, place, value, name):
+        self.books.devices[int(addr)].values[int(place)] = int(value)
+
+    def step_texts(self, *fields):
+        pass
+
+    step_begin = step_end = step_texts
+
+    def step_coin(self, addr, place):
+        line = self.wants(f'inhibited {addr} {place}', *(f'accepted {addr} {place} {path}' for path in range(1, 9)))
+        self.laws.object(addr, '/'.join(line.split(' ')[2:]) if line.startswith('accepted') else None)
+
+    def step_alien(self, addr):
+        self.wants(f'alien {addr}')
+        self.laws.object(addr, None)
+
+    def step_fall(self, addr):
+        if self.wants(f'fell {addr}', f'nofall {addr}').startswith('fell'):
+            self.laws.fell(addr)
+
+    def step_jam(self, addr):
+        self.wants(f'jammed {addr}', f'nojam {addr}')
+
+    def step_reset(self, addr):
+        self.wants(f'reset {addr}')
+        self.laws.at(addr).is_set = False
+
+    def step_fault(self, where, piece):
+        self.wants(f'fault {where} {piece.lower()}')
+        self.fault = where, b'' if piece == '-' else bytes.fromhex(piece)
+
+    def running(self):
+        """What running jobs have reserved."""
+        return sum(job.reserved for job in self.jobs.values())
+
+    def step_balance(self):
+        books = self.books
+        have = books.available() - self.running()
+        self.wants(f'balance {have} {books.reserved() + self.running()} {books.paid} {books.sold}')
+
+    def command(self, word, *fields):
+        """A command: it is refused for its first reason, or it begins its job; a halt is for the job that is there."""
+        addr = {'scan': 0, 'vend': 1}[word] if word in ('scan', 'vend') else int(fields[0])
+        reason = self.reason_of_device(addr, word) or self.reason(addr, word, *fields)
+        line = ' '.join((word, *fields))
+        self.wants(f'no {line} {reason}' if reason else f'ok {line}')
+        if not reason and word == 'halt':
+            self.jobs[addr].halt()
+        elif not reason:
+            self.jobs[addr] = Job(self.books, addr, word, *fields)
+
+    def step_start(self, addr, mask):
+        self.command('start', addr, mask.lower())
+
+    def reason_of_device(self, addr, word):
+        """Why a command is refused whatever was done so far, or None."""
+        kinds = {'pay': 'hopper', 'settle': 'hopper', 'halt': 'hopper', 'start': 'acceptor', 'round': 'acceptor',
+                 'stop': 'acceptor', 'path': 'acceptor', 'ident': ''}
+        device = self.books.devices.get(addr)
+        if word not in kinds:
+            return None
+        return 'nodevice' if device is None else 'wrongkind' if kinds[word] not in ('', device.kind) else None
+
+    def reason(self, addr, word, *fields):
+        """Why a command is refused by what was done so far, or None."""
+        epoch, order, job = self.books.epochs.get(addr), self.books.orders.get(addr), self.jobs.get(addr)
+        if word == 'halt':
+            return None if job and job.can_halt else 'nopayout'
+        if job:
+            return 'busy'
+        if word == 'start':
+            bare = [place for place in places_of(fields[1]) if place not in self.books.devices[addr].values]
+            return 'epochruns' if epoch else f'novalue {bare[0]}' if bare else None
+        if word in ('round', 'stop'):
+            return None if epoch else 'noepoch'
+        if word == 'settle':
+            return None if order else 'noorder'
+        if word == 'pay':
+            cost = int(fields[2]) * self.books.devices[addr].value
+            return f'orderopen {order[0]}' if order else self.reason_of_money(int(fields[1]), cost)
+        return self.reason_of_money(int(fields[0]), int(fields[1])) if word == 'vend' else None
+
+    def reason_of_money(self, number, cost):
+        """Why an order or a sale is refused by its id or its cost, or None."""
+        last = max(*self.books.ids, *(job.id for job in self.jobs.values()), 0)
+        have = self.books.available() - self.running()
+        return f'oldid {last}' if number <= last else f'short {have}' if cost > have else None
+
+    def step_next(self, addr):
+        """An attempt: an exchange or a put, the end of the job if it is done, and a line if the exchange was forged."""
+        job, forged = self.jobs.get(int(addr)), False
+        if job is None:
+            self.wants(f'idle {addr}')
+            return
+        if isinstance(job.row, Ask):
+            forged = self.exchange(addr, job)
+        else:
+            self.wants(f'put {job.row}')
+            self.take_in(job.row)
+            job.go(None)
+        if job.end:
+            del self.jobs[int(addr)]
+            self.wants(job.end)
+            if job.end.startswith('clean'):
+                self.laws.item('clean', addr)
+        self.forged_line(addr, forged)
+
+    def forged_line(self, addr, forged):
+        """The last line of a step whose exchange had a forged fault tells so. No other step has such a line."""
+        if forged and self.tells_forged:
+            self.wants(f'forged {addr}')
+
+    def take_in(self, record):
+        """A record was put or kept."""
+        self.books.put(record)
+        self.laws.record(record)
+
+    def exchange(self, addr, job):
+        """An exchange of a job; whether its fault is forged."""
+        ask, line, fault = job.row, self.taken(), self.fault
+        self.fault, forged, (where, piece) = None, is_forged(fault, ask.sent), fault or (None, b'')
+        wire = f'wire {addr} {ask.sent.hex()} '
+        expect(line.startswith(wire), f'written is {line!r}, and not {wire}..')
+        heard = b'' if line == wire + '-' else bytes.fromhex(line[len(wire):])
+        told = piece if where == 'whole' else ask.sent + piece if where == 'host' else ask.sent
+        # Devices answer what they heard, unless that was damaged or the host hears something else.
+        answered = fault is None or (where == 'devices' and forged)
+        expect(heard.startswith(told) if answered else heard == told, f'{line!r}: the host hears {hexed(told)}')
+        data = ask.wanted(heard)
+        expect(data is not None or fault or not ask.again, f'{line!r}: without a fault there is no wanted reply')
+        self.laws.honest = self.laws.honest and not forged
+        self.laws.exchange(ask, data, where != 'devices')
+        job.go(data)
+        return forged
+
+    def step_crash(self, *fields):
+        """A power cut. The file keeps the record of a put that is cut off after its third call."""
+        job = self.jobs.get(int(fields[0])) if len(fields) == 3 else None
+        kept = job is not None and isinstance(job.row, str) and int(fields[1]) >= 3
+        self.jobs = {}
+        self.wants(f'crash {len(self.books.records) + kept}')
+        if kept:
+            self.wants(f'kept {job.row}')
+            self.take_in(job.row)
+
+
+for WORD in ('round', 'stop', 'pay', 'settle', 'halt', 'vend', 'ident', 'path', 'scan'):
+    setattr(Judge, 'step_' + WORD, lambda self, *fields, word=WORD: self.command(word, *fields))
+
+
+def wrong(script, written, reported, refused, tells_forged):
+    """What is wrong with the lines of a transcript, and with those of the report after it if there is one; or None."""
+    judge = Judge(script, refused, tells_forged)
+    try:
+        judge.hold(written)
+        if reported is not None:
+            judge.hold_report(reported)
+    except (Wrong, ValueError, LookupError) as why:
+        return f'line {judge.step} of the script, line {judge.at} of the {judge.place}: {why}'
+    return None
