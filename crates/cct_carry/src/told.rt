@@ -16,29 +16,38 @@ pub fn id_of(entry: &Record) -> u32
     }
 }
 
-/// The epoch after a record: it begins with event counter 0, a reading moves its counter, and a break or its end ends
-/// it.
+/// The epoch after a record: it begins with event counter 0 and the accept counter that it records, a reading moves both,
+/// and a break or its end ends it.
 pub fn epoch_by(entry: &Record, before: EpochState) -> EpochState
     ensures { result ≡ epoch_by entry.now before }
 {
     match entry {
-        Record::Epoch { mask, .. } => EpochState::Running {
+        Record::Epoch { mask, accepts, .. } => EpochState::Running {
             mask: *mask,
             counter: 0,
+            accepts: *accepts,
         },
-        Record::Reading { counter, .. } => counted(*counter, before),
+        Record::Reading {
+            counter,
+            accepts,
+            ..
+        } => counted(*counter, *accepts, before),
         Record::Broken { .. } => EpochState::Idle,
         Record::EpochEnd { .. } => EpochState::Idle,
         _ => before,
     }
 }
 
-/// An epoch, where one runs, with another event counter.
-fn counted(counter: u8, before: EpochState) -> EpochState
-    ensures { result ≡ counted counter before }
+/// An epoch, where one runs, with another event counter and another accept counter.
+fn counted(counter: u8, accepts: u32, before: EpochState) -> EpochState
+    ensures { result ≡ counted counter accepts before }
 {
     match before {
         EpochState::Idle => EpochState::Idle,
-        EpochState::Running { mask, .. } => EpochState::Running { mask, counter },
+        EpochState::Running { mask, .. } => EpochState::Running {
+            mask,
+            counter,
+            accepts,
+        },
     }
 }
