@@ -12,11 +12,11 @@ use Rattle.cct_model.specs.terms.coin.Credits.{Credits}
 use Rattle.cct_model.specs.lines.record.Record.{Record}
 use Rattle.cct_model.specs.lines.record.Record.TheVariants as record_of
 use Rattle.cct_model.specs.declared.judging.Judged.{Judged}
-use Rattle.cct_model.specs.declared.judging.Judged.TheVariants.{Nothing, Reading, Broken}
+use Rattle.cct_model.specs.declared.judging.Judged.TheVariants.{Nothing, Moved, Reading, Broken}
 use Rattle.cct_model.specs.declared.judging.OpenOrder.{OpenOrder}
 use Rattle.cct_model.specs.Order.{close, life_between}
 use Rattle.cct_model.specs.Rows.{has_waits}
-use Rattle.cct_model.specs.Reading.{coins_among, distance, judge, posted_of, shows_break}
+use Rattle.cct_model.specs.Reading.{accepted_between, coins_among, distance, judge, posted_of, shows_break, shows_move}
 use Rattle.cct_record.specs.Body.{Encodable, IsPlaced}
 use Rattle.cct_jobs.specs.declared.job.Job.{Job}
 use Rattle.cct_jobs.specs.declared.job.Job.TheVariants.{Asks, StartPuts, RoundPuts, StopPuts, StopEnds, OrderOpens, OrderCloses, SalePuts}
@@ -48,22 +48,30 @@ reversed_placed (coin ∷ coins) placed =
 posted_placed : (n : ℕ) (pairs : List Pair) → All IsPlaced (posted_of n pairs)
 posted_placed n pairs = reversed_placed (coins_among (take (min n EVENTS) pairs)) (among_placed (take (min n EVENTS) pairs))
 
-judged_by : (breaks none : Bool) (addr seen read lost : ℕ) (posted : List Coin) → All IsPlaced posted
-    → JudgedFits (cond breaks (Broken (record_of.Broken addr seen read lost accepts posted))
-    (cond none Nothing (Reading (record_of.Reading addr read lost accepts posted))))
-judged_by true none addr seen read lost posted placed = placed
-judged_by false true addr seen read lost posted placed = tt
-judged_by false false addr seen read lost posted placed = placed
+judged_by : (moved breaks none : Bool) (addr seen read lost now : ℕ) (posted : List Coin) → lost < 2 ^ 24 → now < 2 ^ 24
+    → All IsPlaced posted → JudgedFits (cond moved Moved (cond breaks (Broken (record_of.Broken addr seen read lost now posted))
+    (cond none Nothing (Reading (record_of.Reading addr read lost now posted)))))
+judged_by true breaks none addr seen read lost now posted few fits placed = tt
+judged_by false true none addr seen read lost now posted few fits placed = (few, fits, placed)
+judged_by false false true addr seen read lost now posted few fits placed = tt
+judged_by false false false addr seen read lost now posted few fits placed = (few, fits, placed)
 
-judge_fits : (addr mask counter : ℕ) (c : Credits) (seen : ℕ) → JudgedFits (judge addr mask counter c seen)
+-- fewer coins are lost than three bytes count
+few_lost : (accepts now posted : ℕ) → accepted_between accepts now - posted < 2 ^ 24
+unfolding accepted_between
+few_lost accepts now posted = omega arith
+
+judge_fits : (addr mask counter accepts : ℕ) (c : Credits) (seen before now : ℕ) → now < 2 ^ 24
+    → JudgedFits (judge addr mask counter accepts c seen before now)
 unfolding judge
-judge_fits addr mask counter c seen =
-    judged_by (shows_break mask counter seen c.counter) (distance counter c.counter == 0) addr seen c.counter _ _
-    (posted_placed (distance counter c.counter) c.pairs)
+judge_fits addr mask counter accepts c seen before now fits =
+    judged_by (shows_move mask seen before now) (shows_break mask counter seen c.counter) _ addr seen c.counter _ now _
+    (few_lost accepts now _) fits (posted_placed (distance counter c.counter) c.pairs)
 
-pub judged_fits : (addr mask counter : ℕ) (c : Credits) (seen : ℕ) (meaning : Judged)
-    → meaning ≡ judge addr mask counter c seen → JudgedFits meaning
-judged_fits addr mask counter c seen meaning is = subst JudgedFits (sym is) (judge_fits addr mask counter c seen)
+pub judged_fits : (addr mask counter accepts : ℕ) (c : Credits) (seen before now : ℕ) (meaning : Judged) → now < 2 ^ 24
+    → meaning ≡ judge addr mask counter accepts c seen before now → JudgedFits meaning
+judged_fits addr mask counter accepts c seen before now meaning fits is =
+    subst JudgedFits (sym is) (judge_fits addr mask counter accepts c seen before now fits)
 
 -- an order is closed with life counts of three bytes
 
@@ -87,7 +95,7 @@ same_record : (r entry : Record) → need.Put r ≡ need.Put entry → r ≡ ent
 same_record r entry is = cc
 
 fits_by : (job : Job) (entry : Record) → need_of job ≡ need.Put entry → PutsFit job → Encodable entry
-fits_by (StartPuts target mask) entry is fits = subst Encodable (same_record _ entry is) tt
+fits_by (StartPuts target mask counted) entry is fits = subst Encodable (same_record _ entry is) counted.fits
 fits_by (RoundPuts own end) entry is fits = subst Encodable (same_record own entry is) fits
 fits_by (StopPuts target own end) entry is fits = subst Encodable (same_record own entry is) fits
 fits_by (StopEnds target) entry is fits = subst Encodable (same_record _ entry is) tt
@@ -101,7 +109,7 @@ pub put_fits : (job : Job) (n : Need) (entry : Record) → n ≡ need_of job →
 put_fits job n entry is fits puts = fits_by job entry (sym is ∙ puts) fits
 
 due_by : (job : Job) → PutsFit job → IfSome (put_in (need_of job)) Encodable
-due_by (StartPuts target mask) fits = tt
+due_by (StartPuts target mask counted) fits = counted.fits
 due_by (RoundPuts own end) fits = fits
 due_by (StopPuts target own end) fits = fits
 due_by (StopEnds target) fits = tt
@@ -116,7 +124,7 @@ due_fits job due is fits = subst (λ o. IfSome o Encodable) (sym is) (due_by job
 -- after a put, and after a halt
 
 put_leaves_fit : (job : Job) → IsPut (need_of job) → PutsFit (after_put job)
-put_leaves_fit (StartPuts target mask) is = tt
+put_leaves_fit (StartPuts target mask counted) is = tt
 put_leaves_fit (RoundPuts entry end) is = tt
 put_leaves_fit (StopPuts target entry None) is = tt
 put_leaves_fit (StopPuts target entry (Some end)) is = tt

@@ -14,7 +14,7 @@ use Rattle.cct_jobs.specs.declared.owed.Owed.{Owed}
 use Rattle.cct_jobs.specs.declared.payout.Payout.{Payout}
 use Rattle.cct_jobs.specs.declared.payout.Payout.TheVariants.{Enables, Counts, Dispenses, Waits, Stops, Recounts}
 use Rattle.cct_jobs.specs.declared.stage.Stage.{Stage}
-use Rattle.cct_jobs.specs.declared.stage.Stage.TheVariants.{Reads, Looks, Pays, IdentAsks}
+use Rattle.cct_jobs.specs.declared.stage.Stage.TheVariants.{CountsBefore, Reads, Looks, CountsAfter, Pays, IdentAsks}
 use Rattle.cct_jobs.specs.declared.stage.ReadBy.TheVariants.{Round, Stop}
 use Rattle.cct_jobs.specs.declared.target.Target.{Target}
 use Rattle.cct_jobs.specs.Ahead.{ahead, payout_ahead, stage_ahead}
@@ -51,10 +51,14 @@ IsPays stage = ⊥
 
 pub waits_pays : (stage : Stage) (device : Target) → has_waits (stage_ahead device stage) ≡ true → IsPays stage
 waits_pays (Pays row) device waits = tt
-waits_pays (Reads Round recorded) device waits = absurd cc
-waits_pays (Reads Stop recorded) device waits = absurd cc
-waits_pays (Looks Round recorded read) device waits = absurd cc
-waits_pays (Looks Stop recorded read) device waits = absurd cc
+waits_pays (CountsBefore Round recorded) device waits = absurd cc
+waits_pays (CountsBefore Stop recorded) device waits = absurd cc
+waits_pays (Reads Round recorded before) device waits = absurd cc
+waits_pays (Reads Stop recorded before) device waits = absurd cc
+waits_pays (Looks Round recorded before read) device waits = absurd cc
+waits_pays (Looks Stop recorded before read) device waits = absurd cc
+waits_pays (CountsAfter Round recorded before read seen) device waits = absurd cc
+waits_pays (CountsAfter Stop recorded before read seen) device waits = absurd cc
 waits_pays (IdentAsks question) device waits =
     absurd (true≢false (sym waits ∙ ident_none has_waits (λ q behind rows. refl) device question))
 waits_pays stage device waits = absurd cc

@@ -1,7 +1,7 @@
 -- A job that goes on keeps to the rows that it had ahead.
 use Rattle.std.proofs.Common.{◌≡◌, List, [], refl, sym, subst, arith}
 use Rattle.cct_model.specs.declared.judging.Judged.{Judged}
-use Rattle.cct_model.specs.declared.judging.Judged.TheVariants.{Nothing, Reading, Broken}
+use Rattle.cct_model.specs.declared.judging.Judged.TheVariants.{Nothing, Moved, Reading, Broken}
 use Rattle.cct_model.specs.terms.request.Request.{Request}
 use Rattle.cct_model.specs.lines.entry.End.{End}
 use Rattle.cct_model.specs.Rows.{TableRow, puts_in}
@@ -57,6 +57,7 @@ ident_keeps device question job is = subst (KeepsTo []) (sym is) (ident_by devic
 round_by : (device : Target) (meaning : Judged) → JudgedFits meaning
     → KeepsTo (reading_ahead device Round) (round_after meaning)
 round_by device Nothing fits = done_keeps _ _
+round_by device Moved fits = done_keeps _ _
 round_by device (Reading entry) fits = record {
   may_put = omega arith;
   fits = fits;
@@ -83,6 +84,7 @@ stop_by device Nothing fits = record {
   closes = λ closes some. absurd cc;
   reserves = omega arith;
 }
+stop_by device Moved fits = done_keeps _ _
 stop_by device (Reading entry) fits = record {
   may_put = omega arith;
   fits = fits;

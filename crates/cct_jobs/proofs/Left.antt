@@ -15,7 +15,7 @@ use Rattle.cct_jobs.specs.declared.job.Job.TheVariants.{Asks, StartPuts, RoundPu
 use Rattle.cct_jobs.specs.declared.payout.Payout.{Payout}
 use Rattle.cct_jobs.specs.declared.payout.Payout.TheVariants.{Dispenses}
 use Rattle.cct_jobs.specs.declared.stage.Stage.{Stage}
-use Rattle.cct_jobs.specs.declared.stage.Stage.TheVariants.{Reads, Looks, IdentAsks, Pays}
+use Rattle.cct_jobs.specs.declared.stage.Stage.TheVariants.{CountsBefore, Reads, Looks, CountsAfter, IdentAsks, Pays}
 use Rattle.cct_jobs.specs.declared.stage.ReadBy.TheVariants.{Round, Stop}
 use Rattle.cct_jobs.specs.declared.target.Target.{Target}
 use Rattle.cct_jobs.specs.Ahead.{ahead, payout_ahead, place_of, questions_of, stage_ahead}
@@ -30,10 +30,14 @@ from_payout (Dispenses serial own halted) device means = refl
 from_payout row device means = refl
 
 pub from_stage : (stage : Stage) (device : Target) (means : Judged) → from (stage_ahead device stage) means ≡ stage_ahead device stage
-from_stage (Reads Round recorded) device means = refl
-from_stage (Reads Stop recorded) device means = refl
-from_stage (Looks Round recorded read) device means = refl
-from_stage (Looks Stop recorded read) device means = refl
+from_stage (CountsBefore Round recorded) device means = refl
+from_stage (CountsBefore Stop recorded) device means = refl
+from_stage (Reads Round recorded before) device means = refl
+from_stage (Reads Stop recorded before) device means = refl
+from_stage (Looks Round recorded before read) device means = refl
+from_stage (Looks Stop recorded before read) device means = refl
+from_stage (CountsAfter Round recorded before read seen) device means = refl
+from_stage (CountsAfter Stop recorded before read seen) device means = refl
 from_stage (IdentAsks question) device means =
     told_is (λ rows. from rows means ≡ rows) refl (λ q behind rows. refl) (questions_of device)
     (place_of question (questions_of device))
@@ -48,7 +52,7 @@ left_known d (Asks device stage failed) c since state owed at on = (
   sym (ap (λ rows. from rows (judged_in c since state)) at.ahead_is ∙ from_stage stage device (judged_in c since state)),
   at.is_here,
 )
-left_known d (StartPuts device mask) c since state owed (device_is, rest_is, at) on = (sym at.ahead_is, at.is_here)
+left_known d (StartPuts device mask counted) c since state owed (device_is, rest_is, at) on = (sym at.ahead_is, at.is_here)
 left_known d (RoundPuts entry end) c since state owed at on = (sym at.ahead_is, at.is_here)
 left_known d (StopPuts device entry end) c since state owed (device_is, rest_is, at) on = (sym at.ahead_is, at.is_here)
 left_known d (StopEnds device) c since state owed (device_is, at) on = (sym at.ahead_is, at.is_here)

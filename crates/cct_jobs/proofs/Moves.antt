@@ -12,7 +12,7 @@ use Rattle.cct_model.specs.Line.{Line, exchange, put}
 use Rattle.cct_model.specs.Rows.{TableRow, after, done, ends_first, rest, rows_of, settling, telling}
 use Rattle.cct_msg.specs.Forms.{form_shown}
 use Rattle.cct_jobs.specs.declared.stage.Stage.{Stage}
-use Rattle.cct_jobs.specs.declared.stage.Stage.TheVariants.{Reads, Looks, IdentAsks, Pays}
+use Rattle.cct_jobs.specs.declared.stage.Stage.TheVariants.{CountsBefore, Reads, Looks, CountsAfter, IdentAsks, Pays}
 use Rattle.cct_jobs.specs.declared.stage.ReadBy.TheVariants.{Round, Stop}
 use Rattle.cct_jobs.specs.declared.target.Target.{Target}
 use Rattle.cct_jobs.specs.Ahead.{place_of, questions_of, stage_ahead}
@@ -59,10 +59,14 @@ told_ends (x ∷ z ∷ qs) (suc n) q y is = told_ends (z ∷ qs) n q y is
 
 pub answer_ends_first : (stage : Stage) (device : Target) (y : Reply) → IsSettled stage → Suits stage device
     → ends_first (stage_ahead device stage) (Some y) ≡ true
-answer_ends_first (Reads Round recorded) device y settled suits = refl
-answer_ends_first (Reads Stop recorded) device y settled suits = refl
-answer_ends_first (Looks Round recorded read) device y settled suits = refl
-answer_ends_first (Looks Stop recorded read) device y settled suits = refl
+answer_ends_first (CountsBefore Round recorded) device y settled suits = refl
+answer_ends_first (CountsBefore Stop recorded) device y settled suits = refl
+answer_ends_first (Reads Round recorded before) device y settled suits = refl
+answer_ends_first (Reads Stop recorded before) device y settled suits = refl
+answer_ends_first (Looks Round recorded before read) device y settled suits = refl
+answer_ends_first (Looks Stop recorded before read) device y settled suits = refl
+answer_ends_first (CountsAfter Round recorded before read seen) device y settled suits = refl
+answer_ends_first (CountsAfter Stop recorded before read seen) device y settled suits = refl
 answer_ends_first (IdentAsks question) device y settled suits =
     told_ends (questions_of device) (place_of question (questions_of device)) question y suits
 answer_ends_first (Pays row) device y settled suits = absurd settled

@@ -12,7 +12,7 @@ use Rattle.cct_model.specs.terms.request.Request.{Request}
 use Rattle.cct_model.specs.terms.wire.CheckKind.{CheckKind}
 use Rattle.cct_model.specs.terms.wire.CheckKind.TheVariants.{Simple, Crc}
 use Rattle.cct_model.specs.Exchange.{ask}
-use Rattle.cct_model.specs.Job.{address_of, credits_read, mask_read, sends, puts}
+use Rattle.cct_model.specs.Job.{address_of, accepts_before, accepts_read, credits_read, mask_read, sends, puts}
 use Rattle.cct_model.specs.Rows.{left, puts_in, row}
 use Rattle.cct_model.specs.Line.{Line}
 use Rattle.cct_model.specs.Scan.{end_of_scan, poll_of, scan_row}
@@ -42,16 +42,16 @@ needs_by d (Asks device stage failed) c since state owed at = record {
   request = request_of stage;
   row_is = stage_row at;
 }
-needs_by d (StartPuts device mask) c since state owed (device_is, rest_is, at) = record {
+needs_by d (StartPuts device mask counted) c since state owed (device_is, rest_is, at) = record {
   is_here = at.is_here;
-  row_is = at.row_is ∙ ap (λ (t : Target). puts (Epoch t.addr mask accepts)) (sym device_is);
+  row_is = at.row_is ∙ ap (λ (t : Target). puts (Epoch t.addr mask counted.accepts)) (sym device_is);
   owned = λ past owns. ap (λ (t : Target). t.addr) device_is;
 }
 needs_by d (RoundPuts entry end) c since state owed at = record {
   is_here = at.is_here;
   row_is = at.row_is;
   owned = λ past owns.
-      reading_owner past (address_of c) state (credits_read since) (mask_read since) entry
+      reading_owner past (address_of c) state (credits_read since) (mask_read since) (accepts_before since) (accepts_read since) entry
       (round_row d entry end c since state owed at)
       ∙ at.is_here;
 }
@@ -59,7 +59,7 @@ needs_by d (StopPuts device entry end) c since state owed (device_is, rest_is, a
   is_here = at.is_here;
   row_is = at.row_is;
   owned = λ past owns.
-      reading_owner past (address_of c) state (credits_read since) (mask_read since) entry
+      reading_owner past (address_of c) state (credits_read since) (mask_read since) (accepts_before since) (accepts_read since) entry
       (stop_row d device entry end c since state owed at)
       ∙ at.is_here;
 }
@@ -93,7 +93,7 @@ need_known d job c since state owed n is at =
 end_by : (d : DeviceSetup) (job : Job) (c : Command) (since : List Line) (state : EpochState)
     (owed : Option OpenOrder) → Stands d job c since state owed → end_of_job job ≡ newest_end d c since state
 end_by d (Asks device stage failed) c since state owed at = sym at.goes_on
-end_by d (StartPuts device mask) c since state owed at = sym at.2.goes_on
+end_by d (StartPuts device mask counted) c since state owed at = sym at.2.goes_on
 end_by d (RoundPuts entry end) c since state owed at = sym at.goes_on
 end_by d (StopPuts device entry end) c since state owed at = sym at.2.goes_on
 end_by d (StopEnds device) c since state owed at = sym at.1.goes_on
@@ -157,7 +157,7 @@ exchange_is (need.Done end) no_end no_put = absurd cc
 -- what may still be put
 
 put_has_room : (job : Job) (entry : Record) → need_of job ≡ need.Put entry → 1 ≤ puts_in (ahead job)
-put_has_room (StartPuts device mask) entry e = omega arith
+put_has_room (StartPuts device mask counted) entry e = omega arith
 put_has_room (RoundPuts own end) entry e = omega arith
 put_has_room (StopPuts device own end) entry e = omega arith
 put_has_room (StopEnds device) entry e = omega arith
@@ -170,7 +170,7 @@ pub put_allowed : (job : Job) (n : Need) (entry : Record) → n ≡ need_of job 
 put_allowed job n entry is e = put_has_room job entry (sym is ∙ e)
 
 due_by : (job : Job) → IfSome (put_in (need_of job)) (λ r. 1 ≤ puts_in (ahead job))
-due_by (StartPuts device mask) = omega arith
+due_by (StartPuts device mask counted) = omega arith
 due_by (RoundPuts own end) = omega arith
 due_by (StopPuts device own end) = omega arith
 due_by (StopEnds device) = omega arith
@@ -184,7 +184,7 @@ pub due_allowed : (job : Job) (due : Option Record) → due ≡ put_in (need_of 
 due_allowed job due is = subst (λ o. IfSome o (λ r. 1 ≤ puts_in (ahead job))) (sym is) (due_by job)
 
 put_falls : (job : Job) → IsPut (need_of job) → puts_in (ahead (after_put job)) < puts_in (ahead job)
-put_falls (StartPuts device mask) put = omega arith
+put_falls (StartPuts device mask counted) put = omega arith
 put_falls (RoundPuts own end) put = omega arith
 put_falls (StopPuts device own None) put = omega arith
 put_falls (StopPuts device own (Some end)) put = omega arith
@@ -222,7 +222,7 @@ sending_is d (Asks device stage failed) c since state owed q s e at is =
     sent
     ∙ ap (λ (t : Target). record { to = t.addr; kind = t.kind; request = request_of stage }) at.device_is
     ∙ ap (λ r. record { to = d.addr; kind = d.kind; request = r }) (sym (stage_asked owed q at is))
-sending_is d (StartPuts device mask) c since state owed q s e at is = absurd cc
+sending_is d (StartPuts device mask counted) c since state owed q s e at is = absurd cc
 sending_is d (RoundPuts entry end) c since state owed q s e at is = absurd cc
 sending_is d (StopPuts device entry end) c since state owed q s e at is = absurd cc
 sending_is d (StopEnds device) c since state owed q s e at is = absurd cc

@@ -6,7 +6,7 @@ use Rattle.cct_model.specs.lines.record.Record.TheVariants.{Epoch, EpochEnd}
 use Rattle.cct_model.specs.terms.device.DeviceSetup.{DeviceSetup}
 use Rattle.cct_model.specs.declared.judging.EpochState.{EpochState}
 use Rattle.cct_model.specs.Line.{Line}
-use Rattle.cct_model.specs.Job.{address_of, credits_read, mask_read}
+use Rattle.cct_model.specs.Job.{address_of, accepts_before, accepts_read, credits_read, mask_read}
 use Rattle.cct_model.specs.Order.{order_by}
 use Rattle.cct_jobs.specs.declared.job.Job.{Job}
 use Rattle.cct_jobs.specs.declared.job.Job.TheVariants.{Asks, StartPuts, RoundPuts, StopPuts, StopEnds, OrderOpens, OrderCloses, Done}
@@ -19,17 +19,17 @@ use Rattle.cct_jobs.proofs.Puts.{round_row, stop_row}
 owes_by : (d : DeviceSetup) (job : Job) (c : Command) (since : List Line) (state : EpochState) (before : Option Owed)
     (entry : Record) → need_of job ≡ need.Put entry → Stands d job c since state (order_of before)
     → order_of (owed_after job before) ≡ order_by entry (order_of before)
-owes_by d (StartPuts device mask) c since state before entry e at =
-    let same : Epoch device.addr mask accepts ≡ entry = cc in
+owes_by d (StartPuts device mask counted) c since state before entry e at =
+    let same : Epoch device.addr mask counted.accepts ≡ entry = cc in
     ap (λ r. order_by r (order_of before)) same
 owes_by d (RoundPuts own end) c since state before entry e at =
     let same : own ≡ entry = cc in
-    sym (reading_owes (order_of before) (address_of c) state (credits_read since) (mask_read since) own
+    sym (reading_owes (order_of before) (address_of c) state (credits_read since) (mask_read since) (accepts_before since) (accepts_read since) own
     (round_row d own end c since state (order_of before) at))
     ∙ ap (λ r. order_by r (order_of before)) same
 owes_by d (StopPuts device own end) c since state before entry e (device_is, rest_is, at) =
     let same : own ≡ entry = cc in
-    sym (reading_owes (order_of before) (address_of c) state (credits_read since) (mask_read since) own
+    sym (reading_owes (order_of before) (address_of c) state (credits_read since) (mask_read since) (accepts_before since) (accepts_read since) own
     (stop_row d device own end c since state (order_of before) at))
     ∙ ap (λ r. order_by r (order_of before)) same
 owes_by d (StopEnds device) c since state before entry e at =

@@ -14,8 +14,8 @@ use Rattle.cct_model.specs.lines.entry.Entry.{Entry}
 use Rattle.cct_model.specs.declared.judging.OpenOrder.{OpenOrder}
 use Rattle.cct_model.specs.declared.judging.EpochState.{EpochState}
 use Rattle.cct_model.specs.declared.judging.Judged.{Judged}
-use Rattle.cct_model.specs.declared.judging.Judged.TheVariants.{Nothing, Reading, Broken}
-use Rattle.cct_model.specs.Job.{Row, address_of, credits_read, judged_by, judged_in, mask_read, no_row, noted_in, put_or, puts}
+use Rattle.cct_model.specs.declared.judging.Judged.TheVariants.{Nothing, Moved, Reading, Broken}
+use Rattle.cct_model.specs.Job.{Row, accepts_before, accepts_read, address_of, credits_read, judged_by, judged_in, mask_read, no_row, noted_in, put_or, puts}
 use Rattle.cct_model.specs.Rows.{done, rows_of, row, Due, reading, epoch_end, new_epoch, new_order, sale, order_end}
 use Rattle.cct_model.specs.Legal.{record_due}
 use Rattle.cct_model.specs.Line.{Line}
@@ -27,53 +27,54 @@ use Rattle.cct_model.proofs.Rows.{JudgedHolds, RowHolds, is_at_device, DueHolds,
 
 -- a fact of all records that a reading at an address may mean
 pub record OfEpochs (P : Record → Type 0) (addr : ℕ) : Type 0 where
-  broken : (seen counter : ℕ) (posted : List Coin) → P (record_of.Broken addr seen counter lost accepts posted)
-  reading : (counter lost : ℕ) (posted : List Coin) → P (record_of.Reading addr counter lost accepts posted)
+  broken : (seen counter lost accepts : ℕ) (posted : List Coin) → P (record_of.Broken addr seen counter lost accepts posted)
+  reading : (counter lost accepts : ℕ) (posted : List Coin) → P (record_of.Reading addr counter lost accepts posted)
 
 -- what was judged of a reading is such a record
-of_reading : {P : Record → Type 0} (addr : ℕ) (state : EpochState) (credits : Option Credits) (seen : Option ℕ) (e : Record)
-    → OfEpochs P addr → put_or no_row (judged_by addr state credits seen) ≡ puts e → P e
-of_reading {P} addr state credits seen e of is =
+of_reading : {P : Record → Type 0} (addr : ℕ) (state : EpochState) (credits : Option Credits) (seen before now : Option ℕ) (e : Record)
+    → OfEpochs P addr → put_or no_row (judged_by addr state credits seen before now) ≡ puts e → P e
+of_reading {P} addr state credits seen before now e of is =
     subst (RowHolds (λ q. ⊤) P) is
-    (by_judged (judged_by addr state credits seen) (judged_holds P addr state credits seen of.reading of.broken))
+    (by_judged (judged_by addr state credits seen before now) (judged_holds P addr state credits seen before now of.reading of.broken))
   where
     by_judged : (means : Judged) → JudgedHolds P means → RowHolds (λ q. ⊤) P (put_or no_row means)
     by_judged Nothing holds = tt
+    by_judged Moved holds = tt
     by_judged (Reading r) holds = holds
     by_judged (Broken r) holds = holds
 
 -- each is of that address
 own_records : (past : List Entry) (addr : ℕ) → OfEpochs (λ r. owner past r ≡ addr) addr
 own_records past addr = record {
-  broken = λ seen counter posted. refl;
-  reading = λ counter lost posted. refl;
+  broken = λ seen counter lost accepts posted. refl;
+  reading = λ counter lost accepts posted. refl;
 }
 
-pub reading_owner : (past : List Entry) (addr : ℕ) (state : EpochState) (credits : Option Credits) (seen : Option ℕ)
-    (e : Record) → put_or no_row (judged_by addr state credits seen) ≡ puts e → owner past e ≡ addr
-reading_owner past addr state credits seen e is = of_reading addr state credits seen e (own_records past addr) is
+pub reading_owner : (past : List Entry) (addr : ℕ) (state : EpochState) (credits : Option Credits) (seen before now : Option ℕ)
+    (e : Record) → put_or no_row (judged_by addr state credits seen before now) ≡ puts e → owner past e ≡ addr
+reading_owner past addr state credits seen before now e is = of_reading addr state credits seen before now e (own_records past addr) is
 
 -- and leaves the open order as it is
 still_owed : (owed : Option OpenOrder) (addr : ℕ) → OfEpochs (λ r. order_by r owed ≡ owed) addr
 still_owed owed addr = record {
-  broken = λ seen counter posted. refl;
-  reading = λ counter lost posted. refl;
+  broken = λ seen counter lost accepts posted. refl;
+  reading = λ counter lost accepts posted. refl;
 }
 
-pub reading_owes : (owed : Option OpenOrder) (addr : ℕ) (state : EpochState) (credits : Option Credits) (seen : Option ℕ)
-    (e : Record) → put_or no_row (judged_by addr state credits seen) ≡ puts e → order_by e owed ≡ owed
-reading_owes owed addr state credits seen e is = of_reading addr state credits seen e (still_owed owed addr) is
+pub reading_owes : (owed : Option OpenOrder) (addr : ℕ) (state : EpochState) (credits : Option Credits) (seen before now : Option ℕ)
+    (e : Record) → put_or no_row (judged_by addr state credits seen before now) ≡ puts e → order_by e owed ≡ owed
+reading_owes owed addr state credits seen before now e is = of_reading addr state credits seen before now e (still_owed owed addr) is
 
 -- and frees nothing
 none_freed : (setup : Setup) (addr : ℕ) → OfEpochs (λ r. 0 ≡ freed_by setup r) addr
 none_freed setup addr = record {
-  broken = λ seen counter posted. refl;
-  reading = λ counter lost posted. refl;
+  broken = λ seen counter lost accepts posted. refl;
+  reading = λ counter lost accepts posted. refl;
 }
 
-pub reading_frees : (setup : Setup) (addr : ℕ) (state : EpochState) (credits : Option Credits) (seen : Option ℕ)
-    (e : Record) → put_or no_row (judged_by addr state credits seen) ≡ puts e → 0 ≡ freed_by setup e
-reading_frees setup addr state credits seen e is = of_reading addr state credits seen e (none_freed setup addr) is
+pub reading_frees : (setup : Setup) (addr : ℕ) (state : EpochState) (credits : Option Credits) (seen before now : Option ℕ)
+    (e : Record) → put_or no_row (judged_by addr state credits seen before now) ≡ puts e → 0 ≡ freed_by setup e
+reading_frees setup addr state credits seen before now e is = of_reading addr state credits seen before now e (none_freed setup addr) is
 
 -- an order that is closed
 
@@ -135,10 +136,11 @@ row_owns past addr d c since state owed opened =
   where
     due_owns : (due : Due) → is_at_device due ≡ true
         → DueHolds (ClosesItsOwn past addr) (address_of c) (judged_in c since state) (noted_in since owed) due
-    due_owns (new_epoch mask) here = tt
+    due_owns (new_epoch mask) here = λ accepts read. tt
     due_owns reading here =
-        judged_holds (ClosesItsOwn past addr) (address_of c) state (credits_read since) (mask_read since)
-        (λ counter lost posted. tt) (λ mask counter posted. tt)
+        judged_holds (ClosesItsOwn past addr) (address_of c) state (credits_read since) (mask_read since) (accepts_before since)
+        (accepts_read since)
+        (λ counter lost accepts posted. tt) (λ mask counter lost accepts posted. tt)
     due_owns epoch_end here = tt
     due_owns (new_order id count) here = λ life read. tt
     due_owns order_end here = λ o life is read. close_owns past addr o life (opened o is)

@@ -8,11 +8,12 @@ use Rattle.cct_model.specs.terms.device.DeviceSetup.{DeviceSetup}
 use Rattle.cct_model.specs.declared.judging.EpochState.{EpochState}
 use Rattle.cct_model.specs.declared.judging.OpenOrder.{OpenOrder}
 use Rattle.cct_model.specs.Line.{Line}
-use Rattle.cct_model.specs.Job.{address_of, close_row, judged_in, no_row, open_row, noted_in, put_or, puts}
+use Rattle.cct_model.specs.Job.{accepts_read, address_of, begin_row, close_row, judged_in, no_row, open_row, noted_in, put_or, puts}
 use Rattle.cct_model.specs.Order.{close, life_read}
 use Rattle.cct_model.specs.Rows.{first, left, row}
 use Rattle.cct_jobs.specs.declared.job.Job.{Job}
 use Rattle.cct_jobs.specs.declared.job.Job.TheVariants.{StartPuts, RoundPuts, StopPuts, StopEnds, OrderOpens, OrderCloses}
+use Rattle.cct_jobs.specs.declared.counted.Counted.{Counted}
 use Rattle.cct_jobs.specs.declared.owed.Owed.{Owed}
 use Rattle.cct_jobs.specs.declared.target.Target.{Target}
 use Rattle.cct_jobs.specs.Ahead.{ahead}
@@ -36,12 +37,13 @@ pub round_row : (d : DeviceSetup) (entry : Record) (end : End) (c : Command) (si
     → put_or no_row (judged_in c since state) ≡ puts entry
 round_row d entry end c since state owed at = sym (row_ahead d (RoundPuts entry end) c since state owed at.ahead_is) ∙ at.row_is
 
--- a start puts its epoch, and a stop the end of one
-pub start_row : (d : DeviceSetup) (device : Target) (mask : ℕ) (c : Command) (since : List Line) (state : EpochState)
-    (owed : Option OpenOrder) → address_of c ≡ d.addr → left d c since state ≡ ahead (StartPuts device mask)
-    → row d c since state owed ≡ puts (record_of.Epoch d.addr mask accepts)
-start_row d device mask c since state owed here at =
-    row_ahead d (StartPuts device mask) c since state owed at ∙ ap (λ a. puts (record_of.Epoch a mask accepts)) here
+-- a start puts its epoch with the accept counter that it read, and a stop the end of one
+pub start_row : (d : DeviceSetup) (device : Target) (mask : ℕ) (counted : Counted) (c : Command) (since : List Line)
+    (state : EpochState) (owed : Option OpenOrder) → address_of c ≡ d.addr → accepts_read since ≡ Some counted.accepts
+    → left d c since state ≡ ahead (StartPuts device mask counted)
+    → row d c since state owed ≡ puts (record_of.Epoch d.addr mask counted.accepts)
+start_row d device mask counted c since state owed here read at =
+    row_ahead d (StartPuts device mask counted) c since state owed at ∙ ap₂ (λ a count. begin_row a mask count) here read
 
 pub end_row : (d : DeviceSetup) (device : Target) (c : Command) (since : List Line) (state : EpochState)
     (owed : Option OpenOrder) → address_of c ≡ d.addr → left d c since state ≡ ahead (StopEnds device)

@@ -7,7 +7,7 @@ use Rattle.cct_model.specs.terms.device.Setup.{Setup}
 use Rattle.cct_model.specs.declared.judging.EpochState.{EpochState}
 use Rattle.cct_model.specs.declared.judging.OpenOrder.{OpenOrder}
 use Rattle.cct_model.specs.Exchange.{device_at}
-use Rattle.cct_model.specs.Job.{address_of, works, credits_read, mask_read}
+use Rattle.cct_model.specs.Job.{accepts_before, accepts_read, address_of, works, credits_read, mask_read}
 use Rattle.cct_model.specs.Rows.{closes_order, has_closes}
 use Rattle.cct_model.specs.Line.{Line}
 use Rattle.cct_model.specs.Money.{coins_of, freed_by, hopper_value, reserved_by, reserved_for}
@@ -17,7 +17,7 @@ use Rattle.cct_jobs.specs.declared.job.Need.TheVariants as need
 use Rattle.cct_jobs.specs.declared.payout.Payout.{Payout}
 use Rattle.cct_jobs.specs.declared.payout.Payout.TheVariants.{Enables, Counts}
 use Rattle.cct_jobs.specs.declared.stage.Stage.{Stage}
-use Rattle.cct_jobs.specs.declared.stage.Stage.TheVariants.{IdentAsks, Reads, Looks, Pays}
+use Rattle.cct_jobs.specs.declared.stage.Stage.TheVariants.{IdentAsks, CountsBefore, Reads, Looks, CountsAfter, Pays}
 use Rattle.cct_jobs.specs.declared.stage.ReadBy.TheVariants.{Round, Stop}
 use Rattle.cct_jobs.specs.declared.target.Target.{Target}
 use Rattle.cct_jobs.specs.Ahead.{ahead, coins_in, payout_ahead, stage_ahead}
@@ -53,10 +53,14 @@ payout_reserves setup addr row device = nothing setup addr
 stage_reserves : (setup : Setup) (addr : ℕ) (stage : Stage) (device : Target)
     → coins_of setup addr (coins_in (stage_ahead device stage)) ≡ reserved_for setup addr (stage_ahead device stage)
 stage_reserves setup addr (Pays row) device = payout_reserves setup addr row device
-stage_reserves setup addr (Reads Round recorded) device = nothing setup addr
-stage_reserves setup addr (Reads Stop recorded) device = nothing setup addr
-stage_reserves setup addr (Looks Round recorded read) device = nothing setup addr
-stage_reserves setup addr (Looks Stop recorded read) device = nothing setup addr
+stage_reserves setup addr (CountsBefore Round recorded) device = nothing setup addr
+stage_reserves setup addr (CountsBefore Stop recorded) device = nothing setup addr
+stage_reserves setup addr (Reads Round recorded before) device = nothing setup addr
+stage_reserves setup addr (Reads Stop recorded before) device = nothing setup addr
+stage_reserves setup addr (Looks Round recorded before read) device = nothing setup addr
+stage_reserves setup addr (Looks Stop recorded before read) device = nothing setup addr
+stage_reserves setup addr (CountsAfter Round recorded before read seen) device = nothing setup addr
+stage_reserves setup addr (CountsAfter Stop recorded before read seen) device = nothing setup addr
 stage_reserves setup addr (IdentAsks question) device =
     ap (coins_of setup addr) (ident_none coins_in (λ q behind rows. refl) device question)
     ∙ nothing setup addr
@@ -92,14 +96,14 @@ freed_put setup entry r n is freed =
 pub frees_by : (setup : Setup) (d : DeviceSetup) (job : Job) (c : Command) (since : List Line) (state : EpochState)
     (owed : Option OpenOrder) (r : Record) → need_of job ≡ need.Put r → Stands d job c since state owed
     → coins_of setup d.addr (coins_in (ahead job)) ≡ freed_by setup r
-frees_by setup d (StartPuts device mask) c since state owed r is at = nothing setup d.addr ∙ freed_put setup _ r _ is refl
+frees_by setup d (StartPuts device mask counted) c since state owed r is at = nothing setup d.addr ∙ freed_put setup _ r _ is refl
 frees_by setup d (RoundPuts entry end) c since state owed r is at =
     nothing setup d.addr ∙ freed_put setup entry r _ is
-    (reading_frees setup (address_of c) state (credits_read since) (mask_read since) entry
+    (reading_frees setup (address_of c) state (credits_read since) (mask_read since) (accepts_before since) (accepts_read since) entry
     (round_row d entry end c since state owed at))
 frees_by setup d (StopPuts device entry end) c since state owed r is (device_is, rest_is, at) =
     nothing setup d.addr ∙ freed_put setup entry r _ is
-    (reading_frees setup (address_of c) state (credits_read since) (mask_read since) entry
+    (reading_frees setup (address_of c) state (credits_read since) (mask_read since) (accepts_before since) (accepts_read since) entry
     (stop_row d device entry end c since state owed at))
 frees_by setup d (StopEnds device) c since state owed r is at = nothing setup d.addr ∙ freed_put setup _ r _ is refl
 frees_by setup d (OrderOpens device own halted) c since state owed r is at =

@@ -19,7 +19,7 @@ use Rattle.cct_jobs.specs.declared.job.Need.TheVariants as need
 use Rattle.cct_jobs.specs.declared.owed.Owed.{Owed}
 use Rattle.cct_jobs.specs.declared.payout.Payout.TheVariants.{Enables}
 use Rattle.cct_jobs.specs.declared.stage.Stage.{Stage}
-use Rattle.cct_jobs.specs.declared.stage.Stage.TheVariants.{IdentAsks, Reads, Looks, Pays}
+use Rattle.cct_jobs.specs.declared.stage.Stage.TheVariants.{IdentAsks, CountsBefore, Reads, Looks, CountsAfter, Pays}
 use Rattle.cct_jobs.specs.declared.stage.ReadBy.TheVariants.{Round, Stop}
 use Rattle.cct_jobs.specs.declared.target.Target.{Target}
 use Rattle.cct_jobs.specs.Ahead.{ahead, coins_in, price_in, stage_ahead}
@@ -90,10 +90,14 @@ price_freed setup job c since r is at = absurd at
 
 -- the job at a device has no price
 price_of_stage : (stage : Stage) (device : Target) → price_in (stage_ahead device stage) ≡ 0
-price_of_stage (Reads Round recorded) device = refl
-price_of_stage (Reads Stop recorded) device = refl
-price_of_stage (Looks Round recorded read) device = refl
-price_of_stage (Looks Stop recorded read) device = refl
+price_of_stage (CountsBefore Round recorded) device = refl
+price_of_stage (CountsBefore Stop recorded) device = refl
+price_of_stage (Reads Round recorded before) device = refl
+price_of_stage (Reads Stop recorded before) device = refl
+price_of_stage (Looks Round recorded before read) device = refl
+price_of_stage (Looks Stop recorded before read) device = refl
+price_of_stage (CountsAfter Round recorded before read seen) device = refl
+price_of_stage (CountsAfter Stop recorded before read seen) device = refl
 price_of_stage (IdentAsks question) device = ident_none price_in (λ q behind rows. refl) device question
 price_of_stage (Pays (Enables id count halted)) device = refl
 price_of_stage (Pays row) device = refl

@@ -20,7 +20,7 @@ use Rattle.cct_msg.specs.Forms.{FitsItsBytes}
 use Rattle.cct_jobs.specs.declared.job.Job.{Job}
 use Rattle.cct_jobs.specs.declared.job.Job.TheVariants.{Asks}
 use Rattle.cct_jobs.specs.declared.stage.Stage.{Stage}
-use Rattle.cct_jobs.specs.declared.stage.Stage.TheVariants.{StartSets, StopInhibits, Reads, Looks, IdentAsks, PathSets, PathReads, Pays}
+use Rattle.cct_jobs.specs.declared.stage.Stage.TheVariants.{StartSets, StopInhibits, CountsBefore, Reads, Looks, CountsAfter, IdentAsks, PathSets, PathReads, Pays}
 use Rattle.cct_jobs.specs.declared.stage.ReadBy.{ReadBy}
 use Rattle.cct_jobs.specs.declared.stage.ReadBy.TheVariants.{Round, Stop}
 use Rattle.cct_jobs.specs.declared.target.Target.{Target}
@@ -48,10 +48,14 @@ row_knows stage since state owed knows = tt
 
 pub first_of_stage : (stage : Stage) (device : Target) (addr : ℕ) (means : Judged) (p : Noted) → RowKnows stage p
     → Suits stage device → first addr means p (from (stage_ahead device stage) means) ≡ sends (request_of stage)
-first_of_stage (Reads Round recorded) device addr means p knows suits = refl
-first_of_stage (Reads Stop recorded) device addr means p knows suits = refl
-first_of_stage (Looks Round recorded read) device addr means p knows suits = refl
-first_of_stage (Looks Stop recorded read) device addr means p knows suits = refl
+first_of_stage (CountsBefore Round recorded) device addr means p knows suits = refl
+first_of_stage (CountsBefore Stop recorded) device addr means p knows suits = refl
+first_of_stage (Reads Round recorded before) device addr means p knows suits = refl
+first_of_stage (Reads Stop recorded before) device addr means p knows suits = refl
+first_of_stage (Looks Round recorded before read) device addr means p knows suits = refl
+first_of_stage (Looks Stop recorded before read) device addr means p knows suits = refl
+first_of_stage (CountsAfter Round recorded before read seen) device addr means p knows suits = refl
+first_of_stage (CountsAfter Stop recorded before read seen) device addr means p knows suits = refl
 first_of_stage (IdentAsks question) device addr means p knows suits =
     told_first addr (questions_of device) (place_of question (questions_of device)) means p question suits
 first_of_stage (Pays row) device addr means p knows suits = first_of_payout row device addr means p suits knows
@@ -98,8 +102,10 @@ tries_now q failed n since at is = is ∙ ap suc at.counted ∙ sym (tried q sin
 still_knows : (stage : Stage) (since : List Line) (state : EpochState) (owed : Option OpenOrder)
     → Knows stage since state owed → Knows stage (exchange (Some (request_of stage)) None ∷ since) state owed
 still_knows (StopInhibits recorded) since state owed knows = knows
-still_knows (Reads read_by recorded) since state owed knows = knows
-still_knows (Looks read_by recorded read) since state owed knows = knows
+still_knows (CountsBefore read_by recorded) since state owed knows = knows
+still_knows (Reads read_by recorded before) since state owed knows = knows
+still_knows (Looks read_by recorded before read) since state owed knows = knows
+still_knows (CountsAfter read_by recorded before read seen) since state owed knows = knows
 still_knows (Pays row) since state owed knows = payout_knows row since owed knows
 still_knows stage since state owed knows = tt
 
@@ -188,16 +194,36 @@ module _ {d : DeviceSetup} {device : Target} {stage : Stage} {failed : ℕ} {c :
       subst (λ j. Stands d j c (exchange (Some (request_of stage)) (Some y) ∷ since) state owed) (sym begun)
       (line_on next _ (answered_rest settled y ∙ rows) suits knows refl (end_after (request_of stage) y ∙ on))
 
--- the credits that a round or a stop reads end it never
-pub read_on : (read_by : ReadBy) (device : Target) (y : Reply) (meant means : Judged)
+-- what a round or a stop reads first, then and after that ends it never, and leads it on to its next row
+
+pub count_on : (read_by : ReadBy) (device : Target) (y : Reply) (meant means : Judged)
     → end_answered (from (reading_ahead device read_by) meant) y means ≡ None
+count_on Round device y meant means = refl
+count_on Stop device y meant means = refl
+
+pub read_on : (read_by : ReadBy) (device : Target) (y : Reply) (meant means : Judged)
+    → end_answered (from (after (reading_ahead device read_by) 1) meant) y means ≡ None
 read_on Round device y meant means = refl
 read_on Stop device y meant means = refl
 
--- after them it looks at its inhibit mask
-pub look_next : (read_by : ReadBy) (device : Target) → but_first (reading_ahead device read_by) ≡ after (reading_ahead device read_by) 1
+pub look_on : (read_by : ReadBy) (device : Target) (y : Reply) (meant means : Judged)
+    → end_answered (from (after (reading_ahead device read_by) 2) meant) y means ≡ None
+look_on Round device y meant means = refl
+look_on Stop device y meant means = refl
+
+pub read_next : (read_by : ReadBy) (device : Target) → but_first (reading_ahead device read_by) ≡ after (reading_ahead device read_by) 1
+read_next Round device = refl
+read_next Stop device = refl
+
+pub look_next : (read_by : ReadBy) (device : Target)
+    → but_first (after (reading_ahead device read_by) 1) ≡ after (reading_ahead device read_by) 2
 look_next Round device = refl
 look_next Stop device = refl
+
+pub count_next : (read_by : ReadBy) (device : Target)
+    → but_first (after (reading_ahead device read_by) 2) ≡ after (reading_ahead device read_by) 3
+count_next Round device = refl
+count_next Stop device = refl
 
 -- the questions of an identification
 

@@ -20,7 +20,7 @@ use Rattle.cct_jobs.specs.declared.payout.Payout.TheVariants.{Enables, Counts, D
 use Rattle.cct_jobs.specs.declared.stage.ReadBy.{ReadBy}
 use Rattle.cct_jobs.specs.declared.stage.ReadBy.TheVariants.{Round, Stop}
 use Rattle.cct_jobs.specs.declared.stage.Stage.{Stage}
-use Rattle.cct_jobs.specs.declared.stage.Stage.TheVariants.{StartResets, StartReads, StartSets, StopInhibits, Reads, Looks, IdentAsks, PathSets, PathReads, Pays}
+use Rattle.cct_jobs.specs.declared.stage.Stage.TheVariants.{StartResets, StartReads, StartCounts, StartSets, StopInhibits, CountsBefore, Reads, Looks, CountsAfter, IdentAsks, PathSets, PathReads, Pays}
 use Rattle.cct_jobs.specs.declared.job.Job.{Job}
 use Rattle.cct_jobs.specs.declared.job.Job.TheVariants.{Asks, StartPuts, RoundPuts, StopPuts, StopEnds, OrderOpens, OrderCloses, SalePuts}
 
@@ -77,10 +77,13 @@ payout_ahead device (Recounts closing own) = after settling 1
 abbrev pub stage_ahead : Target → Stage → List TableRow
 stage_ahead device (StartResets mask) = table_of device (command.Start device.addr mask)
 stage_ahead device (StartReads mask) = after (table_of device (command.Start device.addr mask)) 1
-stage_ahead device (StartSets mask) = after (table_of device (command.Start device.addr mask)) 3
+stage_ahead device (StartCounts mask) = after (table_of device (command.Start device.addr mask)) 2
+stage_ahead device (StartSets mask) = after (table_of device (command.Start device.addr mask)) 4
 stage_ahead device (StopInhibits recorded) = table_of device (command.Stop device.addr)
-stage_ahead device (Reads read_by recorded) = reading_ahead device read_by
-stage_ahead device (Looks read_by recorded read) = after (reading_ahead device read_by) 1
+stage_ahead device (CountsBefore read_by recorded) = reading_ahead device read_by
+stage_ahead device (Reads read_by recorded before) = after (reading_ahead device read_by) 1
+stage_ahead device (Looks read_by recorded before read) = after (reading_ahead device read_by) 2
+stage_ahead device (CountsAfter read_by recorded before read seen) = after (reading_ahead device read_by) 3
 stage_ahead device (IdentAsks question) =
     after (table_of device (command.Ident device.addr)) (place_of question (questions_of device))
 stage_ahead device (PathSets place path) = table_of device (command.Path device.addr place path)
@@ -90,10 +93,10 @@ stage_ahead device (Pays row) = payout_ahead device row
 -- The rows that a job has ahead; a scan has none in the table, and neither has a job that is done.
 abbrev pub ahead : Job → List TableRow
 ahead (Asks device stage failed) = stage_ahead device stage
-ahead (StartPuts device mask) = after (table_of device (command.Start device.addr mask)) 2
+ahead (StartPuts device mask counted) = after (table_of device (command.Start device.addr mask)) 3
 ahead (RoundPuts entry end) = puts_due reading (if_posted (Some Posted)) ∷ []
-ahead (StopPuts device entry end) = after (table_of device (command.Stop device.addr)) 3
-ahead (StopEnds device) = after (table_of device (command.Stop device.addr)) 4
+ahead (StopPuts device entry end) = after (table_of device (command.Stop device.addr)) 5
+ahead (StopEnds device) = after (table_of device (command.Stop device.addr)) 6
 ahead (OrderOpens device own halted) =
     after (table_of device (command.Pay device.addr own.order.id own.order.count)) 2
 ahead (OrderCloses entry end) = after settling 2

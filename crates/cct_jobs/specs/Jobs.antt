@@ -15,6 +15,7 @@ use Rattle.cct_model.specs.lines.record.Record.{Record}
 use Rattle.cct_model.specs.lines.record.Record.TheVariants as record_of
 use Rattle.cct_model.specs.declared.judging.Judged.{Judged}
 use Rattle.cct_model.specs.declared.judging.Judged.TheVariants.{Nothing, Reading, Broken}
+use Rattle.cct_model.specs.declared.judging.Judged.TheVariants as judged_of
 use Rattle.cct_model.specs.declared.judging.EpochState.{EpochState}
 use Rattle.cct_model.specs.declared.judging.EpochState.TheVariants.{Idle, Running}
 use Rattle.cct_model.specs.declared.judging.OpenOrder.{OpenOrder}
@@ -22,14 +23,14 @@ use Rattle.cct_model.specs.lines.command.Command.{Command}
 use Rattle.cct_model.specs.lines.command.Command.TheVariants as command
 use Rattle.cct_model.specs.lines.entry.End.{End}
 use Rattle.cct_model.specs.lines.entry.Entry.{Entry}
-use Rattle.cct_model.specs.lines.entry.End.TheVariants.{Broke, Clean, Posted, Stopped, Closed, OddLife, Sold}
+use Rattle.cct_model.specs.lines.entry.End.TheVariants.{Broke, Clean, Moved, Posted, Stopped, Closed, OddLife, Sold}
 use Rattle.cct_model.specs.Request.{header_of, form_of}
 use Rattle.cct_model.specs.Reply.{Reply}
 use Rattle.cct_model.specs.Reply as reply
 use Rattle.cct_model.specs.Exchange.{asked, device_at, got, acceptor_there, hopper_there}
 use Rattle.cct_model.specs.Family.{family_of}
 use Rattle.cct_model.specs.Line.{Line, exchange}
-use Rattle.cct_model.specs.Job.{address_of, sends, puts, credits_read, tries, path_set, path_read}
+use Rattle.cct_model.specs.Job.{address_of, sends, puts, accepts_before, accepts_read, credits_read, mask_read, tries, path_set, path_read}
 use Rattle.cct_model.specs.Rows.{end_kept, end_of, left, rest, row}
 use Rattle.cct_model.specs.Order.{close, is_marked, life_read}
 use Rattle.cct_model.specs.Scan.{poll_of}
@@ -42,7 +43,7 @@ use Rattle.cct_jobs.specs.declared.payout.Payout.{Payout}
 use Rattle.cct_jobs.specs.declared.payout.Payout.TheVariants.{Enables, Counts, Dispenses, Waits, Stops, Recounts}
 use Rattle.cct_jobs.specs.declared.stage.Recorded.{Recorded}
 use Rattle.cct_jobs.specs.declared.stage.Stage.{Stage}
-use Rattle.cct_jobs.specs.declared.stage.Stage.TheVariants.{StartResets, StartReads, StartSets, StopInhibits, Reads, Looks, IdentAsks, PathSets, PathReads, Pays}
+use Rattle.cct_jobs.specs.declared.stage.Stage.TheVariants.{StartResets, StartReads, StartCounts, StartSets, StopInhibits, CountsBefore, Reads, Looks, CountsAfter, IdentAsks, PathSets, PathReads, Pays}
 use Rattle.cct_jobs.specs.declared.job.Sending.{Sending}
 use Rattle.cct_jobs.specs.declared.job.Need.{Need}
 use Rattle.cct_jobs.specs.declared.job.Need.TheVariants as need
@@ -67,10 +68,13 @@ payout_request (Recounts closing own) = GetLife
 abbrev pub request_of : Stage → Request
 request_of (StartResets mask) = ResetDevice
 request_of (StartReads mask) = ReadCredits
+request_of (StartCounts mask) = AcceptCount
 request_of (StartSets mask) = SetMask mask
 request_of (StopInhibits recorded) = SetMaster 0
-request_of (Reads read_by recorded) = ReadCredits
-request_of (Looks read_by recorded read) = GetMask
+request_of (CountsBefore read_by recorded) = AcceptCount
+request_of (Reads read_by recorded before) = ReadCredits
+request_of (Looks read_by recorded before read) = GetMask
+request_of (CountsAfter read_by recorded before read seen) = AcceptCount
 request_of (IdentAsks question) = question
 request_of (PathSets place path) = path_set place path
 request_of (PathReads place path) = path_read place
@@ -80,14 +84,17 @@ request_of (Pays row) = payout_request row
 abbrev pub IsOfStart : Stage → Type 0
 IsOfStart (StartResets mask) = ⊤
 IsOfStart (StartReads mask) = ⊤
+IsOfStart (StartCounts mask) = ⊤
 IsOfStart (StartSets mask) = ⊤
 IsOfStart stage = ⊥
 
 -- The stage is one of a round or a stop.
 abbrev pub IsOfReading : Stage → Type 0
 IsOfReading (StopInhibits recorded) = ⊤
-IsOfReading (Reads read_by recorded) = ⊤
-IsOfReading (Looks read_by recorded read) = ⊤
+IsOfReading (CountsBefore read_by recorded) = ⊤
+IsOfReading (Reads read_by recorded before) = ⊤
+IsOfReading (Looks read_by recorded before read) = ⊤
+IsOfReading (CountsAfter read_by recorded before read seen) = ⊤
 IsOfReading stage = ⊥
 
 -- The stage is one of the setting of a sorter path.
@@ -116,7 +123,7 @@ opened_by o = record_of.Opened o.id o.addr o.count o.life
 
 -- What a job needs next: it puts a record, or is done, or else it sends a request.
 abbrev pub need_of : Job → Need
-need_of (StartPuts device mask) = need.Put (record_of.Epoch device.addr mask accepts)
+need_of (StartPuts device mask counted) = need.Put (record_of.Epoch device.addr mask counted.accepts)
 need_of (RoundPuts entry end) = need.Put entry
 need_of (StopPuts device entry end) = need.Put entry
 need_of (StopEnds device) = need.Put (record_of.EpochEnd device.addr)
@@ -153,12 +160,14 @@ end_of_job job = end_in (need_of job)
 -- The job of a round after it judged its reading.
 abbrev pub round_after : Judged → Job
 round_after Nothing = Done Clean
+round_after judged_of.Moved = Done Moved
 round_after (Reading entry) = RoundPuts entry Posted
 round_after (Broken entry) = RoundPuts entry Broke
 
 -- The job of a stop after it judged its reading.
 abbrev pub stop_after : Target → Judged → Job
 stop_after device Nothing = StopEnds device
+stop_after device judged_of.Moved = Done Moved
 stop_after device (Reading entry) = StopPuts device entry None
 stop_after device (Broken entry) = StopPuts device entry (Some Broke)
 
@@ -174,7 +183,7 @@ settling closing own halted = if halted then Stops closing own else Waits closin
 -- The job after its record was put: a stop that put no end yet puts its epoch's, a payment that opened its order lets
 -- the hopper dispense, and a sale is done.
 abbrev pub after_put : Job → Job
-after_put (StartPuts device mask) = Asks device (StartSets mask) 0
+after_put (StartPuts device mask counted) = Asks device (StartSets mask) 0
 after_put (RoundPuts entry end) = Done end
 after_put (StopPuts device entry None) = StopEnds device
 after_put (StopPuts device entry (Some end)) = Done end
@@ -205,17 +214,23 @@ PutsFit job = ⊤
 -- What was judged of a reading can be spelt in a journal, if it is a record.
 abbrev pub JudgedFits : Judged → Type 0
 JudgedFits Nothing = ⊤
+JudgedFits judged_of.Moved = ⊤
 JudgedFits (Reading entry) = Encodable entry
 JudgedFits (Broken entry) = Encodable entry
 
--- An epoch runs with this inhibit mask and event counter recorded.
+-- An epoch runs with this inhibit mask, event counter and accept counter recorded.
 abbrev pub runs : Recorded → EpochState
-runs recorded = Running recorded.mask recorded.counter
+runs recorded = Running recorded.mask recorded.counter recorded.counted.accepts
 
 -- An epoch runs.
 abbrev pub IsRunning : EpochState → Type 0
 IsRunning Idle = ⊥
 IsRunning (Running mask counter accepts) = ⊤
+
+-- The accept counter that is recorded of an epoch; 0 where none runs.
+abbrev pub accepts_of : EpochState → ℕ
+accepts_of Idle = 0
+accepts_of (Running mask counter accepts) = accepts
 
 -- The row of a payment or a settlement after a halt: the hopper is to be stopped before it is asked how the payout
 -- goes.
@@ -277,6 +292,10 @@ replied kind addr q sent heard = reply_wanted kind addr (form_of q) sent heard
 abbrev pub FitsLife : Reply → Type 0
 FitsLife y = (count : ℕ) → y ≡ reply.life count → count < 2 ^ 24
 
+-- An accept counter that a reply is fits its three bytes.
+abbrev pub FitsAccepts : Reply → Type 0
+FitsAccepts y = (count : ℕ) → y ≡ reply.accepts count → count < 2 ^ 24
+
 -- The line of a device that an exchange with it is.
 abbrev pub line_heard : DeviceSetup → List ℕ → List ℕ → Line
 line_heard d sent heard = exchange (asked d.kind sent) (got_by d sent heard)
@@ -326,12 +345,18 @@ KnowsPayout (Waits closing own) since owed =
 KnowsPayout (Stops closing own) since owed = (is_marked since ≡ true) × (owed ≡ Some own.order)
 KnowsPayout (Recounts closing own) since owed = owed ≡ Some own.order
 
--- What a stage knows of the lines before: what is recorded of the epoch, which credits were read, and what a payment or
--- a settlement knows of its payout.
+-- What a stage knows of the lines before: what is recorded of the epoch, which accept counter, credits and mask were read,
+-- and what a payment or a settlement knows of its payout.
 abbrev pub Knows : Stage → List Line → EpochState → Option OpenOrder → Type 0
 Knows (StopInhibits recorded) since state owed = state ≡ runs recorded
-Knows (Reads read_by recorded) since state owed = state ≡ runs recorded
-Knows (Looks read_by recorded read) since state owed = (state ≡ runs recorded) × (credits_read since ≡ Some read)
+Knows (CountsBefore read_by recorded) since state owed = state ≡ runs recorded
+Knows (Reads read_by recorded before) since state owed =
+    (state ≡ runs recorded) × (accepts_read since ≡ Some before.accepts)
+Knows (Looks read_by recorded before read) since state owed =
+    (state ≡ runs recorded) × (credits_read since ≡ Some read) × (accepts_before since ≡ Some before.accepts)
+Knows (CountsAfter read_by recorded before read seen) since state owed =
+    (state ≡ runs recorded) × (credits_read since ≡ Some read) × (accepts_before since ≡ Some before.accepts)
+    × (mask_read since ≡ Some seen)
 Knows (Pays row) since state owed = KnowsPayout row since owed
 Knows stage since state owed = ⊤
 
@@ -393,9 +418,9 @@ pub record Settling (d : DeviceSetup) (entry : Record) (end : End) (c : Command)
 -- is at its row. A job that puts something and then goes on has just its own rows to come.
 abbrev pub Stands : DeviceSetup → Job → Command → List Line → EpochState → Option OpenOrder → Type 0
 Stands d (Asks device stage failed) c since state owed = Asking d device stage failed c since state owed
-Stands d (StartPuts device mask) c since state owed =
-    (device ≡ target_of d) × (rest d c since ≡ ahead (StartPuts device mask))
-    × Putting d (StartPuts device mask) (record_of.Epoch d.addr mask accepts) None c since state owed
+Stands d (StartPuts device mask counted) c since state owed =
+    (device ≡ target_of d) × (rest d c since ≡ ahead (StartPuts device mask counted))
+    × Putting d (StartPuts device mask counted) (record_of.Epoch d.addr mask counted.accepts) None c since state owed
 Stands d (RoundPuts entry end) c since state owed =
     Putting d (RoundPuts entry end) entry (Some end) c since state owed
 Stands d (StopPuts device entry end) c since state owed =

@@ -12,7 +12,7 @@ ghost use Rattle.cct_msg.specs.Forms.{form_shown};
 ghost use Rattle.cct_jobs.specs.declared.stage.Stage.TheVariants.{Pays};
 ghost use Rattle.cct_model.specs.Rows.{sent_once};
 ghost use Rattle.cct_jobs.specs.Ahead.{payout_ahead, stage_ahead};
-ghost use Rattle.cct_jobs.specs.Jobs.{Asking, FitsLife, Stands, line_heard, request_of};
+ghost use Rattle.cct_jobs.specs.Jobs.{Asking, FitsAccepts, FitsLife, Stands, line_heard, request_of};
 ghost use Rattle.cct_jobs.specs.Onward.{KeepsTo, LeadsTo};
 
 use crate::job::Job;
@@ -99,16 +99,20 @@ fn tried_again(device: Target, stage: Stage, failed: u8) -> Job
 fn answered(job: &mut Job, device: Target, stage: Stage, reply: &Reply<'_>)
     requires wanted { form_shown (reply_shown reply.now) ≡ form_of (request_of stage) }
     requires life { FitsLife (reply_shown reply.now) }
+    requires accepts { FitsAccepts (reply_shown reply.now) }
     ensures device { (failed : ℕ) → LeadsTo device stage failed (Some (reply_shown reply.now)) job.new }
     ensures keeps { KeepsTo (stage_ahead device stage) job.new }
 {
     match stage {
         Stage::StartResets { .. } => start::answered(job, device, stage, reply),
         Stage::StartReads { .. } => start::answered(job, device, stage, reply),
+        Stage::StartCounts { .. } => start::answered(job, device, stage, reply),
         Stage::StartSets { .. } => start::answered(job, device, stage, reply),
         Stage::StopInhibits { .. } => reading::answered(job, device, stage, reply),
+        Stage::CountsBefore { .. } => reading::answered(job, device, stage, reply),
         Stage::Reads { .. } => reading::answered(job, device, stage, reply),
         Stage::Looks { .. } => reading::answered(job, device, stage, reply),
+        Stage::CountsAfter { .. } => reading::answered(job, device, stage, reply),
         Stage::IdentAsks { question } => ident::told(job, device, question),
         Stage::PathSets { .. } => path::answered(job, device, stage, reply),
         Stage::PathReads { .. } => path::answered(job, device, stage, reply),

@@ -32,9 +32,14 @@ impl Job {
         ensures { result ≡ put_in (need_of self.now) }
     {
         match self {
-            Job::StartPuts { device, mask } => Some(Record::Epoch {
+            Job::StartPuts {
+                device,
+                mask,
+                counted,
+            } => Some(Record::Epoch {
                 addr: device.addr,
                 mask: *mask,
+                accepts: counted.accepts,
             }),
             Job::RoundPuts { entry, .. } => Some(entry.copied()),
             Job::StopPuts { entry, .. } => Some(entry.copied()),
@@ -124,7 +129,9 @@ impl Job {
         ensures { result ≡ after_put self.now }
     {
         match self {
-            Job::StartPuts { device, mask } => first_try(*device, Stage::StartSets { mask: *mask }),
+            Job::StartPuts { device, mask, .. } => {
+                first_try(*device, Stage::StartSets { mask: *mask })
+            }
             Job::RoundPuts { end, .. } => Job::Done(*end),
             Job::StopPuts { device, end, .. } => match end {
                 Some(end) => Job::Done(*end),

@@ -8,14 +8,16 @@ ghost use Rattle.cct_model.specs.Exchange.{device_at};
 ghost use Rattle.cct_model.specs.Job.{address_of};
 ghost use Rattle.cct_model.specs.Rows.{rows_of, rows_of_sale};
 ghost use Rattle.cct_jobs.specs.Ahead.{ahead};
-ghost use Rattle.cct_jobs.specs.Jobs.{IsRunning, MayBegin, PutsFit, Stands, end_of_job, first_need, is_of_device, need_of, runs};
+ghost use Rattle.cct_jobs.specs.Jobs.{IsRunning, MayBegin, PutsFit, Stands, accepts_of, end_of_job, first_need, is_of_device, need_of, runs};
 ghost use Rattle.cct_jobs.specs.Sales.{StandsSale};
 ghost use Rattle.cct_jobs.specs.Scans.{StandsScan};
 
 use crate::asks::first_try;
+use crate::counted::Counted;
 use crate::job::Job;
 use crate::owed::Owed;
 use crate::payout::{Closing, Payout};
+use crate::reading;
 use crate::stage::{ReadBy, Recorded, Stage};
 use crate::target::target_at;
 use cct_epoch::EpochState;
@@ -33,6 +35,7 @@ impl Job {
     ) -> Job
         requires may_begin { MayBegin command.now setup.now.devices epoch.now (option_map (λ o. o.now) order) }
         requires life { (o : OpenOrder) → option_map (λ o. o.now) order ≡ Some o → o.life < 2 ^ 24 }
+        requires counts { accepts_of epoch.now < 2 ^ 24 }
 
         // the lines that it stands for, none yet:
         // A round and a stop begin with what is recorded of the epoch, and a settlement with the open order, which it
@@ -58,13 +61,9 @@ impl Job {
             Command::Start { addr, mask } => {
                 first_try(target_at(setup, addr), Stage::StartResets { mask })
             }
-            Command::Round { addr } => first_try(
-                target_at(setup, addr),
-                Stage::Reads {
-                    read_by: ReadBy::Round,
-                    recorded: recorded_in(epoch),
-                },
-            ),
+            Command::Round { addr } => {
+                reading::counts(target_at(setup, addr), ReadBy::Round, recorded_in(epoch))
+            }
             Command::Stop { addr } => first_try(
                 target_at(setup, addr),
                 Stage::StopInhibits {
@@ -108,11 +107,20 @@ impl Job {
 
 /// What is recorded of an epoch, which has to run.
 fn recorded_in(epoch: &EpochState) -> Recorded
-    requires { IsRunning epoch.now }
+    requires runs { IsRunning epoch.now }
+    requires counts { accepts_of epoch.now < 2 ^ 24 }
     ensures { epoch.now ≡ runs result }
 {
     match *epoch {
-        EpochState::Running { mask, counter } => Recorded { mask, counter },
+        EpochState::Running {
+            mask,
+            counter,
+            accepts,
+        } => Recorded {
+            mask,
+            counter,
+            counted: Counted { accepts },
+        },
         EpochState::Idle => unreachable!(),
     }
 }

@@ -20,6 +20,7 @@ ghost use Rattle.cct_jobs.specs.Sales.{NeedsSale, StandsSale, newest_sale_end};
 ghost use Rattle.cct_jobs.specs.Scans.{NeedsScan, StandsScan};
 ghost use Rattle.cct_jobs.specs.Onward.{GoesOnAfterPut, GoesOnAfterSale, HearsDevice, HearsPolled, KeepsTo, SendsPoll, SendsToDevice};
 
+use crate::counted::Counted;
 use crate::owed::Owed;
 use crate::stage::Stage;
 use crate::target::Target;
@@ -36,10 +37,11 @@ pub enum Job {
         stage: Stage,
         failed: u8,
     },
-    /// A start puts that an epoch begins.
+    /// A start puts that an epoch begins, beside what its acceptor counted.
     StartPuts {
         device: Target,
         mask: u16,
+        counted: Counted,
     },
     /// A round puts what it judged, and then ends so.
     RoundPuts {
@@ -231,8 +233,9 @@ impl Job {
     pub fn hear(&mut self, sent: &[u8], heard: &[u8])
         requires asks { need_of self.old ≡ Need.Exchange }
         // It goes on only by the wanted reply; a row without it is tried again. But a start sends its mask once, and
-        // goes on only from event counter 0; a payment sends its dispense once and goes on whatever is heard. An order
-        // is closed by the life count alone, under its own id.
+        // goes on only from event counter 0; a payment sends its dispense once and goes on whatever is heard. A reading
+        // is judged beside the accept counters that were read before it and after it. An order is closed by the life
+        // count alone, under its own id.
         ensures device { HearsDevice self.old sent.now heard.now self.new }
         // An address is listed by its acknowledgement.
         ensures scan { HearsPolled self.old sent.now heard.now self.new }

@@ -18,7 +18,7 @@ use cct_model::Request;
 /// A job at a device ends with [`End::NoAnswer`](cct_model::End) at the third failed try in succession of one row, and at
 /// no other exchange: each failed try of a row counts, and a wanted reply or an exchange of another row begins the count
 /// anew. A row that is sent once alone is apart: a mask that isn't acknowledged ends its start unsure.
-#[tactic(auto, using(crate::proofs::Tries::third_ends, crate::proofs::Tries::mask_unsure, crate::proofs::Tries::answer_goes_on, crate::proofs::Tries::other_clears, cct_model::proofs::Tries::tried))]
+#[tactic(auto, using(crate::proofs::Tries::third_ends, crate::proofs::Tries::answer_goes_on, crate::proofs::Tries::other_clears, cct_model::proofs::Tries::tried))]
 pub fn no_answer_comes_at_the_third_failed_try()
     // at which failed try a job ends
     ensures third { (d : DeviceSetup) (c : Command) (q : Request) (since : List Line) (state : EpochState)

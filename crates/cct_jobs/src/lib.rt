@@ -6,6 +6,7 @@
 mod asks;
 mod by_row;
 mod by_value;
+mod counted;
 mod first_row;
 mod ident;
 mod job;
@@ -20,6 +21,7 @@ mod stage;
 mod start;
 mod target;
 
+pub use counted::Counted;
 pub use job::{Job, Need, Sending};
 pub use laws::no_answer_comes_at_the_third_failed_try;
 pub use owed::Owed;

@@ -1,18 +1,19 @@
-//! The round, and the stop of an epoch: an acceptor's credits and then its inhibit mask are read, and what they mean is
-//! put; a stop inhibits every coin before, and puts the epoch's end after (ccTalk Generic Specification 4, part 2,
-//! headers 228, 229 and 230).
+//! The round, and the stop of an epoch: an acceptor's accept counter is read, then its credits, its inhibit mask, and its
+//! accept counter again; what they mean is put, unless a coin was accepted in between. A stop inhibits every coin before, and
+//! puts the epoch's end after (ccTalk Generic Specification 4, parts 2 and 3, headers 225, 228, 229 and 230).
 ghost use Rattle.std.specs.Prelude.{◌≡◌, ℕ, Some};
 ghost use Rattle.cct_model.specs.terms.request.ReplyForm.TheVariants as form;
 ghost use Rattle.cct_model.specs.Reply as shown;
 ghost use Rattle.cct_model.specs.Reply.{reply_shown};
 ghost use Rattle.cct_model.specs.Request.{form_of};
 ghost use Rattle.cct_msg.specs.Forms.{form_shown};
-ghost use Rattle.cct_jobs.specs.declared.stage.Stage.TheVariants.{Looks};
+ghost use Rattle.cct_jobs.specs.declared.stage.Stage.TheVariants.{CountsAfter, CountsBefore, Looks, Reads};
 ghost use Rattle.cct_jobs.specs.Ahead.{stage_ahead, reading_ahead};
-ghost use Rattle.cct_jobs.specs.Jobs.{IsOfReading, request_of, round_after, stop_after};
+ghost use Rattle.cct_jobs.specs.Jobs.{FitsAccepts, IsOfReading, request_of, round_after, stop_after};
 ghost use Rattle.cct_jobs.specs.Onward.{KeepsTo, LeadsTo};
 
 use crate::asks::first_try;
+use crate::counted::Counted;
 use crate::job::Job;
 use crate::stage::{ReadBy, Recorded, Stage};
 use crate::target::Target;
@@ -23,31 +24,105 @@ use cct_model::{Credits, End, Reply};
 pub(crate) fn answered(job: &mut Job, device: Target, stage: Stage, reply: &Reply<'_>)
     requires row { IsOfReading stage }
     requires wanted { form_shown (reply_shown reply.now) ≡ form_of (request_of stage) }
+    requires accepts { FitsAccepts (reply_shown reply.now) }
     ensures device { (failed : ℕ) → LeadsTo device stage failed (Some (reply_shown reply.now)) job.new }
     ensures keeps { KeepsTo (stage_ahead device stage) job.new }
 {
     match stage {
-        Stage::StopInhibits { recorded } => {
-            let read_by = ReadBy::Stop;
-            *job = first_try(device, Stage::Reads { read_by, recorded });
+        Stage::StopInhibits { recorded } => *job = counts(device, ReadBy::Stop, recorded),
+        Stage::CountsBefore { read_by, recorded } => {
+            *job = reads(device, read_by, recorded, count_in(reply));
         }
-        Stage::Reads { read_by, recorded } => {
-            *job = first_try(
-                device,
-                Stage::Looks {
-                    read_by,
-                    recorded,
-                    credits: credits_in(reply),
-                },
-            );
-        }
+        Stage::Reads {
+            read_by,
+            recorded,
+            before,
+        } => *job = looks(device, read_by, recorded, before, credits_in(reply)),
         Stage::Looks {
             read_by,
             recorded,
+            before,
             credits,
-        } => judged(job, device, read_by, recorded, &credits, mask_in(reply)),
+        } => *job = counts_again(device, read_by, recorded, before, credits, mask_in(reply)),
+        Stage::CountsAfter {
+            read_by,
+            recorded,
+            before,
+            credits,
+            mask_seen,
+        } => {
+            let now = count_in(reply);
+            judged(
+                job, device, read_by, recorded, before, &credits, mask_seen, now,
+            );
+        }
         _ => unreachable!(),
     }
+}
+
+/// The round or the stop at its first accept counter.
+pub(crate) fn counts(device: Target, read_by: ReadBy, recorded: Recorded) -> Job
+    ensures { result ≡ Job.Asks device (CountsBefore read_by recorded) 0 }
+{
+    first_try(device, Stage::CountsBefore { read_by, recorded })
+}
+
+/// The round or the stop at its credits.
+fn reads(device: Target, read_by: ReadBy, recorded: Recorded, before: Counted) -> Job
+    ensures { result ≡ Job.Asks device (Reads read_by recorded before) 0 }
+{
+    first_try(
+        device,
+        Stage::Reads {
+            read_by,
+            recorded,
+            before,
+        },
+    )
+}
+
+/// The round or the stop at its look at the mask.
+fn looks(
+    device: Target,
+    read_by: ReadBy,
+    recorded: Recorded,
+    before: Counted,
+    credits: Credits,
+) -> Job
+    ensures { result ≡ Job.Asks device (Looks read_by recorded before credits) 0 }
+{
+    first_try(
+        device,
+        Stage::Looks {
+            read_by,
+            recorded,
+            before,
+            credits,
+        },
+    )
+}
+
+/// The round or the stop at its second accept counter.
+fn counts_again(
+    device: Target,
+    read_by: ReadBy,
+    recorded: Recorded,
+    before: Counted,
+    credits: Credits,
+    mask_seen: u16,
+) -> Job
+    ensures { result ≡ Job.Asks device (CountsAfter read_by recorded before credits mask_seen) 0 }
+{
+    first_try(
+        device,
+        Stage::CountsAfter {
+            read_by,
+            recorded,
+            before,
+            credits,
+            mask_seen,
+        },
+    )
 }
 
 /// The credits that the reply to the question for them is.
@@ -72,25 +147,43 @@ fn mask_in(reply: &Reply<'_>) -> u16
     }
 }
 
-/// The round or the stop read these credits and this mask, and goes on.
+/// What the reply to the question for the accept counter counted.
+pub(crate) fn count_in(reply: &Reply<'_>) -> Counted
+    requires wanted { form_shown (reply_shown reply.now) ≡ Some form.Accepts }
+    requires accepts { FitsAccepts (reply_shown reply.now) }
+    ensures { reply_shown reply.now ≡ shown.accepts result.accepts }
+{
+    match reply {
+        Reply::Accepts { count } => Counted { accepts: *count },
+        _ => unreachable!(),
+    }
+}
+
+/// The round or the stop read these credits and this mask between these accept counters, and goes on.
 fn judged(
     job: &mut Job,
     device: Target,
     read_by: ReadBy,
     recorded: Recorded,
+    before: Counted,
     credits: &Credits,
     mask_seen: u16,
+    now: Counted,
 )
     ensures device { (failed : ℕ)
-        → LeadsTo device (Looks read_by recorded credits.now) failed (Some (shown.mask mask_seen)) job.new }
+        → LeadsTo device (CountsAfter read_by recorded before credits.now mask_seen) failed (Some (shown.accepts now.accepts))
+        job.new }
     ensures keeps { KeepsTo (reading_ahead device read_by) job.new }
 {
     let meaning = judge(
         device.addr,
         recorded.mask,
         recorded.counter,
+        recorded.counted.accepts,
         credits,
         mask_seen,
+        before.accepts,
+        now.accepts,
     );
     match read_by {
         ReadBy::Round => round_judged(job, meaning),
@@ -104,6 +197,7 @@ fn round_judged(job: &mut Job, meaning: Judged)
 {
     match meaning {
         Judged::Nothing => *job = Job::Done(End::Clean),
+        Judged::Moved => *job = Job::Done(End::Moved),
         Judged::Reading(entry) => {
             let end = End::Posted;
             *job = Job::RoundPuts { entry, end };
@@ -121,6 +215,7 @@ fn stop_judged(job: &mut Job, device: Target, meaning: Judged)
 {
     match meaning {
         Judged::Nothing => *job = Job::StopEnds { device },
+        Judged::Moved => *job = Job::Done(End::Moved),
         Judged::Reading(entry) => {
             let end = None;
             *job = Job::StopPuts { device, entry, end };

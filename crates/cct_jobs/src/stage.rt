@@ -6,6 +6,7 @@ ghost use Rattle.cct_jobs.specs.declared.target.Target.{Target};
 ghost use Rattle.cct_jobs.specs.Ahead.{coins_in, stage_ahead, reading_ahead};
 ghost use Rattle.cct_jobs.specs.Jobs.{request_of};
 
+use crate::counted::Counted;
 use crate::path;
 use crate::payout::Payout;
 use cct_model::{Credits, ReplyForm, Request};
@@ -14,14 +15,16 @@ use cct_msg::form_of;
 /// The request that inhibits every coin.
 const INHIBIT: Request = Request::SetMaster { value: 0 };
 
-/// What is recorded of an epoch that runs: its inhibit mask, and the event counter of its last recorded reading, or 0.
+/// What is recorded of an epoch that runs: its inhibit mask, the event counter of its last recorded reading, or 0, and what
+/// its acceptor counted at its last record.
 #[derive(Clone, Copy, Debug, PartialEq, Eq)]
 pub struct Recorded {
     pub mask: u16,
     pub counter: u8,
+    pub counted: Counted,
 }
 
-/// By which job the credits and the inhibit mask of an acceptor are read.
+/// By which job an acceptor is read.
 #[derive(Clone, Copy, Debug, PartialEq, Eq)]
 pub enum ReadBy {
     /// By a round.
@@ -41,6 +44,10 @@ pub enum Stage {
     StartReads {
         mask: u16,
     },
+    /// It reads the accept counter, with which the epoch begins.
+    StartCounts {
+        mask: u16,
+    },
     /// It sets the inhibit mask, once.
     StartSets {
         mask: u16,
@@ -49,16 +56,31 @@ pub enum Stage {
     StopInhibits {
         recorded: Recorded,
     },
-    /// A round or a stop reads the credits, beside what is recorded of the epoch.
+    /// A round or a stop reads the accept counter before its reading, beside what is recorded of the epoch.
+    CountsBefore {
+        read_by: ReadBy,
+        recorded: Recorded,
+    },
+    /// It reads the credits.
     Reads {
         read_by: ReadBy,
         recorded: Recorded,
+        before: Counted,
     },
     /// It looks at the inhibit mask after these credits were read.
     Looks {
         read_by: ReadBy,
         recorded: Recorded,
+        before: Counted,
         credits: Credits,
+    },
+    /// It reads the accept counter again after it saw this mask.
+    CountsAfter {
+        read_by: ReadBy,
+        recorded: Recorded,
+        before: Counted,
+        credits: Credits,
+        mask_seen: u16,
     },
     /// An identification asks a device for one of the things that it tells of itself.
     IdentAsks {
@@ -88,10 +110,13 @@ impl Stage {
         match self {
             Stage::StartResets { .. } => Request::ResetDevice,
             Stage::StartReads { .. } => Request::ReadCredits,
+            Stage::StartCounts { .. } => Request::AcceptCount,
             Stage::StartSets { mask } => Request::SetMask { mask: *mask },
             Stage::StopInhibits { .. } => INHIBIT,
+            Stage::CountsBefore { .. } => Request::AcceptCount,
             Stage::Reads { .. } => Request::ReadCredits,
             Stage::Looks { .. } => Request::GetMask,
+            Stage::CountsAfter { .. } => Request::AcceptCount,
             Stage::IdentAsks { question } => *question,
             Stage::PathSets { place, path } => path::setting(*place, *path),
             Stage::PathReads { place, .. } => path::reading(*place),
@@ -116,10 +141,13 @@ impl Stage {
         match self {
             Stage::StartResets { .. } => 1,
             Stage::StartReads { .. } => 1,
+            Stage::StartCounts { .. } => 1,
             Stage::StartSets { .. } => 0,
             Stage::StopInhibits { .. } => 2,
+            Stage::CountsBefore { read_by, .. } => read_by.may_put(),
             Stage::Reads { read_by, .. } => read_by.may_put(),
             Stage::Looks { read_by, .. } => read_by.may_put(),
+            Stage::CountsAfter { read_by, .. } => read_by.may_put(),
             Stage::IdentAsks { .. } => 0,
             Stage::PathSets { .. } => 0,
             Stage::PathReads { .. } => 0,

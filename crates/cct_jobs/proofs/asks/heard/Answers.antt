@@ -4,7 +4,7 @@ use Rattle.cct_model.specs.Reply.{reply_shown}
 use Rattle.cct_model.specs.Line.{Line}
 use Rattle.cct_jobs.specs.Jobs.{Stands, replied, reply_wanted, request_of}
 use Rattle.cct_jobs.proofs.Heard.{form_heard, heard_is}
-use Rattle.cct_jobs.proofs.Lives.{life_heard}
+use Rattle.cct_jobs.proofs.Lives.{accepts_heard, life_heard}
 use Rattle.cct_jobs.proofs.Stages.{stage_fits}
 use Rattle.cct_jobs.proofs.asks.heard.Goals as goal
 
@@ -22,6 +22,8 @@ answered-requires c =
       wanted = form_heard device.kind device.addr (request_of c.args.stage) sent heard (reply_shown c.in-Some.reply)
           replies;
       life = life_heard device.kind device.addr (request_of c.args.stage) sent heard (reply_shown c.in-Some.reply)
+          (λ i. let fits = c.type_inv.heard i in omega arith) replies;
+      accepts = accepts_heard device.kind device.addr (request_of c.args.stage) sent heard (reply_shown c.in-Some.reply)
           (λ i. let fits = c.type_inv.heard i in omega arith) replies;
     }
 

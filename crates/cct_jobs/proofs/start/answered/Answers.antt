@@ -10,11 +10,21 @@ pub credits_in-requires : goal.credits_in-requires
 unfolding form_of
 credits_in-requires c = c.requires.wanted ∙ ap (λ (s : Stage). form_of (request_of s)) c.in-StartReads.is
 
+pub count_in-requires-clause-wanted : goal.count_in-requires-clause-wanted
+unfolding form_of
+count_in-requires-clause-wanted c = c.requires.wanted ∙ ap (λ (s : Stage). form_of (request_of s)) c.in-StartCounts.is
+
 pub returns-in-StartReads-clause-device : goal.returns-in-StartReads-clause-device
 returns-in-StartReads-clause-device c = λ failed d command since state owed at.
     as_answered d _ command since state owed _ _ _ _ (ap request_of c.in-StartReads.is) c.credits_in.ensures
     (c.after_reset.ensures.device failed d command since state owed
     (subst (λ (s : Stage). Asking d c.args.device s failed command since state owed) c.in-StartReads.is at))
+
+pub returns-in-StartCounts-clause-device : goal.returns-in-StartCounts-clause-device
+returns-in-StartCounts-clause-device c = λ failed d command since state owed at.
+    as_answered d _ command since state owed _ _ _ _ (ap request_of c.in-StartCounts.is) c.count_in.ensures
+    (c.begins.ensures.device failed d command since state owed
+    (subst (λ (s : Stage). Asking d c.args.device s failed command since state owed) c.in-StartCounts.is at))
 
 pub returns-in-StartResets-clause-device : goal.returns-in-StartResets-clause-device
 returns-in-StartResets-clause-device c = λ failed d command since state owed at.

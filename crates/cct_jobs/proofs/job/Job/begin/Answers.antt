@@ -1,7 +1,7 @@
 use Rattle.std.proofs.Common.{◌∙◌, ◌<◌, ◌^◌, ap, false, refl, subst, sym}
 use Rattle.cct_model.specs.lines.command.Command.TheVariants as command
 use Rattle.cct_model.specs.terms.request.Request.TheVariants.{MakerId}
-use Rattle.cct_jobs.specs.declared.stage.Stage.TheVariants.{StartResets, StopInhibits, Reads, IdentAsks, PathSets, Pays}
+use Rattle.cct_jobs.specs.declared.stage.Stage.TheVariants.{StartResets, StopInhibits, CountsBefore, IdentAsks, PathSets, Pays}
 use Rattle.cct_jobs.specs.declared.payout.Closing.TheVariants.{Settlement}
 use Rattle.cct_jobs.specs.declared.payout.Payout.TheVariants.{Enables, Waits}
 use Rattle.cct_jobs.specs.declared.stage.ReadBy.TheVariants.{Round}
@@ -23,14 +23,14 @@ returns-in-Start-clause-rows c = λ d there here.
 
 pub returns-in-Round-clause-device : goal.returns-in-Round-clause-device
 returns-in-Round-clause-device c = λ d there serial here.
-    first_stage c.args.setup.now.devices c.in-Round.addr d c.target_at-in-Round.result (Reads Round c.recorded_in.result) c.args.command.now
-    (command.Round c.in-Round.addr) c.args.epoch.now _ c.first_try-in-Round.result c.first_try-in-Round.ensures c.in-Round.is refl there c.target_at-in-Round.ensures
+    first_stage c.args.setup.now.devices c.in-Round.addr d c.target_at-in-Round.result (CountsBefore Round c.recorded_in.result) c.args.command.now
+    (command.Round c.in-Round.addr) c.args.epoch.now _ c.counts.result c.counts.ensures c.in-Round.is refl there c.target_at-in-Round.ensures
     refl (λ is. tt) c.recorded_in.ensures
 
 pub returns-in-Round-clause-rows : goal.returns-in-Round-clause-rows
 returns-in-Round-clause-rows c = λ d there here.
     begun_ahead c.args.setup.now.devices c.in-Round.addr d c.target_at-in-Round.result c.args.command.now (command.Round c.in-Round.addr) _ c.in-Round.is refl
-    there c.target_at-in-Round.ensures (ap ahead c.first_try-in-Round.ensures)
+    there c.target_at-in-Round.ensures (ap ahead c.counts.ensures)
 
 pub returns-in-Stop-clause-device : goal.returns-in-Stop-clause-device
 returns-in-Stop-clause-device c = λ d there serial here.
