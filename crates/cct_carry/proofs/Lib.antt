@@ -7,6 +7,7 @@ pub mod Fitting
 pub mod Devices
 pub mod Gathered
 pub mod Carried
+pub mod FitsSetup
 pub mod Follows
 pub mod Steps
 pub mod Over

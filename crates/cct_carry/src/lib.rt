@@ -9,6 +9,7 @@ mod going_on;
 mod held;
 mod laws;
 mod tally;
+mod told;
 mod values;
 mod worth;
 
@@ -21,5 +22,6 @@ pub use laws::{
     the_orders_of_a_carry_are_those_of_the_devices,
 };
 pub use tally::Tally;
+pub use told::{epoch_by, id_of};
 pub use values::valueless;
 pub use worth::{coins_of, coins_value};

@@ -39,6 +39,19 @@ impl<'s> Tally<'s> {
         }
     }
 
+    /// The tally of so many records that are not known.
+    pub fn counted(setup: &'s Setup, many: u32) -> Tally<'s>
+        requires sound { IsSoundSetup setup.now }
+        ensures setup { setup_of result ≡ setup.now }
+        ensures many { many_of result ≡ many }
+    {
+        Tally {
+            setup,
+            many,
+            carry: Carry::empty(),
+        }
+    }
+
     /// The tally of the records of a carry, of which there are `many`; none where the carry doesn't fit the setup.
     pub fn resume(setup: &'s Setup, many: u32, carry: &Carry) -> Option<Tally<'s>>
         requires sound { IsSoundSetup setup.now }

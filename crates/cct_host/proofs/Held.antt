@@ -53,7 +53,7 @@ few_stage (Reads Stop recorded) target = omega arith
 few_stage (Looks Round recorded read) target = omega arith
 few_stage (Looks Stop recorded read) target = omega arith
 few_stage (IdentAsks question) target =
-    let none = ident_none puts_in (λ q behind rows. refl) target question in
+    let none = ident_none puts_in (λ q later rows. refl) target question in
     omega (arith, none)
 few_stage (Pays (Enables id count halted)) target = omega arith
 few_stage (Pays (Counts id count halted)) target = omega arith

@@ -217,7 +217,7 @@ settles_room new (Some o) there is puts = closing_room new (Some o) (0 + 1 + 0) 
 pub only_tells : (qs : List Request)
     → (has_closes (telling qs) ≡ false) × (puts_in (telling qs) ≡ 0) × (coins_in (telling qs) ≡ 0)
 only_tells = told_fact (λ rows. (has_closes rows ≡ false) × (puts_in rows ≡ 0) × (coins_in rows ≡ 0)) (refl, refl, refl)
-    (λ q behind rows none. none)
+    (λ q later rows none. none)
 
 room_by : (d : DeviceSetup) (job : Option Job) (state : EpochState) (owed : OrderState) (last : ℕ) (c : Command) (new : Job)
     → refusal_beside d job state owed last c ≡ None → ahead new ≡ rows_of d c

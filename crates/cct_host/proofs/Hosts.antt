@@ -52,9 +52,9 @@ counted_so : (used before : ℕ) (due : Option Record) (rs : List Record) → us
 counted_so used before None rs is was = omega (arith, is, was)
 counted_so used before (Some r) rs is was = omega (arith, is, was)
 
-nothing_behind : (why : Option CommandNo) → why ≡ option_or why None
-nothing_behind None = refl
-nothing_behind (Some why) = refl
+nothing_further : (why : Option CommandNo) → why ≡ option_or why None
+nothing_further None = refl
+nothing_further (Some why) = refl
 
 command_records : (c : Command) (why : Option CommandNo) (past : List Entry)
     → records (command_entry c why ∷ past) ≡ records past
@@ -185,7 +185,7 @@ module _ {D : Type 0} {g : Ghosts D} where
   tried_answers old new c result room desks ledger setup tally same past stands =
       let told = desks past stands.keeps.desks in
       let quiet = command_records c (no_of result) past in (
-        told.0 ∙ nothing_behind _ ∙ room past stands.keeps,
+        told.0 ∙ nothing_further _ ∙ room past stands.keeps,
         record {
           keeps = record {
             desks = told.1;

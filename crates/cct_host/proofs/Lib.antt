@@ -1,6 +1,5 @@
 pub mod Attempts
 pub mod Begun
-pub mod Carried
 pub mod Commands
 pub mod Held
 pub mod Holding

@@ -302,11 +302,20 @@ refused_line c why (device d) past = refl
 refused_line c why scans past = refl
 refused_line c why sales past = refl
 
+forgery_line : (addr : ℕ) (place : Place) (past : List Entry)
+    → lines_at place (entry.Forged addr ∷ past) ≡ lines_at place past
+forgery_line addr (device d) past = refl
+forgery_line addr scans past = refl
+forgery_line addr sales past = refl
+
 pub idle_quiet : (past : List Entry) (addr : ℕ) → IsQuiet past (entry.Idle addr)
 idle_quiet past addr = no_line past _ refl (λ place. idle_line addr place past)
 
 pub fault_quiet : (past : List Entry) (f : WireFault) → IsQuiet past (entry.Fault f)
 fault_quiet past f = no_line past _ refl (λ place. fault_line f place past)
+
+pub forged_quiet : (past : List Entry) (addr : ℕ) → IsQuiet past (entry.Forged addr)
+forged_quiet past addr = no_line past _ refl (λ place. forgery_line addr place past)
 
 pub refused_quiet : (past : List Entry) (c : Command) (why : CommandNo) → IsQuiet past (entry.No c why)
 refused_quiet past c why = no_line past _ refl (λ place. refused_line c why place past)

@@ -18,7 +18,7 @@ use Rattle.cct_host.specs.declared.replay.ReplayState.{ReplayState}
 use Rattle.cct_host.specs.OnDisk.{IsFirstBad, StopsAt}
 use Rattle.cct_host.specs.Replaying.{GoesOver, ReplaysTo}
 use Rattle.cct_host.specs.Starting.{IsFirstUnfollowing, RefusesResume, RefusesStart}
-use Rattle.cct_host.proofs.Carried.{carry_fits}
+use Rattle.cct_carry.proofs.FitsSetup.{carry_fits}
 
 next_before : (before : List Record) (r : Record) (later : List Record)
     → reverse (r ∷ later) ++ before ≡ reverse later ++ r ∷ before

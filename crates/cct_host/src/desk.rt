@@ -15,8 +15,8 @@ ghost use Rattle.cct_host.specs.Running.{id_left, is_halt, is_running};
 
 use crate::exchange::{exchange, put};
 use crate::orders::OrderState;
-use crate::recorded::{epoch_by, id_of};
 use arrayvec::ArrayVec;
+use cct_carry::{epoch_by, id_of};
 use cct_jobs::{Job, Owed};
 use cct_model::{Command, CommandNo, DeviceSetup, Entry, EpochState, OpenOrder, Record, Setup};
 use cct_wire::Link;
@@ -237,13 +237,6 @@ impl JobDesk {
             Some(job) => job.order_after(self.orders.order),
             None => self.orders.order,
         }
-    }
-
-    /// The id of the payment or the sale that is running, or 0.
-    pub(crate) fn id(&self) -> u32
-        ensures { result ≡ self.now.orders.id }
-    {
-        self.orders.id
     }
 
     /// The id of the payment or the sale that is still running, or 0.

@@ -20,7 +20,6 @@ ghost use Rattle.cct_carry.specs.Sound.{IsSoundSetup-prop};
 
 use crate::desk::JobDesk;
 use crate::recorded::resumed_desks;
-use crate::reserves::greater;
 use arrayvec::ArrayVec;
 use cct_carry::coins_of;
 use cct_model::{
@@ -170,11 +169,8 @@ impl<'s> Desks<'s> {
     fn last_id(&self) -> u32
         ensures { result ≡ max self.now.last (working_id self.now) }
     {
-        let at_work = greater(
-            JobDesk::greatest_paying(self.devices.as_slice()),
-            self.sale.id(),
-        );
-        greater(self.last, at_work)
+        let running = JobDesk::greatest_paying(self.devices.as_slice()).max(self.sale.orders.id);
+        self.last.max(running)
     }
 
     /// The last id, where a command to a device begins one; any other isn't judged by it.
@@ -329,7 +325,7 @@ impl<'s> Desks<'s> {
         match found {
             Some(index) => {
                 let used = self.devices[index].next(addr, due, link, report);
-                self.last = greater(used, self.last);
+                self.last = used.max(self.last);
             }
             None => self.bare_next(addr, due, link, report),
         }
@@ -352,10 +348,10 @@ impl<'s> Desks<'s> {
     {
         if addr == BROADCAST {
             let used = self.scan.next(addr, due, link, report);
-            self.last = greater(used, self.last);
+            self.last = used.max(self.last);
         } else if addr == HOST {
             let used = self.sale.next(addr, due, link, report);
-            self.last = greater(used, self.last);
+            self.last = used.max(self.last);
         } else {
             report.push(Entry::Idle { addr });
         }

@@ -60,10 +60,7 @@ impl JobDesk {
     pub(crate) fn sale_refusal(&self, id: u32, last: u32) -> Option<CommandNo>
         ensures { result ≡ sale_refusal self.now.job id last }
     {
-        match self.busy() {
-            Some(why) => Some(why),
-            None => id_refusal(id, last),
-        }
+        self.busy().or(id_refusal(id, last))
     }
 
     /// Why a command is refused, if it is.
@@ -101,7 +98,7 @@ impl JobDesk {
         ensures { result ≡ acceptor_refusal device.now self.now.job further }
     {
         match device.body.family() {
-            Family::Acceptor => self.busy_or(further),
+            Family::Acceptor => self.busy().or(further),
             Family::Hopper => Some(CommandNo::WrongKind),
         }
     }
@@ -112,17 +109,7 @@ impl JobDesk {
     {
         match device.body.family() {
             Family::Acceptor => Some(CommandNo::WrongKind),
-            Family::Hopper => self.busy_or(further),
-        }
-    }
-
-    /// Why a command is refused where a job is here, and else a further reason.
-    fn busy_or(&self, further: Option<CommandNo>) -> Option<CommandNo>
-        ensures { result ≡ option_or (busy_by self.now.job) further }
-    {
-        match self.busy() {
-            Some(why) => Some(why),
-            None => further,
+            Family::Hopper => self.busy().or(further),
         }
     }
 

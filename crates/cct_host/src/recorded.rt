@@ -1,12 +1,10 @@
-//! What is recorded of a desk's device, the epoch or the open order, by a carry, and how the epoch goes on by a record.
+//! What is recorded of a desk's device, the epoch or the open order, by a carry.
 ghost use Rattle.std.specs.Prelude.{◌≡◌, ◌≤◌, ℕ, None, length};
 ghost use Rattle.std.specs.List.{All};
 ghost use Rattle.cct_model.specs.terms.device.Setup.{Setup};
 ghost use Rattle.cct_model.specs.Carried.{IsRightly};
 ghost use Rattle.cct_model.specs.Carry as carries;
 ghost use Rattle.cct_model.specs.Carry.{known_by};
-ghost use Rattle.cct_model.specs.Job.{counted, epoch_by};
-ghost use Rattle.cct_model.specs.Records.{id_of};
 ghost use Rattle.cct_jobs.specs.Jobs.{order_of};
 ghost use Rattle.cct_host.specs.Replayed.{AllReplay, IsUnused};
 
@@ -15,7 +13,7 @@ use crate::orders::OrderState;
 use arrayvec::ArrayVec;
 use cct_carry::{epoch_held, order_held};
 use cct_jobs::Owed;
-use cct_model::{Carry, DEVICES, DeviceSetup, EpochState, Record};
+use cct_model::{Carry, DEVICES, DeviceSetup};
 
 /// The desk of each device by a carry: no job is there.
 pub(crate) fn resumed_desks(devices: &[DeviceSetup], carry: &Carry) -> ArrayVec<JobDesk, DEVICES>
@@ -61,43 +59,5 @@ fn owed_held(carry: &Carry, addr: u8) -> Option<Owed>
     match order_held(carry, addr) {
         Some(order) => Some(Owed { order }),
         None => None,
-    }
-}
-
-/// The id that a record uses, of an order that it opens or of a sale; 0 of others.
-pub(crate) fn id_of(entry: &Record) -> u32
-    ensures { result ≡ id_of entry.now }
-{
-    match entry {
-        Record::Opened { id, .. } => *id,
-        Record::Sold { id, .. } => *id,
-        _ => 0,
-    }
-}
-
-/// The epoch after a record: it begins with event counter 0, a reading moves its counter, and a break or its end ends
-/// it.
-pub(crate) fn epoch_by(entry: &Record, before: EpochState) -> EpochState
-    ensures { result ≡ epoch_by entry.now before }
-{
-    match entry {
-        Record::Epoch { mask, .. } => EpochState::Running {
-            mask: *mask,
-            counter: 0,
-        },
-        Record::Reading { counter, .. } => counted(*counter, before),
-        Record::Broken { .. } => EpochState::Idle,
-        Record::EpochEnd { .. } => EpochState::Idle,
-        _ => before,
-    }
-}
-
-/// An epoch, where one runs, with another event counter.
-fn counted(counter: u8, before: EpochState) -> EpochState
-    ensures { result ≡ counted counter before }
-{
-    match before {
-        EpochState::Idle => EpochState::Idle,
-        EpochState::Running { mask, .. } => EpochState::Running { mask, counter },
     }
 }

@@ -1,5 +1,5 @@
 //! What a desk holds and reserves: records of the journal, coins, units of value, and an id.
-ghost use Rattle.std.specs.Prelude.{◌≡◌, ◌≤◌, ◌*◌, Option, max, length, IfSome};
+ghost use Rattle.std.specs.Prelude.{◌≡◌, ◌≤◌, ◌*◌, Option, length, IfSome};
 ghost use Rattle.cct_record.specs.Body.{Encodable};
 ghost use Rattle.cct_jobs.specs.Jobs.{order_of};
 ghost use Rattle.cct_host.specs.Desk.{greatest_paying, held_at, held_in};
@@ -91,14 +91,7 @@ impl JobDesk {
     {
         match desks {
             [] => 0,
-            [desk, rest @ ..] => greater(desk.orders.id, JobDesk::greatest_paying(rest)),
+            [desk, rest @ ..] => desk.orders.id.max(JobDesk::greatest_paying(rest)),
         }
     }
-}
-
-/// The greater of two ids.
-pub(crate) fn greater(one: u32, other: u32) -> u32
-    ensures { result ≡ max one other }
-{
-    one.max(other)
 }

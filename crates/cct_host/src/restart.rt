@@ -127,19 +127,7 @@ fn clear<'s>(desks: &mut Desks<'s>, ledger: &mut Ledger<'s>, tally: &mut Tally<'
     let setup = desks.setup();
     *desks = Desks::new(setup);
     *ledger = Ledger::new(setup);
-    *tally = only_counted(setup, many);
-}
-
-/// The tally of so many records that are not known.
-fn only_counted(setup: &Setup, many: u32) -> Tally<'_>
-    requires sound { IsSoundSetup setup.now }
-    ensures setup { tallies.setup_of result ≡ setup.now }
-    ensures many { tallies.many_of result ≡ many }
-{
-    match Tally::resume(setup, many, &Carry::empty()) {
-        Some(tally) => tally,
-        None => unreachable!(),
-    }
+    *tally = Tally::counted(setup, many);
 }
 
 /// The record that is due where a power cut comes, if one is.

@@ -1,8 +1,10 @@
--- That a reading has to be made again tells of a coin: one was accepted between its two accept counters.
+-- That a reading has to be made again tells of a coin: one was accepted between its two accept counters. And it is none of
+-- a stop.
 use Rattle.std.specs.Prelude.{◌<◌, List, [], ◌∷◌, length, ⊤}
+use Rattle.cct_model.specs.lines.command.Command.TheVariants as command
 use Rattle.cct_model.specs.lines.entry.End.TheVariants.{Moved}
 use Rattle.cct_model.specs.Line.{Line, ended}
-use Rattle.cct_model.specs.Job.{accepts_line}
+use Rattle.cct_model.specs.Job.{Job, free, works, job, accepts_line}
 use Rattle.cct_model.specs.Claims.{AllPast, behind, coins, reading}
 
 -- All that came before the last reading of the accept counter, which is the last answered header 225.
@@ -19,3 +21,18 @@ MovedAt past line = ⊤
 -- The same of each end of these lines.
 abbrev pub MovesWithCoins : List Line → Type 0
 MovesWithCoins lines = AllPast MovedAt lines
+
+-- No job, or one that is no stop.
+abbrev pub IsNoStop : Job → Type 0
+IsNoStop free = ⊤
+IsNoStop (works (command.Stop addr) since) = ⊥
+IsNoStop (works c since) = ⊤
+
+-- The job that ends because its reading has to be made again is no stop.
+abbrev pub NoStopMovesAt : List Line → Line → Type 0
+NoStopMovesAt past (ended Moved) = IsNoStop (job past)
+NoStopMovesAt past line = ⊤
+
+-- The same of each end of these lines.
+abbrev pub NoStopMoves : List Line → Type 0
+NoStopMoves lines = AllPast NoStopMovesAt lines

@@ -75,7 +75,7 @@ ghost use Rattle.cct_laws.specs.Ending.{nexts_at, EndsRound, IsUndisturbed, IsOn
 ghost use Rattle.cct_laws.specs.Faults.{FailsByFault, EchoFailsByFault, EndsByFaults, is_dispense, FailsByFaultBut};
 ghost use Rattle.cct_model.specs.Honest.{Honest, IsAllUnforged, IsHonestFault};
 ghost use Rattle.cct_laws.specs.Law.{AreOfToday, AreRising, Begins, EachEntry, HasBytes, IsAnswered, IsOf, IsUnanswered, NamesNoPut, lines_in};
-ghost use Rattle.cct_laws.specs.Moving.{MovesWithCoins};
+ghost use Rattle.cct_laws.specs.Moving.{MovesWithCoins, NoStopMoves};
 ghost use Rattle.cct_laws.specs.Right.{IsRight};
 ghost use Rattle.cct_laws.specs.Scope.{EachAcceptor, EachHopper, EachTranscript, IsCommandFor};
 ghost use Rattle.cct_laws.specs.SinceEpoch.{since_epoch_in, mask_set_in, IsMaskedBy, MayBreak, HaveCauses};
@@ -189,6 +189,13 @@ pub fn coins_up_to_the_mark_are_tallied()
 /// transcript over an honest wire, at any pace. It doesn't say that the next reading posts that coin.
 pub fn a_reading_made_again_met_a_coin()
     ensures { EachAcceptor (λ d transcript. MovesWithCoins (lines_in d transcript)) }
+{}
+
+/// No stop of an acceptor ends because its reading has to be made again, in every legal transcript over an honest wire:
+/// every coin is inhibited before it reads, so none is accepted while it does. It doesn't say that a stop ends. On a wire
+/// that isn't honest a forged message may let coins in again, and then a stop may end so.
+pub fn no_stop_is_made_again()
+    ensures { EachAcceptor (λ d transcript. NoStopMoves (lines_in d transcript)) }
 {}
 
 /// A job at a device ends for want of an answer exactly after the third failed try in succession of one of its rows. In

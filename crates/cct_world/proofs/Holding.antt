@@ -23,7 +23,7 @@ use Rattle.cct_world.specs.Step.{CutsIn, LastsIn, crashes, crashes_of}
 use Rattle.cct_world.specs.Relying.{IsReliable}
 use Rattle.cct_world.specs.World.{RestartsBy, StandsFor, StepPlayed, disk_of, setup_of, used_of}
 use Rattle.cct_world.proofs.Lasting.{lasts_in}
-use Rattle.cct_world.proofs.Restarts.{behind_now, behind_on, counts_on}
+use Rattle.cct_world.proofs.Restarts.{after_cut_now, after_cut_on, counts_on}
 use Rattle.cct_world.proofs.Surviving.{each_on, survived_by}
 use Rattle.cct_world.proofs.Relying.{cut_on}
 
@@ -73,8 +73,8 @@ module _ {D : Type 0} (size : D → ℕ) (honest : D → Bool) (seen : D → Opt
         count = restarts.all.count ∙ ap (λ put. put + length (put_by restarts.all.kept)) before.counts;
       },
       restarts.news_are,
-      behind_now size honest seen cuts cut_to given choice old new (crashes past)
-          (λ chosen behind. (chosen ≡ choice) × IsWhole setup behind many) lasted before.cut cut
+      after_cut_now size honest seen cuts cut_to given choice old new (crashes past)
+          (λ chosen after. (chosen ≡ choice) × IsWhole setup after many) lasted before.cut cut
           (refl, restarts.whole),
     )
     told_in s used many news played past lasted lasts told cut unkept before = (told, unkept)
@@ -94,7 +94,7 @@ module _ {D : Type 0} (size : D → ℕ) (honest : D → Bool) (seen : D → Opt
           counts = counts_on news past used many before.counts more;
           survived = each_on (λ es x ns. RestartsAt (IsReliable trusted es) After_cut setup es x ns) played news past s
               (survived_by (IsReliable trusted) (IsReliable trusted) Before_cut After_cut (λ es is. is)
-              (behind_on size honest seen cuts cut_to given old new (lasts_in size honest seen cuts s old new lasts)) setup
+              (after_cut_on size honest seen cuts cut_to given old new (lasts_in size honest seen cuts s old new lasts)) setup
               played past before.survived)
               (told_in s used many news played past lasted lasts told cut restarts before);
           cut = cut_on size honest seen cuts cut_to old new s news past (cuts given) before.cut told cut;
@@ -139,9 +139,9 @@ module _ {D : Type 0} {g : Ghosts D} where
         due,
         due_at_last g.size g.honest g.seen g.cuts g.cut_to (setup_of now) given (StandsFor now) (disk_of now)
             (used_of now) played past at due holds (due_none now.machine.value at) loses.1,
-        behind_now g.size g.honest g.seen g.cuts g.cut_to given choice (disk_of now) left (crashes past)
-            (λ chosen behind. (chosen ≡ choice) × (g.seen left ≡ behind)
-            × Loses (setup_of now) (length (records past)) due behind why) lasted holds.cut cut
+        after_cut_now g.size g.honest g.seen g.cuts g.cut_to given choice (disk_of now) left (crashes past)
+            (λ chosen after. (chosen ≡ choice) × (g.seen left ≡ after)
+            × Loses (setup_of now) (length (records past)) due after why) lasted holds.cut cut
             (refl, refl, subst (λ put. Loses (setup_of now) put due (g.seen left) why) holds.counts loses.2),
       )
   loses_at given left now played past holds why s lasted lasts cut loses = absurd loses

@@ -1,3 +1,4 @@
+pub mod Forged
 pub mod Holding
 pub mod Lasting
 pub mod Restarts

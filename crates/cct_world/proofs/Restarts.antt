@@ -1,7 +1,6 @@
 -- What the disk of a machine has after a power cut, and after the steps that follow it.
-use Rattle.std.proofs.Common.{◌≡◌, ◌⊎◌, ◌+◌, ◌++◌, ℕ, suc, Bool, true, List, [], ◌∷◌, length, reverse, refl, sym, ap, ◌∙◌}
+use Rattle.std.proofs.Common.{◌≡◌, ◌⊎◌, ◌+◌, ◌++◌, ℕ, suc, Bool, true, false, List, [], ◌∷◌, length, reverse, refl, sym, ap, ◌∙◌}
 use Rattle.std.proofs.Common.{inl, inr, subst, arith, Option, Some, None}
-use Rattle.std.proofs.lemmas.List.{reverse-reverse}
 use Rattle.cct_model.specs.terms.device.Setup.{Setup}
 use Rattle.cct_model.specs.lines.command.CrashAt.{CrashAt}
 use Rattle.cct_model.specs.lines.command.Step.TheVariants as step
@@ -24,7 +23,7 @@ use Rattle.cct_host.specs.declared.host.Host.{Host}
 use Rattle.cct_host.specs.declared.refusal.CrashNo.{CrashNo}
 use Rattle.cct_host.specs.declared.refusal.CrashNo.TheVariants as crash_no
 use Rattle.cct_host.specs.declared.restart.Crashed.{Crashed}
-use Rattle.cct_host.specs.Attempt.{Attempt, asked, idle, news_of, put, put_of}
+use Rattle.cct_host.specs.Attempt.{Attempt, asked, idle, put, put_of}
 use Rattle.cct_host.specs.OnDisk.{FindsBad, FindsMany, FindsWhole}
 use Rattle.cct_host.specs.Host as hosts
 use Rattle.cct_host.specs.Host.{put_by}
@@ -34,6 +33,7 @@ use Rattle.cct_world.specs.declared.machine.Machine.{Machine}
 use Rattle.cct_world.specs.Machine.{Breaks, DueAsTold, Plays, StandsFor}
 use Rattle.cct_world.specs.Restarts.{CutAt, HasBad, Loses, Restarts, kept_in}
 use Rattle.cct_world.specs.Step.{count_after, crashes}
+use Rattle.cct_world.proofs.Forged.{all_told}
 use Rattle.cct_world.proofs.Lasting.{lasts_on, lasts_then}
 use Rattle.cct_world.proofs.Wires.{crash_wire}
 
@@ -51,41 +51,37 @@ pub counts_on : (news past : List Entry) (used many : ℕ) → used ≡ length (
 counts_on news past used many was is = omega (arith, was, is, records_counted news past)
 
 -- the records of an attempt
-news_records : (addr : ℕ) (what : Attempt) → records (news_of addr what) ≡ put_by (put_of what)
-news_records addr idle = refl
-news_records addr (asked sent heard None) = refl
-news_records addr (asked sent heard (Some end)) = refl
-news_records addr (put r None) = refl
-news_records addr (put r (Some end)) = refl
+all_records : (was : Bool) (addr : ℕ) (what : Attempt) → records (all_told was addr what) ≡ put_by (put_of what)
+all_records was addr idle = refl
+all_records true addr (asked sent heard None) = refl
+all_records false addr (asked sent heard None) = refl
+all_records true addr (asked sent heard (Some end)) = refl
+all_records false addr (asked sent heard (Some end)) = refl
+all_records was addr (put r None) = refl
+all_records was addr (put r (Some end)) = refl
 
-news_are : (before after : List Entry) (addr : ℕ) (what : Attempt) → before ≡ []
-    → after ≡ before ++ reverse (news_of addr what) → reverse after ≡ news_of addr what
-news_are before after addr what none is =
-    ap reverse (is ∙ ap (λ es. es ++ reverse (news_of addr what)) none) ∙ reverse-reverse (news_of addr what)
-
-pub next_counts : (before after : List Entry) (addr : ℕ) (what : Attempt) (used many : ℕ) → before ≡ []
-    → after ≡ before ++ reverse (news_of addr what) → many ≡ used + length (put_by (put_of what))
-    → many ≡ used + length (records (reverse after))
-next_counts before after addr what used many none is counts =
-    counts
-    ∙ ap (λ rs. used + length rs)
-    (sym (ap records (news_are before after addr what none is) ∙ news_records addr what))
+pub next_counts : (told : List Entry) (was : Bool) (addr : ℕ) (what : Attempt) (used many : ℕ)
+    → reverse told ≡ all_told was addr what → many ≡ used + length (put_by (put_of what))
+    → many ≡ used + length (records (reverse told))
+next_counts told was addr what used many is counts =
+    counts ∙ ap (λ rs. used + length rs) (sym (ap records is ∙ all_records was addr what))
 
 -- and that they tell no power cut, and none as kept
 abbrev IsCalm : List Entry → Type 0
 IsCalm news = (crashes news ≡ 0) × (kept_in news ≡ [])
 
-news_calm : (addr : ℕ) (what : Attempt) → IsCalm (news_of addr what)
-news_calm addr idle = (refl, refl)
-news_calm addr (asked sent heard None) = (refl, refl)
-news_calm addr (asked sent heard (Some end)) = (refl, refl)
-news_calm addr (put r None) = (refl, refl)
-news_calm addr (put r (Some end)) = (refl, refl)
+all_calm : (was : Bool) (addr : ℕ) (what : Attempt) → IsCalm (all_told was addr what)
+all_calm was addr idle = (refl, refl)
+all_calm true addr (asked sent heard None) = (refl, refl)
+all_calm false addr (asked sent heard None) = (refl, refl)
+all_calm true addr (asked sent heard (Some end)) = (refl, refl)
+all_calm false addr (asked sent heard (Some end)) = (refl, refl)
+all_calm was addr (put r None) = (refl, refl)
+all_calm was addr (put r (Some end)) = (refl, refl)
 
-pub next_told : (before after : List Entry) (addr : ℕ) (what : Attempt) → before ≡ []
-    → after ≡ before ++ reverse (news_of addr what) → IsCalm (reverse after)
-next_told before after addr what none is =
-    subst IsCalm (sym (news_are before after addr what none is)) (news_calm addr what)
+pub next_told : (told : List Entry) (was : Bool) (addr : ℕ) (what : Attempt) → reverse told ≡ all_told was addr what
+    → IsCalm (reverse told)
+next_told told was addr what is = subst IsCalm (sym is) (all_calm was addr what)
 
 -- the records of a power cut
 told_records : (many : ℕ) (kept : Option Record) → records (told_by many kept) ≡ put_by kept
@@ -176,28 +172,28 @@ module _ {D : Type 0} {g : Ghosts D} where
 module _ {D : Type 0} (size : D → ℕ) (honest : D → Bool) (seen : D → Option (List ℕ)) (cuts : D → ℕ)
     (cut_to : D → ℕ → D → Type 0) (given : D) where
   -- what is so after a cut, where the disk lasts
-  pub behind_on : (old new : D) → Outlasts size honest seen cuts old new → (times : ℕ) (P : ℕ → Option (List ℕ) → Type 0)
+  pub after_cut_on : (old new : D) → Outlasts size honest seen cuts old new → (times : ℕ) (P : ℕ → Option (List ℕ) → Type 0)
       → CutAt size honest seen cuts cut_to given old times P → CutAt size honest seen cuts cut_to given new times P
-  behind_on old new lasts times P cut = record {
+  after_cut_on old new lasts times P cut = record {
     before = cut.before;
     choice = cut.choice;
-    behind = cut.behind;
+    after = cut.after;
     lasted = cut.lasted;
     is_cut = cut.is_cut;
-    lasts = lasts_then size honest seen cuts cut.behind old new cut.lasts lasts;
+    lasts = lasts_then size honest seen cuts cut.after old new cut.lasts lasts;
     count = cut.count;
     holds = cut.holds;
   }
 
   -- and after a cut that was made just now
-  pub behind_now : (choice : ℕ) (old new : D) (times : ℕ) (P : ℕ → Option (List ℕ) → Type 0)
+  pub after_cut_now : (choice : ℕ) (old new : D) (times : ℕ) (P : ℕ → Option (List ℕ) → Type 0)
       → Outlasts size honest seen cuts given old → cuts old ≡ count_after times (cuts given)
       → CutOnce size honest seen cuts cut_to choice old new → P choice (seen new)
       → CutAt size honest seen cuts cut_to given new (suc times) P
-  behind_now choice old new times P lasted before cut here = record {
+  after_cut_now choice old new times P lasted before cut here = record {
     before = cut.before;
     choice = choice;
-    behind = cut.behind;
+    after = cut.behind;
     lasted = lasts_then size honest seen cuts given old cut.before lasted
         (lasts_on size honest seen cuts old cut.before cut.goes_on);
     is_cut = cut.is_cut;

@@ -1,8 +1,7 @@
 -- What one step leaves of the host and the bus.
 use Rattle.std.proofs.Common.{◌≡◌, ℕ, Bool, true, false, cond, List, [], ◌∷◌, ◌++◌, reverse, refl, sym, ap, subst}
-use Rattle.std.proofs.Common.{◌∙◌, Option}
+use Rattle.std.proofs.Common.{◌∙◌, Option, Some, None, append_assoc}
 use Rattle.std.specs.Prelude.{◌==◌, not}
-use Rattle.std.proofs.lemmas.List.{reverse-reverse}
 use Rattle.cct_model.specs.terms.coin.Coin.{Coin}
 use Rattle.cct_model.specs.terms.device.DeviceSetup.{DeviceSetup}
 use Rattle.cct_model.specs.terms.device.Setup.{Setup}
@@ -15,8 +14,9 @@ use Rattle.cct_model.specs.lines.entry.Entry.TheVariants as entry
 use Rattle.cct_model.specs.lines.entry.Totals.{Totals}
 use Rattle.cct_model.specs.Acceptor.{accepts}
 use Rattle.cct_model.specs.Exchange.{device_at}
+use Rattle.cct_model.specs.Honest.{forged_after, was_forged}
 use Rattle.cct_model.specs.Hopper.{remaining}
-use Rattle.cct_model.specs.Legal.{Entries, EntriesOfHappening, EntriesOfNext, command_entry, happening_entry, step_of}
+use Rattle.cct_model.specs.Legal.{Entries, EntriesOfHappening, EntriesOfNext, EntriesOnWire, command_entry, happening_entry, step_of}
 use Rattle.cct_model.specs.Money.{totals}
 use Rattle.cct_model.specs.Records.{records}
 use Rattle.cct_model.specs.Refusal.{refusal}
@@ -28,16 +28,19 @@ use Rattle.cct_bus.specs.declared.outcome.Outcome.TheVariants as outcome
 use Rattle.cct_bus.specs.Bus as wires
 use Rattle.cct_bus.specs.Outcome.{becomes, of_effect, of_inserted}
 use Rattle.cct_disk.specs.declared.disk.Disk.{Ghosts}
+use Rattle.cct_laws.proofs.OnWire.{on_wire}
 use Rattle.cct_host.specs.declared.host.Host.{Host}
-use Rattle.cct_host.specs.Attempt.{HeardBy, news_of}
+use Rattle.cct_host.specs.Attempt.{Attempt, HeardBy, news_of}
 use Rattle.cct_host.specs.Host as hosts
 use Rattle.cct_host.specs.Host.{PutSuits}
 use Rattle.cct_host.proofs.Commands.{address_there}
-use Rattle.cct_host.proofs.Lines.{IsQuiet, accepted_quiet, alien_quiet, fall_quiet, inhibited_quiet, jam_quiet, reset_quiet}
+use Rattle.cct_host.proofs.Lines.{IsQuiet, accepted_quiet, alien_quiet, fall_quiet, forged_quiet, inhibited_quiet, jam_quiet, reset_quiet}
 use Rattle.cct_host.proofs.Quiet.{balance_quiet, host_quiet}
+use Rattle.cct_world.specs.Forged.{TellsForged, forged_told}
 use Rattle.cct_world.specs.Restarts.{kept_in}
 use Rattle.cct_world.specs.Step.{crashes, entry_told}
-use Rattle.cct_world.proofs.Wires.{balance_wire, command_wire, linked}
+use Rattle.cct_world.proofs.Forged.{all_told, asked_by, told_rightly}
+use Rattle.cct_world.proofs.Wires.{balance_wire, command_wire, linked, told_wire}
 
 -- a report with one entry
 pub one_entry : (before after : List Entry) (e : Entry) → before ≡ [] → after ≡ before ++ e ∷ [] → after ≡ e ∷ []
@@ -119,23 +122,53 @@ module _ {D : Type 0} {g : Ghosts D} where
   Left host bus past report =
       hosts.StandsFor host (reverse report ++ past) × wires.StandsFor bus (reverse report ++ past)
 
+  -- that an exchange was forged changes nothing of the host
+  told_stands : (host : Host D g) (past : List Entry) (was : Bool) (found : Option ℕ) → hosts.StandsFor host past
+      → hosts.StandsFor host (forged_told was found ++ past)
+  told_stands host past was None stands = stands
+  told_stands host past false (Some addr) stands = stands
+  told_stands host past true (Some addr) stands =
+      host_quiet host past (entry.Forged addr) (forged_quiet past addr) stands
+
+  -- what a next gives and leaves
+  abbrev NextGoes : Setup → ℕ → Host D g → Bus → List Entry → List Entry → Type 0
+  NextGoes setup addr host bus past news =
+      EntriesOnWire setup past addr news × (hosts.StandsFor host (news ++ past) × wires.StandsFor bus (news ++ past))
+
+  -- an attempt, and what is told of its exchange
+  attempt_goes : (setup : Setup) (host : Host D g) (bus : Bus) (addr : ℕ) (past : List Entry) (what : Attempt)
+      (was : Bool) → was ≡ was_forged (news_of addr what ++ past)
+      → EntriesOfNext (heard_after setup past) setup past addr (news_of addr what)
+      → hosts.StandsFor host (news_of addr what ++ past) → wires.StandsFor bus (news_of addr what ++ past)
+      → NextGoes setup addr host bus past (all_told was addr what)
+  attempt_goes setup host bus addr past what was is goes stands wired =
+      let news = news_of addr what in
+      let found = asked_by addr what in
+      let told : forged_told was found ≡ forged_after past news =
+      ap (λ b. forged_told b found) is ∙ told_rightly past addr what in
+      let later : forged_told was found ++ (news ++ past) ≡ all_told was addr what ++ past =
+      sym (append_assoc (forged_told was found) news past) in (
+        subst (λ line. EntriesOnWire setup past addr (line ++ news)) (sym told) (on_wire setup past addr news goes),
+        (
+          subst (hosts.StandsFor host) later (told_stands host (news ++ past) was found stands),
+          subst (wires.StandsFor bus) later (told_wire bus (news ++ past) was found wired),
+        ),
+      )
+
   -- a next
-  pub next_goes : (bus after : Bus) (host left : Host D g) (addr : ℕ) (past before report : List Entry) → before ≡ []
-      → hosts.Nexts wires.Exchanges bus after addr host left before report
-      → wires.setup_of bus ≡ hosts.setup_of host → hosts.StandsFor host past → wires.StandsFor bus past
-      → PutSuits (hosts.setup_of host) past addr
-      → EntriesOfNext (heard_after (hosts.setup_of host) past) (hosts.setup_of host) past addr (reverse report)
-      × Left left after past report
-  next_goes bus after host left addr past before report none next same stands wired suits =
+  pub next_goes : (bus after : Bus) (host left : Host D g) (addr : ℕ) (past before report told : List Entry)
+      (next : hosts.Nexts wires.Exchanges bus after addr host left before report) (tells : TellsForged after report told)
+      → reverse told ≡ all_told tells.was addr next.what → wires.setup_of bus ≡ hosts.setup_of host
+      → hosts.StandsFor host past → wires.StandsFor bus past → PutSuits (hosts.setup_of host) past addr
+      → EntriesOnWire (hosts.setup_of host) past addr (reverse told) × Left left after past told
+  next_goes bus after host left addr past before report told next tells is same stands wired suits =
       let setup = hosts.setup_of host in
-      let news : reverse report ≡ news_of addr next.what =
-      ap reverse (next.reported_is ∙ ap (λ es. es ++ reverse (news_of addr next.what)) none)
-      ∙ reverse-reverse (news_of addr next.what) in
       let wire = linked bus after addr past next.what next.link wired in
       let heard = subst (λ s. HeardBy (heard_after s past) next.what) same wire.0 in
       let goes = next.goes (heard_after setup past) past heard stands suits in
-      subst (λ ns. EntriesOfNext (heard_after setup past) setup past addr ns
-      × (hosts.StandsFor left (ns ++ past) × wires.StandsFor after (ns ++ past))) (sym news) (goes.0, (goes.1, wire.1))
+      subst (NextGoes setup addr left after past) (sym is)
+      (attempt_goes setup left after addr past next.what tells.was
+      (tells.was_is (news_of addr next.what ++ past) wire.1) goes.0 goes.1 wire.1)
 
   -- a step of one entry that changes no job, no epoch, no open order and no record
   pub one_goes : (host : Host D g) (bus : Bus) (past : List Entry) (e : Entry) (report : List Entry) → report ≡ e ∷ []

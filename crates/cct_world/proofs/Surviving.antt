@@ -39,7 +39,7 @@ module _ (sure sure1 : Type 0) (Cut Cut1 : ℕ → (ℕ → Option (List ℕ) �
     due,
     due_by at due was,
     goes (suc (crashes past))
-        (λ chosen behind. (chosen ≡ choice) × (seen ≡ behind) × Loses setup (length (records past)) due behind why) cut,
+        (λ chosen after. (chosen ≡ choice) × (seen ≡ after) × Loses setup (length (records past)) due after why) cut,
   )
   loses_by seen why s loses = absurd loses
 
@@ -52,7 +52,7 @@ module _ (sure sure1 : Type 0) (Cut Cut1 : ℕ → (ℕ → Option (List ℕ) �
     all,
     told,
     goes (suc (crashes past))
-        (λ chosen behind. (chosen ≡ choice) × IsWhole setup behind many) cut,
+        (λ chosen after. (chosen ≡ choice) × IsWhole setup after many) cut,
   )
   restarts_by s news told = told
 

@@ -1,4 +1,5 @@
 pub mod Step
+pub mod Forged
 pub mod Restarts
 pub mod Machine
 pub mod Relying

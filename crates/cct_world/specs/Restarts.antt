@@ -66,12 +66,12 @@ pub record CutAt {D : Type 0} (size : D → ℕ) (honest : D → Bool) (seen : D
     (cut_to : D → ℕ → D → Type 0) (given now : D) (times : ℕ) (P : ℕ → Option (List ℕ) → Type 0) : Type 0 where
   pub before : D
   pub choice : ℕ
-  pub behind : D
+  pub after : D
   pub lasted : Outlasts size honest seen cuts given before
-  pub is_cut : cut_to before choice behind
-  pub lasts : Outlasts size honest seen cuts behind now
-  pub count : cuts behind ≡ count_after times (cuts given)
-  pub holds : P choice (seen behind)
+  pub is_cut : cut_to before choice after
+  pub lasts : Outlasts size honest seen cuts after now
+  pub count : cuts after ≡ count_after times (cuts given)
+  pub holds : P choice (seen after)
 
 -- This record, or none, was due where a power cut comes after a past: none where that names no put; and the one that
 -- the past tells, where it may be relied on.
@@ -87,7 +87,7 @@ abbrev pub LosesAt : Type 0 → (ℕ → (ℕ → Option (List ℕ) → Type 0) 
 LosesAt sure Cut setup past seen why (step.Crash at choice) =
     (due : Option Record) × WasDue sure setup past at due
     × Cut (suc (crashes past))
-    (λ chosen behind. (chosen ≡ choice) × (seen ≡ behind) × Loses setup (length (records past)) due behind why)
+    (λ chosen after. (chosen ≡ choice) × (seen ≡ after) × Loses setup (length (records past)) due after why)
 LosesAt sure Cut setup past seen why s = ⊥
 
 -- These are the entries, newest first, of a step that was played after a past: where it is a power cut, of one
@@ -97,7 +97,7 @@ abbrev pub RestartsAt : Type 0 → (ℕ → (ℕ → Option (List ℕ) → Type 
 RestartsAt sure Cut setup past (step.Crash at choice) news =
     (due : Option Record) × (many : ℕ) × WasDue sure setup past at due
     × (all : HasAll due many (length (records past))) × (news ≡ told_by many all.kept)
-    × Cut (suc (crashes past)) (λ chosen behind. (chosen ≡ choice) × IsWhole setup behind many)
+    × Cut (suc (crashes past)) (λ chosen after. (chosen ≡ choice) × IsWhole setup after many)
 RestartsAt sure Cut setup past s news = (crashes news ≡ 0) × (kept_in news ≡ [])
 
 -- A past, newest entry first, is that of these steps, oldest first; and this holds of each, with the past before it and

@@ -1,5 +1,5 @@
 //! The machine of a world: the host, and the bus with its devices.
-ghost use Rattle.std.specs.Prelude.{◌∷◌, ◌≡◌, [], IfErr, IsTrue, List, OnOk, false, reverse};
+ghost use Rattle.std.specs.Prelude.{◌∷◌, ◌++◌, ◌≡◌, ◌<◌, [], IfErr, IsTrue, List, OnOk, false, length, reverse, true};
 ghost use Rattle.cct_model.specs.lines.command.Step.TheVariants as step;
 ghost use Rattle.cct_model.specs.Exchange.{device_at, known_there};
 ghost use Rattle.cct_model.specs.Family.{IsPlaced};
@@ -11,6 +11,7 @@ ghost use Rattle.cct_model.specs.Script.{IsCrash, IsFault, IsInRange, is_known};
 ghost use Rattle.cct_bus.specs.Bus as wires;
 ghost use Rattle.cct_host.specs.Host as hosts;
 ghost use Rattle.cct_host.specs.Restarting.{restart_news};
+ghost use Rattle.cct_world.specs.Forged.{TellsForged, asked_at, forged_told};
 ghost use Rattle.cct_world.specs.Step.{crashes_of, entry_told, is_next};
 
 use crate::WorldNo;
@@ -164,7 +165,7 @@ impl<D: Disk> Machine<'_, D> {
         report.push(Entry::Balance(self.host.totals()));
     }
 
-    /// The host's job at an address makes one attempt of one row on the bus.
+    /// The host's job at an address makes one attempt of one row on the bus. After an exchange that was forged, that is told.
     fn next(&mut self, addr: u8, report: &mut ArrayVec<Entry, 8>) -> Result<(), WorldNo>
         requires whole { has_failed self.old ≡ false }
         requires report { report.old.items ≡ [] }
@@ -174,7 +175,10 @@ impl<D: Disk> Machine<'_, D> {
             StepUnplayed self.old (disk_of self.new) why (step.Next addr) report.new.items) }
     {
         match self.host.next(addr, &mut self.bus, report) {
-            Ok(()) => Ok(()),
+            Ok(()) => {
+                tell_forged(&self.bus, report);
+                Ok(())
+            }
             Err(Failed) => Err(WorldNo::Disk),
         }
     }
@@ -192,6 +196,39 @@ impl<D: Disk> Machine<'_, D> {
     {
         let Machine { host, bus: _ } = self;
         host.into_disk()
+    }
+}
+
+/// Tells that the exchange which entries begin with was forged, where that is so: the bus tells it of its last exchange.
+fn tell_forged(bus: &Bus<'_>, report: &mut ArrayVec<Entry, 8>)
+    requires room { length report.old.items < 8 }
+    ensures { TellsForged bus.now report.old.items report.new.items }
+{
+    if bus.last_forged() {
+        add_forged(report);
+    }
+}
+
+/// Tells of the exchange which entries begin with that it was forged. Without one nothing is told. An entry is wide: in a
+/// function of its own it is made where it is told.
+#[inline(never)]
+fn add_forged(report: &mut ArrayVec<Entry, 8>)
+    requires room { length report.old.items < 8 }
+    ensures { report.new.items ≡ report.old.items ++ forged_told true (asked_at report.old.items) }
+{
+    match asked_at(report.as_slice()) {
+        Some(addr) => report.push(Entry::Forged { addr }),
+        None => {}
+    }
+}
+
+/// The address of the exchange which entries begin with, or none.
+fn asked_at(report: &[Entry]) -> Option<u8>
+    ensures { result ≡ asked_at report.now }
+{
+    match report {
+        [Entry::Wire { addr, .. }, ..] => Some(*addr),
+        _ => None,
     }
 }
 

@@ -14,7 +14,7 @@ use Rattle.cct_model.specs.Reply.{Reply}
 use Rattle.cct_model.specs.Script.{IsCommand}
 use Rattle.cct_model.specs.History.{Met, heard}
 use Rattle.cct_model.specs.Device.{IsAcceptor}
-use Rattle.cct_model.specs.Line.{Line, exchange, put, restarted}
+use Rattle.cct_model.specs.Line.{Line, exchange, put, ended, restarted}
 use Rattle.cct_model.specs.Order.{order}
 use Rattle.cct_model.specs.Job.{works, job, sends, puts, ident_requests, Noted, noted_in, begin_row, epoch, judged_in, address_of}
 use Rattle.cct_model.specs.Rows.{Then, ends_as, if_quiet, if_posted, new_epoch, reading, epoch_end, TableRow, asks_for, asks_once, waits_for_coins, puts_due, row, rows_of, rest, from, first, done, sent_once, end_of, end_kept, end_by_record}
@@ -22,11 +22,11 @@ use Rattle.cct_model.proofs.Rows.{EachRow, EachBefore, before_on, fact_after, Be
 use Rattle.cct_laws.specs.DeviceJobs.{Fate, unheard, silenced, answered, IsForOthers, is_for_acceptor, with_ended}
 use Rattle.cct_laws.proofs.EitherKind.{for_acceptor}
 use Rattle.cct_laws.specs.SinceEpoch.{IsKept}
-use Rattle.cct_model.specs.Claims.{mark, base, InOrder, Covers, Pace}
-use Rattle.cct_laws.specs.Moving.{MovesWithCoins}
+use Rattle.cct_model.specs.Claims.{AllPast, mark, base, InOrder, Covers, Pace}
+use Rattle.cct_laws.specs.Moving.{MovedAt, MovesWithCoins, NoStopMovesAt, NoStopMoves}
 use Rattle.cct_laws.proofs.acceptor.World.{World, world, count_at, closed, on_nothing}
 use Rattle.cct_laws.proofs.acceptor.Fits.{ReadSoFar, read_so_far, Notes, notes_in, StateOf, FitsAt, Fits, at_on}
-use Rattle.cct_laws.proofs.acceptor.Moves.{Sound, sound_line, near_of, sound_exchange, keeps_ended, Keeps, KeepsAsk, AtRows, IfOther, IsMild, IsNeutral, keeps_accepted, keeps_inhibited, keeps_alien, keeps_reset, keeps_taken, keeps_with_ended, answered_at, next_at, on_heard, fits_at, by_fate, request_is, entry_is, IsOtherEnd}
+use Rattle.cct_laws.proofs.acceptor.Moves.{MovesWell, Sound, sound_line, near_of, sound_exchange, keeps_ended, Keeps, KeepsAsk, AtRows, IfOther, IsMild, IsNeutral, keeps_accepted, keeps_inhibited, keeps_alien, keeps_reset, keeps_taken, keeps_with_ended, answered_at, next_at, on_heard, fits_at, by_fate, request_is, entry_is, IsOtherEnd}
 use Rattle.cct_laws.proofs.acceptor.Starts.{resets, reads_quiet, unsure, opens, begins}
 use Rattle.cct_laws.proofs.acceptor.Rounds.{reads, looks, counts}
 use Rattle.cct_laws.proofs.acceptor.Stops.{shuts, over_put, judged_put}
@@ -356,6 +356,22 @@ kept_in_order d past lines keeps = keeps.sound.in_order
 pub kept_covers : (d : DeviceSetup) (past : List Met) (lines : List Line) → Keeps d past lines → Pace lines → Covers lines
 kept_covers d past lines keeps = keeps.sound.covers
 
--- where a reading had to be made again, a coin was accepted meanwhile
+-- where a reading had to be made again, a coin was accepted meanwhile, and it was none of a stop
+well_met : (past : List Line) (line : Line) → MovesWell past line → MovedAt past line
+well_met past (ended Moved) well = well.0
+well_met past line well = tt
+
+well_apart : (past : List Line) (line : Line) → MovesWell past line → NoStopMovesAt past line
+well_apart past (ended Moved) well = well.1
+well_apart past line well = tt
+
+each_past : (P Q : List Line → Line → Type 0) → ((past : List Line) (line : Line) → P past line → Q past line) →
+    (lines : List Line) → AllPast P lines → AllPast Q lines
+each_past P Q weaker [] each = tt
+each_past P Q weaker (line ∷ past) each = (weaker past line each.0, each_past P Q weaker past each.1)
+
 pub kept_moves : (d : DeviceSetup) (past : List Met) (lines : List Line) → Keeps d past lines → MovesWithCoins lines
-kept_moves d past lines keeps = keeps.sound.moves
+kept_moves d past lines keeps = each_past MovesWell MovedAt well_met lines keeps.sound.moves
+
+pub kept_stops : (d : DeviceSetup) (past : List Met) (lines : List Line) → Keeps d past lines → NoStopMoves lines
+kept_stops d past lines keeps = each_past MovesWell NoStopMovesAt well_apart lines keeps.sound.moves

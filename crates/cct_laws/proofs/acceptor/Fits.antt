@@ -204,9 +204,13 @@ pub if_over : (over : Bool) (F G : Type 0) → (F → G) → IfOver over F → I
 if_over true F G weaker fact = weaker fact
 if_over false F G weaker fact = tt
 
--- every coin is inhibited, and none came since the last reading
+-- every coin is inhibited, and none came since the accept counter was read
+abbrev pub IsShutSince : World → ReadSoFar → Type 0
+IsShutSince w b = Shut w × (length w.coins ≡ length b.counted)
+
+-- and none came since the last reading, nor since the accept counter before it
 abbrev pub IsStill : World → ReadSoFar → Type 0
-IsStill w b = Shut w × (length w.coins ≡ length b.known)
+IsStill w b = Shut w × (length w.coins ≡ length b.known) × (length w.coins ≡ length b.first)
 
 -- what a row that reads the accept counter needs, by the row after it: it begins an epoch, it reads the credits, or it puts
 -- what was read
@@ -224,7 +228,8 @@ abbrev pub FitsAt : World → ReadSoFar → List TableRow → Notes → Judged �
 FitsAt w b [] notes judged = ⊤
 FitsAt w b (asks_for ResetDevice behind ∷ rows) notes judged = IsIdle b.epoch
 FitsAt w b (asks_for ReadCredits if_quiet ∷ rows) notes judged = IsIdle b.epoch × Silent w
-FitsAt w b (asks_for ReadCredits behind ∷ rows) notes judged = Begins w b notes × IfOver (ends_epoch rows) (Shut w)
+FitsAt w b (asks_for ReadCredits behind ∷ rows) notes judged =
+    Begins w b notes × IfOver (ends_epoch rows) (IsShutSince w b)
 FitsAt w b (asks_for (SetMaster value) behind ∷ rows) notes judged = IsRunning b.epoch
 FitsAt w b (asks_for GetMask behind ∷ rows) notes judged =
     HeldIn w b b.epoch notes × IfOver (ends_epoch rows) (IsStill w b)
@@ -261,7 +266,7 @@ abbrev pub AfterCount : List TableRow → Type 0
 AfterCount (puts_due (new_epoch mask) behind ∷ rows) = ⊤
 AfterCount (puts_due reading behind ∷ rows) = ⊤
 AfterCount (asks_for ReadCredits behind ∷ rows) = (w : World) (b : ReadSoFar) (notes : Notes) (judged : Judged) →
-    Begins w b notes → IfOver (ends_epoch rows) (Shut w) → FitsAt w b (asks_for ReadCredits behind ∷ rows) notes judged
+    Begins w b notes → IfOver (ends_epoch rows) (IsShutSince w b) → FitsAt w b (asks_for ReadCredits behind ∷ rows) notes judged
 AfterCount rows = (w : World) (b : ReadSoFar) (notes : Notes) (judged : Judged) → FitsAt w b rows notes judged
 
 abbrev pub AfterEpoch : ℕ → List TableRow → Type 0
@@ -396,7 +401,13 @@ waits_on w v b mask on waits = record {
 
 still_on : (w v : World) (b : ReadSoFar) (over : Bool) → On w v → IfOver over (IsStill w b) → IfOver over (IsStill v b)
 still_on w v b over on =
-    if_over over (IsStill w b) (IsStill v b) (λ still. (on.shut still.0, ap length (on.same still.0) ∙ still.1))
+    if_over over (IsStill w b) (IsStill v b)
+    (λ still. (on.shut still.0, ap length (on.same still.0) ∙ still.1, ap length (on.same still.0) ∙ still.2))
+
+since_on : (w v : World) (b : ReadSoFar) (over : Bool) → On w v → IfOver over (IsShutSince w b) →
+    IfOver over (IsShutSince v b)
+since_on w v b over on =
+    if_over over (IsShutSince w b) (IsShutSince v b) (λ shut. (on.shut shut.0, ap length (on.same shut.0) ∙ shut.1))
 
 shut_on : (w v : World) (over : Bool) → On w v → IfOver over (Shut w) → IfOver over (Shut v)
 shut_on w v over on = if_over over (Shut w) (Shut v) on.shut
@@ -421,7 +432,7 @@ at_on w v b [] notes judged on fits = tt
 at_on w v b (asks_for ResetDevice behind ∷ rows) notes judged on fits = fits
 at_on w v b (asks_for ReadCredits if_quiet ∷ rows) notes judged on fits = (fits.0, on.silent fits.1)
 at_on w v b (asks_for ReadCredits behind ∷ rows) notes judged on fits =
-    (begins_on w v b notes on fits.0, shut_on w v (ends_epoch rows) on fits.1)
+    (begins_on w v b notes on fits.0, since_on w v b (ends_epoch rows) on fits.1)
 at_on w v b (asks_for (SetMaster value) behind ∷ rows) notes judged on fits = fits
 at_on w v b (asks_for GetMask behind ∷ rows) notes judged on fits =
     (held_on w v b b.epoch notes on fits.0, still_on w v b (ends_epoch rows) on fits.1)

@@ -100,7 +100,7 @@ leads d (command.Stop addr) suited range = (
       (tt, λ w b notes judged held still. (held, still)),
       (
         (tt, λ w b notes judged sees still. (sees, still)),
-        ((tt, tt), (((refl, λ w b notes judged rests. rests), tt), (tt, tt))),
+        ((refl, tt), (((refl, λ w b notes judged rests. rests), tt), (tt, tt))),
       ),
     ),
   ),

@@ -28,18 +28,23 @@ use Rattle.cct_model.specs.terms.device.DeviceBody.TheVariants.{Acceptor, Hopper
 use Rattle.cct_model.specs.declared.judging.Judged.{Judged}
 use Rattle.cct_model.specs.declared.judging.Judged.TheVariants.{Nothing}
 use Rattle.cct_model.specs.Refusal.{start_refusal, running_refusal}
-use Rattle.cct_model.specs.Claims.{coins, mark, base, OrderAt, CoverAt, Near, PaceAt, InOrder, Covers, Pace}
-use Rattle.cct_laws.specs.Moving.{MovedAt, MovesWithCoins}
+use Rattle.cct_model.specs.Claims.{AllPast, coins, mark, base, OrderAt, CoverAt, Near, PaceAt, InOrder, Covers, Pace}
+use Rattle.cct_laws.specs.Moving.{MovedAt, NoStopMovesAt}
 use Rattle.cct_laws.specs.DeviceJobs.{is_for_acceptor, Fate, unheard, silenced, answered, with_ended, IsTaken}
 use Rattle.cct_laws.proofs.acceptor.World.{World, world, On, on_coin, on_piece, on_reset, on_master, on_path, on_default, on_nothing}
 use Rattle.cct_laws.proofs.acceptor.Fits.{ReadSoFar, read_so_far, Notes, notes_in, StateOf, IsIdle, IsRunning, CountsAt, FitsAt, Fits, state_on, at_on, fits_on}
 use Rattle.cct_model.proofs.RowEnds.{failed_stays}
 
+-- an end by which a reading has to be made again met a coin, and is none of a stop
+abbrev pub MovesWell : List Line → Line → Type 0
+MovesWell past (ended Moved) = MovedAt past (ended Moved) × NoStopMovesAt past (ended Moved)
+MovesWell past line = ⊤
+
 -- what holds after every line
 pub record Sound (d : DeviceSetup) (past : List Met) (lines : List Line) : Type 0 where
   pub in_order : InOrder lines
   pub covers : Pace lines → Covers lines
-  pub moves : MovesWithCoins lines
+  pub moves : AllPast MovesWell lines
   pub told : accepted_coins past ≡ length (coins lines)
   pub marked : mark lines ≤ length (coins lines)
   pub state : StateOf (world d past lines) (mark lines) (base lines) (epoch lines)
@@ -51,7 +56,7 @@ pub record Keeps (d : DeviceSetup) (past : List Met) (lines : List Line) : Type 
 
 -- what a line has to show
 pub sound_line : (d : DeviceSetup) (past now : List Met) (lines : List Line) (line : Line) → OrderAt lines line →
-    (PaceAt lines line → CoverAt lines line) → MovedAt lines line →
+    (PaceAt lines line → CoverAt lines line) → MovesWell lines line →
     accepted_coins now ≡ length (coins (line ∷ lines)) → mark (line ∷ lines) ≤ length (coins (line ∷ lines)) →
     StateOf (world d now (line ∷ lines)) (mark (line ∷ lines)) (base (line ∷ lines)) (epoch (line ∷ lines)) →
     Sound d past lines → Sound d now (line ∷ lines)
@@ -74,7 +79,7 @@ near_of (line ∷ lines) pace = pace.0
 record IsPiece (lines : List Line) (line : Line) : Type 0 where
   orders : OrderAt lines line
   covers : CoverAt lines line
-  moves : MovedAt lines line
+  moves : MovesWell lines line
   book_stays : read_so_far (line ∷ lines) ≡ read_so_far lines
   job_stays : job (line ∷ lines) ≡ job lines
 

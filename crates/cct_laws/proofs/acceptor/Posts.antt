@@ -4,10 +4,10 @@ use Rattle.std.proofs.Common.{[]}
 use Rattle.cct_model.specs.Claims.{InOrder, Covers, Pace}
 use Rattle.cct_model.specs.Transcript.{met, onto}
 use Rattle.cct_laws.specs.Law.{lines_in}
-use Rattle.cct_laws.specs.Moving.{MovesWithCoins}
+use Rattle.cct_laws.specs.Moving.{MovesWithCoins, NoStopMoves}
 use Rattle.cct_laws.specs.Scope.{EachAcceptor}
 use Rattle.cct_laws.proofs.acceptor.Moves.{Keeps}
-use Rattle.cct_laws.proofs.acceptor.Acceptors.{keeps_kept, kept_in_order, kept_covers, kept_moves}
+use Rattle.cct_laws.proofs.acceptor.Acceptors.{keeps_kept, kept_in_order, kept_covers, kept_moves, kept_stops}
 use Rattle.cct_laws.proofs.Whole.{kept_legal}
 
 -- what holds of the lines holds in every legal transcript
@@ -29,3 +29,8 @@ legal_covers capacity setup steps transcript d sound own accepting in_range lega
 pub legal_moves : EachAcceptor (λ d transcript. MovesWithCoins (lines_in d transcript))
 legal_moves capacity setup steps transcript d sound own accepting in_range legal honest =
     kept_moves d _ _ (legal_keeps capacity setup steps transcript d sound own accepting in_range legal honest)
+
+-- and no stop ended so
+pub legal_stops : EachAcceptor (λ d transcript. NoStopMoves (lines_in d transcript))
+legal_stops capacity setup steps transcript d sound own accepting in_range legal honest =
+    kept_stops d _ _ (legal_keeps capacity setup steps transcript d sound own accepting in_range legal honest)

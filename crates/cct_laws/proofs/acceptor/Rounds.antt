@@ -1,5 +1,5 @@
 -- How the rows that read an acceptor in its epoch, and what they put, keep what holds of it.
-use Rattle.std.proofs.Common.{◌≡◌, ℕ, le_refl, true, List, ◌∷◌, refl, sym, ◌∙◌, subst, Option, Some, None, ap}
+use Rattle.std.proofs.Common.{◌≡◌, ◌≤◌, ℕ, length, arith, rules, le_refl, true, List, ◌∷◌, refl, sym, ◌∙◌, subst, Option, Some, None, ap}
 use Rattle.std.specs.Prelude.{⊤}
 use Rattle.cct_model.specs.terms.device.DeviceSetup.{DeviceSetup}
 use Rattle.cct_model.specs.terms.request.Request.{Request}
@@ -9,6 +9,7 @@ use Rattle.cct_model.specs.lines.record.Record.TheVariants as record_of
 use Rattle.cct_model.specs.declared.judging.Judged.{Judged}
 use Rattle.cct_model.specs.declared.judging.Judged.TheVariants.{Nothing, Moved, Reading, Broken}
 use Rattle.cct_model.specs.lines.command.Command.{Command}
+use Rattle.cct_model.specs.lines.command.Command.TheVariants as command
 use Rattle.cct_model.specs.lines.entry.End.{End}
 use Rattle.cct_model.specs.terms.coin.Coin.{Coin}
 use Rattle.cct_model.specs.lines.entry.End.TheVariants.{Broke}
@@ -18,16 +19,18 @@ use Rattle.cct_model.specs.History.{Met, heard}
 use Rattle.cct_model.specs.Acceptor.{credits_of, mask_of, accept_count}
 use Rattle.cct_model.specs.Device.{IsAcceptor}
 use Rattle.cct_model.specs.Line.{Line, exchange, put}
-use Rattle.cct_model.specs.Job.{works, job, with_line, epoch, judged_in, end_of_moving, end_of_reading, address_of}
+use Rattle.cct_model.specs.Job.{works, job, with_line, epoch, ident_requests, judged_in, end_of_moving, end_of_reading, address_of}
+use Rattle.cct_model.specs.Claims.{coins}
 use Rattle.cct_laws.specs.DeviceJobs.{Fate, with_ended}
+use Rattle.cct_laws.specs.Moving.{counting, IsNoStop}
 use Rattle.cct_laws.proofs.acceptor.World.{World, world, Shut, count_from, count_at, on_nothing}
-use Rattle.cct_laws.proofs.acceptor.Fits.{read_so_far, Notes, notes_in, Begins, HeldIn, SeesIn, Posts, PostsAs, BreaksAs, Ready, CountsAt, FitsAt, Fits, IfOver, if_over, IsStill, ends_epoch, AfterCredits, AfterMask, AfterCount, AfterReading}
+use Rattle.cct_laws.proofs.acceptor.Fits.{IsShutSince, read_so_far, Notes, notes_in, Begins, HeldIn, SeesIn, Posts, PostsAs, BreaksAs, Ready, CountsAt, FitsAt, Fits, IfOver, if_over, IsStill, ends_epoch, AfterCredits, AfterMask, AfterCount, AfterReading}
 use Rattle.cct_laws.proofs.acceptor.Moves.{Sound, Keeps, KeepsAsk, AtRows, IsOtherEnd, keeps_ended, keeps_with_ended, answered_at, next_at, by_fate}
 use Rattle.cct_laws.proofs.acceptor.Readings.{held_now, sees_now, ready_now}
 use Rattle.cct_laws.proofs.acceptor.Items.{reading_fewer, keeps_clean, keeps_moved, sound_reading, sound_broken}
 use Rattle.cct_laws.proofs.Replies.{start_of, replied_credits, replied_mask, replied_accepts}
-use Rattle.cct_model.specs.Rows.{Then, if_judged, if_unmoved, if_posted, new_epoch, reading, TableRow, asks_for, puts_due, rows_of, rest, end_by_answer, end_kept, sent_once}
-use Rattle.cct_model.proofs.Rows.{Behind, behind_answer, put_leaves}
+use Rattle.cct_model.specs.Rows.{done, Then, if_judged, if_unmoved, if_posted, new_epoch, reading, TableRow, asks_for, puts_due, rows_of, rest, end_by_answer, end_kept, sent_once}
+use Rattle.cct_model.proofs.Rows.{EachRow, each_told, each_after, Behind, behind_answer, put_leaves}
 
 -- what an acceptor's credits tell an epoch
 held_at : (d : DeviceSetup) (past : List Met) (lines since : List Line) → Begins (world d past lines) (read_so_far lines) (notes_in since) → Sound d past lines →
@@ -42,7 +45,8 @@ held_at d past lines since begins sound =
 pub reads : (d : DeviceSetup) (past : List Met) (lines : List Line) (c : Command) (since : List Line) (behind : Then)
     (rows : List TableRow) (asked : Option Request) (got : Option Reply) → IsAcceptor d.body →
     AtRows d past lines c since (asks_for ReadCredits behind ∷ rows) → Behind IsOtherEnd behind → AfterCredits rows →
-    Begins (world d past lines) (read_so_far lines) (notes_in since) → IfOver (ends_epoch rows) (Shut (world d past lines)) →
+    Begins (world d past lines) (read_so_far lines) (notes_in since) →
+    IfOver (ends_epoch rows) (IsShutSince (world d past lines) (read_so_far lines)) →
     Fate d past ReadCredits asked got → KeepsAsk d past lines c since ReadCredits asked got
 reads d past lines c since behind rows asked got accepting at other next begins shut fate =
     let w = world d past lines in
@@ -50,7 +54,7 @@ reads d past lines c since behind rows asked got accepting at other next begins 
     let y = reply.credits (credits_of past) in
     let line = exchange (Some ReadCredits) (Some y) in
     let b = read_so_far (line ∷ lines) in
-    let still = if_over (ends_epoch rows) (Shut w) (IsStill w b) (λ is. (is, refl)) shut in
+    let still = if_over (ends_epoch rows) (IsShutSince w (read_so_far lines)) (IsStill w b) (λ is. (is.0, refl, is.1)) shut in
     let kept = next_at d past lines c since (asks_for ReadCredits behind) rows ReadCredits y at refl (on_nothing w)
     (next w b (notes_in (line ∷ since)) _ (held_at d past lines since begins at.keeps.sound) still) in
     let replied : KeepsAsk d past lines c since ReadCredits (Some ReadCredits) (Some y) =
@@ -108,41 +112,68 @@ counted_fits d past lines c since (puts_due reading behind ∷ rows) sound next 
 )
 counted_fits d past lines c since (asks_for ReadCredits behind ∷ rows) sound next fits =
     next (world d past lines) (read_so_far (counted_by (world d past lines) ∷ lines)) _ _
-    (record { running = fits.0; read = refl; goes_on = sound.marked; few = le_refl _ }) fits.1
+    (record { running = fits.0; read = refl; goes_on = sound.marked; few = le_refl _ })
+    (if_over (ends_epoch rows) (Shut (world d past lines))
+    (IsShutSince (world d past lines) (read_so_far (counted_by (world d past lines) ∷ lines))) (λ shut. (shut, refl))
+    fits.1)
 counted_fits d past lines c since rows sound next fits =
     next (world d past lines) (read_so_far (counted_by (world d past lines) ∷ lines))
     (notes_in (counted_by (world d past lines) ∷ since))
     (judged_in c (counted_by (world d past lines) ∷ since) (epoch lines))
 
--- a reading that means nothing ends a round clean, and one that has to be made again ends it too
-round_judged : (d : DeviceSetup) (now : List Met) (lines : List Line) (judged : Judged) → Ready (world d now lines) (read_so_far lines) judged → Keeps d now lines → Keeps d now (with_ended (end_of_reading judged) lines)
-round_judged d now lines Nothing ready keeps = keeps_clean d now lines keeps.sound ready
-round_judged d now lines Moved ready keeps = keeps_moved d now lines keeps.sound ready
-round_judged d now lines (Reading entry) ready keeps = keeps
-round_judged d now lines (Broken entry) ready keeps = keeps
+-- a stop doesn't end by what its reading means
+abbrev JudgesNoStop : Command → TableRow → Type 0
+JudgesNoStop (command.Stop addr) (asks_for q if_judged) = ⊥
+JudgesNoStop c r = ⊤
 
--- and a stop
-stop_judged : (d : DeviceSetup) (now : List Met) (lines : List Line) (judged : Judged) → Ready (world d now lines) (read_so_far lines) judged → Keeps d now lines → Keeps d now (with_ended (end_of_moving judged) lines)
-stop_judged d now lines Nothing ready keeps = keeps
-stop_judged d now lines Moved ready keeps = keeps_moved d now lines keeps.sound ready
-stop_judged d now lines (Reading entry) ready keeps = keeps
-stop_judged d now lines (Broken entry) ready keeps = keeps
+judges_none : (d : DeviceSetup) (c : Command) → EachRow (JudgesNoStop c) (rows_of d c)
+judges_none d (command.Ident addr) =
+    each_told (JudgesNoStop (command.Ident addr)) (λ q. tt) (λ q. tt) (ident_requests d.body)
+judges_none d c = search rules
+
+no_stop : (c : Command) (since : List Line) (q : Request) → JudgesNoStop c (asks_for q if_judged) →
+    IsNoStop (works c since)
+no_stop (command.Stop addr) since q judges = absurd judges
+no_stop c since q judges = tt
+
+-- a reading that means nothing ends a round clean, and one that has to be made again ends it too
+round_judged : (d : DeviceSetup) (now : List Met) (lines : List Line) (judged : Judged) → IsNoStop (job lines) →
+    Ready (world d now lines) (read_so_far lines) judged → Keeps d now lines →
+    Keeps d now (with_ended (end_of_reading judged) lines)
+round_judged d now lines Nothing other ready keeps = keeps_clean d now lines keeps.sound ready
+round_judged d now lines Moved other ready keeps = keeps_moved d now lines keeps.sound ready other
+round_judged d now lines (Reading entry) other ready keeps = keeps
+round_judged d now lines (Broken entry) other ready keeps = keeps
+
+-- no coin comes while a stop reads, so that its reading hasn't to be made again
+stop_judged : (d : DeviceSetup) (now : List Met) (lines : List Line) (judged : Judged) →
+    length (coins (counting lines)) ≤ length (coins lines) → IsStill (world d now lines) (read_so_far lines) →
+    Ready (world d now lines) (read_so_far lines) judged → Keeps d now lines →
+    Keeps d now (with_ended (end_of_moving judged) lines)
+stop_judged d now lines Nothing few still ready keeps = keeps
+stop_judged d now lines Moved few still ready keeps = absurd (omega (arith, few, still.2, ready))
+stop_judged d now lines (Reading entry) few still ready keeps = keeps
+stop_judged d now lines (Broken entry) few still ready keeps = keeps
 
 -- how a job goes on after it, by the row after it
 abbrev pub IsAfterCount : Then → List TableRow → Type 0
 IsAfterCount if_judged (puts_due reading after ∷ rows) = ⊤
-IsAfterCount if_unmoved (puts_due reading after ∷ rows) = ⊤
+IsAfterCount if_unmoved (puts_due reading after ∷ rows) = ends_epoch rows ≡ true
 IsAfterCount behind rows = Behind IsOtherEnd behind
 
-counted_ends : (d : DeviceSetup) (now : List Met) (lines : List Line) (behind : Then) (rows : List TableRow)
-    (y : Reply) (notes : Notes) (judged : Judged) → IsAfterCount behind rows →
-    FitsAt (world d now lines) (read_so_far lines) rows notes judged → Keeps d now lines →
+counted_ends : (d : DeviceSetup) (now : List Met) (lines : List Line) (c : Command) (since : List Line) (behind : Then)
+    (rows : List TableRow) (y : Reply) (notes : Notes) (judged : Judged) → job lines ≡ works c since →
+    JudgesNoStop c (asks_for AcceptCount behind) → length (coins (counting lines)) ≤ length (coins lines) →
+    IsAfterCount behind rows → FitsAt (world d now lines) (read_so_far lines) rows notes judged → Keeps d now lines →
     Keeps d now (with_ended (end_by_answer behind y judged) lines)
-counted_ends d now lines if_judged (puts_due reading after ∷ rows) y notes judged other fits keeps =
-    round_judged d now lines judged fits.0 keeps
-counted_ends d now lines if_unmoved (puts_due reading after ∷ rows) y notes judged other fits keeps =
-    stop_judged d now lines judged fits.0 keeps
-counted_ends d now lines behind rows y notes judged other fits keeps =
+counted_ends d now lines c since if_judged (puts_due reading after ∷ rows) y notes judged is_job judges few other fits
+    keeps =
+    round_judged d now lines judged (subst IsNoStop (sym is_job) (no_stop c since AcceptCount judges)) fits.0 keeps
+counted_ends d now lines c since if_unmoved (puts_due reading after ∷ rows) y notes judged is_job judges few other fits
+    keeps =
+    stop_judged d now lines judged few
+    (subst (λ over. IfOver over (IsStill (world d now lines) (read_so_far lines))) other fits.1) fits.0 keeps
+counted_ends d now lines c since behind rows y notes judged is_job judges few other fits keeps =
     keeps_with_ended d now lines (end_by_answer behind y judged) (behind_answer IsOtherEnd behind y judged other) keeps
 
 pub counts : (d : DeviceSetup) (past : List Met) (lines : List Line) (c : Command) (since : List Line) (behind : Then)
@@ -157,10 +188,13 @@ counts d past lines c since behind rows asked got accepting at other next needs 
     let line = exchange (Some AcceptCount) (Some y) in
     let fits = counted_fits d past lines c since rows at.keeps.sound next needs in
     let kept = next_at d past lines c since (asks_for AcceptCount behind) rows AcceptCount y at refl (on_nothing w) fits in
+    let judges =
+    subst (EachRow (JudgesNoStop c)) at.rest_is
+    (each_after (JudgesNoStop c) (rows_of d c) (done (rows_of d c) since) (judges_none d c)) in
     let replied : KeepsAsk d past lines c since AcceptCount (Some AcceptCount) (Some y) =
     answered_at d past lines c since (asks_for AcceptCount behind ∷ rows) AcceptCount y at
-    (counted_ends d now (line ∷ lines) behind rows y (notes_in (line ∷ since)) (judged_in c (line ∷ since) (epoch lines))
-    other fits kept) in
+    (counted_ends d now (line ∷ lines) c (line ∷ since) behind rows y (notes_in (line ∷ since))
+    (judged_in c (line ∷ since) (epoch lines)) (ap (with_line line) at.is_job) judges.0 (le_refl _) other fits kept) in
     by_fate d past lines c since AcceptCount asked got (ap sent_once at.rest_is) tt at.is_job at.keeps
     (λ z gives. subst (λ found. KeepsAsk d past lines c since AcceptCount (Some AcceptCount) found)
     (ap (λ n. Some (reply.accepts n)) (sym (count_is d past lines at.keeps.sound)) ∙ sym (replied_accepts d past accepting)

@@ -39,7 +39,7 @@ returns-then-addr-eq-BROADCAST-clause-nexts g c =
               scan = goes.keeps;
               sale = turned.1;
               last = attempt_last past c.args.addr attempt.what c.next-used.result c.args.self.now.last _
-                  attempt.used_is stands.last c.greater-self.ensures;
+                  attempt.used_is stands.last c.max-self.ensures;
             },
           );
     }
@@ -66,7 +66,7 @@ returns-then-addr-eq-HOST-clause-nexts g c =
               scan = turned.1;
               sale = goes.keeps;
               last = attempt_last past c.args.addr attempt.what c.next-used-then-addr-eq-HOST.result
-                  c.args.self.now.last _ attempt.used_is stands.last c.greater-self-then-addr-eq-HOST.ensures;
+                  c.args.self.now.last _ attempt.used_is stands.last c.max-self-then-addr-eq-HOST.ensures;
             },
           );
     }

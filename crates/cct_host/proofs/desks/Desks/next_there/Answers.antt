@@ -64,7 +64,7 @@ returns-in-Some-clause-nexts g c =
               scan = turned.1;
               sale = turned.2;
               last = attempt_last past c.args.addr attempt.what c.next-used.result c.args.self.now.last _
-                  attempt.used_is stands.last c.greater-self.ensures;
+                  attempt.used_is stands.last c.max-self.ensures;
             },
           );
     }

@@ -1,4 +1,5 @@
 use Rattle.std.proofs.Common.{ap, ◌∙◌, refl, rules}
+use Rattle.cct_world.proofs.Forged.{told_are}
 use Rattle.cct_world.proofs.Restarts.{next_counts, next_told}
 use Rattle.cct_world.proofs.Steps.{next_goes}
 use Rattle.cct_world.proofs.machine.Machine.next.Goals as goal
@@ -8,16 +9,20 @@ returns-in-Ok-clause-played g c =
     let machine = c.args.self.now in
     let next = c.next.ensures in
     let nexts = c.in-Ok.ensures.nexts in
-    let told = next_told _ _ c.args.addr nexts.what c.requires.report nexts.reported_is in
+    let tells = c.tell_forged.ensures in
+    let news = told_are _ _ _ c.args.addr nexts.what c.requires.report nexts.reported_is tells in
+    let report = c.tell_forged.new.report.items in
+    let told = next_told report tells.was c.args.addr nexts.what news in
     record {
       setup = next.setup;
       whole = c.in-Ok.ensures.whole;
       plays = λ past stands suits survives.
           let goes = next_goes machine.bus c.next.new.link machine.host c.next.new.self c.args.addr past _ _
-          c.requires.report nexts machine.same stands.host stands.bus suits in
+          report nexts
+          tells news machine.same stands.host stands.bus suits in
           (goes.0, record { host = goes.1.0; bus = goes.1.1 });
       told = told.0;
-      counts = next_counts _ _ c.args.addr nexts.what _ _ c.requires.report nexts.reported_is nexts.counts;
+      counts = next_counts report tells.was c.args.addr nexts.what _ _ news nexts.counts;
       restarts = told.1;
       cut = next.goes_on.same_cuts;
       lasts = next.goes_on;
