@@ -8,17 +8,21 @@ from wire import CHECKS, HOST, POLLS, SIZES, hexed, is_message, spell
 # one address of the plan; the other words in capitals are fields, drawn as FIELDS says. `put A` is a `next A` that puts a
 # record if all goes well: power cuts come there. A new word has a row here, and its step in judge.py.
 PLANS = (
-    (8, 'acceptor', 'start A MASK, 2* next A, put A, next A'),
-    (16, 'acceptor', '?* coin A PLACE, round A, 2* next A, put A'),
-    (8, 'acceptor', 'round A, 2* next A, put A'),
+    (8, 'acceptor', 'start A MASK, 3* next A, put A, next A'),
+    (16, 'acceptor', '?* coin A PLACE, round A, 4* next A, put A'),
+    (8, 'acceptor', 'round A, 4* next A, put A'),
+    # A coin comes within a round.
+    (3, 'acceptor', 'round A, next A, ?* coin A PLACE, next A, coin A PLACE, 2* next A, put A, round A, 4* next A, put A'),
     (10, 'acceptor', '?* coin A PLACE'),
     (4, 'acceptor', 'alien A'),
-    # The event counter goes round.
-    (0.4, 'acceptor', '247* coin A PLACE, round A, 2* next A, put A, 3* coin A PLACE, round A, 2* next A, put A, '
-                      '3* coin A PLACE, round A, 2* next A, put A, 3* coin A PLACE, round A, 2* next A, put A'),
-    (3, 'acceptor', 'stop A, 3* next A, 2* put A, start A MASK, 2* next A, put A, next A'),
-    (2, 'acceptor', 'reset A, round A, 2* next A, put A, start A MASK, 2* next A, put A, next A'),
-    (1, 'acceptor', 'round A, next A, reset A, next A, put A, start A MASK, 2* next A, put A, next A'),
+    # The event counter goes round: in some readings, and between two of them.
+    (0.4, 'acceptor', '247* coin A PLACE, round A, 4* next A, put A, 3* coin A PLACE, round A, 4* next A, put A, '
+                      '3* coin A PLACE, round A, 4* next A, put A, 3* coin A PLACE, round A, 4* next A, put A'),
+    (0.2, 'acceptor', 'round A, 4* next A, put A, 255* coin A PLACE, round A, 4* next A, put A'),
+    (0.2, 'acceptor', 'round A, 4* next A, put A, 300* coin A PLACE, round A, 4* next A, put A'),
+    (3, 'acceptor', 'stop A, 5* next A, 2* put A, start A MASK, 3* next A, put A, next A'),
+    (2, 'acceptor', 'reset A, round A, 4* next A, put A, start A MASK, 3* next A, put A, next A'),
+    (1, 'acceptor', 'round A, 2* next A, reset A, 2* next A, put A, start A MASK, 3* next A, put A, next A'),
     (2, 'acceptor', 'path A WAY PATH, 2* next A'),
     (14, 'hopper', 'pay A ID COUNT, 2* next A, put A, next A, ?* fall A, 2* next A, put A'),
     (3, 'hopper', 'pay A ID COUNT, 2* next A, put A, next A, fall A, halt A, 3* next A, put A'),
@@ -48,7 +52,7 @@ PLANS = (
     (1, 'any', 'path A WAY PATH'),
 )
 # The plan of each acceptor with which a script begins.
-FIRST = 'start A MASK, 4* next A, 5* coin A PLACE, round A, 3* next A'
+FIRST = 'start A MASK, 5* next A, 5* coin A PLACE, round A, 5* next A'
 # How each field is drawn, by a Drawer for an address.
 FIELDS = {
     'A': lambda drawer, addr: addr,
@@ -80,7 +84,7 @@ REFUSED = (
     ('fall 0', 'device'), ('jam 1', 'device'), ('reset 1', 'device'), ('alien 0', 'device'), (1201 * 'x', 'long'))
 # Requests whose exchanges are damaged or forged, header and data: those of the host to each kind of device, and those that
 # change it.
-ASKED = {'acceptor': ((1, ''), (229, ''), (230, ''), (229, ''), (230, ''), (228, '00'), (231, '0100'), (254, '')),
+ASKED = {'acceptor': ((1, ''), (225, ''), (229, ''), (230, ''), (225, ''), (229, ''), (230, ''), (228, '00'), (231, '0100')),
          'hopper': ((164, 'a5'), (168, ''), (166, ''), (168, ''), (166, ''), (172, ''), (163, ''), (254, ''))}
 CHANGING = {'acceptor': ((1, ''), (231, 'ffff'), (231, '0000'), (228, '00'), (228, '01'), (189, '03'), (210, '0102')),
             'hopper': ((1, ''), (164, 'a5'), (164, '00'), (172, ''), (167, '01020303'))}

@@ -26,7 +26,8 @@ class Books:
 
     def __init__(self):
         self.devices, self.records, self.ids = {}, [], {0}
-        # By address: of an epoch its mask and the recorded counter, of an open order its id, count and life count.
+        # By address: of an epoch its mask, the recorded event counter and the recorded accept counter, of an open order its id,
+        # count and life count.
         self.epochs, self.orders = {}, {}
         self.value = self.paid = self.sold = self.odd = 0
         self.posted = self.lost = self.coins_paid = self.unpaid = 0
@@ -44,10 +45,10 @@ class Books:
         expect(getattr(self, 'put_' + kind)(*fields), f'the record {record} does not follow those before it')
         self.records.append(record)
 
-    def put_epoch(self, addr, mask):
+    def put_epoch(self, addr, mask, accepts):
         places, values = places_of(mask), self.devices[int(addr)].values
         follows = int(addr) not in self.epochs and places and set(places) <= set(values)
-        self.epochs[int(addr)] = int(mask, 16), 0
+        self.epochs[int(addr)] = int(mask, 16), 0, int(accepts)
         return follows
 
     def post(self, addr, coins):
@@ -57,13 +58,14 @@ class Books:
         self.posted += len(places)
         return int(addr) in self.epochs and len(places) <= 5 and 0 not in places
 
-    def put_reading(self, addr, counter, lost, coins):
+    def put_reading(self, addr, counter, lost, accepts, coins):
         self.lost += int(lost)
         follows = self.post(addr, coins)
-        self.epochs[int(addr)] = self.epochs.get(int(addr), (0, 0))[0], int(counter)
+        self.epochs[int(addr)] = self.epochs.get(int(addr), (0, 0, 0))[0], int(counter), int(accepts)
         return follows
 
-    def put_broken(self, addr, seen, counter, coins):
+    def put_broken(self, addr, seen, counter, lost, accepts, coins):
+        self.lost += int(lost)
         return self.post(addr, coins) and self.epochs.pop(int(addr))
 
     def put_epochend(self, addr):
@@ -115,16 +117,24 @@ def places_of(mask):
     return [place for place in range(1, 17) if int(mask, 16) >> place - 1 & 1]
 
 
-def judged(addr, epoch, credits, seen):
-    """The record that a reading means, None if nothing is new. After counter 255 comes 1."""
-    mask, recorded = epoch
-    counter = credits[0]
+# What a reading means in which a coin was accepted.
+MOVED = 'moved'
+
+
+def judged(addr, epoch, before, credits, seen, now):
+    """The record that a reading between two accept counters means, None if nothing is new, or that it has to be made again.
+    After event counter 255 comes 1, after the greatest accept counter 0."""
+    mask, recorded, accepts = epoch
+    if seen == mask and before != now:
+        return MOVED
+    counter, accepted = credits[0], (now - accepts) % 2 ** 24
     new = counter if recorded == 0 else 0 if counter == 0 else (counter - recorded) % 255
     events = [credits[at:at + 2] for at in range(1, 11, 2)][:new]
-    coins = ','.join(f'{place}/{path}' for place, path in reversed(events) if place) or '-'
+    posted = [f'{place}/{path}' for place, path in reversed(events) if place]
+    lost, coins = max(accepted - len(posted), 0), ','.join(posted) or '-'
     if seen != mask or (counter == 0 and recorded):
-        return f'broken {addr} {seen:04x} {counter} {coins}'
-    return f'reading {addr} {counter} {max(new - 5, 0)} {coins}' if new else None
+        return f'broken {addr} {seen:04x} {counter} {lost} {now} {coins}'
+    return f'reading {addr} {counter} {lost} {now} {coins}' if new or accepted else None
 
 
 # ---- The jobs
@@ -201,25 +211,32 @@ class Job:
         credits = yield from self.asks(229)
         if credits[0]:
             return f'unquiet {a} {credits[0]}'
-        yield f'epoch {a} {mask}'
+        accepts = number((yield from self.asks(225)))
+        yield f'epoch {a} {mask} {accepts}'
         heard = yield from self.once(231, int(mask, 16).to_bytes(2, 'little'))
         return f'unsure {a}' if heard is None else f'started {a}'
 
     def reading(self):
+        before = number((yield from self.asks(225)))
         credits = yield from self.asks(229)
-        seen = yield from self.asks(230)
-        return judged(self.addr, self.books.epochs[self.addr], credits, number(seen))
+        seen = number((yield from self.asks(230)))
+        now = number((yield from self.asks(225)))
+        return judged(self.addr, self.books.epochs[self.addr], before, credits, seen, now)
 
     def round(self, a):
         record = yield from self.reading()
         if record is None:
             return f'clean {a}'
+        if record == MOVED:
+            return f'moved {a}'
         yield record
         return f'broke {a}' if record.startswith('broken') else f'posted {a}'
 
     def stop(self, a):
         yield from self.asks(228, b'\0')
         record = yield from self.reading()
+        if record == MOVED:
+            return f'moved {a}'
         if record is not None:
             yield record
             if record.startswith('broken'):

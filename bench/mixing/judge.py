@@ -7,13 +7,12 @@ from wire import hexed, is_forged
 # ---- The promises
 
 class Track:
-    """What came to a device. Of an acceptor: its accepted coins; how many of them and of all objects its last readings saw;
-    how many coins its last item counts; whether the mask of its epoch is set. Of a hopper: its order, and what fell for it."""
+    """What came to a device. Of an acceptor: its accepted coins; how many of them there were at its last readings; how many
+    coins its last item counts; whether the mask of its epoch is set. Of a hopper: its order, and what fell for it."""
 
     def __init__(self):
-        self.coins, self.objects, self.mark = [], 0, 0
-        self.at_credits, self.objects_at_credits, self.at_mask = 0, 0, 0
-        self.paced_from, self.keeps_pace, self.is_set = None, True, False
+        self.coins, self.mark, self.is_set = [], 0, False
+        self.at_count, self.at_count_before, self.at_credits, self.at_mask = 0, 0, 0, 0
         self.order, self.count, self.dispensed, self.fell = None, 0, False, 0
 
 
@@ -32,7 +31,6 @@ class Laws:
     def object(self, addr, coin):
         """An object fell into an acceptor: a coin that it accepted, or another one. It accepts none without an epoch."""
         track = self.at(addr)
-        track.objects += 1
         if coin:
             track.coins.append(coin)
             self.holds(track.is_set, 'a coin is accepted, though no epoch set its mask since the reset')
@@ -44,8 +42,10 @@ class Laws:
     def exchange(self, ask, data, arrived):
         """An exchange with what it gave, and whether what was sent arrived. No order is dispensed twice on any wire."""
         track = self.at(ask.addr)
+        if ask.header == 225 and data is not None:
+            track.at_count = len(track.coins)
         if ask.header == 229 and data is not None:
-            track.at_credits, track.objects_at_credits = len(track.coins), track.objects
+            track.at_credits, track.at_count_before = len(track.coins), track.at_count
         if ask.header == 230 and data is not None:
             track.at_mask = len(track.coins)
         if ask.header == 231 and arrived:
@@ -70,28 +70,24 @@ class Laws:
 
     def item(self, kind, addr, *fields):
         """The part of an item is the coins after the mark of the item before it, up to its own mark. It posts the last ones
-        that its reading could show, and no more are missing than it tells as lost; after a break any number may be."""
+        that its reading could show, and exactly as many others are missing as it tells to be lost."""
         track = self.at(addr)
         mark = {'reading': track.at_credits, 'clean': track.at_credits, 'broken': track.at_mask}.get(kind, len(track.coins))
         part, shown = track.coins[track.mark:mark], track.coins[track.mark:track.at_credits]
         posted = fields[-1].split(',') if kind in ('reading', 'broken') and fields[-1] != '-' else []
-        lost = int(fields[1]) if kind == 'reading' else 0
-        self.pace(kind, track)
+        lost = int(fields[-3]) if kind in ('reading', 'broken') else 0
         in_order = track.mark <= mark and posted == shown[len(shown) - len(posted):]
         self.holds(in_order, f'{kind}: of the coins {shown} not the last')
         self.holds(kind != 'epoch' or not part, f'the coins {part} were accepted without an epoch')
-        self.holds(kind == 'broken' or not track.keeps_pace or len(part) <= len(posted) + lost, f'{kind}: too few of {part}')
+        self.holds(len(part) == len(posted) + lost, f'{kind}: not {len(posted) + lost} coins, but {part}')
         self.holds(kind != 'broken' or not track.is_set, 'a break, though the mask arrived and no reset came after it')
         track.mark = mark
         track.is_set = track.is_set and kind in ('clean', 'reading')
 
-    def pace(self, kind, track):
-        """Whether fewer than 255 objects came from the reading of an epoch or a reading to that of each item up to the next
-        record. If not, nothing is said any more of what is missing."""
-        if track.paced_from is not None and track.objects_at_credits - track.paced_from >= 255:
-            track.keeps_pace = False
-        if kind != 'clean':
-            track.paced_from = track.objects_at_credits if kind in ('epoch', 'reading') else None
+    def moved(self, addr):
+        """A reading has to be made again: a coin was accepted between its two accept counters."""
+        track = self.at(addr)
+        self.holds(track.at_count_before < track.at_count, 'a reading has to be made again, though no coin came in it')
 
 
 # ---- The lines
@@ -250,6 +246,8 @@ class Judge:
             self.wants(job.end)
             if job.end.startswith('clean'):
                 self.laws.item('clean', addr)
+            if job.end.startswith('moved'):
+                self.laws.moved(addr)
         self.forged_line(addr, forged)
 
     def forged_line(self, addr, forged):

@@ -29,7 +29,7 @@ use Rattle.cct_world.specs.World.{Breaks, StandsFor, disk_of, setup_of, used_of}
 use Rattle.cct_world.specs.Relying.{IsReliable}
 use Rattle.cct_world.proofs.Holding.{holds_on, loses_at}
 use Rattle.cct_world.proofs.Lasting.{lasts_in, lasts_on, lasts_then, trusted_on, uncut_in}
-use Rattle.cct_world.proofs.Restarts.{behind_on}
+use Rattle.cct_world.proofs.Restarts.{after_cut_on}
 use Rattle.cct_world.proofs.Relying.{crashes_none, rose_just, reliable_back, reliable_survives}
 use Rattle.cct_world.proofs.Surviving.{survived_by}
 use Rattle.cct_bench.specs.declared.ending.Ending.{Ending}
@@ -239,7 +239,7 @@ module _ {D : Type 0} {g : Ghosts D} where
     survived = survived_by (IsReliable (IsTrusted g.honest g.seen given)) (IsReliable (IsTrusted g.honest g.seen given))
         (CutAt g.size g.honest g.seen g.cuts g.cut_to given (disk_of world))
         (CutAt g.size g.honest g.seen g.cuts g.cut_to given left) (λ es sure. sure)
-        (behind_on g.size g.honest g.seen g.cuts g.cut_to given (disk_of world) left
+        (after_cut_on g.size g.honest g.seen g.cuts g.cut_to given (disk_of world) left
         (lasts_in g.size g.honest g.seen g.cuts s (disk_of world) left lasts)) (setup_of world) played past
         holds.survived;
     cut = le_trans (rose_just (crashes past) (g.cuts given) (g.cuts (disk_of world)) holds.cut)

@@ -30,7 +30,7 @@ use Rattle.cct_world.specs.World.{Breaks, StandsFor, StepPlayed, StepUnplayed, c
 use Rattle.cct_world.proofs.Early.{early_more, early_none}
 use Rattle.cct_world.proofs.Holding.{holds_first, loses_at, world_on}
 use Rattle.cct_world.proofs.Lasting.{lasts_here, lasts_in, lasts_then, trusted_on, uncut_in}
-use Rattle.cct_world.proofs.Restarts.{behind_on}
+use Rattle.cct_world.proofs.Restarts.{after_cut_on}
 use Rattle.cct_world.proofs.Suiting.{legal_suits}
 use Rattle.cct_world.proofs.Relying.{crashes_none, reliable_back, reliable_survives}
 use Rattle.cct_world.proofs.Surviving.{survived_by}
@@ -223,7 +223,7 @@ module _ {D : Type 0} {g : Ghosts D} (world : World D g) where
                 goes.setup
                 (survived_by (Relies world) (Relies world) (CutFor world (disk_of now)) (CutFor world left)
                 (λ es relies. relies)
-                (behind_on g.size g.honest g.seen g.cuts g.cut_to (disk_of world) (disk_of now) left outlasts)
+                (after_cut_on g.size g.honest g.seen g.cuts g.cut_to (disk_of world) (disk_of now) left outlasts)
                 (setup_of now) (lines_before seed n) past before.survived);
             cut = rose_later (crashes past) (g.cuts (disk_of world)) (g.cuts (disk_of now)) (g.cuts left) before.cut
                 outlasts.later_cuts;

@@ -1,36 +1,29 @@
 -- How the items of an acceptor, its records and a clean end, keep what holds of it, and an end by which a reading has to be
 -- made again.
-use Rattle.std.proofs.Common.{◌≡◌, ℕ, ◌-◌, ◌<◌, ◌≤◌, List, [], ◌∷◌, length, take, refl, ap, Option, Some, None, arith, le_refl, inr}
+use Rattle.std.proofs.Common.{◌≡◌, ℕ, ◌-◌, ◌<◌, ◌≤◌, List, [], ◌∷◌, length, take, refl, ap, Option, Some, arith, le_refl, inr}
 use Rattle.cct_model.specs.terms.coin.Coin.{Coin}
 use Rattle.cct_model.specs.lines.record.Record.TheVariants as record_of
 use Rattle.cct_model.specs.declared.judging.EpochState.{EpochState}
 use Rattle.cct_model.specs.declared.judging.EpochState.TheVariants.{Idle, Running}
 use Rattle.cct_model.specs.lines.entry.End.TheVariants.{Clean, Moved}
 use Rattle.cct_model.specs.History.{Met}
-use Rattle.cct_model.specs.Line.{Line, accepted, put, ended}
+use Rattle.cct_model.specs.Line.{Line, put, ended}
 use Rattle.cct_model.specs.Job.{job, epoch, counted, credits_line}
-use Rattle.cct_model.specs.Claims.{coins, reading, behind, mark, base, Near, IsNear}
+use Rattle.cct_model.specs.Claims.{coins, reading, mark, base, Near, IsNear}
 use Rattle.cct_laws.specs.Moving.{counting, IsNoStop}
 use Rattle.cct_laws.proofs.acceptor.World.{World, world, Shut, Silent, count_from, closed}
 use Rattle.cct_laws.proofs.acceptor.Fits.{read_so_far, StateOf, TracksIn, Posts, Breaks, Nears, IsIdle}
 use Rattle.cct_laws.proofs.acceptor.Moves.{Sound, Keeps, sound_line}
+use Rattle.cct_laws.proofs.jobs.Counted.{coins_more, behind_fewer}
 use Rattle.cct_model.specs.terms.device.DeviceSetup.{DeviceSetup}
 
 -- no more coins came before the reading than before now
-
-coins_more : (lines : List Line) (line : Line) → length (coins lines) ≤ length (coins (line ∷ lines))
-coins_more lines (accepted coin) = omega arith
-coins_more lines line = le_refl _
-
-behind_fewer : {A : Type 0} (found : Option A) (past earlier : List Line) → length (coins earlier) ≤ length (coins past) → length (coins (behind found past earlier)) ≤ length (coins past)
-behind_fewer None past earlier fewer = fewer
-behind_fewer (Some read) past earlier fewer = le_refl _
 
 pub reading_fewer : (lines : List Line) → length (coins (reading lines)) ≤ length (coins lines)
 reading_fewer [] = le_refl 0
 reading_fewer (line ∷ lines) =
     let fewer = behind_fewer (credits_line line) lines (reading lines) (reading_fewer lines) in
-    let more = coins_more lines line in
+    let more = coins_more line lines in
     omega (arith, fewer, more)
 
 part_none : (cs : List Coin) (m : ℕ) → length cs ≤ m → take (length cs - m) cs ≡ []

@@ -1,7 +1,7 @@
 -- The accept counters that a job read tell how many coins had come, as the lines of its acceptor do. So where a reading has
 -- to be made again, a coin came between the two.
-use Rattle.std.proofs.Common.{◌≡◌, ◌≢◌, ℕ, ◌+◌, ◌<◌, ◌≤◌, ◌==◌, ◌&&◌, not, Bool, true, false, cond, List, [], ◌∷◌, length, refl, ap, sym, ◌∙◌, subst, Option, Some, None, arith, rules, eq-eqb}
-use Rattle.std.specs.Prelude.{⊤, ◌%◌, ◌^◌}
+use Rattle.std.proofs.Common.{◌≡◌, ◌≢◌, ℕ, ◌<◌, ◌≤◌, ◌==◌, ◌&&◌, not, Bool, true, false, cond, List, [], ◌∷◌, length, refl, ap, sym, ◌∙◌, subst, Option, Some, None, arith, rules, eq-eqb}
+use Rattle.std.specs.Prelude.{⊤}
 use Rattle.std.specs.Option.{option_or}
 use Rattle.std.proofs.Math.Arith.{lt_of_le-ne}
 use Rattle.cct_model.specs.terms.coin.Credits.{Credits}
@@ -31,10 +31,11 @@ use Rattle.cct_model.specs.Rows.{Then, goes_on, ends_as, if_quiet, if_judged, if
 use Rattle.cct_model.proofs.Rows.{EachRow, each_told, each_left, IfEnd, PutEnds, put_end}
 use Rattle.cct_laws.specs.Moving.{MovedAt, counting}
 use Rattle.cct_laws.proofs.Replies.{start_of, replied_accepts, same_reply}
+use Rattle.cct_laws.proofs.acceptor.World.{count_from}
 
 -- the accept counter where the coins of these lines were accepted
 abbrev pub count_of : ℕ → List Line → ℕ
-count_of start lines = (start + length (coins lines)) % 2 ^ 24
+count_of start lines = count_from start (length (coins lines))
 
 -- how many coins had come when an accept counter was last read, and when it was last read before the credits
 abbrev pub counted_now : List Line → ℕ
@@ -59,8 +60,8 @@ counted_none start lines = record { now = λ n is. cc; before = λ n is. cc }
 pub counted_same : (start : ℕ) (lines others since : List Line) → counted_now others ≡ counted_now lines →
     counted_before others ≡ counted_before lines → Counted start lines since → Counted start others since
 counted_same start lines others since now before counted = record {
-  now = λ n is. counted.now n is ∙ ap (λ coins. (start + coins) % 2 ^ 24) (sym now);
-  before = λ n is. counted.before n is ∙ ap (λ coins. (start + coins) % 2 ^ 24) (sym before);
+  now = λ n is. counted.now n is ∙ ap (count_from start) (sym now);
+  before = λ n is. counted.before n is ∙ ap (count_from start) (sym before);
 }
 
 -- a line of the job
@@ -92,26 +93,28 @@ read_counts d past lines AcceptCount y accepting told replied = λ n is.
     let same : reply.accepts (accept_count start past) ≡ y =
     same_reply (reply.accepts (accept_count start past)) y (sym (replied_accepts d past accepting) ∙ replied) in
     same_count n (accept_count start past) (sym is ∙ ap (λ x. accepts_reply (Some x)) (sym same))
-    ∙ ap (λ coins. (start + coins) % 2 ^ 24) told
+    ∙ ap (count_from start) told
   where
     same_count : (n count : ℕ) → Some n ≡ Some count → n ≡ count
     same_count n count is = cc
 read_counts d past lines q y accepting told replied = λ n is. cc
 
 -- no fewer coins had come at the last reading of an accept counter than at an earlier one
-coins_more : (l : Line) (lines : List Line) → length (coins lines) ≤ length (coins (l ∷ lines))
+pub coins_more : (l : Line) (lines : List Line) → length (coins lines) ≤ length (coins (l ∷ lines))
 coins_more (accepted coin) lines = omega arith
 coins_more l lines = omega arith
 
+pub behind_fewer : {A : Type 0} (found : Option A) (past earlier : List Line) →
+    length (coins earlier) ≤ length (coins past) → length (coins (behind found past earlier)) ≤ length (coins past)
+behind_fewer None past earlier fewer = fewer
+behind_fewer (Some read) past earlier fewer = omega arith
+
 counting_fewer : (lines : List Line) → counted_now lines ≤ length (coins lines)
 counting_fewer [] = omega arith
-counting_fewer (l ∷ lines) = by_read (accepts_line l) (counting_fewer lines) (coins_more l lines)
-  where
-    by_read : (read : Option ℕ) → counted_now lines ≤ length (coins lines) →
-        length (coins lines) ≤ length (coins (l ∷ lines)) →
-        length (coins (behind read lines (counting lines))) ≤ length (coins (l ∷ lines))
-    by_read None fewer more = omega (arith, fewer, more)
-    by_read (Some count) fewer more = more
+counting_fewer (l ∷ lines) =
+    let fewer = behind_fewer (accepts_line l) lines (counting lines) (counting_fewer lines) in
+    let more = coins_more l lines in
+    omega (arith, fewer, more)
 
 first_fewer : (lines : List Line) → counted_before lines ≤ counted_now lines
 first_fewer [] = omega arith
@@ -169,7 +172,7 @@ moved_fewer start c lines since state counted is =
     let differ =
     judged_differs (address_of c) state (credits_read since) (mask_read since) (accepts_before since) (accepts_read since) is in
     lt_of_le-ne (first_fewer lines) (λ same.
-    differ.differs (counted.before differ.one differ.is_before ∙ ap (λ coins. (start + coins) % 2 ^ 24) same
+    differ.differs (counted.before differ.one differ.is_before ∙ ap (count_from start) same
     ∙ sym (counted.now differ.other differ.is_now)))
 
 -- an answer ends a job so only where its reading means it
