@@ -6,7 +6,7 @@ from wire import CHECKS, HOST, POLLS, SIZES, hexed, is_message, spell
 # What scripts are drawn from. A row has a weight, where its lines are, and the lines; a row that is drawn is one plan. Its
 # lines keep their order, and those of other plans come between. `N* ` is N times the line, `?* ` none to seven times. A is
 # one address of the plan; the other words in capitals are fields, drawn as FIELDS says. `put A` is a `next A` that puts a
-# record if all goes well: power cuts come there.
+# record if all goes well: power cuts come there. A new word has a row here, and its step in judge.py.
 PLANS = (
     (8, 'acceptor', 'start A MASK, 2* next A, put A, next A'),
     (16, 'acceptor', '?* coin A PLACE, round A, 2* next A, put A'),

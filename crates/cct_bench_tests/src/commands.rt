@@ -1,6 +1,6 @@
 //! The words of the command line, and reports over disks of many kinds.
 
-use crate::runs::{CALLS, DISK, POSTED, disk, lines_and, play, play_posted};
+use crate::runs::{CALLS, DISK, POSTED, count_lines, disk, lines_and, play, play_posted};
 use cct_bench::{Status, Words, WordsNo, read_words};
 use cct_disk::{Disk, MemDisk};
 use std::alloc::Global;
@@ -214,11 +214,6 @@ fn a_report_stops_at_each_fault_of_the_sink(rt: HostRuntime) -> Result<(), Fail>
     let (status, written, _) = report(alloc, &[4], used)?;
     assert_eq!(rt; (status, written.as_slice()), (Status::Done, LISTED));
     Ok(())
-}
-
-/// How many line feeds a text has.
-fn count_lines(text: &[u8]) -> usize {
-    text.iter().filter(|byte| **byte == b'\n').count()
 }
 
 // How often a report reads is open, but it reads once at the least, and ends.

@@ -1,17 +1,15 @@
-//! Power cuts in the midst of a script: where a record is kept, what the host knows after them, and disks that
-//! fail in one.
+//! Power cuts in the midst of a script: where a record is kept, and what the host knows after them.
 
-use crate::runs::{CALLS, DISK, POSTED, POSTED_TEXT, disk, left_by_a_cut, lines_and, play};
+use crate::runs::{POSTED, POSTED_TEXT, lines_and, run};
 use cct_bench::Status;
 use std::alloc::Global;
-use std::process::Abort;
 use std::test::Fail;
 
 /// How many lines of the script of a posted coin come before the step that puts its reading, and how many lines of its
 /// transcript.
 const SCRIPT_LINES: usize = 27;
 
-const TEXT_LINES: usize = 10;
+pub(crate) const TEXT_LINES: usize = 10;
 
 /// A power cut in the place of the put of a reading, and whether its record is kept. Its gate stands at place 1184.
 const READING_LOST: [(&str, bool); 39] = [
@@ -62,20 +60,19 @@ const READING_LOST: [(&str, bool); 39] = [
 ];
 
 /// What is told where the reading is lost, and where it is kept: by the crash, and by a whole round after it.
-const NOT_KEPT: &[u8] = b"crash 1\n";
-
-const KEPT: &[u8] = b"crash 2\nkept reading 2 1 0 5/1\n";
-
-const PUT_AGAIN: &[u8] = b"crash 1\nok round 2\n\
+pub(crate) const PUT_AGAIN: &[u8] = b"crash 1\nok round 2\n\
       wire 2 020001e518 020001e518010b02000105010000000000000000eb\nwire 2 020001e617 020001e61701020200fffffd\n\
       put reading 2 1 0 5/1\nposted 2\n";
 
-const CLEAN: &[u8] = b"crash 2\nkept reading 2 1 0 5/1\nok round 2\n\
+pub(crate) const CLEAN: &[u8] = b"crash 2\nkept reading 2 1 0 5/1\nok round 2\n\
       wire 2 020001e518 020001e518010b02000105010000000000000000eb\nwire 2 020001e617 020001e61701020200fffffd\n\
       clean 2\nidle 2\n";
 
+/// A whole round, and the end of the script.
+pub(crate) const ROUND: &[u8] = b"round 2\nnext 2\nnext 2\nnext 2\nend\n";
+
 /// The script of a posted coin up to the step that puts its reading, and in its place this line and these.
-fn crashing(alloc: Global, line: &str, after: &[u8]) -> Result<Vec<u8>, Fail> {
+pub(crate) fn crashing(alloc: Global, line: &str, after: &[u8]) -> Result<Vec<u8>, Fail> {
     let mut script = lines_and(alloc, POSTED, SCRIPT_LINES, line.as_bytes())?;
     script.extend_from_slice(b"\n")?;
     script.extend_from_slice(after)?;
@@ -86,9 +83,8 @@ fn crashing(alloc: Global, line: &str, after: &[u8]) -> Result<Vec<u8>, Fail> {
 fn a_reading_is_kept_or_posted_again(rt: HostRuntime) -> Result<(), Fail> {
     let alloc = rt.alloc();
     for (line, kept) in READING_LOST {
-        let script = crashing(alloc, line, b"round 2\nnext 2\nnext 2\nnext 2\nend\n")?;
-        let blank = disk(alloc, DISK, &[])?;
-        let (status, written, _) = play(alloc, &["run"], script, 4096, &[], &[], blank)?;
+        let script = crashing(alloc, line, ROUND)?;
+        let (status, written) = run(alloc, script.as_slice(), 4096, &[], &[])?;
         let after = if kept { CLEAN } else { PUT_AGAIN };
         let text = lines_and(alloc, POSTED_TEXT, TEXT_LINES, after)?;
         assert_eq!(rt; status, Status::Done, "{line}");
@@ -209,9 +205,8 @@ fn a_host_goes_on_by_its_records(rt: HostRuntime) -> Result<(), Fail> {
     let alloc = rt.alloc();
     for (steps, ending) in AFTER {
         let script = after_a_coin(alloc, steps)?;
-        let text = String::from_utf8(script.clone()?)?;
-        let blank = disk(alloc, DISK, &[])?;
-        let (status, written, _) = play(alloc, &["run"], script, 4096, &[], &[], blank)?;
+        let (status, written) = run(alloc, script.as_slice(), 4096, &[], &[])?;
+        let text = String::from_utf8(script)?;
         assert_eq!(rt; status, Status::Done, "{text}");
         let front = written.len().saturating_sub(ending.len());
         let last = written.as_slice().get(front..).unwrap_or(b"");
@@ -258,95 +253,12 @@ const CROSSED_TEXT: &[u8] = b"ok start 2 0010\nwire 2 02000101fc 02000101fc01000
 fn a_host_starts_over_any_of_its_records(rt: HostRuntime) -> Result<(), Fail> {
     let alloc = rt.alloc();
     for (script, text) in [(UNSET, UNSET_TEXT), (CROSSED, CROSSED_TEXT)] {
-        let blank = disk(alloc, DISK, &[])?;
-        let (status, written, _) = play(
-            alloc,
-            &["run"],
-            script.to_vec(alloc)?,
-            4096,
-            &[],
-            &[],
-            blank,
-        )?;
+        let (status, written) = run(alloc, script, 4096, &[], &[])?;
         assert_eq!(rt; status, Status::Done);
         assert_eq!(rt;
             String::from_utf8_lossy(alloc, written.as_slice())?,
             String::from_utf8_lossy(alloc, text)?
         );
-    }
-    Ok(())
-}
-
-/// What is listed of the journal where the reading isn't kept, and where it is.
-const FIRST: &[u8] = b"put epoch 2 ffff\n";
-
-const BOTH: &[u8] = b"put epoch 2 ffff\nput reading 2 1 0 5/1\n";
-
-/// A power cut in the place of the put of a reading, after so many of its calls.
-const FAILING: [(&str, u64); 6] = [
-    ("crash 1", 0),
-    ("crash 2 0 1", 0),
-    ("crash 2 1 1", 1),
-    ("crash 2 2 1", 2),
-    ("crash 2 3 1", 3),
-    ("crash 2 4 1", 4),
-];
-
-/// How many calls of the disk were made before the step that puts the reading.
-const CALLS_BEFORE: u64 = CALLS - 4;
-
-/// A power cut in the place of a put, after so many of its calls, while the disk's call of this number fails. A
-/// failure is told, and a further power cut then leaves the record that was put before, or one more.
-fn fails_by(
-    rt: &impl Abort,
-    alloc: Global,
-    (line, made): (&str, u64),
-    call: u64,
-    choice: u64,
-) -> Result<Status, Fail> {
-    let script = crashing(alloc, line, b"end\n")?;
-    let failing = disk(alloc, DISK, &[call])?;
-    let (status, written, left) = play(alloc, &["run"], script, 4096, &[], &[], failing)?;
-    let after = match status {
-        Status::DiskFault => b"diskfault\n".as_slice(),
-        _ if made > 2 => KEPT,
-        _ => NOT_KEPT,
-    };
-    let text = lines_and(alloc, POSTED_TEXT, TEXT_LINES, after)?;
-    assert_eq!(rt; written.as_slice(), text.as_slice(), "{line}, call {call}");
-    if status == Status::DiskFault {
-        let left = left_by_a_cut(alloc, left, choice)?.ok_or("no journal is left")?;
-        assert!(rt;
-            left.as_slice() == FIRST || made > 2 && left.as_slice() == BOTH,
-            "{line}, call {call}, choice {choice}"
-        );
-    }
-    Ok(status)
-}
-
-/// How many calls a power cut makes in all, so many of a put among them: it cuts the power, looks at both halves, and
-/// reads the start of the current one, the slot of each record, and the slot after them.
-fn calls_of_a_cut(made: u64) -> u64 {
-    let records: u64 = if made > 2 { 2 } else { 1 };
-    made.saturating_add(1 + 2 + 1 + records + 1)
-}
-
-// Each of these calls may fail, and there is none after them.
-#[test]
-fn a_power_cut_stops_at_each_fault_of_the_disk(rt: HostRuntime) -> Result<(), Fail> {
-    let alloc = rt.alloc();
-    for (line, made) in FAILING {
-        for number in 1..made.saturating_add(11) {
-            let call = CALLS_BEFORE.saturating_add(number);
-            for choice in [0, 1, 3] {
-                let status = fails_by(&rt, alloc, (line, made), call, choice)?;
-                assert_eq!(rt;
-                    status == Status::DiskFault,
-                    number <= calls_of_a_cut(made),
-                    "{line}, call {number}"
-                );
-            }
-        }
     }
     Ok(())
 }

@@ -1,10 +1,15 @@
-//! Tests of the bench: runs, power cuts in the midst of a script, the words of the command line, reports and loads.
+//! Tests of the bench: runs, power cuts in the midst of a script, disks that fail, bytes that are damaged or forged, the words
+//! of the command line, reports and loads.
 #![tactic(auto)]
 
 #[cfg(test)]
 mod commands;
 #[cfg(test)]
 mod crashes;
+#[cfg(test)]
+mod damaged;
+#[cfg(test)]
+mod faults;
 #[cfg(test)]
 mod loads;
 #[cfg(test)]

@@ -1,13 +1,10 @@
-//! Runs over a source that gives little at a time, over a source, a sink and a disk that fail, over a disk that isn't as
-//! a journal wants it, and on after half of it is full.
+//! Runs over a source that gives little at a time or ends too early, over a source and a sink that fail, over a disk that isn't
+//! as a journal wants it, and on after half of it is full.
 use cct_bench::{Status, bench};
 use cct_disk::{Disk, MemDisk};
 use cct_edge::{MemSink, MemSource};
-use cct_journal::{Journal, OpenNo};
-use cct_model::Entry;
-use cct_text::put_entry;
+use cct_journal::Journal;
 use std::alloc::Global;
-use std::process::Abort;
 use std::test::Fail;
 
 /// Each word of a script that is played, once at least.
@@ -49,32 +46,34 @@ pub(crate) const POSTED_TEXT: &[u8] = b"ok start 2 ffff\nwire 2 02000101fc 02000
       wire 2 020001e518 020001e518010b02000105010000000000000000eb\nwire 2 020001e617 020001e61701020200fffffd\n\
       clean 2\n";
 
-/// How many of its lines come before the coin.
-const START_LINES: usize = 23;
+/// How many transcript lines each line of its script gives.
+const POSTED_LINES: [usize; 32] = [
+    0, 0, 0, 0, 0, 0, 0, 0, 0, 0, 0, 0, 0, 0, 0, 0, 0, 0, 1, 1, 1, 1, 2, 1, 1, 1, 1, 2, 1, 1, 2, 0,
+];
 
-/// The first so many puts of that transcript, which has two.
-fn first_puts(count: usize) -> &'static [u8] {
-    match count {
-        0 => b"",
-        1 => b"put epoch 2 ffff\n",
-        _ => b"put epoch 2 ffff\nput reading 2 1 0 5/1\n",
-    }
-}
+/// How many of its lines come before the coin.
+pub(crate) const START_LINES: usize = 23;
+
+/// A script, how many transcript lines each of its lines gives, and its transcript.
+const SCRIPTS: [(&[u8], &[usize], &[u8]); 2] = [
+    (SCRIPT, &LINES, TRANSCRIPT),
+    (POSTED, &POSTED_LINES, POSTED_TEXT),
+];
 
 /// How many bytes a disk has that a journal is created on.
 pub(crate) const DISK: u64 = 2_097_152;
 
 /// Plays a script by one word or two over a disk, from a source that gives at most so many bytes a take, with the takes
 /// and puts of these numbers failing. A transcript has room where it is no longer than eight times its script.
-pub(crate) fn play(
+pub(crate) fn play<D: Disk + Drop>(
     alloc: Global,
     words: &[&str],
     script: Vec<u8>,
     most: usize,
     takes: &[u64],
     puts: &[u64],
-    disk: MemDisk,
-) -> Result<(Status, Vec<u8>, MemDisk), Fail> {
+    disk: D,
+) -> Result<(Status, Vec<u8>, D), Fail> {
     let mut said = Vec::new(alloc);
     for word in words {
         said.push(String::from_str(alloc, word)?)?;
@@ -91,23 +90,18 @@ pub(crate) fn disk(alloc: Global, len: u64, fails: &[u64]) -> Result<MemDisk, Fa
     Ok(MemDisk::new(alloc, len, fails.to_vec(alloc)?)?)
 }
 
-/// Plays the script of each word with these takes and puts failing.
-fn play_words(
+/// Plays a script over a blank disk, from a source that gives at most so many bytes a take, with the takes and puts of
+/// these numbers failing.
+pub(crate) fn run(
     alloc: Global,
+    script: &[u8],
     most: usize,
     takes: &[u64],
     puts: &[u64],
 ) -> Result<(Status, Vec<u8>), Fail> {
+    let script = script.to_vec(alloc)?;
     let blank = disk(alloc, DISK, &[])?;
-    let (status, written, _) = play(
-        alloc,
-        &["run"],
-        SCRIPT.to_vec(alloc)?,
-        most,
-        takes,
-        puts,
-        blank,
-    )?;
+    let (status, written, _) = play(alloc, &["run"], script, most, takes, puts, blank)?;
     Ok((status, written))
 }
 
@@ -133,27 +127,29 @@ pub(crate) fn lines_and(
     Ok(front)
 }
 
-/// How many lines the whole lines among the first so many bytes of the script of each word give.
-fn lines_played(taken: usize) -> usize {
-    let whole = SCRIPT
-        .iter()
-        .take(taken)
-        .filter(|byte| **byte == b'\n')
-        .count();
-    let mut lines = 0;
-    for count in LINES.iter().take(whole) {
-        lines = count.saturating_add(lines);
+/// How many line feeds a text has.
+pub(crate) fn count_lines(text: &[u8]) -> usize {
+    text.iter().filter(|byte| **byte == b'\n').count()
+}
+
+/// How many transcript lines the first so many lines of a script give.
+fn lines_by(lines: &[usize], count: usize) -> usize {
+    let mut told = 0;
+    for given in lines.iter().take(count) {
+        told = given.saturating_add(told);
     }
-    lines
+    told
 }
 
 #[test]
 fn plays_by_any_amount(rt: HostRuntime) -> Result<(), Fail> {
     let alloc = rt.alloc();
     for most in [1usize, 7, 4096] {
-        let (status, written) = play_words(alloc, most, &[], &[])?;
-        assert_eq!(rt; status, Status::Done, "by {most}");
-        assert_eq!(rt; written.as_slice(), TRANSCRIPT, "by {most}");
+        for (script, _, transcript) in SCRIPTS {
+            let (status, written) = run(alloc, script, most, &[], &[])?;
+            assert_eq!(rt; status, Status::Done, "by {most}");
+            assert_eq!(rt; written.as_slice(), transcript, "by {most}");
+        }
     }
     Ok(())
 }
@@ -161,12 +157,13 @@ fn plays_by_any_amount(rt: HostRuntime) -> Result<(), Fail> {
 #[test]
 fn stops_at_each_fault_of_the_sink(rt: HostRuntime) -> Result<(), Fail> {
     let alloc = rt.alloc();
-    let count = TRANSCRIPT.iter().filter(|byte| **byte == b'\n').count();
-    for put in 1..=count {
-        let (status, written) = play_words(alloc, 4096, &[], &[put as u64])?;
-        let text = lines_and(alloc, TRANSCRIPT, put.saturating_sub(1), b"")?;
-        assert_eq!(rt; status, Status::WriteFault, "put {put}");
-        assert_eq!(rt; written.as_slice(), text.as_slice(), "put {put}");
+    for (script, _, transcript) in SCRIPTS {
+        for put in 1..=count_lines(transcript) {
+            let (status, written) = run(alloc, script, 4096, &[], &[put as u64])?;
+            let text = lines_and(alloc, transcript, put.saturating_sub(1), b"")?;
+            assert_eq!(rt; status, Status::WriteFault, "put {put}");
+            assert_eq!(rt; written.as_slice(), text.as_slice(), "put {put}");
+        }
     }
     Ok(())
 }
@@ -174,12 +171,32 @@ fn stops_at_each_fault_of_the_sink(rt: HostRuntime) -> Result<(), Fail> {
 #[test]
 fn stops_at_each_fault_of_the_source(rt: HostRuntime) -> Result<(), Fail> {
     let alloc = rt.alloc();
-    // The last take gives nothing: it tells the end of the script.
-    for taken in 0..=SCRIPT.len() {
-        let (status, written) = play_words(alloc, 1, &[taken.saturating_add(1) as u64], &[])?;
-        let text = lines_and(alloc, TRANSCRIPT, lines_played(taken), b"readfault\n")?;
-        assert_eq!(rt; status, Status::ReadFault, "after {taken}");
-        assert_eq!(rt; written.as_slice(), text.as_slice(), "after {taken}");
+    for (script, lines, transcript) in SCRIPTS {
+        // The last take gives nothing: it tells the end of the script.
+        for taken in 0..=script.len() {
+            let (status, written) = run(alloc, script, 1, &[taken.saturating_add(1) as u64], &[])?;
+            let whole = count_lines(script.get(..taken).unwrap_or(b""));
+            let text = lines_and(alloc, transcript, lines_by(lines, whole), b"readfault\n")?;
+            assert_eq!(rt; status, Status::ReadFault, "after {taken}");
+            assert_eq!(rt; written.as_slice(), text.as_slice(), "after {taken}");
+        }
+    }
+    Ok(())
+}
+
+#[test]
+fn refuses_a_script_that_is_cut_at_any_byte(rt: HostRuntime) -> Result<(), Fail> {
+    let alloc = rt.alloc();
+    for (script, lines, transcript) in SCRIPTS {
+        for taken in 0..script.len() {
+            let front = script.get(..taken).unwrap_or(b"");
+            let (status, written) = run(alloc, front, 4096, &[], &[])?;
+            let whole = count_lines(front);
+            let last = format!(in alloc; "refused {} cut\n", whole.saturating_add(1))?;
+            let text = lines_and(alloc, transcript, lines_by(lines, whole), last.as_bytes())?;
+            assert_eq!(rt; status, Status::ScriptRefused, "after {taken}");
+            assert_eq!(rt; written.as_slice(), text.as_slice(), "after {taken}");
+        }
     }
     Ok(())
 }
@@ -262,17 +279,6 @@ pub(crate) const CALLS: u64 = 524;
 /// How many of them come before the first byte of the script.
 pub(crate) const CALLS_BLANK: u64 = 516;
 
-/// How many lines of the transcript of a posted coin come before this call of the disk, and how many of these are puts;
-/// before call 0, which there is none, come all.
-fn lines_before(call: u64) -> (usize, usize) {
-    match call {
-        1..=516 => (0, 0),
-        517..=520 => (3, 0),
-        521..=524 => (10, 1),
-        _ => (16, 2),
-    }
-}
-
 /// Plays the script of a posted coin over a disk whose call with this number fails, or none where it is 0.
 pub(crate) fn play_posted(alloc: Global, call: u64) -> Result<(Status, Vec<u8>, MemDisk), Fail> {
     let blank = disk(alloc, DISK, &[call])?;
@@ -285,71 +291,6 @@ pub(crate) fn play_posted(alloc: Global, call: u64) -> Result<(Status, Vec<u8>, 
         &[],
         blank,
     )
-}
-
-#[test]
-fn stops_at_each_fault_of_the_disk(rt: HostRuntime) -> Result<(), Fail> {
-    let alloc = rt.alloc();
-    for call in 1..=CALLS {
-        let (status, written, _) = play_posted(alloc, call)?;
-        let (lines, _) = lines_before(call);
-        let text = lines_and(alloc, POSTED_TEXT, lines, b"diskfault\n")?;
-        assert_eq!(rt; status, Status::DiskFault, "call {call}");
-        assert_eq!(rt; written.as_slice(), text.as_slice(), "call {call}");
-    }
-    let (status, written, _) = play_posted(alloc, 0)?;
-    assert_eq!(rt; status, Status::Done);
-    assert_eq!(rt; written.as_slice(), POSTED_TEXT);
-    Ok(())
-}
-
-/// The records that a power cut leaves of a journal that didn't turn, each as the line of its put, or none where no half is
-/// begun.
-pub(crate) fn left_by_a_cut(
-    alloc: Global,
-    disk: MemDisk,
-    choice: u64,
-) -> Result<Option<Vec<u8>>, Fail> {
-    let mut disk = disk;
-    disk.power_cut(choice)?;
-    let mut journal = match Journal::reopen(disk) {
-        Ok((journal, _)) => journal,
-        Err((_, OpenNo::Alien)) => return Ok(None),
-        Err((_, why)) => return Err(Fail::from(why)),
-    };
-    let mut sink = MemSink::new(alloc, 4096, Vec::new(alloc))?;
-    for index in 0..journal.used() {
-        if journal.base() <= index && index < journal.used() {
-            put_entry(&mut sink, &Entry::Put(journal.read_at(index)?))?;
-        }
-    }
-    Ok(Some(sink.bytes().to_vec(alloc)?))
-}
-
-/// After a run whose disk's call with this number failed, each power cut leaves the records that were told as put,
-/// or one more.
-fn try_cuts(rt: &impl Abort, alloc: Global, call: u64) -> Result<(), Fail> {
-    for choice in 0..4u64 {
-        let (_, _, disk) = play_posted(alloc, call)?;
-        let (_, puts) = lines_before(call);
-        match left_by_a_cut(alloc, disk, choice)? {
-            Some(left) => assert!(rt;
-                left.as_slice() == first_puts(puts)
-                    || left.as_slice() == first_puts(puts.saturating_add(1)),
-                "call {call}, choice {choice}"
-            ),
-            None => assert!(rt; (513..=516).contains(&call), "call {call}, choice {choice}"),
-        }
-    }
-    Ok(())
-}
-
-#[test]
-fn a_power_cut_leaves_the_puts_or_one_more(rt: HostRuntime) -> Result<(), Fail> {
-    for call in 513..=CALLS {
-        try_cuts(&rt, rt.alloc(), call)?;
-    }
-    try_cuts(&rt, rt.alloc(), 0)
 }
 
 /// How many records a half takes; so many rounds fill it with the record of the epoch, and put one more.

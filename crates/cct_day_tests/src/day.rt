@@ -1,6 +1,6 @@
 //! A day's use, and the same day with one more power cut: whatever is lost, the coins that were accepted, posted and
 //! paid, the balance, and the records on the disk agree at its end. And its lines are the same over a journal that turns at
-//! each put.
+//! each put. Where one of them can't be written, those before it are.
 
 use crate::turning;
 use cct_bench::{Status, bench};
@@ -273,8 +273,13 @@ fn push_line(text: &mut String, line: &str) -> Result<(), Fail> {
 /// A line of a script, and the index of the step that it stands before.
 type Before<'s> = (usize, &'s str);
 
-/// The script of a day, with one line more.
-fn script_of(alloc: Global, steps: &[String], crash: Option<Before>) -> Result<String, Fail> {
+/// The script of a day, with one line more, and with these lines at its end.
+fn script_of(
+    alloc: Global,
+    steps: &[String],
+    crash: Option<Before>,
+    end: Lines,
+) -> Result<String, Fail> {
     let mut script = setup(alloc)?;
     for (index, step) in steps.iter().enumerate() {
         match crash {
@@ -284,7 +289,7 @@ fn script_of(alloc: Global, steps: &[String], crash: Option<Before>) -> Result<S
         push_line(&mut script, step.as_str())?;
     }
     let mut tail = Vec::new(alloc);
-    add_lines(&mut tail, alloc, TAIL)?;
+    add_lines(&mut tail, alloc, end)?;
     for step in tail.iter() {
         push_line(&mut script, step.as_str())?;
     }
@@ -295,20 +300,21 @@ fn script_of(alloc: Global, steps: &[String], crash: Option<Before>) -> Result<S
 /// How many bytes a disk has that a journal is created on.
 const DISK: u64 = 2_097_152;
 
-/// Plays a script by one word over a disk, with the takes of these numbers failing. A transcript has room where it is no
-/// longer than eight times its script.
+/// Plays a script by one word over a disk, with the takes and puts of these numbers failing. A transcript has room where it
+/// is no longer than eight times its script.
 fn play(
     alloc: Global,
     word: &str,
     script: &str,
     takes: &[u64],
+    puts: &[u64],
     disk: MemDisk,
 ) -> Result<(Status, String, MemDisk), Fail> {
     let words = vec![in alloc; String::from_str(alloc, word)?]?;
     let room = script.len().saturating_mul(8).saturating_add(4096);
     let script = script.as_bytes().to_vec(alloc)?;
     let mut source = MemSource::new(script, 4096, takes.to_vec(alloc)?);
-    let mut sink = MemSink::new(alloc, room, Vec::new(alloc))?;
+    let mut sink = MemSink::new(alloc, room, puts.to_vec(alloc)?)?;
     let (status, disk) = bench(alloc, words.as_slice(), &mut source, &mut sink, disk);
     let written = String::from_utf8(sink.bytes().to_vec(alloc)?)?;
     Ok((status, written, disk))
@@ -318,8 +324,8 @@ fn play(
 /// by both.
 fn written_by(rt: &impl Abort, alloc: Global, script: &str) -> Result<(String, String), Fail> {
     let blank = MemDisk::new(alloc, DISK, Vec::new(alloc))?;
-    let (ran, transcript, used) = play(alloc, "run", script, &[], blank)?;
-    let (listed, report, _) = play(alloc, "report", "", &[1], used)?;
+    let (ran, transcript, used) = play(alloc, "run", script, &[], &[], blank)?;
+    let (listed, report, _) = play(alloc, "report", "", &[1], &[], used)?;
     assert_eq!(rt; (ran, listed), (Status::Done, Status::Done));
     Ok((transcript, report))
 }
@@ -333,7 +339,7 @@ fn agrees(
     crash: Option<Before>,
     front: &str,
 ) -> Result<String, Fail> {
-    let script = script_of(alloc, steps, crash)?;
+    let script = script_of(alloc, steps, crash, TAIL)?;
     let (transcript, report) = written_by(rt, alloc, script.as_str())?;
     let told = Told::by(alloc, transcript.as_str())?;
     assert!(rt;
@@ -426,6 +432,39 @@ fn a_day_agrees_with_its_journal(rt: HostRuntime) -> Result<(), Fail> {
         .filter(|told| told.as_str().starts_with("put "))
         .count();
     assert_eq!(rt; (day.steps.len(), puts), (167, 25));
+    Ok(())
+}
+
+/// How many lines the day tells, with its balance at the end.
+const LINES_TOLD: u64 = 187;
+
+/// The day over a blank disk, with the balance at its end: what is written if the put of this number fails.
+fn written_up_to(alloc: Global, put: u64) -> Result<(Status, String), Fail> {
+    let steps = day_lines(alloc)?;
+    let script = script_of(alloc, steps.as_slice(), None, &[(1, "balance")])?;
+    let blank = MemDisk::new(alloc, DISK, Vec::new(alloc))?;
+    let (status, written, _) = play(alloc, "run", script.as_str(), &[], &[put], blank)?;
+    Ok((status, written))
+}
+
+#[test]
+fn a_day_stops_at_each_fault_of_the_sink(rt: HostRuntime) -> Result<(), Fail> {
+    let alloc = rt.alloc();
+    let (ended, whole) = written_up_to(alloc, LINES_TOLD + 1)?;
+    assert_eq!(rt;
+        (ended, whole.as_str().lines().count() as u64),
+        (Status::Done, LINES_TOLD)
+    );
+    let mut front = String::new(alloc);
+    for (put, line) in (1..=LINES_TOLD).zip(whole.as_str().lines()) {
+        let (status, written) = written_up_to(alloc, put)?;
+        assert_eq!(rt;
+            (status, written.as_str()),
+            (Status::WriteFault, front.as_str()),
+            "put {put}"
+        );
+        push_line(&mut front, line)?;
+    }
     Ok(())
 }
 

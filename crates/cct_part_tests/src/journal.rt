@@ -82,23 +82,29 @@ const CUTS: [(u8, u64, u8, &[u8; 31], u32); 24] = [
     (4, 37, 165, &BODY, 1),
 ];
 
-pub(crate) fn disk(alloc: Global, len: u64, fails: &[u64]) -> Result<MemDisk, Fail> {
+fn disk(alloc: Global, len: u64, fails: &[u64]) -> Result<MemDisk, Fail> {
     Ok(MemDisk::new(alloc, len, fails.to_vec(alloc)?)?)
 }
 
-// A new journal on a disk of so many bytes, at most 4,096, whose calls with these numbers fail. It makes five calls: one
-// reads the disk, four begin the first half.
-pub(crate) fn created(alloc: Global, len: u64, fails: &[u64]) -> Result<Journal<MemDisk>, Fail>
+// A new journal on a disk of at most 4,096 bytes. It makes five calls: one reads the disk, four begin the first half.
+pub(crate) fn created_on<D: Disk + Drop>(disk: D) -> Result<Journal<D>, Fail>
     ensures { IfOk result (λ journal. has_failed journal ≡ false) }
 {
-    match Journal::create(disk(alloc, len, fails)?) {
+    match Journal::create(disk) {
         Ok(journal) => Ok(journal),
         Err((_, why)) => Err(Fail::from(why)),
     }
 }
 
+// One on a disk in memory of so many bytes, whose calls with these numbers fail.
+fn created(alloc: Global, len: u64, fails: &[u64]) -> Result<Journal<MemDisk>, Fail>
+    ensures { IfOk result (λ journal. has_failed journal ≡ false) }
+{
+    created_on(disk(alloc, len, fails)?)
+}
+
 // Opens the journal on a disk.
-pub(crate) fn opened(disk: MemDisk) -> Result<Journal<MemDisk>, Fail>
+pub(crate) fn opened<D: Disk + Drop>(disk: D) -> Result<Journal<D>, Fail>
     ensures { IfOk result (λ journal. has_failed journal ≡ false) }
 {
     match Journal::reopen(disk) {
@@ -108,9 +114,9 @@ pub(crate) fn opened(disk: MemDisk) -> Result<Journal<MemDisk>, Fail>
 }
 
 // Puts a record after the others, and counts it.
-pub(crate) fn put(
+pub(crate) fn put<D: Disk>(
     rt: &impl Abort,
-    journal: &mut Journal<MemDisk>,
+    journal: &mut Journal<D>,
     tally: &mut Tally<'_>,
     entry: &Record,
 ) -> Result<(), Fail>

@@ -1,5 +1,5 @@
-//! A journal that turns. Within the first turns each disk call fails once, and the power is cut after each. And one turns a
-//! hundred times, with an epoch and two orders open over each turn: its sums are counted by hand.
+//! A journal that turns. Within the first turns each disk call fails once, where a write is torn, and the power is cut after
+//! each. And one turns a hundred times, with an epoch and two orders open over each turn: its sums are counted by hand.
 ghost use Rattle.std.specs.Prelude.{◌≡◌, ◌≤◌, false, IfOk};
 ghost use Rattle.cct_model.specs.Carried.{IsRightly};
 ghost use Rattle.cct_model.specs.Setup.{IsSoundSetup};
@@ -8,10 +8,10 @@ ghost use Rattle.cct_carry.specs.Tally.{many_of};
 ghost use Rattle.cct_ledger.specs.Ledger.{applied};
 ghost use Rattle.cct_journal.specs.Journal.{has_failed, used_of};
 
-use crate::journal::{ONE_EACH, created, opened, put};
+use crate::journal::{ONE_EACH, created_on, opened, put};
 use crate::machine::{five_coins, one_coin, setup};
 use cct_carry::Tally;
-use cct_disk::{Disk, MemDisk};
+use cct_disk::{Disk, TornDisk};
 use cct_journal::{Journal, JournalNo, Replay};
 use cct_ledger::Ledger;
 use cct_model::{Carry, CarryEpoch, CarryEpochs, CarryOrder, CarryOrders, Record, Setup, Totals};
@@ -114,7 +114,7 @@ fn wanted(alloc: Global, base: u32, used: u32) -> Result<Found, Fail> {
 }
 
 /// What is found.
-fn look_at(alloc: Global, journal: &mut Journal<MemDisk>) -> Result<Found, Fail>
+fn look_at(alloc: Global, journal: &mut Journal<TornDisk>) -> Result<Found, Fail>
     ensures { has_failed journal.new ≡ has_failed journal.old }
 {
     let (base, used) = (journal.base(), journal.used());
@@ -130,18 +130,22 @@ fn look_at(alloc: Global, journal: &mut Journal<MemDisk>) -> Result<Found, Fail>
     })
 }
 
-/// A new journal with the first so many records, three at most, each counted, on a disk whose calls with these numbers
-/// fail.
+/// A blank disk of so many bytes, whose calls with these numbers fail; a write of them is torn by this choice.
+fn disk(alloc: Global, len: u64, (fails, torn): (&[u64], u64)) -> Result<TornDisk, Fail> {
+    Ok(TornDisk::new(alloc, len, fails.to_vec(alloc)?, torn)?)
+}
+
+/// A new journal with the first so many records, three at most, each counted, on a disk whose calls fail in this way.
 fn filled(
     rt: &impl Abort,
     alloc: Global,
     tally: &mut Tally<'_>,
     records: u32,
-    fails: &[u64],
-) -> Result<Journal<MemDisk>, Fail>
+    fails: (&[u64], u64),
+) -> Result<Journal<TornDisk>, Fail>
     ensures { IfOk result (λ journal. has_failed journal ≡ false) }
 {
-    let mut journal = created(alloc, ONE_EACH, fails)?;
+    let mut journal = created_on(disk(alloc, ONE_EACH, fails)?)?;
     if records > 0 {
         put(rt, &mut journal, tally, &record(0))?;
     }
@@ -166,37 +170,50 @@ const GATE: u64 = 1152;
 /// put and the turn before it, if there is one. Five make the journal.
 const PUTS: [(u32, u64, u64); 4] = [(0, 5, 4), (1, 9, 10), (2, 19, 10), (3, 29, 10)];
 
-/// How the power is cut. By the last four of these one gate each is open after a cut, if it was written and isn't synced:
-/// that of the second half at place 1184, those of the records at 1152 and 2336, and that of the first half.
+/// How the power is cut, and a write is torn. By the last four of these one gate each is open after a cut, if it was written
+/// and isn't synced: that of the second half at place 1184, those of the records at 1152 and 2336, and that of the first
+/// half.
 const CHOICES: [u64; 8] = [0, 1, 2, 3, 5, 37, 133, 165];
 
-/// Whether a gate is open after a power cut, if it stood shut, was opened and isn't synced.
-fn is_open(choice: u64, place: u64) -> bool {
+/// Whether a gate that stood shut is open after a power cut or a torn write of a byte that is open, or isn't.
+fn is_open(choice: u64, place: u64, to_be: bool) -> bool {
     match choice {
         0 => false,
-        1 => true,
-        2 => place % 2 == 0,
+        1 => to_be,
+        2 => to_be && place % 2 == 0,
         _ => choice.wrapping_add(place) % 256 == 0xa5,
     }
 }
 
+/// Whether a gate that stood shut is open after a power cut, if the write that was to open it was torn by a choice. Without
+/// one it wasn't written.
+fn is_torn_open(choice: u64, place: u64, torn: Option<u64>) -> bool {
+    match torn {
+        Some(torn) => is_open(choice, place, is_open(torn, place, true)),
+        None => false,
+    }
+}
+
 /// How many records stood before the current half and how many there are, after a power cut in the put of one record after
-/// so many: the turn and the put have made so many of their calls.
-fn left(records: u32, made: u64, choice: u64) -> (u32, u32) {
+/// so many: the turn and the put have made so many of their calls, and the next one is torn by a choice, if there is one.
+fn left(records: u32, made: u64, torn: Option<u64>, choice: u64) -> (u32, u32) {
     let start = HALF * u64::from(records % 2);
+    let gate = start + GATE;
     let more = records.saturating_add(1);
     let turn = if records == 0 { 0 } else { TURN };
     match made.checked_sub(turn) {
-        Some(3) if is_open(choice, start + GATE) => (records, more),
+        Some(2) if is_torn_open(choice, gate, torn) => (records, more),
+        Some(3) if is_open(choice, gate, true) => (records, more),
         Some(4) => (records, more),
         Some(_) => (records, records),
-        None if made == 5 && is_open(choice, start) => (records, records),
+        None if made == 4 && is_torn_open(choice, start, torn) => (records, records),
+        None if made == 5 && is_open(choice, start, true) => (records, records),
         None => (records.saturating_sub(1), records),
     }
 }
 
 /// The tally of a journal of these records, one at most in its current half.
-fn tally_of<'s>(rt: &impl Abort, setup: &'s Setup, journal: &Journal<MemDisk>) -> Tally<'s>
+fn tally_of<'s>(rt: &impl Abort, setup: &'s Setup, journal: &Journal<TornDisk>) -> Tally<'s>
     requires { IsSoundSetup setup.now }
 {
     let base = journal.base();
@@ -210,7 +227,7 @@ fn tally_of<'s>(rt: &impl Abort, setup: &'s Setup, journal: &Journal<MemDisk>) -
 }
 
 /// A journal of so many of the records goes on to the fourth.
-fn go_on(rt: &impl Abort, journal: &mut Journal<MemDisk>) -> Result<(), Fail>
+fn go_on(rt: &impl Abort, journal: &mut Journal<TornDisk>) -> Result<(), Fail>
     requires { has_failed journal.old ≡ false }
 {
     let setup = setup();
@@ -235,7 +252,7 @@ fn go_on(rt: &impl Abort, journal: &mut Journal<MemDisk>) -> Result<(), Fail>
 fn stands(
     rt: &impl Abort,
     alloc: Global,
-    disk: MemDisk,
+    disk: TornDisk,
     (base, used): (u32, u32),
     what: &str,
 ) -> Result<(), Fail> {
@@ -254,34 +271,38 @@ fn stands(
     Ok(())
 }
 
-/// One record is put after so many, the disk fails after so many of the calls of turn and put, and the power is cut.
+/// One record is put after so many, the disk fails after so many of the calls of turn and put, by a torn write where that is
+/// one, and the power is cut.
 fn fails(
     rt: &impl Abort,
     alloc: Global,
     (records, before, _): (u32, u64, u64),
     made: u64,
-    choice: u64,
+    (torn, choice): (u64, u64),
 ) -> Result<(), Fail> {
     let setup = setup();
     let mut tally = Tally::new(&setup);
     let call = before.saturating_add(made).saturating_add(1);
-    let mut journal = filled(rt, alloc, &mut tally, records, &[call])?;
-    let what = format!(in alloc; "record {records}, call {call}, choice {choice}")?;
+    let mut journal = filled(rt, alloc, &mut tally, records, (&[call], torn))?;
+    let what = format!(in alloc; "record {records}, call {call}, choices {torn} and {choice}")?;
     assert!(rt; tally.many() == journal.used());
     let Err(JournalNo::Disk) = journal.put(&record(records), tally.carry()) else {
         panic!(rt; "a put that failed: {what}");
     };
     let mut disk = journal.into_disk();
     disk.power_cut(choice)?;
-    stands(rt, alloc, disk, left(records, made, choice), what.as_str())
+    let found = left(records, made, Some(torn), choice);
+    stands(rt, alloc, disk, found, what.as_str())
 }
 
 #[test]
 fn a_turn_outlasts_each_failure(rt: HostRuntime) -> Result<(), Fail> {
     for put in PUTS {
         for made in 0..put.2 {
-            for choice in CHOICES {
-                fails(&rt, rt.alloc(), put, made, choice)?;
+            for torn in CHOICES {
+                for choice in CHOICES {
+                    fails(&rt, rt.alloc(), put, made, (torn, choice))?;
+                }
             }
         }
     }
@@ -299,12 +320,13 @@ fn fails_again(
     (records, before): (u32, u64),
     (made, choice): (u64, u64),
     (again, last): (u64, u64),
+    torn: u64,
 ) -> Result<(), Fail> {
     let setup = setup();
     let mut tally = Tally::new(&setup);
     let first = before.saturating_add(made).saturating_add(1);
     let second = first.saturating_add(1 + OPENING + 1).saturating_add(again);
-    let mut journal = filled(rt, alloc, &mut tally, records, &[first, second])?;
+    let mut journal = filled(rt, alloc, &mut tally, records, (&[first, second], torn))?;
     assert!(rt; tally.many() == journal.used());
     assert!(rt; journal.put(&record(records), tally.carry()).is_err());
     let mut disk = journal.into_disk();
@@ -318,8 +340,8 @@ fn fails_again(
     let mut disk = journal.into_disk();
     disk.power_cut(last)?;
     let turn = if is_full { 0 } else { TURN };
-    let found = left(records, again.saturating_add(turn), last);
-    let what = format!(in alloc; "record {records}: {made}, {choice}, {again}, {last}")?;
+    let found = left(records, again.saturating_add(turn), Some(torn), last);
+    let what = format!(in alloc; "record {records}: {made}, {choice}, {again}, {last}, {torn}")?;
     stands(rt, alloc, disk, found, what.as_str())
 }
 
@@ -333,7 +355,16 @@ fn a_turn_outlasts_a_second_failure(rt: HostRuntime) -> Result<(), Fail> {
             for choice in [1, 2, 3] {
                 for again in 0..4 {
                     for last in [1, 3, 5, 165] {
-                        fails_again(&rt, rt.alloc(), turn, (made, choice), (again, last))?;
+                        for torn in 0..4 {
+                            fails_again(
+                                &rt,
+                                rt.alloc(),
+                                turn,
+                                (made, choice),
+                                (again, last),
+                                torn,
+                            )?;
+                        }
                     }
                 }
             }
@@ -343,7 +374,7 @@ fn a_turn_outlasts_a_second_failure(rt: HostRuntime) -> Result<(), Fail> {
 }
 
 /// The carry of all records of a journal, by their tally.
-fn carry_before(rt: &impl Abort, journal: &Journal<MemDisk>, tally: &Tally<'_>) -> Carry
+fn carry_before(rt: &impl Abort, journal: &Journal<TornDisk>, tally: &Tally<'_>) -> Carry
     ensures { IsRightly (used_of journal.now) result }
 {
     assert!(rt; tally.many() == journal.used());
@@ -360,7 +391,7 @@ fn cut_short(
 ) -> Result<(), Fail> {
     let setup = setup();
     let mut tally = Tally::new(&setup);
-    let journal = filled(rt, alloc, &mut tally, records, &[])?;
+    let journal = filled(rt, alloc, &mut tally, records, (&[], 0))?;
     let carry = carry_before(rt, &journal, &tally);
     assert!(rt; calls <= 4 && journal.used() < journal.capacity());
     let mut disk = journal
@@ -380,7 +411,7 @@ fn cut_short(
 /// What is left by so many calls of a put; the turn before it is made whole.
 fn left_by(records: u32, calls: u8, choice: u64) -> (u32, u32) {
     let turn = if records == 0 { 0 } else { TURN };
-    left(records, turn + u64::from(calls), choice)
+    left(records, turn + u64::from(calls), None, choice)
 }
 
 /// What was replayed: the carry of so many records, and how many there are with those after them, each at its index.
@@ -417,7 +448,7 @@ fn restarts(
 ) -> Result<(), Fail> {
     let setup = setup();
     let mut tally = Tally::new(&setup);
-    let mut journal = filled(rt, alloc, &mut tally, records, &[])?;
+    let mut journal = filled(rt, alloc, &mut tally, records, (&[], 0))?;
     let carry = carry_before(rt, &journal, &tally);
     assert!(rt; calls <= 4 && journal.used() < journal.capacity());
     let mut replayed = Replayed {
@@ -459,7 +490,7 @@ const FOUR_EACH: u64 = 2560;
 /// A journal, with the tally and the ledger of all its records.
 #[derive(Drop)]
 struct Books<'s> {
-    journal: Journal<MemDisk>,
+    journal: Journal<TornDisk>,
     tally: Tally<'s>,
     ledger: Ledger<'s>,
     ghost whole: { has_failed journal ≡ false },
@@ -472,7 +503,7 @@ impl<'s> Books<'s> {
     fn new(rt: &impl Abort, alloc: Global, setup: &'s Setup) -> Result<Books<'s>, Fail>
         requires { IsSoundSetup setup.now }
     {
-        let journal = created(alloc, FOUR_EACH, &[])?;
+        let journal = created_on(disk(alloc, FOUR_EACH, (&[], 0))?)?;
         let tally = Tally::new(setup);
         assert!(rt; tally.many() == journal.used());
         Ok(Books {
@@ -720,7 +751,7 @@ fn last_carry() -> Carry {
 fn resume<'s>(
     rt: &impl Abort,
     setup: &'s Setup,
-    journal: &mut Journal<MemDisk>,
+    journal: &mut Journal<TornDisk>,
 ) -> Result<Ledger<'s>, Fail>
     requires { IsSoundSetup setup.now }
 {
