@@ -65,10 +65,9 @@ impl JobDesk {
         ensures commands { device.now.serial < 2 ^ 24
             → CommandsAbove setup.now last (places.device device.now) self.old self.new command.now result }
     {
-        if is_halt(command) {
-            self.halt(command, device, setup)
-        } else {
-            self.begin(command, device, setup, last)
+        match command {
+            Command::Halt { .. } => self.halt(command, device, setup),
+            _ => self.begin(command, device, setup, last),
         }
     }
 
@@ -249,16 +248,6 @@ impl JobDesk {
             None => 0,
             Some(_) => self.orders.id,
         }
-    }
-}
-
-/// Whether a command halts a job, and begins none.
-fn is_halt(command: &Command) -> bool
-    ensures { result ≡ is_halt command.now }
-{
-    match command {
-        Command::Halt { .. } => true,
-        _ => false,
     }
 }
 
