@@ -7,7 +7,7 @@ ghost use Rattle.cct_model.specs.lines.entry.Entry.TheVariants.{Sum};
 use arrayvec::ArrayVec;
 use cct_model::{Entry, Record, SumOf};
 
-/// Sums over a transcript: steps, coins accepted, coins posted, events lost, coins that fell, and orders closed.
+/// Sums over a transcript: steps, coins accepted, coins posted and lost, coins that fell, and orders closed.
 ///
 /// A step has eight entries at most, and an entry adds fewer than 512 to all sums together, so the number of the
 /// steps bounds each of them.
