@@ -246,7 +246,7 @@ module _ {D : Type 0} {g : Ghosts D} (given left : D) (world : World D g)
   cut_given times P cut = record {
     before = cut.before;
     choice = cut.choice;
-    behind = cut.behind;
+    after = cut.after;
     lasted = lasts_then g.size g.honest g.seen g.cuts given (disk_of world) cut.before lasted cut.lasted;
     is_cut = cut.is_cut;
     lasts = cut.lasts;

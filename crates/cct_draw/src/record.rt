@@ -14,10 +14,13 @@ pub(crate) fn write_record<K: Sink>(pen: &mut Pen<'_, K>, record: &Record) {
             lost,
             posted,
             ..
-        } => write_reading(pen, *addr, *lost, posted),
-        Record::Broken { addr, posted, .. } => {
-            write_posted(pen, b"break, posted of ", *addr, posted);
-        }
+        } => write_coins(pen, b"posted of ", *addr, posted, *lost),
+        Record::Broken {
+            addr,
+            lost,
+            posted,
+            ..
+        } => write_coins(pen, b"break, posted of ", *addr, posted, *lost),
         Record::EpochEnd { addr } => push_numbered(pen, b"epoch of ", *addr, b" ends"),
         Record::Sold { id, price } => push_pair(pen, b"sale ", *id, b" at ", *price, b""),
         _ => write_order(pen, record),
@@ -53,21 +56,16 @@ fn coins_of(count: u8) -> &'static [u8] {
     }
 }
 
-/// Writes the record of a reading.
-fn write_reading<K: Sink>(pen: &mut Pen<'_, K>, addr: u8, lost: u8, posted: &Coins) {
-    write_posted(pen, b"posted of ", addr, posted);
-    if lost > 0 {
-        push_numbered(pen, b", ", lost, b" lost");
-    }
-}
-
-/// Writes the coins that a record posts.
-fn write_posted<K: Sink>(pen: &mut Pen<'_, K>, word: &[u8], addr: u8, posted: &Coins) {
+/// Writes the coins that a record posts, and how many more it tells to be lost.
+fn write_coins<K: Sink>(pen: &mut Pen<'_, K>, word: &[u8], addr: u8, posted: &Coins, lost: u32) {
     push_numbered(pen, word, addr, b":");
     if posted.as_slice().is_empty() {
         pen.push(b" none");
     }
     for coin in posted.as_slice() {
         push_pair(pen, b" ", coin.place, b"/", coin.path, b"");
+    }
+    if lost > 0 {
+        push_numbered(pen, b", ", lost, b" lost");
     }
 }

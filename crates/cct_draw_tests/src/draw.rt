@@ -82,7 +82,7 @@ fn picture_of_all_bytes(alloc: Global) -> Result<Picture, AllocError> {
     Ok(picture)
 }
 
-/// A picture with the signs of one coin that came in, and of two that went out.
+/// A picture with the signs of one coin that came in, of a break, and of two coins that went out.
 fn picture_of_three_coins(alloc: Global) -> Result<Picture, AllocError> {
     let mut posted = Coins::new();
     posted.push(Coin { place: 5, path: 1 });
@@ -95,7 +95,16 @@ fn picture_of_three_coins(alloc: Global) -> Result<Picture, AllocError> {
             addr: 2,
             counter: 7,
             lost: 6,
+            accepts: 7,
             posted,
+        }),
+        Mark::Put(Record::Broken {
+            addr: 2,
+            mask_seen: 0,
+            counter: 0,
+            lost: 3,
+            accepts: 10,
+            posted: Coins::new(),
         }),
         Mark::Crash { records: 2 },
         Mark::Put(Record::Closed {
@@ -214,9 +223,10 @@ fn has_texts(alloc: Global, picture: &Picture, texts: &[&[u8]]) -> Result<bool, 
 #[test]
 fn a_picture_says_what_its_marks_are(rt: HostRuntime) -> Result<(), Fail> {
     let alloc = rt.alloc();
-    let wanted: [&[u8]; 8] = [
+    let wanted: [&[u8]; 9] = [
         b">coin in: place 5, path 1<",
         b">put: posted of 2: 5/1, 6 lost<",
+        b">put: break, posted of 2: none, 3 lost<",
         b">power cut; the host starts again over 2 records<",
         b">coin out, 2 times<",
         b">put: order 41 closed: 1 paid, 3 unpaid<",
@@ -299,12 +309,12 @@ fn a_longer_text_is_cut_with_two_dots(rt: HostRuntime) -> Result<(), Fail> {
 fn a_failed_put_ends_a_picture(rt: HostRuntime) -> Result<(), Fail> {
     let alloc = rt.alloc();
     let picture = picture_of_three_coins(alloc)?;
-    // the frame, the head of the page, six rows, the end of the page, and that of the picture
-    for fails in 1..=10u64 {
+    // the frame, the head of the page, seven rows, the end of the page, and that of the picture
+    for fails in 1..=11u64 {
         let (answer, _) = write(alloc, &picture, fails)?;
         assert!(rt; answer.is_err());
     }
-    let (answer, _) = write(alloc, &picture, 11)?;
+    let (answer, _) = write(alloc, &picture, 12)?;
     assert!(rt; answer.is_ok());
     Ok(())
 }

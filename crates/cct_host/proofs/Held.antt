@@ -27,7 +27,7 @@ use Rattle.cct_jobs.specs.declared.job.Need.TheVariants as need
 use Rattle.cct_jobs.specs.declared.owed.Owed.{Owed}
 use Rattle.cct_jobs.specs.declared.payout.Payout.TheVariants.{Enables, Counts}
 use Rattle.cct_jobs.specs.declared.stage.Stage.{Stage}
-use Rattle.cct_jobs.specs.declared.stage.Stage.TheVariants.{IdentAsks, Reads, Looks, Pays}
+use Rattle.cct_jobs.specs.declared.stage.Stage.TheVariants.{CountsAfter, CountsBefore, IdentAsks, Reads, Looks, Pays}
 use Rattle.cct_jobs.specs.declared.target.Target.{Target}
 use Rattle.cct_jobs.specs.declared.stage.ReadBy.TheVariants.{Round, Stop}
 use Rattle.cct_jobs.specs.Ahead.{ahead, coins_in, price_in, stage_ahead}
@@ -48,10 +48,14 @@ use Rattle.cct_host.specs.Running.{is_running}
 -- a job puts two records at most
 
 few_stage : (stage : Stage) (target : Target) → puts_in (stage_ahead target stage) ≤ 2
-few_stage (Reads Round recorded) target = omega arith
-few_stage (Reads Stop recorded) target = omega arith
-few_stage (Looks Round recorded read) target = omega arith
-few_stage (Looks Stop recorded read) target = omega arith
+few_stage (CountsBefore Round recorded) target = omega arith
+few_stage (CountsBefore Stop recorded) target = omega arith
+few_stage (Reads Round recorded before) target = omega arith
+few_stage (Reads Stop recorded before) target = omega arith
+few_stage (Looks Round recorded before read) target = omega arith
+few_stage (Looks Stop recorded before read) target = omega arith
+few_stage (CountsAfter Round recorded before read seen) target = omega arith
+few_stage (CountsAfter Stop recorded before read seen) target = omega arith
 few_stage (IdentAsks question) target =
     let none = ident_none puts_in (λ q later rows. refl) target question in
     omega (arith, none)

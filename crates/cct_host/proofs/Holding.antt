@@ -80,7 +80,7 @@ asks_where_none job runs none = asks_by (need_of job) runs none
 -- after a put
 
 coins_put : (job : Job) → IsPut (need_of job) → coins_in (ahead (after_put job)) ≡ 0
-coins_put (StartPuts target mask) is = refl
+coins_put (StartPuts target mask counted) is = refl
 coins_put (RoundPuts entry end) is = refl
 coins_put (StopPuts target entry None) is = refl
 coins_put (StopPuts target entry (Some end)) is = refl
@@ -163,7 +163,7 @@ put_frees addr (Some job) r desk report reported there due puts =
 
 -- what is about to be put may be put
 due_puts : (job : Job) → IfSome (put_in (need_of job)) (λ r. 1 ≤ puts_in (ahead job))
-due_puts (StartPuts target mask) = omega arith
+due_puts (StartPuts target mask counted) = omega arith
 due_puts (RoundPuts entry end) = omega arith
 due_puts (StopPuts target entry end) = omega arith
 due_puts (StopEnds target) = omega arith

@@ -1,6 +1,7 @@
 pub mod Attempts
 pub mod Begun
 pub mod Commands
+pub mod Counts
 pub mod Held
 pub mod Holding
 pub mod Hosts

@@ -8,7 +8,7 @@ ghost use Rattle.cct_model.specs.terms.device.Setup.{Setup};
 ghost use Rattle.cct_model.specs.Exchange.{device_at};
 ghost use Rattle.cct_model.specs.Job.{address_of, works};
 ghost use Rattle.cct_model.specs.Refusal.{running_id};
-ghost use Rattle.cct_jobs.specs.Jobs.{is_of_device, order_of, owed_after};
+ghost use Rattle.cct_jobs.specs.Jobs.{accepts_of, is_of_device, order_of, owed_after};
 ghost use Rattle.cct_host.specs.Held.{FitsIn, FitsIn-prop, due_by, price_by, sells_only};
 ghost use Rattle.cct_host.specs.Place as places;
 ghost use Rattle.cct_host.specs.Running.{id_left, is_halt, is_running};
@@ -29,6 +29,7 @@ pub(crate) struct JobDesk {
     pub(crate) orders: OrderState,
     ghost runs: { is_running job ≡ true },
     ghost fits: { FitsIn job } by { FitsIn-prop job },
+    ghost counts: { accepts_of epoch < 2 ^ 24 },
 }
 
 impl Default for JobDesk {
@@ -64,10 +65,9 @@ impl JobDesk {
         ensures commands { device.now.serial < 2 ^ 24
             → CommandsAbove setup.now last (places.device device.now) self.old self.new command.now result }
     {
-        if is_halt(command) {
-            self.halt(command, device, setup)
-        } else {
-            self.begin(command, device, setup, last)
+        match command {
+            Command::Halt { .. } => self.halt(command, device, setup),
+            _ => self.begin(command, device, setup, last),
         }
     }
 
@@ -198,6 +198,7 @@ impl JobDesk {
     }
 
     /// The job makes one attempt of its row, a put if a record is due, and gives the id that its put used, or 0.
+    #[tactic(auto, using(crate::proofs::Counts::counted_by))]
     fn attempt<L: Link>(
         &mut self,
         addr: u8,
@@ -247,16 +248,6 @@ impl JobDesk {
             None => 0,
             Some(_) => self.orders.id,
         }
-    }
-}
-
-/// Whether a command halts a job, and begins none.
-fn is_halt(command: &Command) -> bool
-    ensures { result ≡ is_halt command.now }
-{
-    match command {
-        Command::Halt { .. } => true,
-        _ => false,
     }
 }
 

@@ -32,6 +32,7 @@ pub(crate) fn resumed_desks(devices: &[DeviceSetup], carry: &Carry) -> ArrayVec<
 
 impl JobDesk {
     /// The desk of the device at an address by a carry: no job is there.
+    #[tactic(auto, using(crate::proofs::Counts::counted_in))]
     pub(crate) fn resume(addr: u8, carry: &Carry) -> Self
         requires rightly { (many : ℕ) × IsRightly many carry.now }
         ensures job { result.job ≡ None }

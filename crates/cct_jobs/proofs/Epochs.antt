@@ -1,4 +1,4 @@
--- The credits and masks that a start, a round and a stop read, and what their puts leave.
+-- The accept counters, credits and masks that a start, a round and a stop read, and what their puts leave.
 use Rattle.std.proofs.Common.{◌≡◌, ℕ, ◌==◌, Bool, true, false, cond, List, ◌∷◌, refl, sym, ap, ap₂, subst, ◌∙◌, Option, Some, None, arith, []}
 use Rattle.cct_model.specs.terms.coin.Credits.{Credits}
 use Rattle.cct_model.specs.terms.device.DeviceSetup.{DeviceSetup}

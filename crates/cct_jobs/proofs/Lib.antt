@@ -1,11 +1,11 @@
 pub mod Begins
+pub mod Counts
 pub mod Epochs
 pub mod Fits
 pub mod Halts
 pub mod Heard
 pub mod Keeping
 pub mod Left
-pub mod Lives
 pub mod Moves
 pub mod Needs
 pub mod Orders

@@ -197,7 +197,7 @@ fn round_judged(job: &mut Job, meaning: Judged)
 {
     match meaning {
         Judged::Nothing => *job = Job::Done(End::Clean),
-        Judged::Moved => *job = Job::Done(End::Moved),
+        Judged::Moved => *job = moved(),
         Judged::Reading(entry) => {
             let end = End::Posted;
             *job = Job::RoundPuts { entry, end };
@@ -215,7 +215,7 @@ fn stop_judged(job: &mut Job, device: Target, meaning: Judged)
 {
     match meaning {
         Judged::Nothing => *job = Job::StopEnds { device },
-        Judged::Moved => *job = Job::Done(End::Moved),
+        Judged::Moved => *job = moved(),
         Judged::Reading(entry) => {
             let end = None;
             *job = Job::StopPuts { device, entry, end };
@@ -225,4 +225,11 @@ fn stop_judged(job: &mut Job, device: Target, meaning: Judged)
             *job = Job::StopPuts { device, entry, end };
         }
     }
+}
+
+/// The round or the stop after a coin was accepted while it read its acceptor: the reading has to be made again.
+fn moved() -> Job
+    ensures { result ≡ Job.Done End.Moved }
+{
+    Job::Done(End::Moved)
 }

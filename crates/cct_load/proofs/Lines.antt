@@ -21,17 +21,17 @@ round_is_played id number place =
     either (place == 1) (coin_or_alien number) _ (either (number % 8 == 0) _ (coin_of number) refl refl) (
     either (place == 2) (coin_or_loss number) _ (either (number % 4 == 0) _ (coin_of number) refl refl) (
     either (place == 3) _ _ refl (
-    either (nat_lt place 8) _ _ refl (
-    either (place == 8) _ _ refl (
-    either (place == 13) _ _ refl (
-    either (nat_lt place 17) _ (crash_or_balance number) refl (either (number % 64 == 0) _ _ refl refl))))))))
+    either (nat_lt place 10) _ _ refl (
+    either (place == 10) _ _ refl (
+    either (place == 15) _ _ refl (
+    either (nat_lt place 19) _ (crash_or_balance number) refl (either (number % 64 == 0) _ _ refl refl))))))))
 
 -- each line is one that is played
 pub line_is_played : (seed n : ℕ) → IsTrue (is_played (line_at seed n))
 unfolding line_at
 line_is_played seed n =
-    either (nat_lt n 5) (opening_line n) _ (either (n == 0) _ _ refl refl)
-    (round_is_played ((n - 5) / 18 + 1) (drawn seed n) ((n - 5) % 18))
+    either (nat_lt n 6) (opening_line n) _ (either (n == 0) _ _ refl refl)
+    (round_is_played ((n - 6) / 20 + 1) (drawn seed n) ((n - 6) % 20))
 
 -- after the lines before one of them come that one and others
 abbrev Behind : ℕ → ℕ → ℕ → Type 0

@@ -35,16 +35,16 @@ round_names id number place =
     either (place == 1) (coin_or_alien number) _ (coin_or_alien_names number) (
     either (place == 2) (coin_or_loss number) _ (coin_or_loss_names number) (
     either (place == 3) (step.Command (command.Round 2)) _ tt (
-    either (nat_lt place 8) (step.Next 2) _ tt (
-    either (place == 8) (step.Command (command.Pay 3 id 1)) _ tt (
-    either (place == 13) (step.Fall 3) _ tt (
-    either (nat_lt place 17) (step.Next 3) _ tt (crash_or_balance_names number))))))))
+    either (nat_lt place 10) (step.Next 2) _ tt (
+    either (place == 10) (step.Command (command.Pay 3 id 1)) _ tt (
+    either (place == 15) (step.Fall 3) _ tt (
+    either (nat_lt place 19) (step.Next 3) _ tt (crash_or_balance_names number))))))))
 
 line_names : (seed n : ℕ) → NamesNoPut (line_at seed n)
 unfolding line_at
 line_names seed n =
-    either (nat_lt n 5) (opening_line n) _ (opening_names n)
-    (round_names ((n - 5) / 18 + 1) (drawn seed n) ((n - 5) % 18))
+    either (nat_lt n 6) (opening_line n) _ (opening_names n)
+    (round_names ((n - 6) / 20 + 1) (drawn seed n) ((n - 6) % 20))
 
 lines_name : (seed n : ℕ) → All NamesNoPut (lines_before seed n)
 unfolding lines_before

@@ -21,10 +21,10 @@ use cct_text::{TextLine, write_entries, write_entry};
 use cct_world::{World, WorldNo};
 
 /// How many lines a load has before its first round.
-const FIRST_LINES: u32 = 5;
+const FIRST_LINES: u32 = 6;
 
 /// How many lines a round has.
-const ROUND_LINES: u32 = 18;
+const ROUND_LINES: u32 = 20;
 
 /// The most rounds of a load.
 pub const MOST_ROUNDS: u32 = 10_000;

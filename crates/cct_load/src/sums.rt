@@ -7,9 +7,9 @@ ghost use Rattle.cct_model.specs.lines.entry.Entry.TheVariants.{Sum};
 use arrayvec::ArrayVec;
 use cct_model::{Entry, Record, SumOf};
 
-/// Sums over a transcript: steps, coins accepted, coins posted, events lost, coins that fell, and orders closed.
+/// Sums over a transcript: steps, coins accepted, coins posted, coins lost, coins that fell, and orders closed.
 ///
-/// A step has eight entries at most, and an entry adds fewer than 512 to all sums together, so the number of the
+/// A step has eight entries at most, and an entry adds fewer than 2^33 to all sums together, so the number of the
 /// steps bounds each of them.
 #[derive(Clone, Copy, Debug)]
 pub struct LoadSums {
@@ -19,7 +19,7 @@ pub struct LoadSums {
     lost: u64,
     fell: u64,
     closed: u64,
-    ghost few: { accepted + posted + lost + fell + closed ≤ 4096 * steps },
+    ghost few: { accepted + posted + lost + fell + closed ≤ 2 ^ 36 * steps },
 }
 
 impl LoadSums {
@@ -40,9 +40,9 @@ impl LoadSums {
         }
     }
 
-    /// One step more, with these entries, the oldest first. Fewer than 2^32 steps may have been added before.
+    /// One step more, with these entries, the oldest first. Fewer than 2^24 steps may have been added before.
     pub fn add_step(&mut self, report: &[Entry])
-        requires steps { self.old.steps < 2 ^ 32 }
+        requires steps { self.old.steps < 2 ^ 24 }
         requires entries { length report.now ≤ 8 }
         ensures { (played : List Step) (past : List Entry) (step : Step) → SumsUp self.old played past
             → SumsUp self.new (played ++ step ∷ []) (reverse report.now ++ past) }
@@ -55,11 +55,11 @@ impl LoadSums {
 
     /// One entry more.
     fn add(&mut self, entry: &Entry)
-        requires few { together self.old + 512 ≤ 4096 * self.old.steps }
-        requires steps { self.old.steps ≤ 2 ^ 32 }
+        requires few { together self.old + 2 ^ 33 ≤ 2 ^ 36 * self.old.steps }
+        requires steps { self.old.steps ≤ 2 ^ 24 }
         ensures counts { (past : List Entry) → Counts self.old past → Counts self.new (entry.now ∷ past) }
         ensures steps { self.new.steps ≡ self.old.steps }
-        ensures few { together self.new ≤ together self.old + 512 }
+        ensures few { together self.new ≤ together self.old + 2 ^ 33 }
     {
         match entry {
             Entry::Accepted { .. } => self.accepted += 1,
@@ -72,15 +72,15 @@ impl LoadSums {
 
     /// One record more.
     fn add_record(&mut self, entry: &Record)
-        requires few { together self.old + 512 ≤ 4096 * self.old.steps }
-        requires steps { self.old.steps ≤ 2 ^ 32 }
+        requires few { together self.old + 2 ^ 33 ≤ 2 ^ 36 * self.old.steps }
+        requires steps { self.old.steps ≤ 2 ^ 24 }
         ensures posted { self.new.posted ≡ coins_posted entry.now + self.old.posted }
         ensures lost { self.new.lost ≡ coins_lost entry.now + self.old.lost }
         ensures closed { self.new.closed ≡ orders_closed entry.now + self.old.closed }
         ensures accepted { self.new.accepted ≡ self.old.accepted }
         ensures fell { self.new.fell ≡ self.old.fell }
         ensures steps { self.new.steps ≡ self.old.steps }
-        ensures few { together self.new ≤ together self.old + 512 }
+        ensures few { together self.new ≤ together self.old + 2 ^ 33 }
     {
         self.posted += entry.posted().len() as u64;
         self.lost += u64::from(entry.lost());

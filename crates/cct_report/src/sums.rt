@@ -5,7 +5,7 @@ ghost use Rattle.cct_report.specs.Listing.{total_in};
 
 use cct_lines::{Carry, Entry, Record};
 
-/// Sums over records: coins posted, events lost, coins paid and unpaid, and prices.
+/// Sums over records: coins posted, coins lost, coins paid and unpaid, and prices.
 #[derive(Clone, Copy, Debug, PartialEq, Eq)]
 pub struct Sums {
     pub posted: u64,

@@ -71,7 +71,11 @@ fn record(pass: u32) -> Record
     ensures { Encodable result }
 {
     if pass % 2 == 0 {
-        Record::Epoch { addr: 2, mask: 1 }
+        Record::Epoch {
+            addr: 2,
+            mask: 1,
+            accepts: 0,
+        }
     } else {
         Record::EpochEnd { addr: 2 }
     }

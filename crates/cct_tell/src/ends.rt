@@ -13,6 +13,8 @@ const CLEAN: &[u8] = b"clean";
 
 const BROKE: &[u8] = b"broke";
 
+const MOVED: &[u8] = b"moved";
+
 const STOPPED: &[u8] = b"stopped";
 
 const CLOSED: &[u8] = b"closed";
@@ -128,6 +130,7 @@ fn epoch_end(word: &[u8]) -> Option<End> {
         _ if word == POSTED => Some(End::Posted),
         _ if word == CLEAN => Some(End::Clean),
         _ if word == BROKE => Some(End::Broke),
+        _ if word == MOVED => Some(End::Moved),
         _ if word == STOPPED => Some(End::Stopped),
         _ => None,
     }

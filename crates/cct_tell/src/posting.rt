@@ -11,23 +11,50 @@ pub(crate) struct Means<'r>(pub &'r Record);
 impl fmt::Display for Means<'_> {
     fn fmt<W: fmt::Write>(&self, f: &mut fmt::Formatter<W>) -> fmt::Result {
         match self.0 {
-            Record::Epoch { addr, mask } => {
+            Record::Epoch {
+                addr,
+                mask,
+                accepts,
+            } => {
                 let places = Places(*mask);
                 write!(
                     f,
-                    "an epoch of acceptor {addr} begins, which is to accept {places}"
+                    "an epoch begins: acceptor {addr}, whose accept counter is {accepts}, is to accept {places}"
                 )
             }
-            Record::Reading {
-                addr,
-                lost,
-                posted,
-                ..
-            } => write_reading(*addr, *lost, posted, f),
-            Record::Broken { addr, posted, .. } => write_broken(*addr, posted, f),
             Record::EpochEnd { addr } => write!(f, "the epoch of acceptor {addr} ends"),
-            _ => write_order(self.0, f),
+            _ => write_reading(self.0, f),
         }
+    }
+}
+
+/// Writes the record of a reading or a break, an order or a sale.
+fn write_reading<W: fmt::Write>(record: &Record, f: &mut fmt::Formatter<W>) -> fmt::Result {
+    match record {
+        Record::Reading {
+            addr,
+            lost,
+            accepts,
+            posted,
+            ..
+        } => {
+            write!(f, "acceptor {addr}: ")?;
+            write_coins(posted, *accepts, *lost, f)
+        }
+        Record::Broken {
+            addr,
+            lost,
+            accepts,
+            posted,
+            ..
+        } => {
+            write!(
+                f,
+                "acceptor {addr} was reset or is not set as it was, which ends its epoch: "
+            )?;
+            write_coins(posted, *accepts, *lost, f)
+        }
+        _ => write_order(record, f),
     }
 }
 
@@ -72,33 +99,20 @@ fn write_end<W: fmt::Write>(record: &Record, f: &mut fmt::Formatter<W>) -> fmt::
     }
 }
 
-/// Writes the record of a reading: the coins that are posted, and how many events it tells as overrun.
-fn write_reading<W: fmt::Write>(
-    addr: u8,
-    lost: u8,
+/// Writes the coins that a record posts, and how many more it tells to be lost, by the accept counter that was read.
+fn write_coins<W: fmt::Write>(
     posted: &Coins,
+    accepts: u32,
+    lost: u32,
     f: &mut fmt::Formatter<W>,
 ) -> fmt::Result {
-    write!(f, "acceptor {addr}: ")?;
     write_posted(posted, f)?;
+    write!(f, "; the accept counter is {accepts}: ")?;
     match lost {
-        0 => f.write_str("; the event counter tells none overrun"),
-        1 => f.write_str("; the event counter tells 1 more, overrun before it could be read"),
-        _ => write!(
-            f,
-            "; the event counter tells {lost} more, overrun before they could be read"
-        ),
+        0 => f.write_str("none is lost"),
+        1 => f.write_str("1 more came in and is lost"),
+        _ => write!(f, "{lost} more came in and are lost"),
     }
-}
-
-/// Writes the record of a break.
-fn write_broken<W: fmt::Write>(addr: u8, posted: &Coins, f: &mut fmt::Formatter<W>) -> fmt::Result {
-    write!(
-        f,
-        "acceptor {addr} was reset or is not set as it was, which ends its epoch: "
-    )?;
-    write_posted(posted, f)?;
-    f.write_str("; others may be lost")
 }
 
 /// Writes the coins that a record posts.

@@ -43,39 +43,43 @@ fn order_in(word: &[u8], rest: &[&[u8]]) -> Option<Record> {
     }
 }
 
-/// The fields `A MASK` of a begun epoch.
+/// The fields `A MASK ACCEPTS` of a begun epoch.
 fn epoch_in(rest: &[&[u8]]) -> Option<Record> {
-    let [addr, wanted] = rest else {
+    let [addr, wanted, accepts] = rest else {
         return None;
     };
     Some(Record::Epoch {
         addr: byte(addr)?,
         mask: mask(wanted)?,
+        accepts: number(accepts)?,
     })
 }
 
-/// The fields `A COUNTER LOST COINS` of a reading.
+/// The fields `A COUNTER LOST ACCEPTS COINS` of a reading.
 fn reading_in(rest: &[&[u8]]) -> Option<Record> {
-    let [addr, counter, lost, posted] = rest else {
+    let [addr, counter, lost, accepts, posted] = rest else {
         return None;
     };
     Some(Record::Reading {
         addr: byte(addr)?,
         counter: byte(counter)?,
-        lost: byte(lost)?,
+        lost: number(lost)?,
+        accepts: number(accepts)?,
         posted: coins(posted)?,
     })
 }
 
-/// The fields `A MASK COUNTER COINS` of a break.
+/// The fields `A MASK COUNTER LOST ACCEPTS COINS` of a break.
 fn broken_in(rest: &[&[u8]]) -> Option<Record> {
-    let [addr, seen, counter, posted] = rest else {
+    let [addr, seen, counter, lost, accepts, posted] = rest else {
         return None;
     };
     Some(Record::Broken {
         addr: byte(addr)?,
         mask_seen: mask(seen)?,
         counter: byte(counter)?,
+        lost: number(lost)?,
+        accepts: number(accepts)?,
         posted: coins(posted)?,
     })
 }

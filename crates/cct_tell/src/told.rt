@@ -83,7 +83,10 @@ pub fn alarm_of(end: End) -> Option<&'static str> {
         ),
         End::Unquiet { .. } => Some("objects fell in after the reset: no epoch began"),
         End::Broke => Some(
-            "the epoch is over, and coins of it may be lost: the cash box is to be counted",
+            "the epoch is over; if the record tells coins that are lost, the cash box is to be counted",
+        ),
+        End::Moved => Some(
+            "a coin was accepted while the acceptor was being read, so nothing was put: it is to be read again; after a stop it is inhibited, and its epoch still runs",
         ),
         End::OddLife => Some(
             "more coins fell than the order has: what the hopper paid is to be counted",
@@ -131,11 +134,10 @@ fn write_total<W: fmt::Write>(entry: &Entry, f: &mut fmt::Formatter<W>) -> fmt::
             sold,
         } => {
             let posted = Count(*posted, "coin");
-            let lost = Count(*lost, "event");
             let paid = Count(*paid, "coin");
             write!(
                 f,
-                "    {posted} posted, {lost} told as overrun, {paid} paid, {unpaid} unpaid, {sold} sold\n"
+                "    {posted} posted, {lost} lost, {paid} paid, {unpaid} unpaid, {sold} sold\n"
             )
         }
         _ => Ok(()),

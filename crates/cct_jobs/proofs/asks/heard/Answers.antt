@@ -4,7 +4,7 @@ use Rattle.cct_model.specs.Reply.{reply_shown}
 use Rattle.cct_model.specs.Line.{Line}
 use Rattle.cct_jobs.specs.Jobs.{Stands, replied, reply_wanted, request_of}
 use Rattle.cct_jobs.proofs.Heard.{form_heard, heard_is}
-use Rattle.cct_jobs.proofs.Lives.{accepts_heard, life_heard}
+use Rattle.cct_jobs.proofs.Counts.{accepts_heard, life_heard}
 use Rattle.cct_jobs.proofs.Stages.{stage_fits}
 use Rattle.cct_jobs.proofs.asks.heard.Goals as goal
 

@@ -1,4 +1,4 @@
-use Rattle.std.proofs.Common.{◌≡◌, ◌+◌, ◌*◌, ◌≤◌, List, take}
+use Rattle.std.proofs.Common.{◌≡◌, ◌+◌, ◌*◌, ◌^◌, ◌≤◌, List, take}
 use Rattle.cct_model.specs.lines.entry.Entry.{Entry}
 use Rattle.cct_model.specs.Transcript.{onto}
 use Rattle.cct_load.specs.Sums.{Counts, together}
@@ -8,5 +8,5 @@ abbrev pub invariant-loop-entry : goal.invariant-loop-entry
 invariant-loop-entry l = record {
   counts : (past : List Entry) → Counts l.fn.self past → Counts l.self (onto past (take l.entry-index l.report));
   steps : l.self.steps ≡ l.fn.self.steps + 1;
-  few : together l.self ≤ 4096 * l.fn.self.steps + 512 * l.entry-index;
+  few : together l.self ≤ 2 ^ 36 * l.fn.self.steps + 2 ^ 33 * l.entry-index;
 }
