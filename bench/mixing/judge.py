@@ -95,10 +95,10 @@ class Laws:
 class Judge:
     """Holds a transcript against its script, step by step."""
 
-    def __init__(self, script, refused, tells_forged):
+    def __init__(self, script, refused):
         """A script, the number and kind of its refused line, and whether the program tells what is forged."""
         self.books, self.laws, self.jobs, self.fault = Books(), Laws(), {}, None
-        self.refused, self.tells_forged = refused, tells_forged
+        self.refused = refused
         self.lines = script.split('\n')[:refused[0] - 1] if refused else script.split('\n')
         self.written, self.at, self.place, self.step = [], 0, '', 0
 
@@ -252,7 +252,7 @@ class Judge:
 
     def forged_line(self, addr, forged):
         """The last line of a step whose exchange had a forged fault tells so. No other step has such a line."""
-        if forged and self.tells_forged:
+        if forged:
             self.wants(f'forged {addr}')
 
     def take_in(self, record):
@@ -293,9 +293,9 @@ for WORD in ('round', 'stop', 'pay', 'settle', 'halt', 'vend', 'ident', 'path', 
     setattr(Judge, 'step_' + WORD, lambda self, *fields, word=WORD: self.command(word, *fields))
 
 
-def wrong(script, written, reported, refused, tells_forged):
+def wrong(script, written, reported, refused):
     """What is wrong with the lines of a transcript, and with those of the report after it if there is one; or None."""
-    judge = Judge(script, refused, tells_forged)
+    judge = Judge(script, refused)
     try:
         judge.hold(written)
         if reported is not None:
