@@ -96,7 +96,7 @@ class Judge:
     """Holds a transcript against its script, step by step."""
 
     def __init__(self, script, refused):
-        """A script, the number and kind of its refused line, and whether the program tells what is forged."""
+        """A script, and the number and kind of its refused line."""
         self.books, self.laws, self.jobs, self.fault = Books(), Laws(), {}, None
         self.refused = refused
         self.lines = script.split('\n')[:refused[0] - 1] if refused else script.split('\n')
