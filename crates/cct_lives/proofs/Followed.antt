@@ -24,7 +24,7 @@ use Rattle.cct_laws.proofs.jobs.Brought.{Comes, takes_coin, leaves_coin, leaves_
 use Rattle.cct_laws.proofs.jobs.Telling.{forged_or_not}
 use Rattle.cct_lives.specs.LiveStep.{LiveStep}
 use Rattle.cct_lives.specs.LiveStep as live
-use Rattle.cct_lives.specs.Live.{LiveEntries, LiveFrom, shown, IsTellable}
+use Rattle.cct_lives.specs.Live.{IsShown, IsTellable, LiveEntries, LiveFrom, shown}
 use Rattle.cct_lives.proofs.Alike.{Alike, alike_entry, alike_same, alike_back}
 use Rattle.cct_lives.proofs.Onward.{totals_same, refusal_same, restart_over, next_over}
 
@@ -191,16 +191,9 @@ all_on (s ∷ steps) more first second =
     All-cons IsInRange s (steps ++ more) (All-head IsInRange s steps first)
     (all_on steps more (All-tail IsInRange s steps first) second)
 
--- a legal past that shows a live one
-pub record Follows (capacity : ℕ) (setup : Setup) (before end : List Entry) : Type 0 where
-  pub steps : List Step
-  pub past : List Entry
-  pub in_range : All IsInRange steps
-  pub legal : LegalFrom capacity setup before steps past
-  pub shows : shown past ≡ end
-
+-- a live past is what a legal one shows
 pub followed_from : (capacity : ℕ) (setup : Setup) (steps : List LiveStep) (past end : List Entry) →
-    All IsTellable steps → LiveFrom capacity setup (shown past) steps end → Follows capacity setup past end
+    All IsTellable steps → LiveFrom capacity setup (shown past) steps end → IsShown capacity setup past end
 followed_from capacity setup [] past end range is =
     record { steps = []; past = past; in_range = All-nil IsInRange; legal = refl; shows = sym is }
 followed_from capacity setup (s ∷ steps) past end range is =
@@ -216,5 +209,5 @@ followed_from capacity setup (s ∷ steps) past end range is =
     }
 
 pub followed : (capacity : ℕ) (setup : Setup) (steps : List LiveStep) (end : List Entry) → All IsTellable steps →
-    LiveFrom capacity setup [] steps end → Follows capacity setup [] end
+    LiveFrom capacity setup [] steps end → IsShown capacity setup [] end
 followed capacity setup steps end range is = followed_from capacity setup steps [] end range is

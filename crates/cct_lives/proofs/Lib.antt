@@ -1,3 +1,5 @@
 pub mod Alike
+pub mod Carrying
 pub mod Followed
+pub mod Joining
 pub mod Onward

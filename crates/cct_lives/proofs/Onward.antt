@@ -60,7 +60,7 @@ held_same setup past other alike =
     (sum_same (holds_at past) (holds_at other) setup.devices (λ d. by_device (holds_for d) d past other alike))
     (ap sale_holds alike.sale)
 
-reserved_same : (setup : Setup) (past other : List Entry) → Alike past other →
+pub reserved_same : (setup : Setup) (past other : List Entry) → Alike past other →
     reserved_at_work setup past ≡ reserved_at_work setup other
 reserved_same setup past other alike =
     ap₂ (λ a b. a + b)
