@@ -1,3 +1,4 @@
 pub mod Live
 pub mod LiveStep
 pub mod Sends
+pub mod Posts
