@@ -1,13 +1,12 @@
 -- What is posted was heard, whatever the wire does: a job puts what it judged of the lines that it read, and these are among
 -- those of its address.
-use Rattle.std.proofs.Common.{◌≡◌, ℕ, ◌-◌, ◌==◌, ◌&&◌, ◌||◌, nat_le, not, cond, true, false, Bool, List, [], ◌∷◌, ◌++◌, length, refl, ap, sym, ◌∙◌, subst, Option, Some, None, ◌⊎◌, inl, inr, eq-eqb, eqb-true}
+use Rattle.std.proofs.Common.{◌≡◌, ℕ, ◌-◌, ◌==◌, ◌&&◌, ◌||◌, nat_le, not, cond, true, false, Bool, List, [], ◌∷◌, ◌++◌, length, refl, sym, ◌∙◌, subst, Option, Some, None, ◌⊎◌, inl, inr, eq-eqb, eqb-true}
 use Rattle.std.specs.Prelude.{⊤}
 use Rattle.std.specs.Option.{option_or}
 use Rattle.cct_model.specs.terms.coin.Coin.{Coin}
 use Rattle.cct_model.specs.terms.coin.Credits.{Credits}
 use Rattle.cct_model.specs.terms.device.DeviceSetup.{DeviceSetup}
 use Rattle.cct_model.specs.terms.device.Setup.{Setup}
-use Rattle.cct_model.specs.terms.request.Request.{Request}
 use Rattle.cct_model.specs.terms.request.Request.TheVariants.{ReadCredits, GetMask, AcceptCount}
 use Rattle.cct_model.specs.declared.judging.Judged.TheVariants.{Nothing, Moved, Reading, Broken}
 use Rattle.cct_model.specs.declared.judging.EpochState.{EpochState}
@@ -18,18 +17,16 @@ use Rattle.cct_model.specs.lines.record.Record.TheVariants as record_of
 use Rattle.cct_model.specs.lines.command.Command.{Command}
 use Rattle.cct_model.specs.lines.command.Command.TheVariants as command
 use Rattle.cct_model.specs.lines.command.Step.{Step}
-use Rattle.cct_model.specs.lines.entry.End.{End}
 use Rattle.cct_model.specs.lines.entry.Entry.{Entry}
 use Rattle.cct_model.specs.lines.entry.Entry.TheVariants as entry
 use Rattle.cct_model.specs.History.{Met}
 use Rattle.cct_model.specs.Setup.{IsSoundSetup}
-use Rattle.cct_model.specs.Reply.{Reply}
 use Rattle.cct_model.specs.Reply as reply
-use Rattle.cct_model.specs.Line.{Line, accepted, inhibited, alien, fell, reset, dispensed, exchange, scanned, put, taken, ended, restarted}
+use Rattle.cct_model.specs.Line.{Line, exchange, scanned, put, taken, ended, restarted}
 use Rattle.cct_model.specs.Legal.{Legal}
 use Rattle.cct_model.specs.Order.{order, close, life_between}
 use Rattle.cct_model.specs.Reading.{distance, posted_of, shows_break, shows_move, accepted_between, judge}
-use Rattle.cct_model.specs.Job.{Job, free, works, job, begun, with_line, epoch, puts, address_of, judged_by, judged_in, noted_in, credits_line, credits_read, mask_line, mask_read, accepts_line, accepts_read, at_credits, accepts_before}
+use Rattle.cct_model.specs.Job.{Job, free, works, job, with_line, epoch, puts, address_of, judged_by, judged_in, noted_in, credits_line, credits_read, mask_line, mask_read, accepts_line, accepts_read, at_credits, accepts_before}
 use Rattle.cct_model.specs.Rows.{Due, new_epoch, reading, epoch_end, new_order, order_end, sale, row, rows_of, done}
 use Rattle.cct_model.specs.Transcript.{met, owner, lines_of, onto}
 use Rattle.cct_model.proofs.Doses.{AreDoses}
@@ -39,7 +36,7 @@ use Rattle.cct_laws.specs.Law.{IsOf, EachEntry}
 use Rattle.cct_laws.proofs.jobs.Brought.{Comes, takes_coin, leaves_coin, leaves_alien, drops_coin, drops_none, jams, jams_none, is_reset, AtWork, AtDevice, came, took, halted, idled, made_exchange, made_put, Brought, wire_of, wire_end, record_end, row_after}
 use Rattle.cct_laws.proofs.jobs.Seen.{Passes, each_aside, each_with_end, Lost, bare, kept_here, kept_elsewhere, seen_here, seen_aside, seen_lost, seen_from, along}
 use Rattle.cct_laws.proofs.jobs.Telling.{any_steps}
-use Rattle.cct_lives.specs.Posts.{HasOver, Has, credits_heard, mask_heard, accepts_heard, PostedBy, PostOf, PostAt}
+use Rattle.cct_lives.specs.Posts.{HasOver, Has, since_taken, credits_heard, mask_heard, accepts_heard, PostedBy, PostOf, PostAt}
 
 -- lines are among others, in their order
 abbrev Within : List Line → List Line → Type 0
@@ -64,7 +61,7 @@ has_within (x ∷ xs) (y ∷ lines) l P Q on (inl both) (inr has) = inr (has_wit
 has_all : (since lines : List Line) (l : Line) → Within since lines → Has since l → Has lines l
 has_all since lines l = has_within since lines l (λ older. ⊤) (λ older. ⊤) (λ older all within any. tt)
 
--- the lines of a job are among those of its address
+-- the lines of a job are among those since its command was taken
 line_within : (l : Line) (lines : List Line) (c : Command) (since : List Line) (j : Job) →
     ((d : Command) (older : List Line) → j ≡ works d older → Within older lines) → with_line l j ≡ works c since →
     Within since (l ∷ lines)
@@ -73,24 +70,27 @@ line_within l lines c since (works d older) before is =
     let same : l ∷ older ≡ since = cc in
     subst (λ ls. Within ls (l ∷ lines)) same (inl (refl, before d older refl))
 
-begun_within : (a : Command) (lines : List Line) (c : Command) (since : List Line) (j : Job) →
-    ((d : Command) (older : List Line) → j ≡ works d older → Within older lines) → begun a j ≡ works c since →
-    Within since (taken a ∷ lines)
-begun_within (command.Halt addr) lines c since j before is =
-    line_within (taken (command.Halt addr)) lines c since j before is
-begun_within a lines c since j before is =
-    let none : [] ≡ since = cc in subst (λ ls. Within ls (taken a ∷ lines)) none tt
+begun_within : (a : Command) (lines : List Line) (c : Command) (since : List Line) →
+    ((d : Command) (older : List Line) → job lines ≡ works d older → Within older (since_taken lines)) →
+    job (taken a ∷ lines) ≡ works c since → Within since (since_taken (taken a ∷ lines))
+begun_within (command.Halt addr) lines c since before is =
+    line_within (taken (command.Halt addr)) (since_taken lines) c since (job lines) before is
+begun_within a lines c since before is =
+    let none : [] ≡ since = cc in subst (λ ls. Within ls (since_taken (taken a ∷ lines))) none tt
 
-job_within : (lines : List Line) (c : Command) (since : List Line) → job lines ≡ works c since → Within since lines
+job_within : (lines : List Line) (c : Command) (since : List Line) → job lines ≡ works c since →
+    Within since (since_taken lines)
 job_within [] c since is = absurd cc
-job_within (taken a ∷ lines) c since is = begun_within a lines c since (job lines) (job_within lines) is
+job_within (taken a ∷ lines) c since is = begun_within a lines c since (job_within lines) is
 job_within (ended end ∷ lines) c since is = absurd cc
 job_within (restarted ∷ lines) c since is = absurd cc
-job_within (exchange q y ∷ lines) c since is = line_within (exchange q y) lines c since (job lines) (job_within lines) is
-job_within (scanned check addr after ∷ lines) c since is =
-    line_within (scanned check addr after) lines c since (job lines) (job_within lines) is
-job_within (put r ∷ lines) c since is = line_within (put r) lines c since (job lines) (job_within lines) is
-job_within (l ∷ lines) c since is = within_more since lines l (job_within lines c since is)
+job_within (exchange q y ∷ lines) c since is =
+    line_within (exchange q y) (since_taken lines) c since (job lines) (job_within lines) is
+job_within (scanned check addr rest ∷ lines) c since is =
+    line_within (scanned check addr rest) (since_taken lines) c since (job lines) (job_within lines) is
+job_within (put r ∷ lines) c since is =
+    line_within (put r) (since_taken lines) c since (job lines) (job_within lines) is
+job_within (l ∷ lines) c since is = within_more since (since_taken lines) l (job_within lines c since is)
 
 -- what a line read, it is
 credits_is : (l : Line) (read : Credits) → credits_line l ≡ Some read → l ≡ credits_heard read
@@ -166,8 +166,8 @@ unmoved mask counter seen read before now whole still =
 
 -- what was judged of the lines of a job was heard
 judged_posts : (lines : List Line) (addr mask counter accepts : ℕ) (c : Credits) (seen before now : ℕ) →
-    epoch lines ≡ Running mask counter accepts → ReadsOver before c lines → Has lines (mask_heard seen) →
-    Has lines (accepts_heard now) → JudgedHolds (PostOf lines) (judge addr mask counter accepts c seen before now)
+    epoch lines ≡ Running mask counter accepts → ReadsOver before c (since_taken lines) → Has (since_taken lines) (mask_heard seen) →
+    Has (since_taken lines) (accepts_heard now) → JudgedHolds (PostOf lines) (judge addr mask counter accepts c seen before now)
 unfolding judge
 judged_posts lines addr mask counter accepts c seen before now runs reads sees counts =
     by_tests (shows_move mask seen before now) (shows_break mask counter seen c.counter)
@@ -202,19 +202,21 @@ judged_posts lines addr mask counter accepts c seen before now runs reads sees c
     by_tests true broke none moves breaks = tt
     by_tests false true none moves breaks = (before, posts true breaks)
     by_tests false false true moves breaks = tt
-    by_tests false false false moves breaks =
-        (seen, subst (λ first. PostedBy lines false first seen c.counter (accepted_between accepts now - length coins) now coins)
-        (unmoved mask counter seen c.counter before now breaks moves) (posts false breaks))
+    by_tests false false false moves breaks = (
+      seen,
+      subst (λ first. PostedBy lines false first seen c.counter (accepted_between accepts now - length coins) now coins)
+          (unmoved mask counter seen c.counter before now breaks moves) (posts false breaks),
+    )
 
 judged_by_posts : (lines since : List Line) (addr : ℕ) (state : EpochState) (credits : Option Credits)
-    (seen before now : Option ℕ) → Within since lines → epoch lines ≡ state → credits_read since ≡ credits →
+    (seen before now : Option ℕ) → Within since (since_taken lines) → epoch lines ≡ state → credits_read since ≡ credits →
     mask_read since ≡ seen → accepts_before since ≡ before → accepts_read since ≡ now →
     JudgedHolds (PostOf lines) (judged_by addr state credits seen before now)
 judged_by_posts lines since addr (Running mask counter accepts) (Some c) (Some seen) (Some before) (Some now) within runs read saw was is =
     judged_posts lines addr mask counter accepts c seen before now runs
-    (reads_within since lines before c within (credits_has since before c read was))
-    (has_all since lines (mask_heard seen) within (mask_has since seen saw))
-    (has_all since lines (accepts_heard now) within (accepts_has since now is))
+    (reads_within since (since_taken lines) before c within (credits_has since before c read was))
+    (has_all since (since_taken lines) (mask_heard seen) within (mask_has since seen saw))
+    (has_all since (since_taken lines) (accepts_heard now) within (accepts_has since now is))
 judged_by_posts lines since addr (Running mask counter accepts) (Some c) (Some seen) (Some before) None within runs read saw was is = tt
 judged_by_posts lines since addr (Running mask counter accepts) (Some c) (Some seen) None now within runs read saw was is = tt
 judged_by_posts lines since addr (Running mask counter accepts) (Some c) None before now within runs read saw was is = tt
@@ -234,7 +236,7 @@ close_posts lines o life = by_test (nat_le (life_between o.life life) o.count)
 
 -- so what the row of a job puts was heard
 row_posts : (lines : List Line) (d : DeviceSetup) (c : Command) (since : List Line) (owed : Option OpenOrder) →
-    Within since lines → RowHolds (λ q. ⊤) (PostOf lines) (row d c since (epoch lines) owed)
+    Within since (since_taken lines) → RowHolds (λ q. ⊤) (PostOf lines) (row d c since (epoch lines) owed)
 row_posts lines d c since owed within =
     each_put (PostOf lines) is_at_device d c (done (rows_of d c) since) (judged_in c since (epoch lines))
     (noted_in since owed) (device_puts d c) due_posts
@@ -242,7 +244,7 @@ row_posts lines d c since owed within =
     due_posts : (due : Due) → is_at_device due ≡ true →
         DueHolds (PostOf lines) (address_of c) (judged_in c since (epoch lines)) (noted_in since owed) due
     due_posts (new_epoch mask) here = λ accepts read.
-        has_all since lines (accepts_heard accepts) within (accepts_has since accepts read)
+        has_all since (since_taken lines) (accepts_heard accepts) within (accepts_has since accepts read)
     due_posts reading here =
         judged_by_posts lines since (address_of c) (epoch lines) (credits_read since) (mask_read since)
         (accepts_before since) (accepts_read since) within refl refl refl refl refl
@@ -265,7 +267,7 @@ kept_posts d past c since r at_work is =
     let lines = lines_of d past in
     subst (RowHolds (λ q. ⊤) (PostOf (restarted ∷ lines))) is
     (row_posts (restarted ∷ lines) d c since (order lines)
-    (within_more since lines restarted (job_within lines c since at_work.job_is)))
+    (within_more since (since_taken lines) restarted (job_within lines c since at_work.job_is)))
 
 -- what is none of the device posts nothing of it
 no_record : (d : DeviceSetup) (addr : ℕ) (r : Record) → AreDoses (cond (addr == d.addr) (put r ∷ []) []) → addr ≡ d.addr → ⊥
