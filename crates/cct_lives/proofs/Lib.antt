@@ -3,3 +3,5 @@ pub mod Carrying
 pub mod Followed
 pub mod Joining
 pub mod Onward
+pub mod Posting
+pub mod Sends

@@ -1,2 +1,4 @@
 pub mod Live
 pub mod LiveStep
+pub mod Posts
+pub mod Sends
