@@ -5,4 +5,5 @@ pub mod Joining
 pub mod Onward
 pub mod Posting
 pub mod Sends
+pub mod Tries
 pub mod Undosed

@@ -21,7 +21,7 @@ ghost use Rattle.cct_model.specs.Money.{freed_by, posted_in, reserved_at_work, s
 ghost use Rattle.cct_model.specs.Paid.{AreFresh};
 ghost use Rattle.cct_model.specs.Records.{records};
 ghost use Rattle.cct_model.specs.Refusal.{held, refusal};
-ghost use Rattle.cct_model.specs.Transcript.{onto};
+ghost use Rattle.cct_model.specs.Transcript.{onto, scan_lines};
 ghost use Rattle.cct_laws.specs.Balanced.{IsBalanced, IsConserved};
 ghost use Rattle.cct_laws.specs.Law.{EachEntry, IsOf, lines_in};
 ghost use Rattle.cct_lives.specs.Live.{EachLive, GoesOnAs, IsShown, LiveFrom, started};
@@ -31,6 +31,10 @@ ghost use Rattle.cct_model.specs.lines.command.Step.{Step};
 ghost use Rattle.cct_model.specs.Setup.{IsSoundSetup};
 ghost use Rattle.cct_lives.specs.Posts.{PostAt};
 ghost use Rattle.cct_lives.specs.Sends.{SentAt, sent_in};
+ghost use Rattle.cct_model.specs.Claims.{AllPast};
+ghost use Rattle.cct_model.specs.Job.{job};
+ghost use Rattle.cct_laws.specs.Tries.{HasFewTries, ScanTriesAt, failed_in};
+ghost use Rattle.cct_lives.specs.Tries.{SeenTriesAt};
 
 /// A live transcript is what a legal one shows, whose steps are in range: the same entries, without the faults that were set
 /// and the entries that tell of a forged exchange. In the legal one the bytes that were heard were set before each `next`. So
@@ -125,4 +129,16 @@ pub fn what_is_posted_was_heard()
         → EachEntry (PostAt d) (onto [] transcript) }
     ensures live { EachLive (λ capacity setup transcript. (d : DeviceSetup) → IsOf setup d
         → EachEntry (PostAt d) (onto [] transcript)) }
+{}
+
+/// A job of a live host ends for want of an answer exactly after the third failed try in succession of one of its rows,
+/// whatever is heard, and so does a scan. That end stands after three failed tries, and any other line that the host sees
+/// after fewer; a job that goes on has fewer than three.
+pub fn the_third_failed_try_ends_a_job_in_any_life()
+    ensures jobs { EachLive (λ capacity setup transcript. (d : DeviceSetup) → IsOf setup d
+        → AllPast SeenTriesAt (lines_in d transcript)) }
+    ensures goes_on { EachLive (λ capacity setup transcript. (d : DeviceSetup) → IsOf setup d
+        → failed_in (job (lines_in d transcript)) < 3) }
+    ensures scans { EachLive (λ capacity setup transcript. AllPast ScanTriesAt (scan_lines (onto [] transcript))) }
+    ensures scan_goes_on { EachLive (λ capacity setup transcript. HasFewTries (job (scan_lines (onto [] transcript)))) }
 {}
