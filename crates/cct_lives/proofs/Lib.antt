@@ -7,3 +7,4 @@ pub mod Posting
 pub mod Sends
 pub mod Tries
 pub mod Undosed
+pub mod Worked
