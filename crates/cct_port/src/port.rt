@@ -1,0 +1,143 @@
+// The host's link over a line.
+ghost use Rattle.std.specs.Prelude.{◌≡◌, ◌≤◌, ◌++◌, ℕ, List, false, length, OnOk, OnErr};
+ghost use Rattle.cct_terms.specs.declared.wire.TheConstants.{MOST_SENT};
+ghost use Rattle.cct_port.specs.Calls.{Converses, FailsAt};
+ghost use Rattle.cct_port.specs.Port.{heard_of};
+
+use crate::Line;
+use crate::answer::{is_answered, is_to_all};
+use crate::calls::{listen, wait};
+use arrayvec::ArrayVec;
+use cct_edge::Failed;
+use cct_terms::MOST_HEARD;
+use cct_wire::Link;
+
+/// An address poll by the host, under the simple check.
+const POLL: [u8; 5] = [0, 0, 1, 253, 2];
+
+/// How a port uses its line. Times are numbers of reads in a row that brought nothing.
+#[derive(Clone, Copy, Debug, PartialEq, Eq)]
+pub struct Options {
+    /// Whether the line gives back what is sent. Where it doesn't, the port writes the echo itself.
+    pub echoes: bool,
+    /// How long the line has to be silent before a message is sent, if the last one was answered.
+    pub gap: u16,
+    /// How long an answer is waited for, and how long it may pause.
+    pub patience: u16,
+    /// The longest time after which any device on the line may still answer. So long the line has to be silent before a
+    /// message is sent, at the start and if the last one wasn't answered; so long an address poll is listened to.
+    pub longest: u16,
+}
+
+/// A link over a line. It sends nothing while a late reply to an earlier message may come.
+#[derive(Drop)]
+pub struct Port<L> {
+    line: L,
+    options: Options,
+    settled: bool,
+    faults: u64,
+}
+
+impl<L: Line> Port<L> {
+    ghost use Rattle.cct_port.specs.Port.{line_of, options_of, settled, faults_of, wanted};
+
+    /// A port over a line of which nothing is known, so its first exchange waits.
+    pub fn new(line: L, options: Options) -> Port<L>
+        ensures line { line_of result ≡ line }
+        ensures options { options_of result ≡ options }
+        ensures unsettled { settled result ≡ false }
+        ensures faultless { faults_of result ≡ 0 }
+    {
+        Port {
+            line,
+            options,
+            settled: false,
+            faults: 0,
+        }
+    }
+
+    /// How many exchanges failed: a read or a write failed, or the line was never silent.
+    pub fn faults(&self) -> u64
+        ensures { result ≡ faults_of self.now }
+    {
+        self.faults
+    }
+
+    /// Whether the last exchange brought the whole reply, so the next one needn't wait for late ones.
+    pub fn is_settled(&self) -> bool
+        ensures { result ≡ settled self.now }
+    {
+        self.settled
+    }
+
+    /// Finds out by an address poll whether the line gives back what is sent, and goes by that from now on. If nothing
+    /// comes, it isn't known, and nothing changes.
+    pub fn find_echo(&mut self) -> Option<bool> {
+        let told = self.options.echoes;
+        let mut heard = ArrayVec::new();
+        self.options.echoes = true;
+        self.exchange(&POLL, &mut heard);
+        if heard.is_empty() {
+            self.options.echoes = told;
+            return None;
+        }
+        self.options.echoes = heard.as_slice().starts_with(&POLL);
+        Some(self.options.echoes)
+    }
+
+    /// How many reads in a row have to be silent before the next message.
+    fn wanted(&self) -> u16
+        ensures { result ≡ wanted self.now }
+    {
+        if self.settled {
+            self.options.gap
+        } else {
+            self.options.longest
+        }
+    }
+}
+
+/// One message is sent after so many silent reads, and what comes is heard.
+fn converse<L: Line>(
+    line: &mut L,
+    options: &Options,
+    wanted: u16,
+    sent: &[u8],
+    heard: &mut ArrayVec<u8, MOST_HEARD>,
+) -> Result<(), Failed>
+    requires short { length sent.now ≤ MOST_SENT }
+    ensures done { OnOk result ((brought : List ℕ) × Converses L.reads L.writes wanted sent.now line.old brought line.new
+        × (heard.new.items ≡ heard_of options.now.echoes sent.now brought)) }
+    ensures failed { OnErr result (FailsAt L.reads L.writes wanted sent.now line.old line.new) }
+{
+    wait(line, wanted)?;
+    line.write(sent)?;
+    heard.clear();
+    if !options.echoes {
+        heard.try_extend_from_slice(sent).unwrap();
+    }
+    let reads = if is_to_all(sent) {
+        options.longest
+    } else {
+        options.patience
+    };
+    listen(line, reads, sent, heard)
+}
+
+impl<L: Line> Link for Port<L> {
+    ghost use Rattle.cct_port.specs.Port.{Gives};
+
+    ghost gives = { Gives L.reads L.writes };
+
+    fn exchange(&mut self, sent: &[u8], heard: &mut ArrayVec<u8, MOST_HEARD>) {
+        let wanted = self.wanted();
+        match converse(&mut self.line, &self.options, wanted, sent, heard) {
+            Ok(()) => self.settled = is_answered(sent, heard.as_slice()),
+            Err(Failed) => {
+                heard.clear();
+                self.settled = false;
+                self.faults = self.faults.saturating_add(1);
+            }
+        }
+    }
+}
