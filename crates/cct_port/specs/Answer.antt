@@ -1,8 +1,8 @@
 -- Whether what was heard is the whole reply to what was sent.
-use Rattle.std.specs.Prelude.{ℕ, ◌==◌, ◌&&◌, ◌||◌, not, Bool, false, List, Option, Some, None}
+use Rattle.std.specs.Prelude.{ℕ, ◌-◌, ◌==◌, ◌&&◌, ◌||◌, not, nat_le, Bool, false, List, [], ◌∷◌, Option, Some, None, length, drop, slice_index}
 use Rattle.cct_terms.specs.declared.wire.CheckKind.{CheckKind}
 use Rattle.cct_terms.specs.declared.wire.CheckKind.TheVariants.{Simple, Crc}
-use Rattle.cct_terms.specs.declared.wire.TheConstants.{BROADCAST}
+use Rattle.cct_terms.specs.declared.wire.TheConstants.{BROADCAST, MOST_HEARD}
 use Rattle.cct_terms.specs.Message.{Message, message}
 use Rattle.cct_terms.specs.Exchange.{is_for_host}
 use Rattle.cct_wire.specs.Heard.{message_after}
@@ -25,3 +25,17 @@ answered_under kind sent heard = replies (message kind sent) (message_after kind
 -- Under either check.
 abbrev pub answered : List ℕ → List ℕ → Bool
 answered sent heard = answered_under Simple sent heard || answered_under Crc sent heard
+
+-- Bytes are for all devices.
+abbrev pub is_to_all : List ℕ → Bool
+is_to_all [] = false
+is_to_all (byte ∷ bytes) = byte == BROADCAST
+
+-- Bytes are at least as many as the message that they begin has, by the length that it tells.
+abbrev pub is_complete : List ℕ → Bool
+is_complete bytes = nat_le 5 (length bytes) && nat_le (slice_index bytes 1) (length bytes - 5)
+
+-- No more is wanted of what was heard: there is no room, or the reply to what was sent is whole by its length. What all
+-- devices answer has none.
+abbrev pub is_over : List ℕ → List ℕ → Bool
+is_over sent heard = nat_le MOST_HEARD (length heard) || (not (is_to_all sent) && is_complete (drop (length sent) heard))

@@ -5,7 +5,7 @@ use Rattle.cct_edge.specs.Faults.{next_count}
 use Rattle.cct_terms.specs.declared.wire.TheConstants.{MOST_HEARD}
 use Rattle.cct_port.specs.declared.port.Options.{Options}
 use Rattle.cct_port.specs.declared.port.Port.{Port}
-use Rattle.cct_port.specs.Answer.{answered}
+use Rattle.cct_port.specs.Answer.{answered, is_to_all}
 use Rattle.cct_port.specs.Calls.{Converses, FailsAt}
 
 -- The line of a port.
@@ -28,23 +28,29 @@ faults_of port = port.faults
 abbrev pub wanted : {L : Type 0} → Port L → ℕ
 wanted port = if port.settled then port.options.gap else port.options.longest
 
--- What is heard where these bytes came after those were sent: a line that gives no echo gets it from the port.
-abbrev pub heard_of : Bool → List ℕ → List ℕ → List ℕ
-heard_of echoes sent brought = if echoes then brought else sent ++ brought
+-- How many reads in a row are silent before the reply to what was sent is given up.
+abbrev pub patience : {L : Type 0} → Port L → List ℕ → ℕ
+patience port sent = if is_to_all sent then port.options.longest else port.options.patience
+
+-- What the port puts before what comes, where the line gives no echo: what was sent.
+abbrev pub echo_of : Bool → List ℕ → List ℕ
+echo_of echoes sent = if echoes then [] else sent
 
 module _ {L : Type 0} (reads : L → Option (List ℕ) → L → Type 0) (writes : L → List ℕ → Result (Unit {0}) Failed → L → Type 0) where
   -- An exchange went through: the line was silent for so long, then these bytes were sent, and what came since is heard.
   -- Only the whole reply settles the port.
   pub record Hears (old : Port L) (sent heard : List ℕ) (new : Port L) : Type 0 where
-    pub brought : List ℕ
-    pub calls : Converses reads writes (wanted old) sent (line_of old) brought (line_of new)
-    pub hears : heard ≡ heard_of old.options.echoes sent brought
+    pub bytes : List ℕ
+    pub calls : Converses reads writes (wanted old) (patience old sent) sent (echo_of old.options.echoes sent)
+        (line_of old) bytes (line_of new)
+    pub hears : heard ≡ echo_of old.options.echoes sent ++ bytes
     pub settles : settled new ≡ answered sent heard
     pub no_fault : faults_of new ≡ faults_of old
 
   -- An exchange failed: it is counted, nothing is heard, and the next one waits.
   pub record GivesUp (old : Port L) (sent heard : List ℕ) (new : Port L) : Type 0 where
-    pub calls : FailsAt reads writes (wanted old) sent (line_of old) (line_of new)
+    pub calls : FailsAt reads writes (wanted old) (patience old sent) sent (echo_of old.options.echoes sent)
+        (line_of old) (line_of new)
     pub nothing : heard ≡ []
     pub unsettled : settled new ≡ false
     pub counted : faults_of new ≡ next_count (faults_of old)

@@ -1,6 +1,6 @@
 // Whether what was heard is the whole reply to what was sent.
 ghost use Rattle.std.specs.Prelude.{◌≡◌, ◌+◌};
-ghost use Rattle.cct_port.specs.Answer.{answered, answered_under, is_reply};
+ghost use Rattle.cct_port.specs.Answer.{answered, answered_under, is_complete, is_reply, is_to_all};
 ghost use Rattle.cct_frame.specs.Frame.{message_of};
 
 use cct_frame::{FrameView, read};
@@ -41,11 +41,18 @@ fn is_reply(asked: &FrameView<'_>, reply: &FrameView<'_>) -> bool
 }
 
 /// Whether so many bytes came after the echo as the message that they begin has, by the length that it tells.
-pub(crate) fn is_complete(rest: &[u8]) -> bool {
+pub(crate) fn is_complete(rest: &[u8]) -> bool
+    ensures { result ≡ is_complete rest.now }
+{
     rest.len() >= 5 && rest.len() - 5 >= usize::from(rest[1])
 }
 
 /// Whether bytes are for all devices. What these answer are bare bytes, so only silence ends them.
-pub(crate) fn is_to_all(sent: &[u8]) -> bool {
-    sent.first() == Some(&BROADCAST)
+pub(crate) fn is_to_all(sent: &[u8]) -> bool
+    ensures { result ≡ is_to_all sent.now }
+{
+    match sent {
+        [] => false,
+        [first, ..] => *first == BROADCAST,
+    }
 }

@@ -1,7 +1,8 @@
 // The reads of an exchange: those before it is sent, and those after it.
-ghost use Rattle.std.specs.Prelude.{◌≡◌, ◌<◌, ◌++◌, ℕ, List, [], Some, None, length, OnOk, OnErr, IsFalse};
+ghost use Rattle.std.specs.Prelude.{◌≡◌, ◌<◌, ◌++◌, ℕ, List, [], Some, None, length, OnOk, OnErr, IfOk, drop};
 ghost use Rattle.cct_terms.specs.declared.wire.TheConstants.{MOST_HEARD};
-ghost use Rattle.cct_port.specs.Calls.{Silences, Unquiet, Brings, Breaks};
+ghost use Rattle.cct_port.specs.Calls.{Waits, Unquiet, Listens, Breaks};
+ghost use Rattle.cct_port.specs.Answer.{is_over};
 
 use crate::Line;
 use crate::answer::{is_complete, is_to_all};
@@ -12,8 +13,8 @@ use cct_terms::MOST_HEARD;
 /// Reads until so many reads in a row were silent, and drops what comes. It fails if a read fails, or if the line isn't
 /// silent within so many reads and `MOST_HEARD` more.
 pub(crate) fn wait<L: Line>(line: &mut L, reads: u16) -> Result<(), Failed>
-    ensures quiet { OnOk result (Silences L.reads L.writes line.old reads line.new) }
-    ensures unquiet { OnErr result (Unquiet L.reads L.writes line.old line.new) }
+    ensures quiet { OnOk result (Waits L.reads L.writes reads line.old line.new) }
+    ensures unquiet { OnErr result (Unquiet L.reads L.writes reads line.old line.new) }
 {
     let mut room = [0; MOST_HEARD];
     let mut silent = 0;
@@ -38,14 +39,15 @@ pub(crate) fn listen<L: Line>(
     sent: &[u8],
     heard: &mut ArrayVec<u8, MOST_HEARD>,
 ) -> Result<(), Failed>
-    ensures brings { OnOk result ((bytes : List ℕ) × Brings L.reads L.writes line.old bytes line.new
+    ensures brings { OnOk result ((bytes : List ℕ)
+        × Listens L.reads L.writes reads sent.now heard.old.items line.old bytes line.new
         × (heard.new.items ≡ heard.old.items ++ bytes)) }
-    ensures breaks { OnErr result (Breaks L.reads L.writes line.old line.new) }
+    ensures breaks { OnErr result (Breaks L.reads L.writes reads sent.now heard.old.items line.old line.new) }
 {
     let mut silent = 0;
     for _ in 0..usize::from(reads) + MOST_HEARD {
-        if silent >= reads || is_over(sent, heard.as_slice()) {
-            break;
+        if silent == reads || is_over(sent, heard.as_slice()) {
+            return Ok(());
         }
         if read_more(line, heard)? == 0 {
             silent += 1;
@@ -58,22 +60,23 @@ pub(crate) fn listen<L: Line>(
 
 /// Whether nothing more is wanted: the reply to what was sent is whole by its length, or there is no room.
 fn is_over(sent: &[u8], heard: &[u8]) -> bool
-    ensures { IsFalse result → length heard.now < MOST_HEARD }
+    ensures { result ≡ is_over sent.now heard.now }
 {
-    if heard.len() >= MOST_HEARD {
-        return true;
-    }
-    match heard.get(sent.len()..) {
-        Some(rest) => !is_to_all(sent) && is_complete(rest),
-        None => false,
-    }
+    heard.len() >= MOST_HEARD || (!is_to_all(sent) && is_complete(after(sent.len(), heard)))
+}
+
+/// The bytes from a place on, or none where they end before it.
+fn after(place: usize, bytes: &[u8]) -> &[u8]
+    ensures { result.now ≡ drop place bytes.now }
+{
+    bytes.get(place..).unwrap_or(&[])
 }
 
 /// One read, into the room that is left.
 fn read_more<L: Line>(line: &mut L, heard: &mut ArrayVec<u8, MOST_HEARD>) -> Result<usize, Failed>
     requires { length heard.old.items < MOST_HEARD }
-    ensures more { OnOk result ((bytes : List ℕ) × L.reads line.old (Some bytes) line.new
-        × (heard.new.items ≡ heard.old.items ++ bytes)) }
+    ensures more { IfOk result (λ count. (bytes : List ℕ) × L.reads line.old (Some bytes) line.new
+        × (heard.new.items ≡ heard.old.items ++ bytes) × (length bytes ≡ count)) }
     ensures failed { OnErr result (L.reads line.old None line.new × (heard.new.items ≡ heard.old.items)) }
 {
     let mut room = [0; MOST_HEARD];

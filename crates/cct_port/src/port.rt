@@ -2,7 +2,7 @@
 ghost use Rattle.std.specs.Prelude.{◌≡◌, ◌≤◌, ◌++◌, ℕ, List, false, length, OnOk, OnErr};
 ghost use Rattle.cct_terms.specs.declared.wire.TheConstants.{MOST_SENT};
 ghost use Rattle.cct_port.specs.Calls.{Converses, FailsAt};
-ghost use Rattle.cct_port.specs.Port.{heard_of};
+ghost use Rattle.cct_port.specs.Port.{echo_of};
 
 use crate::Line;
 use crate::answer::{is_answered, is_to_all};
@@ -39,7 +39,7 @@ pub struct Port<L> {
 }
 
 impl<L: Line> Port<L> {
-    ghost use Rattle.cct_port.specs.Port.{line_of, options_of, settled, faults_of, wanted};
+    ghost use Rattle.cct_port.specs.Port.{line_of, options_of, settled, faults_of, patience, wanted};
 
     /// A port over a line of which nothing is known, so its first exchange waits.
     pub fn new(line: L, options: Options) -> Port<L>
@@ -95,33 +95,46 @@ impl<L: Line> Port<L> {
             self.options.longest
         }
     }
+
+    /// How many reads in a row are silent before the reply is given up.
+    fn patience(&self, sent: &[u8]) -> u16
+        ensures { result ≡ patience self.now sent.now }
+    {
+        if is_to_all(sent) {
+            self.options.longest
+        } else {
+            self.options.patience
+        }
+    }
 }
 
-/// One message is sent after so many silent reads, and what comes is heard.
+/// What a line that gives no echo leaves to the port: what was sent is heard before what comes.
+fn begin(echoes: bool, sent: &[u8], heard: &mut ArrayVec<u8, MOST_HEARD>)
+    requires short { length sent.now ≤ MOST_SENT }
+    ensures { heard.new.items ≡ echo_of echoes sent.now }
+{
+    heard.clear();
+    if !echoes {
+        heard.try_extend_from_slice(sent).unwrap();
+    }
+}
+
+/// One message is sent after so many silent reads, and what comes is heard after what `heard` holds.
 fn converse<L: Line>(
     line: &mut L,
-    options: &Options,
     wanted: u16,
+    patience: u16,
     sent: &[u8],
     heard: &mut ArrayVec<u8, MOST_HEARD>,
 ) -> Result<(), Failed>
-    requires short { length sent.now ≤ MOST_SENT }
-    ensures done { OnOk result ((brought : List ℕ) × Converses L.reads L.writes wanted sent.now line.old brought line.new
-        × (heard.new.items ≡ heard_of options.now.echoes sent.now brought)) }
-    ensures failed { OnErr result (FailsAt L.reads L.writes wanted sent.now line.old line.new) }
+    ensures done { OnOk result ((bytes : List ℕ)
+        × Converses L.reads L.writes wanted patience sent.now heard.old.items line.old bytes line.new
+        × (heard.new.items ≡ heard.old.items ++ bytes)) }
+    ensures failed { OnErr result (FailsAt L.reads L.writes wanted patience sent.now heard.old.items line.old line.new) }
 {
     wait(line, wanted)?;
     line.write(sent)?;
-    heard.clear();
-    if !options.echoes {
-        heard.try_extend_from_slice(sent).unwrap();
-    }
-    let reads = if is_to_all(sent) {
-        options.longest
-    } else {
-        options.patience
-    };
-    listen(line, reads, sent, heard)
+    listen(line, patience, sent, heard)
 }
 
 impl<L: Line> Link for Port<L> {
@@ -131,7 +144,9 @@ impl<L: Line> Link for Port<L> {
 
     fn exchange(&mut self, sent: &[u8], heard: &mut ArrayVec<u8, MOST_HEARD>) {
         let wanted = self.wanted();
-        match converse(&mut self.line, &self.options, wanted, sent, heard) {
+        let patience = self.patience(sent);
+        begin(self.options.echoes, sent, heard);
+        match converse(&mut self.line, wanted, patience, sent, heard) {
             Ok(()) => self.settled = is_answered(sent, heard.as_slice()),
             Err(Failed) => {
                 heard.clear();
