@@ -1,8 +1,9 @@
 -- What an exchange over a port does.
-use Rattle.std.specs.Prelude.{◌≡◌, ◌⊎◌, ℕ, ◌≤◌, Bool, false, List, [], ◌++◌, Option, Result, length, if◌then◌else◌}
+use Rattle.std.specs.Prelude.{◌≡◌, ◌⊎◌, ℕ, ◌≤◌, Bool, false, List, [], ◌++◌, Option, Result, length, if◌then◌else◌, ◌∷◌, Some, None, is_some}
 use Rattle.cct_edge.specs.declared.fault.Failed.{Failed}
 use Rattle.cct_edge.specs.Faults.{next_count}
 use Rattle.cct_terms.specs.declared.wire.TheConstants.{MOST_HEARD}
+use Rattle.cct_terms.specs.Exchange.{after_echo}
 use Rattle.cct_port.specs.declared.port.Options.{Options}
 use Rattle.cct_port.specs.declared.port.Port.{Port}
 use Rattle.cct_port.specs.Answer.{answered, is_to_all}
@@ -60,3 +61,16 @@ module _ {L : Type 0} (reads : L → Option (List ℕ) → L → Type 0) (writes
     pub few : length heard ≤ MOST_HEARD
     pub options : options_of new ≡ options_of old
     pub goes : Hears old sent heard new ⊎ GivesUp old sent heard new
+
+-- The address poll by the host, under the simple check.
+abbrev pub address_poll : List ℕ
+address_poll = 0 ∷ 0 ∷ 1 ∷ 253 ∷ 2 ∷ []
+
+-- Whether what is heard of an address poll begins with it, or none if nothing is heard.
+abbrev pub echo_in : List ℕ → Option Bool
+echo_in [] = None
+echo_in (byte ∷ heard) = Some (is_some (after_echo address_poll (byte ∷ heard)))
+
+-- A port over a line of which this is told.
+abbrev pub with_echo : {L : Type 0} → Bool → Port L → Port L
+with_echo echoes port = record port { options = record port.options { echoes = echoes } }

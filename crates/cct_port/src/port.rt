@@ -1,8 +1,8 @@
 // The host's link over a line.
-ghost use Rattle.std.specs.Prelude.{◌≡◌, ◌≤◌, ◌++◌, ℕ, List, false, length, OnOk, OnErr};
+ghost use Rattle.std.specs.Prelude.{◌≡◌, ◌≤◌, ◌++◌, ℕ, List, true, false, length, IfNone, IfSome, OnOk, OnErr};
 ghost use Rattle.cct_terms.specs.declared.wire.TheConstants.{MOST_SENT};
 ghost use Rattle.cct_port.specs.Calls.{Converses, FailsAt};
-ghost use Rattle.cct_port.specs.Port.{echo_of};
+ghost use Rattle.cct_port.specs.Port.{echo_in, echo_of};
 
 use crate::Line;
 use crate::answer::{is_answered, is_to_all};
@@ -10,10 +10,10 @@ use crate::calls::{listen, wait};
 use arrayvec::ArrayVec;
 use cct_edge::Failed;
 use cct_terms::MOST_HEARD;
-use cct_wire::Link;
+use cct_wire::{Link, bare_after_echo};
 
 /// An address poll by the host, under the simple check.
-const POLL: [u8; 5] = [0, 0, 1, 253, 2];
+const ADDRESS_POLL: [u8; 5] = [0, 0, 1, 253, 2];
 
 /// How a port uses its line. Times are numbers of reads in a row that brought nothing.
 #[derive(Clone, Copy, Debug, PartialEq, Eq)]
@@ -40,6 +40,7 @@ pub struct Port<L> {
 
 impl<L: Line> Port<L> {
     ghost use Rattle.cct_port.specs.Port.{line_of, options_of, settled, faults_of, patience, wanted};
+    ghost use Rattle.cct_port.specs.Port.{Gives, address_poll, echo_in, with_echo};
 
     /// A port over a line of which nothing is known, so its first exchange waits.
     pub fn new(line: L, options: Options) -> Port<L>
@@ -71,18 +72,21 @@ impl<L: Line> Port<L> {
     }
 
     /// Finds out by an address poll whether the line gives back what is sent, and goes by that from now on. If nothing
-    /// comes, it isn't known, and nothing changes.
-    pub fn find_echo(&mut self) -> Option<bool> {
+    /// is heard, it isn't known, and nothing changes.
+    pub fn find_echo(&mut self) -> Option<bool>
+        // It is one exchange, as over a line that gives the echo.
+        ensures asks { (heard : List ℕ) × (echo_in heard ≡ result)
+            × Gives L.reads L.writes (with_echo true self.old) address_poll heard (with_echo true self.new) }
+        ensures found { IfSome result (λ echoes. (options_of self.new).echoes ≡ echoes) }
+        ensures unknown { IfNone result ((options_of self.new).echoes ≡ (options_of self.old).echoes) }
+    {
         let told = self.options.echoes;
         let mut heard = ArrayVec::new();
         self.options.echoes = true;
-        self.exchange(&POLL, &mut heard);
-        if heard.is_empty() {
-            self.options.echoes = told;
-            return None;
-        }
-        self.options.echoes = heard.as_slice().starts_with(&POLL);
-        Some(self.options.echoes)
+        self.exchange(&ADDRESS_POLL, &mut heard);
+        let found = echo_in(heard.as_slice());
+        self.options.echoes = found.unwrap_or(told);
+        found
     }
 
     /// How many reads in a row have to be silent before the next message.
@@ -105,6 +109,16 @@ impl<L: Line> Port<L> {
         } else {
             self.options.patience
         }
+    }
+}
+
+/// Whether what is heard of an address poll begins with it, or none if nothing is heard.
+fn echo_in(heard: &[u8]) -> Option<bool>
+    ensures { result ≡ echo_in heard.now }
+{
+    match heard {
+        [] => None,
+        heard => Some(bare_after_echo(&ADDRESS_POLL, heard).is_ok()),
     }
 }
 
