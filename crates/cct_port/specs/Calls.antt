@@ -26,7 +26,7 @@ abbrev pub Stops : ℕ → List ℕ → List ℕ → List ℕ → ℕ → ℕ �
 Stops patience sent before bytes silent made =
     (is_over sent (before ++ bytes) ≡ true) ⊎ (silent ≡ patience) ⊎ (made ≡ most_reads patience)
 
--- of a line of which is known what a read and a write do
+-- Of a line of which is known what a read and a write do.
 module _ {L : Type 0} (reads : L → Option (List ℕ) → L → Type 0) (writes : L → List ℕ → Result (Unit {0}) Failed → L → Type 0) where
   -- Reads, each made while more was wanted, by the bytes that had come and by how many of the last reads were silent;
   -- the bytes that came, how many of the last are silent, and how many reads they are.
@@ -82,5 +82,5 @@ module _ {L : Type 0} (reads : L → Option (List ℕ) → L → Type 0) (writes
     waiting : (last : L) → Unquiet wanted first last → FailsAt wanted patience sent before first last
     sending : (quiet last : L) (why : Failed) → Waits wanted first quiet → writes quiet sent (Err why) last
         → FailsAt wanted patience sent before first last
-    hearing_it : (quiet asked last : L) → Waits wanted first quiet → writes quiet sent (Ok tt) asked
+    listening : (quiet asked last : L) → Waits wanted first quiet → writes quiet sent (Ok tt) asked
         → Breaks patience sent before asked last → FailsAt wanted patience sent before first last

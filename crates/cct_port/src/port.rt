@@ -122,7 +122,7 @@ fn echo_in(heard: &[u8]) -> Option<bool>
     }
 }
 
-/// What a line that gives no echo leaves to the port: what was sent is heard before what comes.
+/// Nothing is heard yet, or what is sent, where the line gives no echo.
 fn begin(echoes: bool, sent: &[u8], heard: &mut ArrayVec<u8, MOST_HEARD>)
     requires short { length sent.now ≤ MOST_SENT }
     ensures { heard.new.items ≡ echo_of echoes sent.now }

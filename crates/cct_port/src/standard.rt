@@ -1,6 +1,6 @@
 // A line over std's readers and writers.
 ghost use Rattle.std.specs.Prelude.{◌≡◌};
-ghost use Rattle.std.specs.Io.{ReadsAtMost};
+ghost use Rattle.cct_port.specs.Standard.{port_of};
 
 use crate::Line;
 use cct_edge::Failed;
@@ -16,7 +16,7 @@ pub struct StdLine<P> {
 impl<P: Read + Write> StdLine<P> {
     /// The line of an opened port.
     pub fn new(port: P) -> StdLine<P>
-        ensures { result.port ≡ port }
+        ensures { port_of result ≡ port }
     {
         StdLine { port }
     }

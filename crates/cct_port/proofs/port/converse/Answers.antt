@@ -1,6 +1,6 @@
 -- Where an exchange failed: as it waited, as it sent, or as it heard.
 use Rattle.std.proofs.lemmas.Result.{on_err_weaker}
-use Rattle.cct_port.specs.Calls.{waiting, sending, hearing_it}
+use Rattle.cct_port.specs.Calls.{waiting, sending, listening}
 use Rattle.cct_port.proofs.Following.{on_error}
 use Rattle.cct_port.proofs.port.converse.Goals as goal
 
@@ -15,4 +15,4 @@ returns-in_err-write-clause-failed g c =
 
 pub returns-clause-failed : goal.returns-clause-failed
 returns-clause-failed g c =
-    on_err_weaker c.listen.result (hearing_it _ _ _ c.in_ok-wait.ensures.quiet c.in_ok-write.ensures.one) c.listen.ensures.breaks
+    on_err_weaker c.listen.result (listening _ _ _ c.in_ok-wait.ensures.quiet c.in_ok-write.ensures.one) c.listen.ensures.breaks
