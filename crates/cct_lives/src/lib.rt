@@ -100,9 +100,9 @@ pub fn a_put_of_a_life_finds_room()
 {}
 
 /// A dispense is sent at most once for each order, whatever the wire does: to each device of a sound setup, in every live
-/// and in every legal transcript, over all lives and any power cuts. Each exchange of a device's job that sends a dispense sends it under the serial
-/// number that the setup has, where an order is open that none was sent for, and for just its coins. It doesn't say what the
-/// hopper hears: only an honest wire keeps a dispense as it was sent.
+/// and in every legal transcript, over all lives and any power cuts. Each exchange of a device's job that sends a dispense
+/// sends it under the serial number that the setup has, where an order is open that none was sent for, and for exactly its
+/// coins. It doesn't say what the hopper hears: only an honest wire keeps a dispense as it was sent.
 pub fn each_order_is_sent_once()
     ensures each { (capacity : ℕ) (setup : Setup) (steps : List Step) (transcript : List Entry) (d : DeviceSetup)
         → IsSoundSetup setup → IsOf setup d → Legal capacity setup steps transcript
@@ -117,12 +117,11 @@ pub fn each_order_is_sent_once()
 {}
 
 /// What is posted was heard, whatever the wire does, in every live and in every legal transcript, over all lives and any
-/// power cuts. Each reading and each
-/// break of an acceptor posts the coins of one reply of its credits, which its address heard in an answered header 229: of
-/// the newest events, as many as the reply's counter tells since the event counter that was recorded, and at most five. It
-/// tells as lost how many coins an answered header 225 tells since the accept counter that was recorded, without those
-/// posted. A reading heard that accept counter before the credits too. The accept counter at which an epoch begins was heard
-/// as well. It says nothing of coins: a wire that lies about counters makes money.
+/// power cuts. Each reading and each break of an acceptor posts the coins of one reply of its credits, which its address
+/// heard in an answered header 229: of the newest events, as many as the reply's counter tells since the event counter that
+/// was recorded, and at most five. It tells as lost how many coins an answered header 225 tells since the accept counter
+/// that was recorded, without those posted. A reading heard that accept counter before the credits too. The accept counter
+/// at which an epoch begins was heard as well. It says nothing of coins: a wire that lies about counters makes money.
 pub fn what_is_posted_was_heard()
     ensures legal { (capacity : ℕ) (setup : Setup) (steps : List Step) (transcript : List Entry) (d : DeviceSetup)
         → IsSoundSetup setup → IsOf setup d → Legal capacity setup steps transcript
