@@ -79,7 +79,40 @@ two_lives =
 two_lived : Lives [] two_lives
 unfolding message spelling data_of request_of requests_with form_of reply_data reply_in has_place ask asked after_echo got
     got_by distance accepted_between judge
-two_lived = (refl, ((2 ∷ 0 ∷ 1 ∷ 1 ∷ 252 ∷ [], omega arith, refl), ((2 ∷ 0 ∷ 1 ∷ 1 ∷ 252 ∷ 1 ∷ 0 ∷ 2 ∷ 0 ∷ 254 ∷ [], omega arith, refl), (refl, (([], omega arith, refl), (refl, (refl, ((2 ∷ 0 ∷ 1 ∷ 1 ∷ 252 ∷ 1 ∷ 0 ∷ 2 ∷ 0 ∷ 253 ∷ [], omega arith, refl), ((2 ∷ 0 ∷ 1 ∷ 229 ∷ 24 ∷ 1 ∷ 11 ∷ 2 ∷ 0 ∷ 0 ∷ 0 ∷ 0 ∷ 0 ∷ 0 ∷ 0 ∷ 0 ∷ 0 ∷ 0 ∷ 0 ∷ 0 ∷ 242 ∷ [], omega arith, refl), ((2 ∷ 0 ∷ 1 ∷ 225 ∷ 28 ∷ 1 ∷ 3 ∷ 2 ∷ 0 ∷ 0 ∷ 0 ∷ 0 ∷ 250 ∷ [], omega arith, refl), (inr (omega arith, refl), (refl, tt))))))))))))
+two_lived = (
+  refl,
+  (
+    (2 ∷ 0 ∷ 1 ∷ 1 ∷ 252 ∷ [], omega arith, refl),
+    (
+      (2 ∷ 0 ∷ 1 ∷ 1 ∷ 252 ∷ 1 ∷ 0 ∷ 2 ∷ 0 ∷ 254 ∷ [], omega arith, refl),
+      (
+        refl,
+        (
+          ([], omega arith, refl),
+          (
+            refl,
+            (
+              refl,
+              (
+                (2 ∷ 0 ∷ 1 ∷ 1 ∷ 252 ∷ 1 ∷ 0 ∷ 2 ∷ 0 ∷ 253 ∷ [], omega arith, refl),
+                (
+                  (2 ∷ 0 ∷ 1 ∷ 229 ∷ 24 ∷ 1 ∷ 11 ∷ 2 ∷ 0 ∷ 0 ∷ 0 ∷ 0 ∷ 0 ∷ 0 ∷ 0 ∷ 0 ∷ 0 ∷ 0 ∷ 0 ∷ 0 ∷ 242 ∷ [], omega arith, refl),
+                  (
+                    (2 ∷ 0 ∷ 1 ∷ 225 ∷ 28 ∷ 1 ∷ 3 ∷ 2 ∷ 0 ∷ 0 ∷ 0 ∷ 0 ∷ 250 ∷ [], omega arith, refl),
+                    (
+                      inr (omega arith, refl),
+                      (refl, tt),
+                    ),
+                  ),
+                ),
+              ),
+            ),
+          ),
+        ),
+      ),
+    ),
+  ),
+)
 
 -- a start doesn't find a record that was neither put nor due
 no_record_from_nothing : LiveEntries 65535 setup [] (live.start None) (entry.Crash 1 ∷ []) → ⊥
