@@ -1,4 +1,4 @@
 pub mod Live
 pub mod LiveStep
-pub mod Sends
 pub mod Posts
+pub mod Sends

@@ -5,12 +5,13 @@ use Rattle.std.specs.List.{All}
 use Rattle.cct_model.specs.terms.wire.TheConstants.{MOST_HEARD}
 use Rattle.cct_model.specs.terms.device.Setup.{Setup}
 use Rattle.cct_model.specs.lines.record.Record.{Record}
+use Rattle.cct_model.specs.lines.command.Step.{Step}
 use Rattle.cct_model.specs.lines.entry.Entry.{Entry}
 use Rattle.cct_model.specs.lines.entry.Entry.TheVariants as entry
-use Rattle.cct_model.specs.Legal.{command_entry, EntriesOfNext, EntriesOfRestart}
+use Rattle.cct_model.specs.Legal.{command_entry, EntriesOfNext, EntriesOfRestart, LegalFrom}
 use Rattle.cct_model.specs.Money.{totals}
 use Rattle.cct_model.specs.Refusal.{refusal}
-use Rattle.cct_model.specs.Script.{IsCommand, IsCrash}
+use Rattle.cct_model.specs.Script.{IsCommand, IsCrash, IsInRange}
 use Rattle.cct_model.specs.Setup.{IsSoundSetup}
 use Rattle.cct_model.specs.Transcript.{onto}
 use Rattle.cct_lives.specs.LiveStep.{LiveStep}
@@ -47,6 +48,21 @@ shown (e ∷ past) = e ∷ shown past
 -- The past of a host that starts over records, newest first: these, and then its start.
 abbrev pub started : List Record → List Entry
 started before = entry.Crash (length before) ∷ map (λ r. entry.Put r) before
+
+-- A past that goes on by steps to an end: the entries that it tells then, by which another past goes on in the same steps.
+pub record GoesOnAs (capacity : ℕ) (setup : Setup) (past : List Entry) (steps : List LiveStep) (end : List Entry)
+    (other : List Entry) : Type 0 where
+  pub told : List Entry
+  pub ends : end ≡ told ++ past
+  pub goes : LiveFrom capacity setup other steps (told ++ other)
+
+-- A past is what a legal one shows, which went on from this one by steps in range.
+pub record IsShown (capacity : ℕ) (setup : Setup) (before end : List Entry) : Type 0 where
+  pub steps : List Step
+  pub past : List Entry
+  pub in_range : All IsInRange steps
+  pub legal : LegalFrom capacity setup before steps past
+  pub shows : shown past ≡ end
 
 -- A step can be told: the numbers of a command are in their ranges, and a put has four disk calls.
 abbrev pub IsTellable : LiveStep → Type 0
