@@ -5,4 +5,4 @@ pub mod Joining
 pub mod Onward
 pub mod Posting
 pub mod Sends
-pub mod Shown
+pub mod Undosed

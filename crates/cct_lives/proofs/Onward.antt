@@ -36,7 +36,7 @@ epoch_same : (d : DeviceSetup) (past other : List Entry) → Alike past other �
 epoch_same d past other alike =
     epoch_recorded d past ∙ ap (epoch_in d.addr) alike.recorded ∙ sym (epoch_recorded d other)
 
-order_same : (d : DeviceSetup) (past other : List Entry) → Alike past other →
+pub order_same : (d : DeviceSetup) (past other : List Entry) → Alike past other →
     order (lines_of d past) ≡ order (lines_of d other)
 order_same d past other alike =
     order_recorded d past ∙ ap (order_in d.addr) alike.recorded ∙ sym (order_recorded d other)

@@ -14,21 +14,21 @@ ghost use Rattle.cct_model.specs.lines.command.CommandNo.TheVariants.{JournalFul
 ghost use Rattle.cct_model.specs.lines.command.CrashAt.{CrashAt};
 ghost use Rattle.cct_model.specs.lines.entry.Entry.{Entry};
 ghost use Rattle.cct_model.specs.lines.record.Record.{Record};
-ghost use Rattle.cct_model.specs.terms.device.DeviceSetup.{DeviceSetup};
 ghost use Rattle.cct_model.specs.terms.device.Setup.{Setup};
-ghost use Rattle.cct_model.specs.lines.command.Step.{Step};
 ghost use Rattle.cct_model.specs.Following.{all_follow, follows, is_allowed};
-ghost use Rattle.cct_model.specs.Legal.{EntriesOfRestart, Legal, due_at};
+ghost use Rattle.cct_model.specs.Legal.{EntriesOfRestart, due_at, Legal};
 ghost use Rattle.cct_model.specs.Money.{freed_by, posted_in, reserved_at_work, spoken_for, totals};
 ghost use Rattle.cct_model.specs.Paid.{AreFresh};
 ghost use Rattle.cct_model.specs.Records.{records};
 ghost use Rattle.cct_model.specs.Refusal.{held, refusal};
-ghost use Rattle.cct_model.specs.Setup.{IsSoundSetup};
-ghost use Rattle.cct_model.specs.Transcript.{lines_of, onto};
+ghost use Rattle.cct_model.specs.Transcript.{onto};
 ghost use Rattle.cct_laws.specs.Balanced.{IsBalanced, IsConserved};
 ghost use Rattle.cct_laws.specs.Law.{EachEntry, IsOf, lines_in};
 ghost use Rattle.cct_lives.specs.Live.{EachLive, GoesOnAs, IsShown, LiveFrom, started};
 ghost use Rattle.cct_lives.specs.LiveStep.{LiveStep};
+ghost use Rattle.cct_model.specs.terms.device.DeviceSetup.{DeviceSetup};
+ghost use Rattle.cct_model.specs.lines.command.Step.{Step};
+ghost use Rattle.cct_model.specs.Setup.{IsSoundSetup};
 ghost use Rattle.cct_lives.specs.Posts.{PostAt};
 ghost use Rattle.cct_lives.specs.Sends.{SentAt, sent_in};
 
@@ -95,37 +95,34 @@ pub fn a_put_of_a_life_finds_room()
         → refusal capacity setup (onto [] transcript) (Settle addr) ≢ Some (JournalFull used held need)) }
 {}
 
-/// A dispense is sent at most once for each order, over all lives, whatever is heard: to each device of a sound setup. Each
-/// exchange of a device's job that sends a dispense sends it under the serial number that the setup has, where an order is
-/// open that none was sent for, and for just its coins. It holds in every legal transcript too, whatever the wire does, over
-/// any power cuts. It doesn't say what the hopper hears: only an honest wire keeps a dispense as it was sent.
+/// A dispense is sent at most once for each order, whatever the wire does: to each device of a sound setup, in every live
+/// and in every legal transcript, over all lives and any power cuts. Each exchange of a device's job that sends a dispense sends it under the serial
+/// number that the setup has, where an order is open that none was sent for, and for just its coins. It doesn't say what the
+/// hopper hears: only an honest wire keeps a dispense as it was sent.
 pub fn each_order_is_sent_once()
-    // In every live transcript.
-    ensures each { EachLive (λ capacity setup transcript. (d : DeviceSetup) → IsOf setup d
-        → EachEntry (SentAt d) (onto [] transcript)) }
-    ensures few { EachLive (λ capacity setup transcript. (d : DeviceSetup) → IsOf setup d
-        → sent_in (lines_of d (onto [] transcript)) ≤ 1) }
-    // In every legal one.
-    ensures each_legal { (capacity : ℕ) (setup : Setup) (steps : List Step) (transcript : List Entry) (d : DeviceSetup)
+    ensures each { (capacity : ℕ) (setup : Setup) (steps : List Step) (transcript : List Entry) (d : DeviceSetup)
         → IsSoundSetup setup → IsOf setup d → Legal capacity setup steps transcript
         → EachEntry (SentAt d) (onto [] transcript) }
-    ensures few_legal { (capacity : ℕ) (setup : Setup) (steps : List Step) (transcript : List Entry) (d : DeviceSetup)
+    ensures few { (capacity : ℕ) (setup : Setup) (steps : List Step) (transcript : List Entry) (d : DeviceSetup)
         → IsSoundSetup setup → IsOf setup d → Legal capacity setup steps transcript
         → sent_in (lines_in d transcript) ≤ 1 }
+    ensures live_each { EachLive (λ capacity setup transcript. (d : DeviceSetup) → IsOf setup d
+        → EachEntry (SentAt d) (onto [] transcript)) }
+    ensures live_few { EachLive (λ capacity setup transcript. (d : DeviceSetup) → IsOf setup d
+        → sent_in (lines_in d transcript) ≤ 1) }
 {}
 
-/// What is posted was heard, over all lives, whatever is heard. Each reading and each break of an acceptor posts the coins
-/// of one reply of its credits, which its job heard in an answered header 229: of the newest events, as many as the
-/// reply's counter tells since the event counter that was recorded, and at most five. It tells as lost how many coins an
-/// answered header 225 tells since the accept counter that was recorded, without those posted. A reading heard that accept
-/// counter before the credits too. The accept counter at which an epoch begins was heard as well. It holds in every legal
-/// transcript too, whatever the wire does. It says nothing of coins: a wire that lies about counters makes money.
+/// What is posted was heard, whatever the wire does, in every live and in every legal transcript, over all lives and any
+/// power cuts. Each reading and each
+/// break of an acceptor posts the coins of one reply of its credits, which its address heard in an answered header 229: of
+/// the newest events, as many as the reply's counter tells since the event counter that was recorded, and at most five. It
+/// tells as lost how many coins an answered header 225 tells since the accept counter that was recorded, without those
+/// posted. A reading heard that accept counter before the credits too. The accept counter at which an epoch begins was heard
+/// as well. It says nothing of coins: a wire that lies about counters makes money.
 pub fn what_is_posted_was_heard()
-    // In every live transcript.
-    ensures posts { EachLive (λ capacity setup transcript. (d : DeviceSetup) → IsOf setup d
-        → EachEntry (PostAt d) (onto [] transcript)) }
-    // In every legal one.
-    ensures posts_legal { (capacity : ℕ) (setup : Setup) (steps : List Step) (transcript : List Entry) (d : DeviceSetup)
+    ensures legal { (capacity : ℕ) (setup : Setup) (steps : List Step) (transcript : List Entry) (d : DeviceSetup)
         → IsSoundSetup setup → IsOf setup d → Legal capacity setup steps transcript
         → EachEntry (PostAt d) (onto [] transcript) }
+    ensures live { EachLive (λ capacity setup transcript. (d : DeviceSetup) → IsOf setup d
+        → EachEntry (PostAt d) (onto [] transcript)) }
 {}
