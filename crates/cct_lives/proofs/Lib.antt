@@ -6,3 +6,4 @@ pub mod Onward
 pub mod Posting
 pub mod Sends
 pub mod Undosed
+pub mod InTurn
