@@ -1,6 +1,7 @@
 pub mod Alike
 pub mod Carrying
 pub mod Followed
+pub mod InTurn
 pub mod Joining
 pub mod Onward
 pub mod Posting

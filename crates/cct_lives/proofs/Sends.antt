@@ -301,7 +301,7 @@ record_ready d lines since c r state is_job is ready = (
 )
 
 -- the line of an exchange says what the job asked
-asks_it : (setup : Setup) (d : DeviceSetup) (past : List Entry) (c : Command) (since : List Line) (q : Request) →
+pub asks_it : (setup : Setup) (d : DeviceSetup) (past : List Entry) (c : Command) (since : List Line) (q : Request) →
     IsSoundSetup setup → IsOf setup d → row_after d past c since ≡ sends q →
     asked d.kind (ask d.kind d.addr q) ≡ Some q
 asks_it setup d past c since q sound own is_row =

@@ -23,7 +23,7 @@ use Rattle.cct_model.specs.Reply.{Reply}
 use Rattle.cct_model.specs.Transcript.{dispensed_by, doses, doses_of, got_by, heard_by_devices, lines_of, met, onto, own, owner, pending}
 use Rattle.cct_laws.specs.Law.{EachEntry, IsOf, lines_in}
 use Rattle.cct_lives.specs.Live.{EachLive, shown}
-use Rattle.cct_lives.specs.Posts.{Has, HasOver, PostAt, PostOf, PostedBy, since_taken}
+use Rattle.cct_lives.specs.Posts.{Has, HasOver, HaveInTurn, accepts_heard, credits_heard, mask_heard, PostAt, PostOf, PostedBy, since_taken}
 use Rattle.cct_lives.specs.Sends.{SentAt, SentBy, one_by, sent_in}
 use Rattle.cct_lives.proofs.Carrying.{by_law, each_shown}
 use Rattle.cct_lives.proofs.Followed.{alike_shown}
@@ -175,15 +175,24 @@ has_same : (q : Option Request) (y : Option Reply) (lines others : List Line) �
 has_same q y lines others same has =
     has_dosed q y others (subst (λ ls. Has ls (exchange q y)) same (has_undosed q y lines has))
 
-over_same : (q asked : Option Request) (y got : Option Reply) (lines others : List Line) → SameUndosed lines others →
-    HasOver lines (exchange q y) (λ older. Has older (exchange asked got)) →
-    HasOver others (exchange q y) (λ older. Has older (exchange asked got))
-over_same q asked y got lines others same has =
-    over_dosed q y (λ older. Has older (exchange asked got)) (λ older. Has older (exchange asked got))
-    (has_dosed asked got) others
-    (subst (λ ls. HasOver ls (exchange q y) (λ older. Has older (exchange asked got))) same
-    (over_undosed q y (λ older. Has older (exchange asked got)) (λ older. Has older (exchange asked got))
-    (has_undosed asked got) lines has))
+-- so are exchanges in turn
+abbrev AreExchanges : List Line → Type 0
+AreExchanges [] = ⊤
+AreExchanges (exchange q y ∷ ls) = AreExchanges ls
+AreExchanges (l ∷ ls) = ⊥
+
+turn_same : (lines others before : List Line) → AreExchanges before → SameUndosed lines others → HaveInTurn lines before →
+    HaveInTurn others before
+turn_same lines others [] are same turn = tt
+turn_same lines others (exchange q y ∷ before) are same turn =
+    over_dosed q y OverAll (λ older. HaveInTurn older before) (λ older holds. holds older refl) others
+    (subst (λ ls. HasOver ls (exchange q y) OverAll) same
+    (over_undosed q y (λ older. HaveInTurn older before) OverAll
+    (λ older holds all is. turn_same older all before are is holds) lines turn))
+  where
+    OverAll : List Line → Type 0
+    OverAll ls = (all : List Line) → ls ≡ undosed all → HaveInTurn all before
+turn_same lines others (l ∷ before) are same turn = absurd are
 
 -- what a record posts
 posted_same : (lines others : List Line) (breaks : Bool) (first seen counter lost accepts : ℕ) (posted : List Coin) →
@@ -197,9 +206,10 @@ posted_same lines others breaks first seen counter lost accepts posted same by =
       earlier = by.earlier;
       read = by.read;
       runs = sym (epoch_undosed lines ∙ ap epoch same ∙ sym (epoch_undosed others)) ∙ by.runs;
-      reads = over_same _ _ _ _ (since_taken lines) (since_taken others) since by.reads;
-      sees = has_same _ _ (since_taken lines) (since_taken others) since by.sees;
-      counts = has_same _ _ (since_taken lines) (since_taken others) since by.counts;
+      heard =
+          turn_same (since_taken lines) (since_taken others)
+          (accepts_heard accepts ∷ mask_heard seen ∷ credits_heard by.read ∷ accepts_heard first ∷ []) tt
+          since by.heard;
       counter_is = by.counter_is;
       shows = by.shows;
       posted_is = by.posted_is;

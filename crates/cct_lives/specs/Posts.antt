@@ -25,6 +25,11 @@ HasOver (x ∷ lines) l P = ((x ≡ l) × P lines) ⊎ HasOver lines l P
 abbrev pub Has : List Line → Line → Type 0
 Has lines l = HasOver lines l (λ older. ⊤)
 
+-- Lines are among lines in this turn, the newest first.
+abbrev pub HaveInTurn : List Line → List Line → Type 0
+HaveInTurn lines [] = ⊤
+HaveInTurn lines (l ∷ before) = HasOver lines l (λ older. HaveInTurn older before)
+
 -- The lines since the command of a job was taken; a halt is a line of the job that it stops.
 abbrev pub since_taken : List Line → List Line
 since_taken [] = []
@@ -44,27 +49,26 @@ mask_heard mask = exchange (Some GetMask) (Some (reply.mask mask))
 abbrev pub accepts_heard : ℕ → Line
 accepts_heard count = exchange (Some AcceptCount) (Some (reply.accepts count))
 
--- Coins are posted by replies that an acceptor's address heard since the command of its job was taken: of one reply of the
--- credits, the newest of as many events as its counter tells since the event counter of the running epoch, and no more
--- than a reply has. Lost are as many as the
--- accept counter that was heard tells since that of the epoch, without those posted. An accept counter was heard before the
--- credits too. The inhibit mask that was heard and the event counter show a break, or show none.
+-- Coins are posted by replies that an acceptor's address heard since the command of its job was taken, in this turn: the
+-- accept counter, the credits, the inhibit mask, and the accept counter again. Posted are, of that reply of the credits,
+-- the newest of as many events as its counter tells since the event counter of the running epoch, and no more than a
+-- reply has. Lost are as many as the second accept counter tells since that of the epoch, without those posted. The
+-- inhibit mask and the event counter show a break, or show none.
 pub record PostedBy (lines : List Line) (breaks : Bool) (first seen counter lost accepts : ℕ) (posted : List Coin) : Type 0 where
   pub mask : ℕ
   pub before : ℕ
   pub earlier : ℕ
   pub read : Credits
   pub runs : epoch lines ≡ Running mask before earlier
-  pub reads : HasOver (since_taken lines) (credits_heard read) (λ older. Has older (accepts_heard first))
-  pub sees : Has (since_taken lines) (mask_heard seen)
-  pub counts : Has (since_taken lines) (accepts_heard accepts)
+  pub heard : HaveInTurn (since_taken lines)
+      (accepts_heard accepts ∷ mask_heard seen ∷ credits_heard read ∷ accepts_heard first ∷ [])
   pub counter_is : counter ≡ read.counter
   pub shows : shows_break mask before seen counter ≡ breaks
   pub posted_is : posted ≡ posted_of (distance before counter) read.pairs
   pub lost_is : lost ≡ accepted_between earlier accepts - length posted
 
--- What a record posts was heard. A reading shows no break, and heard one accept counter before the credits and at last; a
--- break shows one. The accept counter at which an epoch begins was heard in the job that begins it.
+-- What a record posts was heard. A reading shows no break, and heard the same accept counter twice; a break shows
+-- one. The accept counter at which an epoch begins was heard in the job that begins it.
 abbrev pub PostOf : List Line → Record → Type 0
 PostOf lines (record_of.Epoch addr mask accepts) = Has (since_taken lines) (accepts_heard accepts)
 PostOf lines (record_of.Reading addr counter lost accepts posted) =
