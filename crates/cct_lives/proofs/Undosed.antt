@@ -32,7 +32,7 @@ use Rattle.cct_lives.proofs.Posting.{legal_posts}
 use Rattle.cct_lives.proofs.Sends.{legal_few_sent, legal_sent}
 
 -- lines without the dispenses that were taken
-abbrev undosed : List Line → List Line
+abbrev pub undosed : List Line → List Line
 undosed [] = []
 undosed (dispensed count ∷ lines) = undosed lines
 undosed (l ∷ lines) = l ∷ undosed lines

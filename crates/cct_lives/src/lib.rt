@@ -21,7 +21,7 @@ ghost use Rattle.cct_model.specs.Money.{freed_by, posted_in, reserved_at_work, s
 ghost use Rattle.cct_model.specs.Paid.{AreFresh};
 ghost use Rattle.cct_model.specs.Records.{records};
 ghost use Rattle.cct_model.specs.Refusal.{held, refusal};
-ghost use Rattle.cct_model.specs.Transcript.{onto};
+ghost use Rattle.cct_model.specs.Transcript.{onto, scan_lines};
 ghost use Rattle.cct_laws.specs.Balanced.{IsBalanced, IsConserved};
 ghost use Rattle.cct_laws.specs.Law.{EachEntry, IsOf, lines_in};
 ghost use Rattle.cct_lives.specs.Live.{EachLive, GoesOnAs, IsShown, LiveFrom, started};
@@ -31,6 +31,10 @@ ghost use Rattle.cct_model.specs.lines.command.Step.{Step};
 ghost use Rattle.cct_model.specs.Setup.{IsSoundSetup};
 ghost use Rattle.cct_lives.specs.Posts.{PostAt};
 ghost use Rattle.cct_lives.specs.Sends.{SentAt, sent_in};
+ghost use Rattle.cct_model.specs.Claims.{AllPast};
+ghost use Rattle.cct_model.specs.Job.{job};
+ghost use Rattle.cct_laws.specs.Tries.{HasFewTries, ScanTriesAt, failed_in};
+ghost use Rattle.cct_lives.specs.Tries.{SeenTriesAt};
 
 /// A live transcript is what a legal one shows, whose steps are in range: the same entries, without the faults that were set
 /// and the entries that tell of a forged exchange. In the legal one the bytes that were heard were set before each `next`. So
@@ -96,9 +100,9 @@ pub fn a_put_of_a_life_finds_room()
 {}
 
 /// A dispense is sent at most once for each order, whatever the wire does: to each device of a sound setup, in every live
-/// and in every legal transcript, over all lives and any power cuts. Each exchange of a device's job that sends a dispense sends it under the serial
-/// number that the setup has, where an order is open that none was sent for, and for just its coins. It doesn't say what the
-/// hopper hears: only an honest wire keeps a dispense as it was sent.
+/// and in every legal transcript, over all lives and any power cuts. Each exchange of a device's job that sends a dispense
+/// sends it under the serial number that the setup has, where an order is open that none was sent for, and for exactly its
+/// coins. It doesn't say what the hopper hears: only an honest wire keeps a dispense as it was sent.
 pub fn each_order_is_sent_once()
     ensures each { (capacity : ℕ) (setup : Setup) (steps : List Step) (transcript : List Entry) (d : DeviceSetup)
         → IsSoundSetup setup → IsOf setup d → Legal capacity setup steps transcript
@@ -113,11 +117,11 @@ pub fn each_order_is_sent_once()
 {}
 
 /// What is posted was heard, whatever the wire does, in every live and in every legal transcript, over all lives and any
-/// power cuts. Each reading and each
-/// break of an acceptor posts the coins of one reply of its credits, which its address heard in an answered header 229: of
-/// the newest events, as many as the reply's counter tells since the event counter that was recorded, and at most five. It
-/// tells as lost how many coins an answered header 225 tells since the accept counter that was recorded, without those
-/// posted. A reading heard that accept counter before the credits too. The accept counter at which an epoch begins was heard
+/// power cuts. Each reading and each break of an acceptor is of four replies that its job heard since its command was taken,
+/// in their turn: the accept counter, the credits, the inhibit mask, and the accept counter again. It posts the coins of
+/// that one reply of the credits: of the newest events, as many as the reply's counter tells since the event counter that was
+/// recorded, and at most five. It tells as lost how many coins the second accept counter tells since the one that was
+/// recorded, without those posted. A reading heard the same accept counter twice. The one at which an epoch begins was heard
 /// as well. It says nothing of coins: a wire that lies about counters makes money.
 pub fn what_is_posted_was_heard()
     ensures legal { (capacity : ℕ) (setup : Setup) (steps : List Step) (transcript : List Entry) (d : DeviceSetup)
@@ -125,4 +129,16 @@ pub fn what_is_posted_was_heard()
         → EachEntry (PostAt d) (onto [] transcript) }
     ensures live { EachLive (λ capacity setup transcript. (d : DeviceSetup) → IsOf setup d
         → EachEntry (PostAt d) (onto [] transcript)) }
+{}
+
+/// A job of a live host ends for want of an answer exactly after the third failed try in succession of one of its rows,
+/// whatever is heard, and so does a scan. That end stands after three failed tries, and any other line that the host sees
+/// after fewer; a job that goes on has fewer than three.
+pub fn the_third_failed_try_ends_a_job_in_any_life()
+    ensures jobs { EachLive (λ capacity setup transcript. (d : DeviceSetup) → IsOf setup d
+        → AllPast SeenTriesAt (lines_in d transcript)) }
+    ensures goes_on { EachLive (λ capacity setup transcript. (d : DeviceSetup) → IsOf setup d
+        → failed_in (job (lines_in d transcript)) < 3) }
+    ensures scans { EachLive (λ capacity setup transcript. AllPast ScanTriesAt (scan_lines (onto [] transcript))) }
+    ensures scan_goes_on { EachLive (λ capacity setup transcript. HasFewTries (job (scan_lines (onto [] transcript)))) }
 {}
