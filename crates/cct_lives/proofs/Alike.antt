@@ -19,10 +19,10 @@ pub record Alike (past other : List Entry) : Type 0 where
   pub sale : job (sale_lines past) ≡ job (sale_lines other)
 
 -- one line more
-abbrev SameJob : List Line → List Line → Type 0
+abbrev pub SameJob : List Line → List Line → Type 0
 SameJob lines others = job lines ≡ job others
 
-line_same : (l : Line) (lines others : List Line) → SameJob lines others → SameJob (l ∷ lines) (l ∷ others)
+pub line_same : (l : Line) (lines others : List Line) → SameJob lines others → SameJob (l ∷ lines) (l ∷ others)
 line_same (taken c) lines others same = ap (begun c) same
 line_same (ended end) lines others same = refl
 line_same restarted lines others same = refl

@@ -5,8 +5,8 @@ use Rattle.cct_model.specs.lines.entry.End.TheVariants.{NoAnswer}
 use Rattle.cct_model.specs.lines.entry.Entry.{Entry}
 use Rattle.cct_model.specs.lines.entry.Entry.TheVariants as entry
 use Rattle.cct_model.specs.Claims.{AllPast}
-use Rattle.cct_model.specs.Job.{begun, job, with_line}
-use Rattle.cct_model.specs.Line.{Line, dispensed, ended, exchange, put, restarted, scanned, taken}
+use Rattle.cct_model.specs.Job.{job}
+use Rattle.cct_model.specs.Line.{Line, dispensed, ended}
 use Rattle.cct_model.specs.Transcript.{lines_of, onto, scan_lines, scan_own}
 use Rattle.cct_laws.specs.Law.{IsOf, lines_in}
 use Rattle.cct_laws.specs.Tries.{HasFewTries, ScanTriesAt, TriesAt, failed_in}
@@ -14,6 +14,7 @@ use Rattle.cct_laws.proofs.jobs.Scans.{legal_few_polls, legal_scans}
 use Rattle.cct_laws.proofs.jobs.Tries.{legal_few_tries, legal_tries}
 use Rattle.cct_lives.specs.Live.{EachLive, shown}
 use Rattle.cct_lives.specs.Tries.{SeenTriesAt}
+use Rattle.cct_lives.proofs.Alike.{line_same}
 use Rattle.cct_lives.proofs.Carrying.{by_law}
 use Rattle.cct_lives.proofs.Followed.{alike_shown}
 use Rattle.cct_lives.proofs.Undosed.{lines_shown, undosed}
@@ -22,13 +23,7 @@ use Rattle.cct_lives.proofs.Undosed.{lines_shown, undosed}
 job_undosed : (lines : List Line) → job lines ≡ job (undosed lines)
 job_undosed [] = refl
 job_undosed (dispensed count ∷ lines) = job_undosed lines
-job_undosed (taken c ∷ lines) = ap (begun c) (job_undosed lines)
-job_undosed (ended end ∷ lines) = refl
-job_undosed (restarted ∷ lines) = refl
-job_undosed (exchange q y ∷ lines) = ap (with_line (exchange q y)) (job_undosed lines)
-job_undosed (scanned check addr rest ∷ lines) = ap (with_line (scanned check addr rest)) (job_undosed lines)
-job_undosed (put r ∷ lines) = ap (with_line (put r)) (job_undosed lines)
-job_undosed (l ∷ lines) = job_undosed lines
+job_undosed (l ∷ lines) = line_same l lines (undosed lines) (job_undosed lines)
 
 -- tries go by the job alone
 tries_over : (past other : List Line) (l : Line) → job past ≡ job other → TriesAt past l → TriesAt other l
