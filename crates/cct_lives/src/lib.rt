@@ -117,11 +117,12 @@ pub fn each_order_is_sent_once()
 {}
 
 /// What is posted was heard, whatever the wire does, in every live and in every legal transcript, over all lives and any
-/// power cuts. Each reading and each break of an acceptor posts the coins of one reply of its credits, which its address
-/// heard in an answered header 229: of the newest events, as many as the reply's counter tells since the event counter that
-/// was recorded, and at most five. It tells as lost how many coins an answered header 225 tells since the accept counter
-/// that was recorded, without those posted. A reading heard that accept counter before the credits too. The accept counter
-/// at which an epoch begins was heard as well. It says nothing of coins: a wire that lies about counters makes money.
+/// power cuts. Each reading and each break of an acceptor is of four replies that its job heard since its command was taken,
+/// in their turn: the accept counter, the credits, the inhibit mask, and the accept counter again. It posts the coins of
+/// that one reply of the credits: of the newest events, as many as the reply's counter tells since the event counter that was
+/// recorded, and at most five. It tells as lost how many coins the second accept counter tells since the one that was
+/// recorded, without those posted. A reading heard the same accept counter twice. The one at which an epoch begins was heard
+/// as well. It says nothing of coins: a wire that lies about counters makes money.
 pub fn what_is_posted_was_heard()
     ensures legal { (capacity : ℕ) (setup : Setup) (steps : List Step) (transcript : List Entry) (d : DeviceSetup)
         → IsSoundSetup setup → IsOf setup d → Legal capacity setup steps transcript
