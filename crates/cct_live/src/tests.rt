@@ -1,0 +1,1 @@
+//! A host over a line in memory.
