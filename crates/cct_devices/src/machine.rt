@@ -19,7 +19,7 @@ use std::alloc::{AllocError, Global};
 /// The devices of a setup on a line. Contracts tell it by the transcript of all that happened, newest entry first, and by
 /// the bytes that came since the last gap.
 #[derive(Drop)]
-pub(crate) struct Machine<'s> {
+pub struct Machine<'s> {
     bus: Bus<'s>,
     /// The bytes since the last gap, as many as the longest message has at most.
     heard: ArrayVec<u8, MOST_SENT>,
@@ -31,7 +31,7 @@ impl<'s> Machine<'s> {
     ghost use Rattle.cct_devices.specs.Machine.{StandsFor, setup_of};
 
     /// The devices of a setup as after power-up, to which no byte came.
-    pub(crate) fn new(alloc: Global, setup: &'s Setup) -> Result<Machine<'s>, AllocError>
+    pub fn new(alloc: Global, setup: &'s Setup) -> Result<Machine<'s>, AllocError>
         requires sound { IsSoundSetup setup.now }
         ensures setup { IfOk result (λ machine. setup_of machine ≡ setup.now) }
         ensures fresh { IfOk result (λ machine. StandsFor machine [] []) }
@@ -44,7 +44,7 @@ impl<'s> Machine<'s> {
     }
 
     /// The devices hear one byte more.
-    pub(crate) fn byte(&mut self, byte: u8)
+    pub fn byte(&mut self, byte: u8)
         ensures setup { setup_of self.new ≡ setup_of self.old }
         ensures heard { (past : List Entry) (bytes : List ℕ) → StandsFor self.old past bytes
             → StandsFor self.new past (bytes ++ byte ∷ []) }
@@ -56,7 +56,7 @@ impl<'s> Machine<'s> {
 
     /// A gap: the devices act on the bytes since the last one, and what they answer stands in the place of what `said`
     /// holds. To more bytes than a message may have they are silent.
-    pub(crate) fn gap(&mut self, said: &mut ArrayVec<u8, MOST_HEARD>)
+    pub fn gap(&mut self, said: &mut ArrayVec<u8, MOST_HEARD>)
         ensures setup { setup_of self.new ≡ setup_of self.old }
         // Byte for byte what the definitions make of all that happened and of these bytes, without their echo.
         ensures answer { (past : List Entry) (bytes : List ℕ) → StandsFor self.old past bytes → length bytes ≤ MOST_SENT
@@ -75,7 +75,7 @@ impl<'s> Machine<'s> {
     }
 
     /// Something befalls the device at an address: true then, and false where there is none whose family knows it.
-    pub(crate) fn befall(&mut self, addr: u8, what: Happening) -> bool
+    pub fn befall(&mut self, addr: u8, what: Happening) -> bool
         requires placed { IsPlaced what }
         ensures setup { setup_of self.new ≡ setup_of self.old }
         ensures stands { IsTrue result → (past : List Entry) (bytes : List ℕ) → StandsFor self.old past bytes
