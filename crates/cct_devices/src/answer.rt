@@ -1,5 +1,11 @@
 //! The devices hear the line, and answer.
-ghost use Rattle.std.specs.Prelude.{◌≤◌, IfOk};
+ghost use Rattle.std.specs.Prelude.{◌≡◌, ◌≤◌, ◌<◌, ℕ, List, [], ◌∷◌, ◌++◌, drop, length, IfOk, OnOk};
+ghost use Rattle.cct_model.specs.terms.wire.TheConstants.{MOST_SENT};
+ghost use Rattle.cct_model.specs.lines.entry.Entry.{Entry};
+ghost use Rattle.cct_model.specs.lines.entry.Entry.TheVariants as entry;
+ghost use Rattle.cct_model.specs.Transcript.{heard_after};
+ghost use Rattle.cct_devices.specs.Machine.{StandsFor, setup_of};
+ghost use Rattle.cct_devices.specs.Port.{Says};
 
 use crate::events::Events;
 use crate::machine::Machine;
@@ -53,20 +59,32 @@ fn hear<P: Port>(port: &mut P, room: &mut [u8; ROOM]) -> Result<usize, Stop>
 fn take<P: Port>(
     machine: &mut Machine<'_>,
     port: &mut P,
-    bytes: &[u8],
+    piece: &[u8],
     echoes: bool,
-) -> Result<(), Stop> {
+) -> Result<(), Stop>
+    ensures setup { setup_of machine.new ≡ setup_of machine.old }
+    ensures heard { OnOk result ((past : List Entry) (bytes : List ℕ) → StandsFor machine.old past bytes
+        → StandsFor machine.new past (bytes ++ piece.now)) }
+{
     if echoes {
-        say(port, bytes)?;
+        say(port, piece)?;
     }
-    for byte in bytes {
-        machine.byte(*byte);
-    }
+    machine.hear(piece);
     Ok(())
 }
 
 /// A gap: what the devices answer is said.
-fn gap<P: Port>(machine: &mut Machine<'_>, port: &mut P) -> Result<(), Stop> {
+fn gap<P: Port>(machine: &mut Machine<'_>, port: &mut P) -> Result<(), Stop>
+    ensures setup { setup_of machine.new ≡ setup_of machine.old }
+    // Byte for byte what the definitions make of all that happened and of the bytes since the last gap; or nothing.
+    ensures said { OnOk result ((past : List Entry) (bytes : List ℕ) → StandsFor machine.old past bytes
+        → length bytes ≤ MOST_SENT
+        → Says P.says port.old (drop (length bytes) (heard_after (setup_of machine.old) past bytes)) port.new) }
+    ensures stands { (past : List Entry) (bytes : List ℕ) → StandsFor machine.old past bytes → length bytes ≤ MOST_SENT
+        → StandsFor machine.new (entry.Wire 0 bytes (heard_after (setup_of machine.old) past bytes) ∷ past) [] }
+    ensures long { OnOk result ((past : List Entry) (bytes : List ℕ) → StandsFor machine.old past bytes
+        → MOST_SENT < length bytes → (port.new ≡ port.old) × StandsFor machine.new past []) }
+{
     let mut said = ArrayVec::new();
     machine.gap(&mut said);
     if said.is_empty() {
@@ -76,7 +94,9 @@ fn gap<P: Port>(machine: &mut Machine<'_>, port: &mut P) -> Result<(), Stop> {
 }
 
 /// Says bytes on the line.
-fn say<P: Port>(port: &mut P, bytes: &[u8]) -> Result<(), Stop> {
+fn say<P: Port>(port: &mut P, bytes: &[u8]) -> Result<(), Stop>
+    ensures { OnOk result (P.says port.old bytes.now port.new) }
+{
     match port.say(bytes) {
         Ok(()) => Ok(()),
         Err(Failed) => Err(Stop::Write),

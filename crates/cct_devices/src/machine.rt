@@ -44,13 +44,24 @@ impl<'s> Machine<'s> {
     }
 
     /// The devices hear one byte more.
-    pub fn byte(&mut self, byte: u8)
+    fn byte(&mut self, byte: u8)
         ensures setup { setup_of self.new ≡ setup_of self.old }
         ensures heard { (past : List Entry) (bytes : List ℕ) → StandsFor self.old past bytes
             → StandsFor self.new past (bytes ++ byte ∷ []) }
     {
         if !self.is_long && self.heard.try_push(byte).is_err() {
             self.is_long = true;
+        }
+    }
+
+    /// The devices hear these bytes more, one by one.
+    pub fn hear(&mut self, piece: &[u8])
+        ensures setup { setup_of self.new ≡ setup_of self.old }
+        ensures heard { (past : List Entry) (bytes : List ℕ) → StandsFor self.old past bytes
+            → StandsFor self.new past (bytes ++ piece.now) }
+    {
+        for byte in piece {
+            self.byte(*byte);
         }
     }
 

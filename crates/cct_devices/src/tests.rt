@@ -43,6 +43,9 @@ struct MemPort {
 }
 
 impl Port for MemPort {
+    // The tests look at what was said.
+    ghost says = { λ _ _ _. Unit {0} };
+
     fn hear(&mut self, room: &mut [u8]) -> Result<usize, Failed> {
         let call = self.calls;
         self.calls = call.saturating_add(1);
