@@ -1,5 +1,5 @@
-//! Tests of the parts by themselves: a framer, devices that hear byte by byte, a life count, a hopper, the bodies of
-//! records and of a carry, a journal, how it is opened and how it turns, and a ledger.
+//! Tests of the parts by themselves: a framer, devices that hear byte by byte, a port, a life count, a hopper, the bodies
+//! of records and of a carry, a journal, how it is opened and how it turns, and a ledger.
 #![tactic(auto)]
 
 #[cfg(test)]
@@ -20,6 +20,8 @@ mod life;
 mod machine;
 #[cfg(test)]
 mod opening;
+#[cfg(test)]
+mod port;
 #[cfg(test)]
 mod record;
 #[cfg(test)]

@@ -1,0 +1,11 @@
+pub mod Alike
+pub mod Carrying
+pub mod Followed
+pub mod InTurn
+pub mod Joining
+pub mod Onward
+pub mod Posting
+pub mod Sends
+pub mod Tries
+pub mod Undosed
+pub mod Worked

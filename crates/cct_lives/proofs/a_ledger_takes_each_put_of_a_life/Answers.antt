@@ -1,0 +1,5 @@
+use Rattle.cct_lives.proofs.Carrying.{live_due_allowed}
+use Rattle.cct_lives.proofs.a_ledger_takes_each_put_of_a_life.Goals as goal
+
+pub returns : goal.returns
+returns c = live_due_allowed

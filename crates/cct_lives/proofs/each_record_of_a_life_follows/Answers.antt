@@ -1,0 +1,5 @@
+use Rattle.cct_lives.proofs.Carrying.{live_follow, live_due_follows}
+use Rattle.cct_lives.proofs.each_record_of_a_life_follows.Goals as goal
+
+pub returns : goal.returns
+returns c = record { all = live_follow; due = live_due_follows }

@@ -1,0 +1,5 @@
+use Rattle.cct_lives.proofs.Carrying.{live_fresh}
+use Rattle.cct_lives.proofs.no_id_is_used_twice_over_all_lives.Goals as goal
+
+pub returns : goal.returns
+returns c = live_fresh

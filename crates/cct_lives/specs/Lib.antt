@@ -1,0 +1,5 @@
+pub mod Live
+pub mod LiveStep
+pub mod Posts
+pub mod Sends
+pub mod Tries

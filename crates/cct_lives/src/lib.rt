@@ -1,0 +1,144 @@
+//! Laws of all live transcripts: what hosts send, record and tell, whatever is heard in their exchanges, over any number of
+//! lives of the process over one journal. Each is a clause of a function without parameters, whose body is empty, as in
+//! `cct_laws`, and goes by a law there: a live transcript is what a legal one shows. Nothing is said of the devices.
+//!
+//! A crate above cites the lemmas of these laws, each of which is named in its function's `Answers.antt`. Beside them it
+//! cites `followed_from` of `proofs/Followed.antt`; `by_law` of `proofs/Carrying.antt`, by which a further law of all legal
+//! transcripts goes over; and `live_over` of `proofs/Joining.antt`, by which one past goes on as another one that has the
+//! same jobs and records.
+#![tactic(auto)]
+
+ghost use Rattle.std.specs.Prelude.{ℕ, ◌≡◌, ◌≢◌, ◌<◌, ◌≤◌, ◌+◌, ◌-◌, true, List, [], ◌++◌, length, Option, Some};
+ghost use Rattle.cct_model.specs.lines.command.Command.TheVariants.{Settle};
+ghost use Rattle.cct_model.specs.lines.command.CommandNo.TheVariants.{JournalFull};
+ghost use Rattle.cct_model.specs.lines.command.CrashAt.{CrashAt};
+ghost use Rattle.cct_model.specs.lines.entry.Entry.{Entry};
+ghost use Rattle.cct_model.specs.lines.record.Record.{Record};
+ghost use Rattle.cct_model.specs.terms.device.Setup.{Setup};
+ghost use Rattle.cct_model.specs.Following.{all_follow, follows, is_allowed};
+ghost use Rattle.cct_model.specs.Legal.{EntriesOfRestart, due_at, Legal};
+ghost use Rattle.cct_model.specs.Money.{freed_by, posted_in, reserved_at_work, spoken_for, totals};
+ghost use Rattle.cct_model.specs.Paid.{AreFresh};
+ghost use Rattle.cct_model.specs.Records.{records};
+ghost use Rattle.cct_model.specs.Refusal.{held, refusal};
+ghost use Rattle.cct_model.specs.Transcript.{onto, scan_lines};
+ghost use Rattle.cct_laws.specs.Balanced.{IsBalanced, IsConserved};
+ghost use Rattle.cct_laws.specs.Law.{EachEntry, IsOf, lines_in};
+ghost use Rattle.cct_lives.specs.Live.{EachLive, GoesOnAs, IsShown, LiveFrom, started};
+ghost use Rattle.cct_lives.specs.LiveStep.{LiveStep};
+ghost use Rattle.cct_model.specs.terms.device.DeviceSetup.{DeviceSetup};
+ghost use Rattle.cct_model.specs.lines.command.Step.{Step};
+ghost use Rattle.cct_model.specs.Setup.{IsSoundSetup};
+ghost use Rattle.cct_lives.specs.Posts.{PostAt};
+ghost use Rattle.cct_lives.specs.Sends.{SentAt, sent_in};
+ghost use Rattle.cct_model.specs.Claims.{AllPast};
+ghost use Rattle.cct_model.specs.Job.{job};
+ghost use Rattle.cct_laws.specs.Tries.{HasFewTries, ScanTriesAt, failed_in};
+ghost use Rattle.cct_lives.specs.Tries.{SeenTriesAt};
+
+/// A live transcript is what a legal one shows, whose steps are in range: the same entries, without the faults that were set
+/// and the entries that tell of a forged exchange. In the legal one the bytes that were heard were set before each `next`. So
+/// what `cct_laws` says over any wire holds of live hosts too, as far as it speaks of no device.
+pub fn a_live_transcript_is_what_a_legal_one_shows()
+    ensures { EachLive (λ capacity setup transcript. IsShown capacity setup [] (onto [] transcript)) }
+{}
+
+/// All lives are one. A host that starts over a journal knows its records alone. What it then does, it also does after all
+/// that the earlier hosts told, in the same steps and with the same entries. Its start may be after any past, within a put
+/// or not. So the laws below hold over all lives together.
+pub fn all_lives_are_one()
+    ensures { (capacity : ℕ) (setup : Setup) (past news : List Entry) (at : Option CrashAt) (steps : List LiveStep)
+        (end : List Entry)
+        → EntriesOfRestart setup past at news → LiveFrom capacity setup (started (records (news ++ past))) steps end
+        → GoesOnAs capacity setup (started (records (news ++ past))) steps end (news ++ past) }
+{}
+
+/// No id is used twice over all lives, whatever is heard: no two records that open an order or sell have the same id.
+pub fn no_id_is_used_twice_over_all_lives()
+    ensures { EachLive (λ capacity setup transcript. AreFresh (records (onto [] transcript))) }
+{}
+
+/// Each record follows those before it, whatever is heard, and so does one that a running job is about to put. So a host
+/// that starts over the journal of earlier ones refuses none of its records.
+pub fn each_record_of_a_life_follows()
+    ensures all { EachLive (λ capacity setup transcript. all_follow setup (records (onto [] transcript)) ≡ true) }
+    ensures due { EachLive (λ capacity setup transcript. (addr : ℕ) (r : Record)
+        → due_at setup (onto [] transcript) addr ≡ Some r
+        → follows setup (records (onto [] transcript)) r ≡ true) }
+{}
+
+/// What a running job is about to put, the ledger takes beside what the other jobs reserve, whatever is heard. It doesn't say
+/// that a job ever comes to its put.
+pub fn a_ledger_takes_each_put_of_a_life()
+    ensures { EachLive (λ capacity setup transcript. (addr : ℕ) (r : Record)
+        → due_at setup (onto [] transcript) addr ≡ Some r
+        → (freed_by setup r ≤ reserved_at_work setup (onto [] transcript))
+        × (is_allowed setup (records (onto [] transcript))
+        (reserved_at_work setup (onto [] transcript) - freed_by setup r) r ≡ true)) }
+{}
+
+/// Money is conserved over all lives, whatever is heard. What is available, reserved, paid and sold is together the value of
+/// all coins posted, at every moment and in each balance that is told. What is reserved, paid and sold is never more than
+/// that. It says nothing of the coins that fell: a wire that lies about counters makes money.
+pub fn money_is_conserved_over_all_lives()
+    ensures moments { EachLive (λ capacity setup transcript.
+        IsConserved setup (onto [] transcript) (totals setup (onto [] transcript))) }
+    ensures balances { EachLive (λ capacity setup transcript. EachEntry (IsBalanced setup) (onto [] transcript)) }
+    ensures covered { EachLive (λ capacity setup transcript.
+        spoken_for setup (onto [] transcript) ≤ posted_in setup (records (onto [] transcript))) }
+{}
+
+/// A put never meets a full journal, in any life, whatever is heard. Its records and those that are held for running jobs and
+/// open orders find room. So one that a job is about to put does, and no settlement is refused for want of it.
+pub fn a_put_of_a_life_finds_room()
+    ensures held { EachLive (λ capacity setup transcript.
+        length (records (onto [] transcript)) + held setup (onto [] transcript) ≤ capacity) }
+    ensures puts { EachLive (λ capacity setup transcript. (addr : ℕ) (r : Record)
+        → due_at setup (onto [] transcript) addr ≡ Some r → length (records (onto [] transcript)) < capacity) }
+    ensures settlements { EachLive (λ capacity setup transcript. (addr used held need : ℕ)
+        → refusal capacity setup (onto [] transcript) (Settle addr) ≢ Some (JournalFull used held need)) }
+{}
+
+/// A dispense is sent at most once for each order, whatever the wire does: to each device of a sound setup, in every live
+/// and in every legal transcript, over all lives and any power cuts. Each exchange of a device's job that sends a dispense
+/// sends it under the serial number that the setup has, where an order is open that none was sent for, and for exactly its
+/// coins. It doesn't say what the hopper hears: only an honest wire keeps a dispense as it was sent.
+pub fn each_order_is_sent_once()
+    ensures each { (capacity : ℕ) (setup : Setup) (steps : List Step) (transcript : List Entry) (d : DeviceSetup)
+        → IsSoundSetup setup → IsOf setup d → Legal capacity setup steps transcript
+        → EachEntry (SentAt d) (onto [] transcript) }
+    ensures few { (capacity : ℕ) (setup : Setup) (steps : List Step) (transcript : List Entry) (d : DeviceSetup)
+        → IsSoundSetup setup → IsOf setup d → Legal capacity setup steps transcript
+        → sent_in (lines_in d transcript) ≤ 1 }
+    ensures live_each { EachLive (λ capacity setup transcript. (d : DeviceSetup) → IsOf setup d
+        → EachEntry (SentAt d) (onto [] transcript)) }
+    ensures live_few { EachLive (λ capacity setup transcript. (d : DeviceSetup) → IsOf setup d
+        → sent_in (lines_in d transcript) ≤ 1) }
+{}
+
+/// What is posted was heard, whatever the wire does, in every live and in every legal transcript, over all lives and any
+/// power cuts. Each reading and each break of an acceptor is of four replies that its job heard since its command was taken,
+/// in their turn: the accept counter, the credits, the inhibit mask, and the accept counter again. It posts the coins of
+/// that one reply of the credits: of the newest events, as many as the reply's counter tells since the event counter that was
+/// recorded, and at most five. It tells as lost how many coins the second accept counter tells since the one that was
+/// recorded, without those posted. A reading heard the same accept counter twice. The one at which an epoch begins was heard
+/// as well. It says nothing of coins: a wire that lies about counters makes money.
+pub fn what_is_posted_was_heard()
+    ensures legal { (capacity : ℕ) (setup : Setup) (steps : List Step) (transcript : List Entry) (d : DeviceSetup)
+        → IsSoundSetup setup → IsOf setup d → Legal capacity setup steps transcript
+        → EachEntry (PostAt d) (onto [] transcript) }
+    ensures live { EachLive (λ capacity setup transcript. (d : DeviceSetup) → IsOf setup d
+        → EachEntry (PostAt d) (onto [] transcript)) }
+{}
+
+/// A job of a live host ends for want of an answer exactly after the third failed try in succession of one of its rows,
+/// whatever is heard, and so does a scan. That end stands after three failed tries, and any other line that the host sees
+/// after fewer; a job that goes on has fewer than three.
+pub fn the_third_failed_try_ends_a_job_in_any_life()
+    ensures jobs { EachLive (λ capacity setup transcript. (d : DeviceSetup) → IsOf setup d
+        → AllPast SeenTriesAt (lines_in d transcript)) }
+    ensures goes_on { EachLive (λ capacity setup transcript. (d : DeviceSetup) → IsOf setup d
+        → failed_in (job (lines_in d transcript)) < 3) }
+    ensures scans { EachLive (λ capacity setup transcript. AllPast ScanTriesAt (scan_lines (onto [] transcript))) }
+    ensures scan_goes_on { EachLive (λ capacity setup transcript. HasFewTries (job (scan_lines (onto [] transcript)))) }
+{}

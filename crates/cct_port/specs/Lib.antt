@@ -1,0 +1,4 @@
+pub mod Answer
+pub mod Calls
+pub mod Port
+pub mod Standard
