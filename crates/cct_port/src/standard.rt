@@ -1,5 +1,7 @@
 // A line over std's readers and writers.
-ghost use Rattle.std.specs.Prelude.{◌≡◌};
+ghost use Rattle.std.specs.Prelude.{◌≡◌, OnOk};
+ghost use Rattle.std.specs.Io.{ReadsAtMost};
+ghost use Rattle.std.specs.Io.KnownBytes.{Appends, ReadConsumes};
 ghost use Rattle.cct_port.specs.Standard.{port_of};
 
 use crate::Line;
@@ -23,19 +25,24 @@ impl<P: Read + Write> StdLine<P> {
 }
 
 impl<P: Read + Write> Line for StdLine<P> {
-    // Nothing is claimed of what a port does.
+    // As a line it tells nothing. Its own clauses say what the port gave and took, where its bytes are known.
     ghost reads = { λ _ _ _. Unit {0} };
 
     ghost writes = { λ _ _ _ _. Unit {0} };
 
-    fn read(&mut self, room: &mut [u8]) -> Result<usize, Failed> {
+    fn read(&mut self, room: &mut [u8]) -> Result<usize, Failed>
+        ensures bound { ReadsAtMost result room.new }
+        ensures bytes { ReadConsumes (P.remaining (port_of self.old)) (P.remaining (port_of self.new)) result room.new }
+    {
         match self.port.read(room) {
             Ok(count) => Ok(count),
             Err(_) => Err(Failed),
         }
     }
 
-    fn write(&mut self, bytes: &[u8]) -> Result<(), Failed> {
+    fn write(&mut self, bytes: &[u8]) -> Result<(), Failed>
+        ensures ok { OnOk result (Appends (P.contents (port_of self.old)) (P.contents (port_of self.new)) bytes.now) }
+    {
         if self.port.write_all(bytes).is_err() || self.port.flush().is_err() {
             return Err(Failed);
         }

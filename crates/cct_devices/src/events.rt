@@ -1,0 +1,73 @@
+//! What befalls the devices, line by line.
+ghost use Rattle.std.specs.Prelude.{IfOk, IfSome};
+ghost use Rattle.cct_model.specs.Family.{IsPlaced};
+ghost use Rattle.cct_model.specs.Script.{IsInRange};
+
+use crate::machine::Machine;
+use crate::setup::next_line;
+use crate::status::{Refused, Stop, Text};
+use cct_edge::Source;
+use cct_model::{Happening, LineKind, Step};
+use cct_script::{Lines, read_step_line};
+
+/// Something that befalls the device at an address.
+#[derive(Clone, Copy, Debug, PartialEq, Eq)]
+pub(crate) struct Event {
+    pub(crate) addr: u8,
+    pub(crate) what: Happening,
+}
+
+/// The events of a text that weren't read yet.
+#[derive(Drop)]
+pub(crate) struct Events<S> {
+    source: S,
+    lines: Lines,
+    /// How many lines were read.
+    number: u32,
+}
+
+impl<S: Source> Events<S> {
+    /// All events of a text.
+    pub(crate) fn new(source: S) -> Events<S> {
+        Events {
+            source,
+            lines: Lines::new(),
+            number: 0,
+        }
+    }
+
+    /// Lets the next event befall its device: true then, and false where there is none left.
+    pub(crate) fn befall_next(&mut self, machine: &mut Machine<'_>) -> Result<bool, Stop> {
+        let number = self.number.saturating_add(1);
+        let line = match next_line(Text::Events, number, self.lines.line(&mut self.source))? {
+            None => return Ok(false),
+            Some(line) => line,
+        };
+        self.number = number;
+        match read_event(line) {
+            Ok(event) if machine.befall(event.addr, event.what) => Ok(true),
+            Ok(_) => Err(refused(number, LineKind::Device)),
+            Err(kind) => Err(refused(number, kind)),
+        }
+    }
+}
+
+/// An events line is refused.
+fn refused(number: u32, kind: LineKind) -> Stop {
+    Stop::Line(Text::Events, Refused { number, kind })
+}
+
+/// What an events line says: `coin`, `alien`, `fall`, `jam` or `reset`. No other word is one of an events line.
+fn read_event(line: &[u8]) -> Result<Event, LineKind>
+    ensures { IfOk result (λ event. IsPlaced event.what) }
+{
+    let (addr, what) = match read_step_line(line)? {
+        Step::Coin { addr, place } => (addr, Happening::Coin { place }),
+        Step::Alien { addr } => (addr, Happening::Alien),
+        Step::Fall { addr } => (addr, Happening::Fall),
+        Step::Jam { addr } => (addr, Happening::Jam),
+        Step::Reset { addr } => (addr, Happening::Reset),
+        _ => return Err(LineKind::Word),
+    };
+    Ok(Event { addr, what })
+}
