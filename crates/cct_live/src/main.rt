@@ -1,6 +1,9 @@
 //! The program: the host of a machine on a line, which goes on with the journal that it finds. A setup file names the
 //! devices, and the port is a terminal that is set up already. What standard input says is done line by line.
 #![tactic(auto)]
+ghost use Rattle.std.specs.Prelude.{◌≡◌, false};
+ghost use Rattle.cct_journal.specs.Journal.{has_failed};
+ghost use Rattle.cct_model.specs.Setup.{IsSoundSetup};
 
 mod opening;
 mod play;
@@ -146,7 +149,10 @@ fn run_over<S: Source, K: Sink, D: Disk + Drop, L: Link>(
     link: &mut L,
     input: &mut S,
     out: &mut K,
-) -> Result<(), Stop> {
+) -> Result<(), Stop>
+    requires sound { IsSoundSetup setup.now }
+    requires whole { has_failed journal ≡ false }
+{
     let mut host = match Host::start(setup, journal) {
         Ok(host) => host,
         Err((_, why)) => return Err(unstarted(why)),
