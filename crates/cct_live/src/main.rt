@@ -1,6 +1,7 @@
 //! The program: the host of a machine on a line, which goes on with the journal that it finds. A setup file names the
 //! devices, and the port is a terminal that is set up already. What standard input says is done line by line.
 #![tactic(auto)]
+
 ghost use Rattle.std.specs.Prelude.{◌≡◌, false};
 ghost use Rattle.cct_journal.specs.Journal.{has_failed};
 ghost use Rattle.cct_model.specs.Setup.{IsSoundSetup};

@@ -119,11 +119,7 @@ fn command_host<K: Sink, D: Disk>(
 }
 
 /// The balance is written.
-fn balance<K: Sink, D: Disk>(
-    host: &Host<'_, D>,
-    out: &mut K,
-    page: &mut Page,
-) -> Result<(), Stop>
+fn balance<K: Sink, D: Disk>(host: &Host<'_, D>, out: &mut K, page: &mut Page) -> Result<(), Stop>
     ensures writes { OnOk result (Writes K.written K.puts out.old page.new.report.items (Ok tt) out.new) }
 {
     page.report.clear();
