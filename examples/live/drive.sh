@@ -3,6 +3,7 @@
 #   examples/live/drive.sh LIVE PORT [WORD..]      with the program, its port, and further words for it
 set -u
 coproc HOST { "$1" "$(dirname "$0")/setup" "${@:2}"; }
+host=$HOST_PID
 
 # work COMMAND A: gives the command, lets the job at A end, and shows what is written; `line` is then the balance, and `end` the
 # last line before it.
@@ -31,4 +32,4 @@ sleep 1
 work "pay 3 $(date +%s) 4" 3
 work 'stop 2' 2
 echo end >&"${HOST[1]}"
-wait "$HOST_PID"
+wait "$host"
