@@ -133,7 +133,7 @@ said_by_one piece (d ∷ ds) to_one distinct =
     ]
 
 -- what the devices of a setup answer together has room
-pub answers_short : (piece : List ℕ) (devices : List DeviceSetup) → All IsSound devices → AreDistinct devices → length devices ≤ 16 → most_answered piece devices ≤ 260
+pub answers_short : (piece : List ℕ) (devices : List DeviceSetup) → All IsSound devices → AreDistinct devices → length devices ≤ 32 → most_answered piece devices ≤ 260
 answers_short piece devices sound distinct few =
     elim (cases_eq (slice_index piece 0) 0) [
       | inl to_all ↦ omega (arith, said_by_all piece devices to_all sound)

@@ -31,7 +31,7 @@ use cct_model::{COIN_PLACES, DeviceSetup, Happening, MOST_HEARD, MOST_SENT, Setu
 use cct_wire::Link;
 use std::alloc::{AllocError, Global};
 
-/// Up to 16 devices on one wire, acceptors and hoppers (ccTalk Generic Specification 4, part 1). Its contracts tell it by
+/// Up to `DEVICES` devices on one wire, acceptors and hoppers (ccTalk Generic Specification 4, part 1). Its contracts tell it by
 /// the transcript of all that happened on it, newest entry first.
 #[derive(Drop)]
 pub struct Bus<'s> {

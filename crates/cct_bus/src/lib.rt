@@ -1,4 +1,4 @@
-//! The wire: up to 16 devices on one bus, and what goes wrong on it.
+//! The wire: the devices on one bus, and what goes wrong on it.
 #![tactic(auto)]
 
 mod body;

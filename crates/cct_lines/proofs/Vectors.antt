@@ -98,6 +98,10 @@ others :
     ∷ entry.JournalAlien
     ∷ entry.JournalBad 6
     ∷ entry.JournalLost 5 6
+    ∷ entry.Upgraded 3
+    ∷ entry.UpgradeCurrent
+    ∷ entry.UpgradeRoom 32768
+    ∷ entry.UpgradeEpoch 2
     ∷ entry.Total 1 2 3 4 5
     ∷ entry.Load 42 1000
     ∷ [])
@@ -120,6 +124,10 @@ others :
     ∷ codes "journal alien"
     ∷ codes "journal bad 6"
     ∷ codes "journal lost 5 6"
+    ∷ codes "upgraded 3"
+    ∷ codes "upgrade current"
+    ∷ codes "upgrade room 32768"
+    ∷ codes "upgrade epoch 2"
     ∷ codes "total 1 2 3 4 5"
     ∷ codes "load 42 1000"
     ∷ [])

@@ -197,6 +197,10 @@ fields_of entry.DiskFault = codes "diskfault" ∷ []
 fields_of entry.JournalAlien = codes "journal" ∷ codes "alien" ∷ []
 fields_of (entry.JournalBad index) = codes "journal" ∷ codes "bad" ∷ number_text index ∷ []
 fields_of (entry.JournalLost found put) = codes "journal" ∷ codes "lost" ∷ number_text found ∷ number_text put ∷ []
+fields_of (entry.Upgraded records) = codes "upgraded" ∷ number_text records ∷ []
+fields_of entry.UpgradeCurrent = codes "upgrade" ∷ codes "current" ∷ []
+fields_of (entry.UpgradeRoom used) = codes "upgrade" ∷ codes "room" ∷ number_text used ∷ []
+fields_of (entry.UpgradeEpoch addr) = codes "upgrade" ∷ codes "epoch" ∷ number_text addr ∷ []
 fields_of (entry.Listing index r) = codes "record" ∷ number_text index ∷ record_fields r
 fields_of (entry.Total posted lost paid unpaid sold) =
     codes "total" ∷ number_text posted ∷ number_text lost ∷ number_text paid ∷ number_text unpaid

@@ -216,6 +216,20 @@ pub enum Entry {
         found: u32,
         put: u32,
     },
+    /// An old journal was brought forward, with so many records.
+    Upgraded {
+        records: u32,
+    },
+    /// A journal has the newest version already.
+    UpgradeCurrent,
+    /// An old journal has so many records that the new one finds no room beside them.
+    UpgradeRoom {
+        used: u32,
+    },
+    /// An epoch of this acceptor runs in an old journal.
+    UpgradeEpoch {
+        addr: u8,
+    },
     /// A record of the journal.
     Listing {
         index: u32,

@@ -10,7 +10,7 @@ use cct_lines::{COIN_PLACES, DEVICES, DeviceBody, DeviceSetup, LineKind, Setup, 
 use std::alloc::AllocError;
 
 /// Adds to a setup what a setup line says, `Begin` nothing. `Device` where the address of a new device is another's,
-/// where it would be the 17th device, where a value is for no acceptor, or where texts are for no device; `Again` where
+/// where the setup has `DEVICES` devices, where a value is for no acceptor, or where texts are for no device; `Again` where
 /// the coin place has a value, or the device was given texts. Nothing is changed then.
 #[tactic(auto, unfolding(cct_lines::specs::Grammar::added))]
 pub fn add(setup: &mut Setup, line: &SetupLine) -> Result<(), LineKind>

@@ -114,7 +114,7 @@ impl DeviceSetup {
 }
 
 /// The most devices of a setup.
-pub const DEVICES: usize = 16;
+pub const DEVICES: usize = 32;
 
 /// The devices of a setup, in the order of the script.
 #[derive(Clone, Debug, Default, Drop, PartialEq, Eq)]

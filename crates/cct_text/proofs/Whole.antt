@@ -96,6 +96,10 @@ entry_back entry.DiskFault h = refl
 entry_back entry.JournalAlien h = refl
 entry_back (entry.JournalBad index) h = one_back (λ n. Some (entry.JournalBad n)) index
 entry_back (entry.JournalLost found put) h = two_back (λ f p. Some (entry.JournalLost f p)) found put
+entry_back (entry.Upgraded records) h = one_back (λ n. Some (entry.Upgraded n)) records
+entry_back entry.UpgradeCurrent h = refl
+entry_back (entry.UpgradeRoom used) h = one_back (λ n. Some (entry.UpgradeRoom n)) used
+entry_back (entry.UpgradeEpoch addr) h = one_back (λ a. Some (entry.UpgradeEpoch a)) addr
 entry_back (entry.Listing index r) h =
     ap (λ o. made (entry.Listing (number_in (number_text index))) o) (record_back r h)
     ∙ one_back (λ n. Some (entry.Listing n r)) index
@@ -147,6 +151,10 @@ entry_above entry.DiskFault h = (refl, tt)
 entry_above entry.JournalAlien h = (refl, (refl, tt))
 entry_above (entry.JournalBad index) h = (refl, (refl, (number_field index, tt)))
 entry_above (entry.JournalLost found put) h = (refl, (refl, (number_field found, (number_field put, tt))))
+entry_above (entry.Upgraded records) h = (refl, (number_field records, tt))
+entry_above entry.UpgradeCurrent h = (refl, (refl, tt))
+entry_above (entry.UpgradeRoom used) h = (refl, (refl, (number_field used, tt)))
+entry_above (entry.UpgradeEpoch addr) h = (refl, (refl, (number_field addr, tt)))
 entry_above (entry.Listing index r) h = (refl, (number_field index, record_above r h))
 entry_above (entry.Total posted lost paid unpaid sold) h = (
   refl,

@@ -290,6 +290,19 @@ abbrev pub journal_in : List (List ℕ) → Option Entry
 journal_in [] = None
 journal_in (word ∷ rest) = journal_by word rest
 
+-- The entry of why an old journal isn't brought forward: a word, and a number.
+abbrev pub upgrade_by : List ℕ → List (List ℕ) → Option Entry
+upgrade_by word rest =
+    if bytes_eq word (codes "current") then of_none entry.UpgradeCurrent rest
+    else if bytes_eq word (codes "room") then of_one entry.UpgradeRoom rest
+    else if bytes_eq word (codes "epoch") then of_one entry.UpgradeEpoch rest
+    else None
+
+-- The entry of why an old journal isn't brought forward.
+abbrev pub upgrade_in : List (List ℕ) → Option Entry
+upgrade_in [] = None
+upgrade_in (word ∷ rest) = upgrade_by word rest
+
 -- The entry of a scan's end: the devices that it lists.
 abbrev pub listed_by : List (List ℕ) → Option Entry
 listed_by (devices ∷ []) = Some (entry.Ended 0 (end_of.Listed (listed_in devices)))
@@ -354,6 +367,8 @@ other_entry word rest =
     else if bytes_eq word (codes "readfault") then of_none entry.ReadFault rest
     else if bytes_eq word (codes "diskfault") then of_none entry.DiskFault rest
     else if bytes_eq word (codes "journal") then journal_in rest
+    else if bytes_eq word (codes "upgraded") then of_one entry.Upgraded rest
+    else if bytes_eq word (codes "upgrade") then upgrade_in rest
     else if bytes_eq word (codes "record") then listing_of rest
     else if bytes_eq word (codes "total") then of_five entry.Total rest
     else if bytes_eq word (codes "load") then of_two entry.Load rest

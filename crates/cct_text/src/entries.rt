@@ -62,6 +62,10 @@ fn write_fields(line: &mut TextLine, entry: &Entry)
         Entry::JournalAlien => line.push(b"journal alien"),
         Entry::JournalBad { index } => write_numbers(line, b"journal bad", &[u64::from(*index)]),
         Entry::JournalLost { found, put } => write_lost(line, *found, *put),
+        Entry::Upgraded { records } => write_numbers(line, b"upgraded", &[u64::from(*records)]),
+        Entry::UpgradeCurrent => line.push(b"upgrade current"),
+        Entry::UpgradeRoom { used } => write_numbers(line, b"upgrade room", &[u64::from(*used)]),
+        Entry::UpgradeEpoch { addr } => write_address(line, b"upgrade epoch", *addr),
         Entry::Listing { index, entry } => write_listing(line, *index, entry),
         Entry::Total {
             posted,
