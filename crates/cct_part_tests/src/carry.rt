@@ -189,9 +189,11 @@ fn takes_many(epochs: u8, orders: u8) -> bool {
 #[test]
 fn no_more_entries_than_devices(rt: HostRuntime) {
     assert!(rt; takes_many(16, 16));
-    assert!(rt; !takes_many(17, 0));
-    assert!(rt; !takes_many(0, 17));
-    assert!(rt; !takes_many(17, 17));
+    assert!(rt; !takes_many(17, 16));
+    assert!(rt; takes_many(32, 0));
+    assert!(rt; !takes_many(33, 0));
+    assert!(rt; takes_many(0, 32));
+    assert!(rt; !takes_many(0, 33));
 }
 
 #[test]

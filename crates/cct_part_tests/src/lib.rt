@@ -19,6 +19,8 @@ mod life;
 #[cfg(test)]
 mod machine;
 #[cfg(test)]
+mod old;
+#[cfg(test)]
 mod opening;
 #[cfg(test)]
 mod port;

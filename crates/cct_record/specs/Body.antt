@@ -30,9 +30,13 @@ fields_of (Odd id life_before life_after) =
     (7 ∷ to_le_bytes w32 id) ++ three_bytes life_before ++ three_bytes life_after
 fields_of (Sold id price) = (8 ∷ to_le_bytes w32 id) ++ to_le_bytes w32 price
 
+-- Fields, filled up with 0 to a body.
+abbrev pub filled : List ℕ → List ℕ
+filled fields = fields ++ replicate (31 - length fields) 0
+
 -- The body of a record: its fields, filled up with 0.
 unfoldable pub body_of : Record → List ℕ
-body_of r = fields_of r ++ replicate (31 - length (fields_of r)) 0
+body_of r = filled (fields_of r)
 
 -- A coin place stands in a body as 1 to 255.
 abbrev pub IsPlaced : Coin → Type 0

@@ -1,5 +1,5 @@
 -- The bodies of a carry: 31 bytes each, and one spelling for each carry.
-use Rattle.std.specs.Prelude.{◌≡◌, ℕ, ◌+◌, ◌-◌, ◌==◌, List, [], ◌∷◌, ◌++◌, length, map, replicate, Option, Some, None}
+use Rattle.std.specs.Prelude.{◌≡◌, ℕ, ◌+◌, ◌==◌, List, [], ◌∷◌, ◌++◌, map, Option, Some, None}
 use Rattle.std.specs.Prelude.{if◌then◌else◌, slice_index}
 use Rattle.std.specs.Int.{w16, w32, w64, to_le_bytes, from_le_bytes}
 use Rattle.cct_lines.specs.Request.{three_bytes}
@@ -7,11 +7,8 @@ use Rattle.cct_lines.specs.Carried.{IsRightly}
 use Rattle.cct_lines.specs.declared.carry.Carry.{Carry}
 use Rattle.cct_lines.specs.declared.carry.CarryEpoch.{CarryEpoch}
 use Rattle.cct_lines.specs.declared.carry.CarryOrder.{CarryOrder}
+use Rattle.cct_record.specs.Body.{filled}
 use Rattle.cct_record.specs.Fields.{four_at, three_at, two_at}
-
--- Fields, filled up with 0 to a body.
-abbrev pub filled : List ℕ → List ℕ
-filled fields = fields ++ replicate (31 - length fields) 0
 
 -- The body of the last id and of three sums of value.
 unfoldable pub first_sums : Carry → List ℕ

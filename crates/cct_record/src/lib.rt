@@ -6,6 +6,7 @@ mod carry;
 mod carry_reading;
 mod kind;
 mod laws;
+mod old;
 mod reading;
 mod writing;
 
@@ -13,5 +14,6 @@ pub use carry::encode_carry;
 pub use carry_reading::read_carry;
 pub use cct_lines::Record;
 pub use laws::{a_body_spells_one_record, bodies_spell_one_carry};
+pub use old::{read_old, read_old_carry};
 pub use reading::read;
 pub use writing::encode;
