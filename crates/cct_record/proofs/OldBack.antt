@@ -1,14 +1,20 @@
 -- An old body and that of today of the same record.
-use Rattle.std.proofs.Common.{◌≡◌, ℕ, ◌^◌, ◌<◌, ◌≤◌, ◌/◌, ◌%◌, ◌==◌, List, [], ◌∷◌, ◌++◌, length, replicate, slice_index, refl, sym, ◌∙◌, ap, subst, arith}
+use Rattle.std.proofs.Common.{◌≡◌, ℕ, ◌^◌, ◌<◌, ◌≤◌, ◌/◌, ◌%◌, List, [], ◌∷◌, ◌++◌, length, replicate, slice_index, Option, Some, None, refl, sym, ◌∙◌, ap, subst, arith}
+use Rattle.std.specs.Prelude.{IfNone}
 use Rattle.cct_lines.specs.terms.coin.Coin.{Coin}
 use Rattle.cct_lines.specs.declared.record.Record.{Record}
 use Rattle.cct_lines.specs.declared.record.Record.TheVariants.{Epoch, Reading, Broken, EpochEnd, Opened, Closed, Odd}
 use Rattle.cct_lines.specs.declared.record.Record.TheVariants.{Sold}
 use Rattle.cct_lines.specs.Request.{three_bytes}
-use Rattle.cct_record.specs.Body.{InRange, IsRefused, Spells, body_of, coins_fields, fields_of}
+use Rattle.cct_record.specs.Body.{InRange, IsRefused, Spells, body_of, fields_of}
 use Rattle.cct_record.specs.OldBody.{IsOld, IsRefusedOld, OldSpells, old_body_of, old_fields_of}
-use Rattle.cct_record.specs.Today.{HasRoom, added, added_at, today, widen}
+use Rattle.cct_record.specs.Today.{HasRoom, today}
 use Rattle.cct_record.proofs.Widened.{IsUnused, narrowed, narrowed_today, unused_today}
+
+-- What follows where there is no value.
+pub none_then : {X : Type 0} (found : Option X) {P Q : Type 0} → IfNone found P → (P → Q) → IfNone found Q
+none_then None none follows = follows none
+none_then (Some x) none follows = tt
 
 -- Three bytes 0 are the number 0.
 pub zero_back : (n : ℕ) → n < 2 ^ 24 → three_bytes n ≡ 0 ∷ 0 ∷ 0 ∷ [] → n ≡ 0
@@ -47,9 +53,10 @@ old_from (Broken addr mask_seen counter lost accepts posted) fits unused =
     let high : lost / 65536 % 256 ≡ 0 = ap (λ l. slice_index l 2) unused in
     let first : accepts % 256 ≡ 0 = ap (λ l. slice_index l 3) unused in
     let second : accepts / 256 % 256 ≡ 0 = ap (λ l. slice_index l 4) unused in
-    let third : accepts / 65536 % 256 ≡ 0 = ap (λ l. slice_index l 5) unused in
-    (zero_back lost fits.3 (λ i. low i ∷ middle i ∷ high i ∷ []),
-    zero_back accepts fits.4 (λ i. first i ∷ second i ∷ third i ∷ []))
+    let third : accepts / 65536 % 256 ≡ 0 = ap (λ l. slice_index l 5) unused in (
+      zero_back lost fits.3 (λ i. low i ∷ middle i ∷ high i ∷ []),
+      zero_back accepts fits.4 (λ i. first i ∷ second i ∷ third i ∷ []),
+    )
 old_from (EpochEnd addr) fits unused = tt
 old_from (Opened id addr count life) fits unused = tt
 old_from (Closed id paid unpaid) fits unused = tt

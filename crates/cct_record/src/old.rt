@@ -14,7 +14,6 @@ use cct_lines::{Carry, Record};
 /// the fields isn't 0.
 ///
 /// Both versions spelt records alike. The accept counter is 0, and so is the number of coins that a broken epoch lost.
-#[tactic(auto, using(crate::proofs::OldBack::refused_full, crate::proofs::OldBack::refused_old, crate::proofs::OldBack::old_spells))]
 pub fn read_old(version: u8, bytes: &[u8; 31]) -> Option<Record>
     requires from_1 { 1 ≤ version }
     requires to_2 { version ≤ 2 }

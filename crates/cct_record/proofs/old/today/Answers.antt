@@ -1,8 +1,7 @@
-use Rattle.std.proofs.Common.{◌≡◌, ℕ, ◌-◌, ◌+◌, ◌≤◌, List, length, drop, take, replicate, slice_index, refl, sym, ◌∙◌, ap, arith, subst}
+use Rattle.std.proofs.Common.{◌≡◌, ℕ, ◌-◌, ◌≤◌, List, length, drop, take, replicate, refl, sym, ◌∙◌, ap, arith, subst}
 use Rattle.std.proofs.lemmas.List.{drop-replicate, take_rest}
 use Rattle.std.proofs.lemmas.Slice.Eq.{bytes_eq-Decides}
 use borrow.Rule.Slice.PartMut.{mid_of}
-use Rattle.cct_record.specs.Today.{HasRoom, added}
 use Rattle.cct_record.proofs.old.today.Goals as goal
 
 -- The end of a list of 31.
