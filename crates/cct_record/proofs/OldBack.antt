@@ -9,6 +9,7 @@ use Rattle.cct_lines.specs.Request.{three_bytes}
 use Rattle.cct_record.specs.Body.{InRange, IsRefused, Spells, body_of, fields_of}
 use Rattle.cct_record.specs.OldBody.{IsOld, IsRefusedOld, OldSpells, old_body_of, old_fields_of}
 use Rattle.cct_record.specs.Today.{HasRoom, today}
+use Rattle.cct_record.proofs.Spellings.{one_spelling}
 use Rattle.cct_record.proofs.Widened.{IsUnused, narrowed, narrowed_today, unused_today}
 
 -- What follows where there is no value.
@@ -186,6 +187,12 @@ body_today (Sold id price) fits old = record { room = refl; same = refl }
 spells_today : (r : Record) (body : List ℕ) → OldSpells r body → IsToday body (body_of r)
 spells_today r body spells =
     subst (λ b. IsToday b (body_of r)) spells.spelt (body_today r spells.in_range spells.is_old)
+
+-- No two records have one old body.
+pub one_old_spelling : (x y : Record) (body : List ℕ) → OldSpells x body → OldSpells y body → x ≡ y
+one_old_spelling x y body spells_x spells_y =
+    one_spelling x y spells_x.in_range spells_y.in_range
+    (sym (spells_today x body spells_x).same ∙ (spells_today y body spells_y).same)
 
 -- The record of today's body is that of the old one.
 pub old_spells : (body : List ℕ) → length body ≡ 31 → HasRoom body → (r : Record) → Spells r (today body)

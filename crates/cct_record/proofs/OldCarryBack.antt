@@ -1,5 +1,5 @@
 -- Old bodies of a carry and those of today.
-use Rattle.std.proofs.Common.{◌≡◌, ℕ, ◌<◌, ◌≤◌, List, [], ◌∷◌, ◌++◌, length, map, replicate, refl, sym, ◌∙◌, ap, subst, arith}
+use Rattle.std.proofs.Common.{◌≡◌, ℕ, ◌^◌, ◌<◌, ◌≤◌, List, [], ◌∷◌, ◌++◌, length, map, replicate, refl, sym, ◌∙◌, ap, subst, arith}
 use Rattle.std.specs.Prelude.{All}
 use Rattle.std.specs.Int.{w16, to_le_bytes}
 use Rattle.std.proofs.Common.{length-append}
@@ -14,6 +14,7 @@ use Rattle.cct_record.specs.CarryBody.{SpellsCarry, SpellsNone, bodies_of, epoch
 use Rattle.cct_record.specs.CarryBody.{second_sums, third_sums}
 use Rattle.cct_record.specs.OldCarryBody.{IsOldEpoch, OldSpellsCarry, OldSpellsNone, old_bodies_of, old_epoch_body}
 use Rattle.cct_record.specs.Today.{HasRoom, today}
+use Rattle.cct_record.proofs.CarryBack.{one_carry}
 use Rattle.cct_record.proofs.OldBack.{IsToday, zero_back}
 use Rattle.cct_record.proofs.Widened.{IsUnused, narrowed, narrowed_today, unused_today}
 
@@ -157,6 +158,51 @@ all_today : (many : ℕ) (c : Carry) (bodies : List (List ℕ)) → OldSpellsCar
     → AreToday bodies (bodies_of c)
 all_today many c bodies spells = subst (λ xs. AreToday xs (bodies_of c)) spells.spelt (carry_today c spells.are_old)
 
+-- No two carries have the same old bodies.
+pub one_old_carry : (x y : Carry) (many more : ℕ) (bodies : List (List ℕ)) → many < 2 ^ 32 → more < 2 ^ 32
+    → OldSpellsCarry many x bodies → OldSpellsCarry more y bodies → x ≡ y
+one_old_carry x y many more bodies few_x few_y spells_x spells_y =
+    one_carry x y many more few_x few_y spells_x.rightly spells_y.rightly
+    (sym (all_today many x bodies spells_x).same ∙ (all_today more y bodies spells_y).same)
+
+-- The old bodies of a carry have 31 bytes each.
+
+epoch_long : (e : CarryEpoch) → IsLong (old_epoch_body e)
+unfolding old_epoch_body
+epoch_long e = refl
+
+order_long : (o : CarryOrder) → IsLong (order_body o)
+unfolding order_body
+order_long o = refl
+
+first_long : (c : Carry) → IsLong (first_sums c)
+unfolding first_sums
+first_long c = refl
+
+second_long : (c : Carry) → IsLong (second_sums c)
+unfolding second_sums
+second_long c = refl
+
+third_long : (c : Carry) → IsLong (third_sums c)
+unfolding third_sums
+third_long c = refl
+
+entries_long : (es : List CarryEpoch) (os : List CarryOrder)
+    → All IsLong (map old_epoch_body es ++ map order_body os)
+entries_long [] [] = λ i d within. absurd (omega (arith, within))
+entries_long [] (o ∷ os) = All-cons IsLong (order_body o) (map order_body os) (order_long o) (entries_long [] os)
+entries_long (e ∷ es) os =
+    All-cons IsLong (old_epoch_body e) (map old_epoch_body es ++ map order_body os) (epoch_long e) (entries_long es os)
+
+pub old_bodies_long : (many : ℕ) (c : Carry) (bodies : List (List ℕ)) → OldSpellsCarry many c bodies
+    → All IsLong bodies
+old_bodies_long many c bodies spells =
+    let entries = map old_epoch_body c.epochs ++ map order_body c.orders in
+    subst (λ xs. All IsLong xs) spells.spelt
+    (All-cons IsLong (first_sums c) (second_sums c ∷ third_sums c ∷ entries) (first_long c)
+    (All-cons IsLong (second_sums c) (third_sums c ∷ entries) (second_long c)
+    (All-cons IsLong (third_sums c) entries (third_long c) (entries_long c.epochs c.orders))))
+
 -- A carry has at most 35 bodies.
 old_few : (many : ℕ) (c : Carry) → IsRightly many c → length (old_bodies_of c) ≤ 35
 old_few many c rightly =
@@ -165,11 +211,15 @@ old_few many c rightly =
     let orders = length-map c.orders order_body in
     omega (arith, both, epochs, orders, rightly.few)
 
+pub old_bodies_few : (many : ℕ) (c : Carry) (bodies : List (List ℕ)) → OldSpellsCarry many c bodies
+    → length bodies ≤ 35
+old_bodies_few many c bodies spells = subst (λ xs. length xs ≤ 35) spells.spelt (old_few many c spells.rightly)
+
 -- More bodies spell no carry.
 pub refused_more : (bodies : List (List ℕ)) → 35 < length bodies → (many : ℕ) → OldSpellsNone many bodies
 refused_more bodies more many =
     λ c spells.
-    let few : length bodies ≤ 35 = subst (λ xs. length xs ≤ 35) spells.spelt (old_few many c spells.rightly) in
+    let few = old_bodies_few many c bodies spells in
     omega (arith, few, more)
 
 -- Nor do bodies without room.

@@ -9,7 +9,7 @@ use crate::{read, read_carry};
 use arrayvec::ArrayVec;
 use cct_lines::{Carry, Record};
 
-/// The record that a body of a journal of version 1 or 2 spells (`docs/JOURNAL.md`, "Old versions"), or none where no
+/// The record that a body of a journal of version 1 or 2 spells (`docs/JOURNAL.md`, "Old bodies"), or none where no
 /// record is spelt so: the kind isn't known, more than five coins are said, a coin has the coin place 0, or a byte after
 /// the fields isn't 0.
 ///
@@ -24,7 +24,7 @@ pub fn read_old(version: u8, bytes: &[u8; 31]) -> Option<Record>
     read(&today(bytes)?)
 }
 
-/// The carry of `base` records that the bodies of a journal of version 2 spell (`docs/JOURNAL.md`, "Old versions"), or
+/// The carry of `base` records that the bodies of a journal of version 2 spell (`docs/JOURNAL.md`, "Old bodies"), or
 /// none where they spell none: they aren't the bodies of a carry in their order, or no carry of so many records has these
 /// numbers. The accept counters of its epochs are 0.
 pub fn read_old_carry(base: u32, bodies: &[[u8; 31]]) -> Option<Carry>
