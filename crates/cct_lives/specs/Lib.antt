@@ -1,3 +1,5 @@
+pub mod Counters
+pub mod Life
 pub mod Live
 pub mod LiveStep
 pub mod Posts
