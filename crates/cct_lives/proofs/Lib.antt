@@ -3,6 +3,7 @@ pub mod Carrying
 pub mod Counted
 pub mod Followed
 pub mod Fronts
+pub mod Heard
 pub mod InTurn
 pub mod Joining
 pub mod Life
@@ -12,6 +13,7 @@ pub mod Onward
 pub mod Posting
 pub mod Sends
 pub mod Tallying
+pub mod Texts
 pub mod Tries
 pub mod Undosed
 pub mod Wider

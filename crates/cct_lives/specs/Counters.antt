@@ -15,14 +15,16 @@ pub record Told : Type 0 where
   pub accepted : ℕ
   pub lost : ℕ
 
+-- Nothing is told, as where an epoch begins.
 abbrev pub none_told : Told
 none_told = record { events = 0; posted = 0; accepted = 0; lost = 0 }
 
--- How many events a counter tells since the one that was recorded, and how many coins; none where no epoch runs.
+-- How many events an event counter tells since the one that was recorded; none where no epoch runs.
 abbrev pub events_to : EpochState → ℕ → ℕ
 events_to Idle counter = 0
 events_to (Running mask before earlier) counter = distance before counter
 
+-- How many coins an accept counter tells since the one that was recorded; none where no epoch runs.
 abbrev pub accepted_to : EpochState → ℕ → ℕ
 accepted_to Idle accepts = 0
 accepted_to (Running mask before earlier) accepts = accepted_between earlier accepts

@@ -4,4 +4,5 @@ pub mod Live
 pub mod LiveStep
 pub mod Posts
 pub mod Sends
+pub mod Texts
 pub mod Tries

@@ -39,6 +39,8 @@ ghost use Rattle.cct_model.specs.lines.command.Step.{Step};
 ghost use Rattle.cct_model.specs.Setup.{IsSoundSetup};
 ghost use Rattle.cct_lives.specs.Posts.{PostAt};
 ghost use Rattle.cct_lives.specs.Sends.{SentAt, sent_in};
+ghost use Rattle.cct_lives.specs.Texts.{IsInBytes};
+ghost use Rattle.cct_model.specs.Text.{text};
 ghost use Rattle.cct_model.specs.Claims.{AllPast};
 ghost use Rattle.cct_model.specs.Job.{job};
 ghost use Rattle.cct_laws.specs.Tries.{HasFewTries, ScanTriesAt, failed_in};
@@ -190,4 +192,13 @@ pub fn the_third_failed_try_ends_a_job_in_any_life()
         → failed_in (job (lines_in d transcript)) < 3) }
     ensures scans { EachLive (λ capacity setup transcript. AllPast ScanTriesAt (scan_lines (onto [] transcript))) }
     ensures scan_goes_on { EachLive (λ capacity setup transcript. HasFewTries (job (scan_lines (onto [] transcript)))) }
+{}
+
+/// Where two live transcripts of one setup have the same text, they are the same, whatever their journals take: so whoever
+/// reads what the hosts printed knows all that they sent, heard, recorded and told. They are in bytes: the address of each
+/// `next`, the address and the mask of each command, and all that is heard. It says nothing of the steps, nor of two setups.
+pub fn a_text_tells_its_live_transcript()
+    ensures { (capacity room : ℕ) (setup : Setup) (steps others : List LiveStep) (first second : List Entry)
+        → IsSoundSetup setup → IsInBytes capacity setup steps first → IsInBytes room setup others second
+        → text first ≡ text second → first ≡ second }
 {}
