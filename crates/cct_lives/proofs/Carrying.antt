@@ -50,7 +50,7 @@ each_shown P over (entry.Forged addr ∷ past) each = each_shown P over past eac
 each_shown P over (e ∷ past) each = (over past e each.0, each_shown P over past each.1)
 
 -- what the records of a past tell, and what is due after them
-recorded : (past : List Entry) → records past ≡ records (shown past)
+pub recorded : (past : List Entry) → records past ≡ records (shown past)
 recorded past = (alike_shown past).recorded
 
 due : (setup : Setup) (past : List Entry) (addr : ℕ) (r : Record) → due_at setup (shown past) addr ≡ Some r →

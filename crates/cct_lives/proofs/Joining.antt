@@ -46,11 +46,11 @@ live_over capacity setup (s ∷ steps) past other end alike is =
     }
 
 -- a host that starts over the records of a past without a job is as after that past
-put_again : (before : List Record) → records (map (λ r. entry.Put r) before) ≡ before
+pub put_again : (before : List Record) → records (map (λ r. entry.Put r) before) ≡ before
 put_again [] = refl
 put_again (r ∷ before) = ap (λ rs. r ∷ rs) (put_again before)
 
-alike_started : (past : List Entry) → HasNoJob past → Alike (started (records past)) past
+pub alike_started : (past : List Entry) → HasNoJob past → Alike (started (records past)) past
 alike_started past none = record {
   recorded = put_again (records past);
   devices = λ d. sym (none.devices d);

@@ -31,7 +31,7 @@ use Rattle.cct_laws.proofs.money.Sums.{sum_same}
 use Rattle.cct_lives.proofs.Alike.{Alike}
 
 -- the epoch and the open order of a device
-epoch_same : (d : DeviceSetup) (past other : List Entry) → Alike past other →
+pub epoch_same : (d : DeviceSetup) (past other : List Entry) → Alike past other →
     epoch (lines_of d past) ≡ epoch (lines_of d other)
 epoch_same d past other alike =
     epoch_recorded d past ∙ ap (epoch_in d.addr) alike.recorded ∙ sym (epoch_recorded d other)

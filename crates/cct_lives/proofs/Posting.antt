@@ -35,13 +35,14 @@ use Rattle.cct_model.proofs.Rows.{RowHolds, JudgedHolds, DueHolds, is_at_device,
 use Rattle.cct_laws.specs.Ids.{Ids}
 use Rattle.cct_laws.specs.Law.{IsOf, EachEntry}
 use Rattle.cct_laws.proofs.jobs.Brought.{Comes, takes_coin, leaves_coin, leaves_alien, drops_coin, drops_none, jams, jams_none, is_reset, AtWork, AtDevice, came, took, halted, idled, made_exchange, made_put, Brought, wire_of, wire_end, record_end, row_after, begun_at_work}
-use Rattle.cct_laws.proofs.jobs.Seen.{Passes, each_aside, each_with_end, Lost, bare, kept_here, kept_elsewhere, seen_here, seen_aside, seen_lost, seen_from, along, passed_job, loose, loose_line, lines_wire, lines_with_end, lines_put, lines_taken, lines_kept, lines_kept_elsewhere}
+use Rattle.cct_laws.proofs.jobs.Seen.{Passes, Lost, bare, kept_here, kept_elsewhere, seen_here, seen_aside, seen_lost, seen_from, along, passed_job, loose, loose_line, lines_wire, lines_with_end, lines_put, lines_taken, lines_kept, lines_kept_elsewhere}
 use Rattle.cct_laws.proofs.jobs.Telling.{any_steps}
 use Rattle.cct_model.specs.Exchange.{ask, asked, asks_of}
 use Rattle.cct_laws.specs.DeviceJobs.{with_ended, suits}
 use Rattle.cct_laws.proofs.orders.Ids.{put_owned}
 use Rattle.cct_lives.proofs.Sends.{asks_it}
 use Rattle.cct_lives.proofs.InTurn.{InTurn, IsReading, Obeys, reading_turn, obeys_asked, obeys_put}
+use Rattle.cct_lives.proofs.Fronts.{EachFront, front_aside, front_each, front_with_end}
 use Rattle.cct_lives.specs.Posts.{HasOver, Has, HaveInTurn, since_taken, credits_heard, mask_heard, accepts_heard, PostedBy, PostOf, PostAt}
 
 -- lines are among others, in their order
@@ -231,11 +232,11 @@ row_posts lines d c since owed within =
     due_posts (sale id price) here = absurd cc
 
 -- the job of a device goes by its rows
-abbrev ObeysJob : DeviceSetup → Job → Type 0
+abbrev pub ObeysJob : DeviceSetup → Job → Type 0
 ObeysJob d free = ⊤
 ObeysJob d (works c since) = Obeys (rows_of d c) since
 
-abbrev Orderly : DeviceSetup → List Line → Type 0
+abbrev pub Orderly : DeviceSetup → List Line → Type 0
 Orderly d lines = ObeysJob d (job lines)
 
 job_turn : (d : DeviceSetup) (past : List Entry) (c : Command) (since : List Line) (r : Record) → AtWork d past c since →
@@ -342,39 +343,47 @@ came_posts d before past _ _ _ _ (jams_none paying test) = tt
 came_posts d before past _ _ _ _ is_reset = tt
 
 posts_there : (capacity : ℕ) (setup : Setup) (d : DeviceSetup) (past news : List Entry) (s : Step) →
-    AtDevice capacity setup d past s news → Orderly d (lines_of d past) → EachEntry (PostAt d) past →
-    EachEntry (PostAt d) (news ++ past)
-posts_there capacity setup d past _ _ (came s e m ls comes) orderly before =
-    (came_posts d (met d past) past s e m ls comes, before)
-posts_there capacity setup d past _ _ (took c suited here is_free is_taken is_owed lets) orderly before = (tt, before)
-posts_there capacity setup d past _ _ (halted paying can) orderly before = (tt, before)
-posts_there capacity setup d past _ _ (idled is_free) orderly before = (tt, before)
-posts_there capacity setup d past _ _ (made_exchange c since q at_work is_row) orderly before =
-    each_with_end (PostAt d) past d.addr (wire_of setup d past q) (wire_end setup d past c since q) tt
-    (λ older found. tt) before
-posts_there capacity setup d past _ _ (made_put c since r at_work is_row) orderly before =
-    each_with_end (PostAt d) past d.addr (entry.Put r) (record_end d past c since r)
-    (λ here. put_posts d past c since r at_work is_row orderly) (λ older found. tt) before
+    AtDevice capacity setup d past s news → Orderly d (lines_of d past) → EachFront (PostAt d) news past
+posts_there capacity setup d past _ _ (came s e m ls comes) orderly = (came_posts d (met d past) past s e m ls comes, tt)
+posts_there capacity setup d past _ _ (took c suited here is_free is_taken is_owed lets) orderly = (tt, tt)
+posts_there capacity setup d past _ _ (halted paying can) orderly = (tt, tt)
+posts_there capacity setup d past _ _ (idled is_free) orderly = (tt, tt)
+posts_there capacity setup d past _ _ (made_exchange c since q at_work is_row) orderly =
+    front_with_end (PostAt d) past d.addr (wire_of setup d past q) (wire_end setup d past c since q) tt
+    (λ older found. tt)
+posts_there capacity setup d past _ _ (made_put c since r at_work is_row) orderly =
+    front_with_end (PostAt d) past d.addr (entry.Put r) (record_end d past c since r)
+    (λ here. put_posts d past c since r at_work is_row orderly) (λ older found. tt)
 
 posts_lost : (d : DeviceSetup) (past news : List Entry) → Lost d past news → Orderly d (lines_of d past) →
-    EachEntry (PostAt d) past → EachEntry (PostAt d) (news ++ past)
-posts_lost d past _ bare orderly before = (tt, before)
-posts_lost d past _ (kept_here c since r at_work is_row owned) orderly before =
-    (λ here. kept_posts d past c since r at_work is_row orderly, (tt, before))
-posts_lost d past _ (kept_elsewhere r away caused) orderly before = (λ here. absurd (away here), (tt, before))
+    EachFront (PostAt d) news past
+posts_lost d past _ bare orderly = (tt, tt)
+posts_lost d past _ (kept_here c since r at_work is_row owned) orderly =
+    (λ here. kept_posts d past c since r at_work is_row orderly, (tt, tt))
+posts_lost d past _ (kept_elsewhere r away caused) orderly = (λ here. absurd (away here), (tt, tt))
 
--- so each step keeps both
-abbrev PostsWell : DeviceSetup → List Entry → Type 0
-PostsWell d past = Orderly d (lines_of d past) × EachEntry (PostAt d) past
+-- so each step keeps that, and posts what was heard
+pub record PostsWell (d : DeviceSetup) (past news : List Entry) : Type 0 where
+  pub orderly : Orderly d (lines_of d (news ++ past))
+  pub posts : EachFront (PostAt d) news past
 
-posts_step : (capacity : ℕ) (setup : Setup) (d : DeviceSetup) → IsSoundSetup setup → IsOf setup d →
-    (past news : List Entry) (s : Step) → ⊤ → Ids setup past → Brought capacity setup past s news →
-    PostsWell d past → PostsWell d (news ++ past)
-posts_step capacity setup d sound own past news s any ids told both =
+pub posts_step : (capacity : ℕ) (setup : Setup) (d : DeviceSetup) → IsSoundSetup setup → IsOf setup d →
+    (past news : List Entry) (s : Step) → Ids setup past → Brought capacity setup past s news →
+    Orderly d (lines_of d past) → PostsWell d past news
+posts_step capacity setup d sound own past news s ids told orderly =
     elim (seen_from capacity setup d past news s sound own ids told) [
-      | seen_here at ↦ (orderly_there capacity setup d past news s sound own ids at both.0, posts_there capacity setup d past news s at both.0 both.1)
-      | seen_aside aside ↦ (subst (ObeysJob d) (sym (passed_job d past news aside.passes)) both.0, each_aside (PostAt d) d past news (away_posts d) aside.passes both.1)
-      | seen_lost lost no_next ↦ (orderly_lost d past news lost, posts_lost d past news lost both.0 both.1)
+      | seen_here at ↦ record {
+        orderly = orderly_there capacity setup d past news s sound own ids at orderly;
+        posts = posts_there capacity setup d past news s at orderly;
+      }
+      | seen_aside aside ↦ record {
+        orderly = subst (ObeysJob d) (sym (passed_job d past news aside.passes)) orderly;
+        posts = front_aside (PostAt d) d past news (away_posts d) aside.passes;
+      }
+      | seen_lost lost no_next ↦ record {
+        orderly = orderly_lost d past news lost;
+        posts = posts_lost d past news lost orderly;
+      }
     ]
 
 -- each record that posts posts what was heard
@@ -382,5 +391,8 @@ pub legal_posts : (capacity : ℕ) (setup : Setup) (steps : List Step) (transcri
     IsSoundSetup setup → IsOf setup d → Legal capacity setup steps transcript →
     EachEntry (PostAt d) (onto [] transcript)
 legal_posts capacity setup steps transcript d sound own legal =
-    (along capacity setup (λ s. ⊤) (PostsWell d) sound (posts_step capacity setup d sound own)
+    (along capacity setup (λ s. ⊤) (λ past. Orderly d (lines_of d past) × EachEntry (PostAt d) past) sound
+    (λ past news s any ids told both.
+    let well = posts_step capacity setup d sound own past news s ids told both.0 in
+    (well.orderly, front_each (PostAt d) news past well.posts both.1))
     (λ past addr both. (both.0, (tt, both.1))) steps (onto [] transcript) (any_steps steps) legal (tt, tt)).1

@@ -1,6 +1,6 @@
 -- A dispense is sent only for an open order that none was sent for, whatever the wire does: it is sent by the one row that
 -- is sent once after an order was opened, and no exchange leads to that row.
-use Rattle.std.proofs.Common.{◌≡◌, ℕ, suc, ◌≤◌, cond, true, false, Bool, List, [], ◌∷◌, ◌++◌, refl, ap, sym, ◌∙◌, subst, Option, Some, None, inl, inr, arith, rules, eq-eqb, true≢false}
+use Rattle.std.proofs.Common.{◌≡◌, ℕ, suc, ◌≤◌, max, cond, true, false, Bool, List, [], ◌∷◌, ◌++◌, refl, ap, sym, ◌∙◌, subst, Option, Some, None, inl, inr, arith, rules, eq-eqb, true≢false}
 use Rattle.std.specs.Prelude.{⊤}
 use Rattle.cct_model.specs.terms.device.DeviceBody.{DeviceBody}
 use Rattle.cct_model.specs.terms.device.DeviceSetup.{DeviceSetup}
@@ -48,7 +48,7 @@ use Rattle.cct_laws.proofs.orders.Ids.{put_owned}
 use Rattle.cct_lives.specs.Sends.{one_by, sent_in, SentBy, SentAt}
 
 -- a fact of what the first of these rows sends, if that is sent once
-abbrev IfFirst : (Request → Type 0) → List TableRow → Type 0
+abbrev pub IfFirst : (Request → Type 0) → List TableRow → Type 0
 IfFirst P (asks_once q behind without ∷ rows) = P q
 IfFirst P rows = ⊤
 
@@ -102,7 +102,7 @@ rest_leads : (d : DeviceSetup) (c : Command) (since : List Line) → EachBefore 
 rest_leads d c since = fact_after (EachBefore (Leads d)) (before_on (Leads d)) (rows_of d c) (done (rows_of d c) since) (rows_lead d c)
 
 -- the first of these rows is ready, beside how many dispenses were sent and the open order
-abbrev ReadyRows : DeviceSetup → ℕ → Option OpenOrder → List TableRow → Type 0
+abbrev pub ReadyRows : DeviceSetup → ℕ → Option OpenOrder → List TableRow → Type 0
 ReadyRows d sent owed rows = IfFirst (λ q. SentBy d sent owed (Some q)) rows
 
 none_sent_by : (d : DeviceSetup) (sent : ℕ) (owed : Option OpenOrder) (q : Request) → DosesNone q →
@@ -204,15 +204,15 @@ ready_asked d c since state sent owed q is ready =
     ]
 
 -- the row of a job is ready
-abbrev ReadyJob : DeviceSetup → ℕ → Option OpenOrder → Job → Type 0
+abbrev pub ReadyJob : DeviceSetup → ℕ → Option OpenOrder → Job → Type 0
 ReadyJob d sent owed free = ⊤
 ReadyJob d sent owed (works c since) = ReadyRows d sent owed (rest d c since)
 
 -- what holds of the lines of a device after every step: at most one dispense was sent, and the row of its job is ready
-abbrev Goes : DeviceSetup → ℕ → Option OpenOrder → Job → Type 0
+abbrev pub Goes : DeviceSetup → ℕ → Option OpenOrder → Job → Type 0
 Goes d sent owed at_work = (sent ≤ 1) × ReadyJob d sent owed at_work
 
-abbrev Ready : DeviceSetup → List Line → Type 0
+abbrev pub Ready : DeviceSetup → List Line → Type 0
 Ready d lines = Goes d (sent_in lines) (order lines) (job lines)
 
 few_anew : (r : Record) (sent : ℕ) → sent ≤ 1 → anew_by r sent ≤ 1
@@ -354,14 +354,18 @@ ready_there capacity setup d past _ _ sound own ids (made_put c since r at_work 
     (ready_ended d (record_end d past c since r) (put r ∷ lines_of d past)
     (record_ready d (lines_of d past) since c r (epoch (lines_of d past)) at_work.job_is is_row ready))
 
--- a power cut
+-- a power cut: a start counts as a dispense
+pub few_started : (sent : ℕ) → sent ≤ 1 → max 1 sent ≤ 1
+few_started sent few = omega (arith, few)
+
 ready_lost : (d : DeviceSetup) (past news : List Entry) → Lost d past news → Ready d (lines_of d past) →
     Ready d (lines_of d (news ++ past))
-ready_lost d past _ bare ready = (ready.0, tt)
+ready_lost d past _ bare ready = (few_started (sent_in (lines_of d past)) ready.0, tt)
 ready_lost d past _ (kept_here c since r at_work is_row owned) ready =
-    subst (Ready d) (sym (lines_kept d past r owned)) (few_anew r (sent_in (lines_of d past)) ready.0, tt)
+    let few = few_started (sent_in (lines_of d past)) ready.0 in
+    subst (Ready d) (sym (lines_kept d past r owned)) (few_anew r (max 1 (sent_in (lines_of d past))) few, tt)
 ready_lost d past _ (kept_elsewhere r away caused) ready =
-    subst (Ready d) (sym (lines_kept_elsewhere d past r away)) (ready.0, tt)
+    subst (Ready d) (sym (lines_kept_elsewhere d past r away)) (few_started (sent_in (lines_of d past)) ready.0, tt)
 
 -- what is none of the device sends it nothing
 away_sent : (d : DeviceSetup) (past : List Entry) (e : Entry) → Passes d past e → SentAt d past e
@@ -408,10 +412,10 @@ sent_lost d past _ (kept_here c since r at_work is_row owned) before = (tt, (tt,
 sent_lost d past _ (kept_elsewhere r away caused) before = (tt, (tt, before))
 
 -- so each step keeps both
-abbrev SendsWell : DeviceSetup → List Entry → Type 0
+abbrev pub SendsWell : DeviceSetup → List Entry → Type 0
 SendsWell d past = Ready d (lines_of d past) × EachEntry (SentAt d) past
 
-sends_step : (capacity : ℕ) (setup : Setup) (d : DeviceSetup) → IsSoundSetup setup → IsOf setup d →
+pub sends_step : (capacity : ℕ) (setup : Setup) (d : DeviceSetup) → IsSoundSetup setup → IsOf setup d →
     (past news : List Entry) (s : Step) → ⊤ → Ids setup past → Brought capacity setup past s news →
     SendsWell d past → SendsWell d (news ++ past)
 sends_step capacity setup d sound own past news s any ids told both =

@@ -1,6 +1,6 @@
 -- The lines of an address after a past, and after what it shows: they are the same but for the dispenses that a hopper took,
 -- which what was sent and what was posted don't go by.
-use Rattle.std.proofs.Common.{◌≡◌, inl, inr, ℕ, ◌≤◌, ◌==◌, Bool, true, false, cond, List, [], ◌∷◌, ◌++◌, refl, sym, ap, ◌∙◌, subst, Option, Some, None}
+use Rattle.std.proofs.Common.{◌≡◌, inl, inr, ℕ, ◌≤◌, max, ◌==◌, Bool, true, false, cond, List, [], ◌∷◌, ◌++◌, refl, sym, ap, ◌∙◌, subst, Option, Some, None}
 use Rattle.std.specs.Prelude.{⊤}
 use Rattle.cct_model.specs.terms.coin.Coin.{Coin}
 use Rattle.cct_model.specs.terms.device.DeviceBody.{DeviceBody}
@@ -15,7 +15,7 @@ use Rattle.cct_model.specs.lines.entry.Entry.TheVariants as entry
 use Rattle.cct_model.specs.Exchange.{asked, asks_of}
 use Rattle.cct_model.specs.History.{Met}
 use Rattle.cct_model.specs.Job.{epoch, epoch_by}
-use Rattle.cct_model.specs.Line.{Line, dispensed, exchange, put, taken}
+use Rattle.cct_model.specs.Line.{Line, dispensed, exchange, put, restarted, taken}
 use Rattle.cct_model.specs.Order.{order}
 use Rattle.cct_model.specs.Paid.{anew_by}
 use Rattle.cct_model.specs.Records.{owner_in, records}
@@ -116,6 +116,7 @@ sent_undosed [] = refl
 sent_undosed (dispensed count ∷ lines) = sent_undosed lines
 sent_undosed (exchange q y ∷ lines) = ap (one_by q) (sent_undosed lines)
 sent_undosed (put r ∷ lines) = ap (anew_by r) (sent_undosed lines)
+sent_undosed (restarted ∷ lines) = ap (max 1) (sent_undosed lines)
 sent_undosed (l ∷ lines) = sent_undosed lines
 
 pub sent_shown : (d : DeviceSetup) (past : List Entry) → sent_in (lines_of d past) ≡ sent_in (lines_of d (shown past))
@@ -231,7 +232,7 @@ post_shown d past r of own =
     post_same (lines_of d past) (lines_of d (shown past)) r (lines_shown d past)
     (of (ap (λ rs. owner_in rs r) (alike_shown past).recorded ∙ own))
 
-posts_shown : (d : DeviceSetup) (past : List Entry) (e : Entry) → PostAt d past e → PostAt d (shown past) e
+pub posts_shown : (d : DeviceSetup) (past : List Entry) (e : Entry) → PostAt d past e → PostAt d (shown past) e
 posts_shown d past (entry.Put r) of = post_shown d past r of
 posts_shown d past (entry.Kept r) of = post_shown d past r of
 posts_shown d past e of = tt
@@ -251,7 +252,7 @@ by_sent d past q by =
     subst (λ owed. SentBy d (sent_in (lines_of d (shown past))) owed q) (order_same d past (shown past) (alike_shown past))
     (subst (λ sent. SentBy d sent (order (lines_of d past)) q) (sent_shown d past) by)
 
-sends_shown : (d : DeviceSetup) (past : List Entry) (e : Entry) → SentAt d past e → SentAt d (shown past) e
+pub sends_shown : (d : DeviceSetup) (past : List Entry) (e : Entry) → SentAt d past e → SentAt d (shown past) e
 sends_shown d past (entry.Wire addr sent piece) at = λ here. by_sent d past (asked d.kind sent) (at here)
 sends_shown d past e at = tt
 

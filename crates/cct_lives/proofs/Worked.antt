@@ -1,13 +1,19 @@
--- Two lives of a host, one after the other over one journal, on a line that is silent, damaged, and well.
-use Rattle.std.proofs.Common.{arith, false, List, [], ◌∷◌, ◌++◌, inr, replicate, refl, Some, None}
+-- Two lives of a host, one after the other over one journal, on a line that is silent, damaged, and well. A life over an
+-- epoch that was found, on a line that lies about counters. And what no host does that finds an order open.
+use Rattle.std.proofs.Common.{◌≡◌, ◌≤◌, arith, false, List, [], ◌∷◌, ◌++◌, inr, replicate, refl, Some, None, All}
 use Rattle.std.specs.Prelude.{⊤, codes}
+use Rattle.std.proofs.lemmas.List.Elements.{All-nil, All-cons}
 use Rattle.cct_model.specs.terms.wire.CheckKind.TheVariants.{Simple}
-use Rattle.cct_model.specs.terms.device.DeviceBody.TheVariants.{Acceptor}
+use Rattle.cct_model.specs.terms.coin.Coin.{Coin}
+use Rattle.cct_model.specs.terms.device.DeviceBody.TheVariants.{Acceptor, Hopper}
+use Rattle.cct_model.specs.terms.device.DeviceSetup.{DeviceSetup}
 use Rattle.cct_model.specs.terms.device.Setup.{Setup}
 use Rattle.cct_model.specs.terms.device.Texts.{Texts}
 use Rattle.cct_model.specs.lines.command.Command.TheVariants as command
 use Rattle.cct_model.specs.lines.command.CommandNo.TheVariants.{NoEpoch}
+use Rattle.cct_model.specs.lines.record.Record.{Record}
 use Rattle.cct_model.specs.lines.record.Record.TheVariants as record_of
+use Rattle.cct_model.specs.lines.entry.End.TheVariants.{Posted}
 use Rattle.cct_model.specs.lines.entry.Entry.{Entry}
 use Rattle.cct_model.specs.lines.entry.Entry.TheVariants as entry
 use Rattle.cct_model.specs.Message.{message, spelling}
@@ -17,9 +23,13 @@ use Rattle.cct_model.specs.Setting.{has_place}
 use Rattle.cct_model.specs.Exchange.{ask, asked, after_echo, got}
 use Rattle.cct_model.specs.Transcript.{got_by}
 use Rattle.cct_model.specs.Reading.{distance, accepted_between, judge}
+use Rattle.cct_model.specs.Records.{records}
+use Rattle.cct_lives.specs.Counters.{IsTallied, told_in}
+use Rattle.cct_lives.specs.Life.{IsLife, IsLifeStep}
 use Rattle.cct_lives.specs.LiveStep.{LiveStep}
 use Rattle.cct_lives.specs.LiveStep as live
-use Rattle.cct_lives.specs.Live.{LiveEntries}
+use Rattle.cct_lives.specs.Live.{LiveEntries, LiveFrom, started}
+use Rattle.cct_lives.specs.Sends.{SentAt}
 
 -- an acceptor at address 2
 abbrev texts : Texts
@@ -51,6 +61,10 @@ Lives past (row ∷ rows) = LiveEntries 65535 setup past row.step row.news × Li
 abbrev after : List Entry → List Row → List Entry
 after past [] = past
 after past (row ∷ rows) = after (row.news ++ past) rows
+
+abbrev steps_of : List Row → List LiveStep
+steps_of [] = []
+steps_of (row ∷ rows) = row.step ∷ steps_of rows
 
 abbrev one : LiveStep → Entry → Row
 one step e = record { step = step; news = e ∷ [] }
@@ -121,3 +135,101 @@ no_record_from_nothing e = cc e
 -- a command that is refused isn't taken
 no_round_without_an_epoch : LiveEntries 65535 setup [] (live.command (command.Round 2)) (entry.Taken (command.Round 2) ∷ []) → ⊥
 no_round_without_an_epoch e = cc e
+
+-- a life over an epoch that was found
+lives_on : (past : List Entry) (rows : List Row) → Lives past rows → LiveFrom 65535 setup past (steps_of rows) (after past rows)
+lives_on past [] lives = refl
+lives_on past (row ∷ rows) lives = (row.news, lives.0, lives_on (row.news ++ past) rows lives.1)
+
+abbrev AreLifeSteps : List Row → Type 0
+AreLifeSteps [] = ⊤
+AreLifeSteps (row ∷ rows) = IsLifeStep row.step × AreLifeSteps rows
+
+all_steps : (rows : List Row) → AreLifeSteps rows → All IsLifeStep (steps_of rows)
+all_steps [] are = All-nil IsLifeStep
+all_steps (row ∷ rows) are = All-cons IsLifeStep row.step (steps_of rows) are.0 (all_steps rows are.1)
+
+abbrev begun : List Record
+begun = record_of.Epoch 2 65535 0 ∷ []
+
+abbrev coin : Coin
+coin = record { place = 1; path = 1 }
+
+-- the event counter tells one event, and the accept counter no coin
+abbrev one_round : List Row
+one_round =
+    one (live.command (command.Round 2)) (entry.Taken (command.Round 2))
+    ∷ one (live.next 2) (entry.Wire 2 (2 ∷ 0 ∷ 1 ∷ 225 ∷ 28 ∷ []) (2 ∷ 0 ∷ 1 ∷ 225 ∷ 28 ∷ 1 ∷ 3 ∷ 2 ∷ 0 ∷ 0 ∷ 0 ∷ 0 ∷ 250 ∷ []))
+    ∷ one (live.next 2) (entry.Wire 2 (2 ∷ 0 ∷ 1 ∷ 229 ∷ 24 ∷ []) (2 ∷ 0 ∷ 1 ∷ 229 ∷ 24 ∷ 1 ∷ 11 ∷ 2 ∷ 0 ∷ 1 ∷ 1 ∷ 1 ∷ 0 ∷ 0 ∷ 0 ∷ 0 ∷ 0 ∷ 0 ∷ 0 ∷ 0 ∷ 239 ∷ []))
+    ∷ one (live.next 2) (entry.Wire 2 (2 ∷ 0 ∷ 1 ∷ 230 ∷ 23 ∷ []) (2 ∷ 0 ∷ 1 ∷ 230 ∷ 23 ∷ 1 ∷ 2 ∷ 2 ∷ 0 ∷ 255 ∷ 255 ∷ 253 ∷ []))
+    ∷ one (live.next 2) (entry.Wire 2 (2 ∷ 0 ∷ 1 ∷ 225 ∷ 28 ∷ []) (2 ∷ 0 ∷ 1 ∷ 225 ∷ 28 ∷ 1 ∷ 3 ∷ 2 ∷ 0 ∷ 0 ∷ 0 ∷ 0 ∷ 250 ∷ []))
+    ∷ record {
+      step = live.next 2;
+      news = entry.Ended 2 Posted ∷ entry.Put (record_of.Reading 2 1 0 0 (coin ∷ [])) ∷ [];
+    }
+    ∷ []
+
+one_round_lived : Lives (started begun) one_round
+unfolding message spelling data_of request_of requests_with form_of reply_data reply_in has_place ask asked after_echo got
+    got_by distance accepted_between judge
+one_round_lived = (
+  refl,
+  (
+    (2 ∷ 0 ∷ 1 ∷ 225 ∷ 28 ∷ 1 ∷ 3 ∷ 2 ∷ 0 ∷ 0 ∷ 0 ∷ 0 ∷ 250 ∷ [], omega arith, refl),
+    (
+      (2 ∷ 0 ∷ 1 ∷ 229 ∷ 24 ∷ 1 ∷ 11 ∷ 2 ∷ 0 ∷ 1 ∷ 1 ∷ 1 ∷ 0 ∷ 0 ∷ 0 ∷ 0 ∷ 0 ∷ 0 ∷ 0 ∷ 0 ∷ 239 ∷ [], omega arith, refl),
+      (
+        (2 ∷ 0 ∷ 1 ∷ 230 ∷ 23 ∷ 1 ∷ 2 ∷ 2 ∷ 0 ∷ 255 ∷ 255 ∷ 253 ∷ [], omega arith, refl),
+        (
+          (2 ∷ 0 ∷ 1 ∷ 225 ∷ 28 ∷ 1 ∷ 3 ∷ 2 ∷ 0 ∷ 0 ∷ 0 ∷ 0 ∷ 250 ∷ [], omega arith, refl),
+          (
+            ([], omega arith, refl),
+            tt,
+          ),
+        ),
+      ),
+    ),
+  ),
+)
+
+one_life : IsLife 65535 setup begun (steps_of one_round) (after (started begun) one_round)
+unfolding has_place
+one_life = record {
+  follow = refl;
+  steps_are = all_steps one_round (tt, (tt, (tt, (tt, (tt, (tt, tt))))));
+  live = lives_on (started begun) one_round one_round_lived;
+}
+
+-- so a coin is posted that the accept counter doesn't tell
+more_than_accepted : (told_in 2 (records (after (started begun) one_round))
+    ≡ record { events = 1; posted = 1; accepted = 0; lost = 0 })
+unfolding distance accepted_between
+more_than_accepted = refl
+
+-- two coins aren't posted of one event
+no_event_twice : IsTallied (told_in 2 (record_of.Reading 2 1 0 2 (coin ∷ coin ∷ []) ∷ begun)) → ⊥
+unfolding distance accepted_between
+no_event_twice tallied = let posts : 2 ≤ 1 = tallied.posts in omega (arith, posts)
+
+-- no coin is told as lost that the accept counter doesn't tell, and none that it tells is left out
+no_more_lost : IsTallied (told_in 2 (record_of.Reading 2 1 1 0 [] ∷ begun)) → ⊥
+unfolding distance accepted_between
+no_more_lost tallied = let loses : 1 ≤ 0 = tallied.loses in omega (arith, loses)
+
+none_left_out : IsTallied (told_in 2 (record_of.Reading 2 1 0 1 [] ∷ begun)) → ⊥
+unfolding distance accepted_between
+none_left_out tallied = let covers : 1 ≤ 0 = tallied.covers in omega (arith, covers)
+
+-- a hopper at address 3
+abbrev hopper : DeviceSetup
+hopper = record { addr = 3; kind = Simple; serial = 1; texts = texts; named = false; body = Hopper 0 25 }
+
+-- where an order is found open, no dispense is sent for it
+none_for_a_found_order : SentAt hopper (started (record_of.Opened 7 3 4 0 ∷ []))
+    (entry.Wire 3 (3 ∷ 4 ∷ 1 ∷ 167 ∷ 1 ∷ 0 ∷ 0 ∷ 4 ∷ 76 ∷ []) []) → ⊥
+unfolding message spelling data_of request_of requests_with form_of reply_data reply_in has_place ask asked
+none_for_a_found_order at = let both = at refl in cc both.1.0
+
+-- a start is no step of a life
+no_start : IsLifeStep (live.start None) → ⊥
+no_start is = is

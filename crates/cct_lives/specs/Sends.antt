@@ -1,5 +1,5 @@
 -- What a host sends to a hopper, whatever the wire does: a dispense only for an open order that none was sent for.
-use Rattle.std.specs.Prelude.{◌≡◌, ℕ, suc, List, [], ◌∷◌, Option, Some, ⊤}
+use Rattle.std.specs.Prelude.{◌≡◌, ℕ, suc, max, List, [], ◌∷◌, Option, Some, ⊤}
 use Rattle.cct_model.specs.terms.device.DeviceSetup.{DeviceSetup}
 use Rattle.cct_model.specs.terms.request.Request.{Request}
 use Rattle.cct_model.specs.terms.request.Request.TheVariants.{Dispense}
@@ -7,7 +7,7 @@ use Rattle.cct_model.specs.declared.judging.OpenOrder.{OpenOrder}
 use Rattle.cct_model.specs.lines.entry.Entry.{Entry}
 use Rattle.cct_model.specs.lines.entry.Entry.TheVariants as entry
 use Rattle.cct_model.specs.Exchange.{asked}
-use Rattle.cct_model.specs.Line.{Line, exchange, put}
+use Rattle.cct_model.specs.Line.{Line, exchange, put, restarted}
 use Rattle.cct_model.specs.Order.{order}
 use Rattle.cct_model.specs.Paid.{OfOrder, anew_by}
 use Rattle.cct_model.specs.Transcript.{lines_of}
@@ -17,9 +17,11 @@ abbrev pub one_by : Option Request → ℕ → ℕ
 one_by (Some (Dispense serial count)) before = suc before
 one_by asked before = before
 
--- How many dispenses were sent since an order was last opened or closed, whether or not the hopper heard them.
+-- How many dispenses were sent since an order was last opened or closed, whether or not the hopper heard them. A start counts
+-- as one: a host doesn't know what was sent before it for an order that it finds open.
 abbrev pub sent_in : List Line → ℕ
 sent_in [] = 0
+sent_in (restarted ∷ past) = max 1 (sent_in past)
 sent_in (exchange asked got ∷ past) = one_by asked (sent_in past)
 sent_in (put r ∷ past) = anew_by r (sent_in past)
 sent_in (line ∷ past) = sent_in past

@@ -2,10 +2,16 @@
 //! lives of the process over one journal. Each is a clause of a function without parameters, whose body is empty, as in
 //! `cct_laws`, and goes by a law there: a live transcript is what a legal one shows. Nothing is said of the devices.
 //!
+//! The clauses `live` are of all lives together, from a journal without records on. The clauses `life` are of one life over
+//! the records that a host found in any journal (`IsLife`), whoever wrote them, where each follows those before it. Where
+//! earlier lives left these records, `all_lives_are_one` says more.
+//!
 //! A crate above cites the lemmas of these laws, each of which is named in its function's `Answers.antt`. Beside them it
 //! cites `followed_from` of `proofs/Followed.antt`; `by_law` of `proofs/Carrying.antt`, by which a further law of all legal
-//! transcripts goes over; and `live_over` of `proofs/Joining.antt`, by which one past goes on as another one that has the
-//! same jobs and records.
+//! transcripts goes over; `live_over` of `proofs/Joining.antt`, by which one past goes on as another one that has the
+//! same jobs and records; `life_begins`, `life_command`, `life_next` and `life_balance` of `proofs/Life.antt`, by which one
+//! life begins and goes on; and `life_kept` of `proofs/LifeBooks.antt`, and `life_along` of `proofs/LifeLaws.antt`, by which
+//! ids and books, and a further fact that each legal step keeps, go along one life.
 #![tactic(auto)]
 
 ghost use Rattle.std.specs.Prelude.{ℕ, ◌≡◌, ◌≢◌, ◌<◌, ◌≤◌, ◌+◌, ◌-◌, true, List, [], ◌++◌, length, Option, Some};
@@ -21,9 +27,11 @@ ghost use Rattle.cct_model.specs.Money.{freed_by, posted_in, reserved_at_work, s
 ghost use Rattle.cct_model.specs.Paid.{AreFresh};
 ghost use Rattle.cct_model.specs.Records.{records};
 ghost use Rattle.cct_model.specs.Refusal.{held, refusal};
-ghost use Rattle.cct_model.specs.Transcript.{onto, scan_lines};
+ghost use Rattle.cct_model.specs.Transcript.{lines_of, onto, scan_lines};
 ghost use Rattle.cct_laws.specs.Balanced.{IsBalanced, IsConserved};
 ghost use Rattle.cct_laws.specs.Law.{EachEntry, IsOf, lines_in};
+ghost use Rattle.cct_lives.specs.Counters.{IsTallied, told_in};
+ghost use Rattle.cct_lives.specs.Life.{EachLife, EachSinceStart, room_over};
 ghost use Rattle.cct_lives.specs.Live.{EachLive, GoesOnAs, IsShown, LiveFrom, started};
 ghost use Rattle.cct_lives.specs.LiveStep.{LiveStep};
 ghost use Rattle.cct_model.specs.terms.device.DeviceSetup.{DeviceSetup};
@@ -31,6 +39,8 @@ ghost use Rattle.cct_model.specs.lines.command.Step.{Step};
 ghost use Rattle.cct_model.specs.Setup.{IsSoundSetup};
 ghost use Rattle.cct_lives.specs.Posts.{PostAt};
 ghost use Rattle.cct_lives.specs.Sends.{SentAt, sent_in};
+ghost use Rattle.cct_lives.specs.Texts.{IsInBytes};
+ghost use Rattle.cct_model.specs.Text.{text};
 ghost use Rattle.cct_model.specs.Claims.{AllPast};
 ghost use Rattle.cct_model.specs.Job.{job};
 ghost use Rattle.cct_laws.specs.Tries.{HasFewTries, ScanTriesAt, failed_in};
@@ -53,43 +63,55 @@ pub fn all_lives_are_one()
         → GoesOnAs capacity setup (started (records (news ++ past))) steps end (news ++ past) }
 {}
 
-/// No id is used twice over all lives, whatever is heard: no two records that open an order or sell have the same id.
+/// No id is used twice over all lives, whatever is heard: no two records that open an order or sell have the same id. In one
+/// life it is so if it was so of the records that were found.
 pub fn no_id_is_used_twice_over_all_lives()
-    ensures { EachLive (λ capacity setup transcript. AreFresh (records (onto [] transcript))) }
+    ensures live { EachLive (λ capacity setup transcript. AreFresh (records (onto [] transcript))) }
+    ensures life { EachLife (λ capacity setup found past. AreFresh found → AreFresh (records past)) }
 {}
 
 /// Each record follows those before it, whatever is heard, and so does one that a running job is about to put. So a host
-/// that starts over the journal of earlier ones refuses none of its records.
+/// that starts over the journal of earlier ones refuses none of its records. In one life over any journal they do so too.
 pub fn each_record_of_a_life_follows()
     ensures all { EachLive (λ capacity setup transcript. all_follow setup (records (onto [] transcript)) ≡ true) }
     ensures due { EachLive (λ capacity setup transcript. (addr : ℕ) (r : Record)
         → due_at setup (onto [] transcript) addr ≡ Some r
         → follows setup (records (onto [] transcript)) r ≡ true) }
+    ensures life { EachLife (λ capacity setup found past. all_follow setup (records past) ≡ true) }
+    ensures life_due { EachLife (λ capacity setup found past. (addr : ℕ) (r : Record) → due_at setup past addr ≡ Some r
+        → follows setup (records past) r ≡ true) }
 {}
 
-/// What a running job is about to put, the ledger takes beside what the other jobs reserve, whatever is heard. It doesn't say
-/// that a job ever comes to its put.
+/// What a running job is about to put, the ledger takes beside what the other jobs reserve, whatever is heard, over all lives
+/// and in one life over any journal. It doesn't say that a job ever comes to its put.
 pub fn a_ledger_takes_each_put_of_a_life()
-    ensures { EachLive (λ capacity setup transcript. (addr : ℕ) (r : Record)
+    ensures live { EachLive (λ capacity setup transcript. (addr : ℕ) (r : Record)
         → due_at setup (onto [] transcript) addr ≡ Some r
         → (freed_by setup r ≤ reserved_at_work setup (onto [] transcript))
         × (is_allowed setup (records (onto [] transcript))
         (reserved_at_work setup (onto [] transcript) - freed_by setup r) r ≡ true)) }
+    ensures life { EachLife (λ capacity setup found past. (addr : ℕ) (r : Record) → due_at setup past addr ≡ Some r
+        → (freed_by setup r ≤ reserved_at_work setup past)
+        × (is_allowed setup (records past) (reserved_at_work setup past - freed_by setup r) r ≡ true)) }
 {}
 
 /// Money is conserved over all lives, whatever is heard. What is available, reserved, paid and sold is together the value of
 /// all coins posted, at every moment and in each balance that is told. What is reserved, paid and sold is never more than
-/// that. It says nothing of the coins that fell: a wire that lies about counters makes money.
+/// that. So it is at every moment of one life over any journal. It says nothing of the coins that fell: a wire that lies
+/// about counters makes money.
 pub fn money_is_conserved_over_all_lives()
     ensures moments { EachLive (λ capacity setup transcript.
         IsConserved setup (onto [] transcript) (totals setup (onto [] transcript))) }
     ensures balances { EachLive (λ capacity setup transcript. EachEntry (IsBalanced setup) (onto [] transcript)) }
     ensures covered { EachLive (λ capacity setup transcript.
         spoken_for setup (onto [] transcript) ≤ posted_in setup (records (onto [] transcript))) }
+    ensures life { EachLife (λ capacity setup found past. IsConserved setup past (totals setup past)) }
 {}
 
 /// A put never meets a full journal, in any life, whatever is heard. Its records and those that are held for running jobs and
-/// open orders find room. So one that a job is about to put does, and no settlement is refused for want of it.
+/// open orders find room. So one that a job is about to put does, and no settlement is refused for want of it. One life over
+/// any journal needs no more room than that journal has, where it has room for one record more for each order that was found
+/// open. Where it hasn't, it needs no more than these.
 pub fn a_put_of_a_life_finds_room()
     ensures held { EachLive (λ capacity setup transcript.
         length (records (onto [] transcript)) + held setup (onto [] transcript) ≤ capacity) }
@@ -97,12 +119,18 @@ pub fn a_put_of_a_life_finds_room()
         → due_at setup (onto [] transcript) addr ≡ Some r → length (records (onto [] transcript)) < capacity) }
     ensures settlements { EachLive (λ capacity setup transcript. (addr used held need : ℕ)
         → refusal capacity setup (onto [] transcript) (Settle addr) ≢ Some (JournalFull used held need)) }
+    ensures life_held { EachLife (λ capacity setup found past.
+        length (records past) + held setup past ≤ room_over capacity setup found) }
+    ensures life_puts { EachLife (λ capacity setup found past. (addr : ℕ) (r : Record)
+        → due_at setup past addr ≡ Some r → length (records past) < room_over capacity setup found) }
 {}
 
 /// A dispense is sent at most once for each order, whatever the wire does: to each device of a sound setup, in every live
 /// and in every legal transcript, over all lives and any power cuts. Each exchange of a device's job that sends a dispense
 /// sends it under the serial number that the setup has, where an order is open that none was sent for, and for exactly its
-/// coins. It doesn't say what the hopper hears: only an honest wire keeps a dispense as it was sent.
+/// coins. A start counts as a dispense: for an order that a host finds open it sends none, whatever was sent before. So it
+/// is in one life over any journal, too. It doesn't say what the hopper hears: only an honest wire keeps a dispense as it
+/// was sent.
 pub fn each_order_is_sent_once()
     ensures each { (capacity : ℕ) (setup : Setup) (steps : List Step) (transcript : List Entry) (d : DeviceSetup)
         → IsSoundSetup setup → IsOf setup d → Legal capacity setup steps transcript
@@ -114,6 +142,10 @@ pub fn each_order_is_sent_once()
         → EachEntry (SentAt d) (onto [] transcript)) }
     ensures live_few { EachLive (λ capacity setup transcript. (d : DeviceSetup) → IsOf setup d
         → sent_in (lines_in d transcript) ≤ 1) }
+    ensures life_each { EachLife (λ capacity setup found past. (d : DeviceSetup) → IsOf setup d
+        → EachEntry (SentAt d) past) }
+    ensures life_few { EachLife (λ capacity setup found past. (d : DeviceSetup) → IsOf setup d
+        → sent_in (lines_of d past) ≤ 1) }
 {}
 
 /// What is posted was heard, whatever the wire does, in every live and in every legal transcript, over all lives and any
@@ -122,13 +154,32 @@ pub fn each_order_is_sent_once()
 /// that one reply of the credits: of the newest events, as many as the reply's counter tells since the event counter that was
 /// recorded, and at most five. It tells as lost how many coins the second accept counter tells since the one that was
 /// recorded, without those posted. A reading heard the same accept counter twice. The one at which an epoch begins was heard
-/// as well. It says nothing of coins: a wire that lies about counters makes money.
+/// as well. In one life over any journal it is so of all that was put since the start. It says nothing of coins: a wire that
+/// lies about counters makes money.
 pub fn what_is_posted_was_heard()
     ensures legal { (capacity : ℕ) (setup : Setup) (steps : List Step) (transcript : List Entry) (d : DeviceSetup)
         → IsSoundSetup setup → IsOf setup d → Legal capacity setup steps transcript
         → EachEntry (PostAt d) (onto [] transcript) }
     ensures live { EachLive (λ capacity setup transcript. (d : DeviceSetup) → IsOf setup d
         → EachEntry (PostAt d) (onto [] transcript)) }
+    ensures life { EachLife (λ capacity setup found past. (d : DeviceSetup) → IsOf setup d
+        → EachSinceStart (PostAt d) past) }
+{}
+
+/// No event is posted twice by the counters' own account, whatever the wire does: in the newest epoch of each acceptor, in
+/// every live and in every legal transcript. Its readings, and the break that may end it, together post at most as many coins
+/// as the event counters tell events, each from the recorded one to its own. They tell at most as many coins as lost as the
+/// accept counters tell. Posted and lost together are at least as many as these tell. In one life over any journal it is so if
+/// it was so of the records that were found. Over a wire that lies they may be more: where an event counter tells a coin that
+/// no accept counter tells, it is posted. `one_round` of `proofs/Worked.antt` is such a run.
+pub fn no_event_is_posted_twice()
+    ensures legal { (capacity : ℕ) (setup : Setup) (steps : List Step) (transcript : List Entry) (d : DeviceSetup)
+        → IsSoundSetup setup → IsOf setup d → Legal capacity setup steps transcript
+        → IsTallied (told_in d.addr (records (onto [] transcript))) }
+    ensures live { EachLive (λ capacity setup transcript. (d : DeviceSetup) → IsOf setup d
+        → IsTallied (told_in d.addr (records (onto [] transcript)))) }
+    ensures life { EachLife (λ capacity setup found past. (d : DeviceSetup) → IsOf setup d
+        → IsTallied (told_in d.addr found) → IsTallied (told_in d.addr (records past))) }
 {}
 
 /// A job of a live host ends for want of an answer exactly after the third failed try in succession of one of its rows,
@@ -141,4 +192,13 @@ pub fn the_third_failed_try_ends_a_job_in_any_life()
         → failed_in (job (lines_in d transcript)) < 3) }
     ensures scans { EachLive (λ capacity setup transcript. AllPast ScanTriesAt (scan_lines (onto [] transcript))) }
     ensures scan_goes_on { EachLive (λ capacity setup transcript. HasFewTries (job (scan_lines (onto [] transcript)))) }
+{}
+
+/// Where two live transcripts of one setup have the same text, they are the same, whatever their journals take: so whoever
+/// reads what the hosts printed knows all that they sent, heard, recorded and told. They are in bytes: the address of each
+/// `next`, the address and the mask of each command, and all that is heard. It says nothing of the steps, nor of two setups.
+pub fn a_text_tells_its_live_transcript()
+    ensures { (capacity room : ℕ) (setup : Setup) (steps others : List LiveStep) (first second : List Entry)
+        → IsSoundSetup setup → IsInBytes capacity setup steps first → IsInBytes room setup others second
+        → text first ≡ text second → first ≡ second }
 {}

@@ -1,5 +1,12 @@
 use Rattle.cct_lives.proofs.Carrying.{live_put, live_room, live_settle}
+use Rattle.cct_lives.proofs.LifeBooks.{life_put, life_room}
 use Rattle.cct_lives.proofs.a_put_of_a_life_finds_room.Goals as goal
 
 pub returns : goal.returns
-returns c = record { held = live_room; puts = live_put; settlements = live_settle }
+returns c = record {
+  held = live_room;
+  puts = live_put;
+  settlements = live_settle;
+  life_held = life_room;
+  life_puts = life_put;
+}

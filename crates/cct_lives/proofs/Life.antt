@@ -1,0 +1,89 @@
+-- One life of a host: it begins over the records that it found, and goes on by a command, by a `next`, and by a balance.
+use Rattle.std.proofs.Common.{◌≡◌, ℕ, ◌≤◌, true, List, [], ◌∷◌, ◌++◌, length, map, refl, ap, sym, subst, All}
+use Rattle.std.proofs.lemmas.List.Elements.{All-head, All-tail, All-nil, All-cons}
+use Rattle.cct_model.specs.terms.wire.TheConstants.{MOST_HEARD}
+use Rattle.cct_model.specs.terms.device.Setup.{Setup}
+use Rattle.cct_model.specs.lines.command.Command.{Command}
+use Rattle.cct_model.specs.lines.record.Record.{Record}
+use Rattle.cct_model.specs.lines.entry.Entry.{Entry}
+use Rattle.cct_model.specs.lines.entry.Entry.TheVariants as entry
+use Rattle.cct_model.specs.Following.{all_follow}
+use Rattle.cct_model.specs.Legal.{command_entry, EntriesOfNext}
+use Rattle.cct_model.specs.Money.{totals}
+use Rattle.cct_model.specs.Refusal.{refusal}
+use Rattle.cct_model.specs.Script.{IsCommand}
+use Rattle.cct_lives.specs.Life.{IsLife, IsLifeStep}
+use Rattle.cct_lives.specs.Live.{IsShown, IsTellable, LiveEntries, LiveFrom, shown, started}
+use Rattle.cct_lives.specs.LiveStep.{LiveStep}
+use Rattle.cct_lives.specs.LiveStep as live
+use Rattle.cct_lives.proofs.Followed.{followed_from}
+
+-- it begins
+pub life_begins : (capacity : ℕ) (setup : Setup) (found : List Record) → all_follow setup found ≡ true →
+    IsLife capacity setup found [] (started found)
+life_begins capacity setup found follow =
+    record { follow = follow; steps_are = All-nil IsLifeStep; live = refl }
+
+-- one step more
+live_on : (capacity : ℕ) (setup : Setup) (past : List Entry) (steps : List LiveStep) (end : List Entry) (s : LiveStep)
+    (news : List Entry) → LiveFrom capacity setup past steps end → LiveEntries capacity setup end s news →
+    LiveFrom capacity setup past (steps ++ s ∷ []) (news ++ end)
+live_on capacity setup past [] end s news is told =
+    (news, subst (λ es. LiveEntries capacity setup es s news) is told, ap (λ es. news ++ es) is)
+live_on capacity setup past (x ∷ steps) end s news is told =
+    (is.0, is.1, live_on capacity setup (is.0 ++ past) steps end s news is.2 told)
+
+step_on : (steps : List LiveStep) (s : LiveStep) → All IsLifeStep steps → IsLifeStep s → All IsLifeStep (steps ++ s ∷ [])
+step_on [] s all is = All-cons IsLifeStep s [] is (All-nil IsLifeStep)
+step_on (x ∷ steps) s all is =
+    All-cons IsLifeStep x (steps ++ s ∷ []) (All-head IsLifeStep x steps all)
+    (step_on steps s (All-tail IsLifeStep x steps all) is)
+
+module _ (capacity : ℕ) (setup : Setup) (found : List Record) (steps : List LiveStep) (past : List Entry) where
+  -- it goes on
+  pub life_goes : (s : LiveStep) (news : List Entry) → IsLife capacity setup found steps past → IsLifeStep s →
+      LiveEntries capacity setup past s news → IsLife capacity setup found (steps ++ s ∷ []) (news ++ past)
+  life_goes s news life is told = record {
+    follow = life.follow;
+    steps_are = step_on steps s life.steps_are is;
+    live = live_on capacity setup (started found) steps past s news life.live told;
+  }
+
+  pub life_command : (c : Command) → IsLife capacity setup found steps past → IsCommand c →
+      IsLife capacity setup found (steps ++ live.command c ∷ []) (command_entry c (refusal capacity setup past c) ∷ past)
+  life_command c life is = life_goes (live.command c) (command_entry c (refusal capacity setup past c) ∷ []) life is refl
+
+  pub life_next : (addr : ℕ) (heard : List ℕ) (news : List Entry) → IsLife capacity setup found steps past →
+      length heard ≤ MOST_HEARD → EntriesOfNext (λ sent. heard) setup past addr news →
+      IsLife capacity setup found (steps ++ live.next addr ∷ []) (news ++ past)
+  life_next addr heard news life few told = life_goes (live.next addr) news life tt (heard, few, told)
+
+  pub life_balance : IsLife capacity setup found steps past →
+      IsLife capacity setup found (steps ++ live.balance ∷ []) (entry.Balance (totals setup past) ∷ past)
+  life_balance life = life_goes live.balance (entry.Balance (totals setup past) ∷ []) life tt refl
+
+-- its steps can be told
+tells : (s : LiveStep) → IsLifeStep s → IsTellable s
+tells (live.command c) is = is
+tells (live.next addr) is = tt
+tells live.balance is = tt
+tells (live.start at) is = absurd is
+
+pub all_tell : (steps : List LiveStep) → All IsLifeStep steps → All IsTellable steps
+all_tell [] all = All-nil IsTellable
+all_tell (s ∷ steps) all =
+    All-cons IsTellable s steps (tells s (All-head IsLifeStep s steps all)) (all_tell steps (All-tail IsLifeStep s steps all))
+
+-- it is what a legal past shows that goes on from its start
+puts_shown : (found : List Record) → shown (map (λ r. entry.Put r) found) ≡ map (λ r. entry.Put r) found
+puts_shown [] = refl
+puts_shown (r ∷ found) = ap (λ es. entry.Put r ∷ es) (puts_shown found)
+
+start_shown : (found : List Record) → shown (started found) ≡ started found
+start_shown found = ap (λ es. entry.Crash (length found) ∷ es) (puts_shown found)
+
+pub life_shows : (capacity : ℕ) (setup : Setup) (found : List Record) (steps : List LiveStep) (past : List Entry) →
+    IsLife capacity setup found steps past → IsShown capacity setup (started found) past
+life_shows capacity setup found steps past life =
+    followed_from capacity setup steps (started found) past (all_tell steps life.steps_are)
+    (subst (λ es. LiveFrom capacity setup es steps past) (sym (start_shown found)) life.live)

@@ -1,0 +1,5 @@
+use Rattle.cct_lives.proofs.Texts.{live_text}
+use Rattle.cct_lives.proofs.a_text_tells_its_live_transcript.Goals as goal
+
+pub returns : goal.returns
+returns c = live_text
