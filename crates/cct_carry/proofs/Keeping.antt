@@ -5,6 +5,9 @@ use Rattle.std.proofs.lemmas.Bool.{and_parts}
 use Rattle.std.proofs.lemmas.List.Elements.{All-head, All-nil, All-tail, All-weaker}
 use Rattle.cct_model.specs.terms.coin.TheConstants.{EVENTS}
 use Rattle.cct_model.specs.terms.device.TheConstants.{DEVICES}
+use Rattle.cct_model.specs.terms.device.DeviceBody.{DeviceBody}
+use Rattle.cct_model.specs.terms.device.DeviceBody.TheVariants.{Acceptor, Hopper}
+use Rattle.cct_model.specs.terms.device.DeviceSetup.{DeviceSetup}
 use Rattle.cct_model.specs.terms.device.Setup.{Setup}
 use Rattle.cct_model.specs.lines.record.Record.{Record}
 use Rattle.cct_model.specs.lines.record.Record.TheVariants as record_of
@@ -13,6 +16,7 @@ use Rattle.cct_model.specs.lines.carry.CarryEpoch.{CarryEpoch}
 use Rattle.cct_model.specs.lines.carry.CarryOrder.{CarryOrder}
 use Rattle.cct_model.specs.Carried.{AreSmall, EpochFits, IsRightly, OrderFits, Rise, addr_of_epoch, addr_of_order, empty_carry, first_with, id_of_order, set_with, with_some}
 use Rattle.cct_model.specs.Carry.{AreApart, IsOther, IsSafe, available_held, carry_with, epoch_entry, epoch_from, epoch_held, epochs_after, follows_carry, odd_more, order_entry, order_from, order_held, order_with, orders_after, owed_by, owner_by}
+use Rattle.cct_model.specs.Device.{is_acceptor, is_hopper}
 use Rattle.cct_model.specs.Exchange.{acceptor_there, device_at, hopper_there}
 use Rattle.cct_model.specs.Following.{count_of}
 use Rattle.cct_model.specs.Job.{counted, epoch_by}
@@ -25,7 +29,7 @@ use Rattle.cct_model.proofs.OpenOrders.{coins_both}
 use Rattle.cct_record.specs.Body.{InRange}
 use Rattle.cct_carry.specs.GoingOn.{CanGoOn, IsCovered, IsInReach}
 use Rattle.cct_carry.proofs.Coins.{coins_most, values_most, worth_most}
-use Rattle.cct_carry.proofs.Sets.{all_set, by_order, few_in, first_above, first_by_both, first_here, first_holds, first_key, first_past, length_set, none_has, rise_set, set_before, set_found, set_here, set_past}
+use Rattle.cct_carry.proofs.Sets.{all_set, by_order, few_both, few_in, first_above, first_by_both, first_here, first_holds, first_key, first_past, length_set, none_has, rise_set, set_before, set_found, set_here, set_past}
 
 -- an epoch at an address where an acceptor is, whose numbers fit
 record IsEpochAt (setup : Setup) (addr : ℕ) (e : CarryEpoch) : Type 0 where
@@ -532,6 +536,14 @@ each_next setup many c r safe =
       | inr same ↦ let is = ap (λ (os : List CarryOrder). length os) same in omega arith
     ]
 
+-- no device is of both kinds
+one_kind : (d : DeviceSetup) → acceptor_there (Some d) ≡ true → hopper_there (Some d) ≡ true → ⊥
+one_kind d acceptor hopper = by_body d.body acceptor hopper
+  where
+    by_body : (body : DeviceBody) → is_acceptor body ≡ true → is_hopper body ≡ true → ⊥
+    by_body (Acceptor accepts values ids) acceptor hopper = absurd cc
+    by_body (Hopper life value) acceptor hopper = absurd cc
+
 -- a safe carry is safe for one record more, with a record more that follows
 pub safe_next : (setup : Setup) (many : ℕ) (c : Carry) (r : Record) → IsSoundSetup setup
     → length setup.devices ≤ DEVICES → IsSafe setup many c → follows_carry setup c r ≡ true → IsInReach r
@@ -542,6 +554,9 @@ safe_next setup many c r sound devices safe ok fits =
     let adds = adds_few setup many c r sound safe fits in
     let epochs_few = few_in addr_of_epoch acceptor_there refl setup.devices (epochs_after (owner_by c r) r c) epochs.rise epochs.there in
     let orders_few = few_in addr_of_order hopper_there refl setup.devices (orders_after (owner_by c r) r c) orders.rise orders.there in
+    let few = few_both addr_of_epoch addr_of_order acceptor_there hopper_there refl refl one_kind setup.devices
+    (epochs_after (owner_by c r) r c) (orders_after (owner_by c r) r c) epochs.rise orders.rise epochs.there
+    orders.there in
     record {
       rightly = record {
         epochs_rise = epochs.rise;

@@ -1,5 +1,5 @@
 -- What becomes of a list in rising order of key where what has one key is set: put in, replaced or taken out.
-use Rattle.std.proofs.Common.{◌≡◌, ℕ, ◌+◌, ◌<◌, ◌≤◌, ◌==◌, cond, ltb, Bool, true, false, List, [], ◌∷◌, length, map, All, Option, Some, None, IfSome, inl, inr, refl, ap, sym, ◌∙◌, subst, arith}
+use Rattle.std.proofs.Common.{◌≡◌, ℕ, ◌+◌, ◌<◌, ◌≤◌, ◌==◌, cond, ltb, Bool, true, false, List, [], ◌∷◌, length, map, All, Option, Some, None, IfSome, ◌⊎◌, inl, inr, refl, ap, sym, ◌∙◌, subst, arith}
 use Rattle.std.proofs.lemmas.Bool.{cases_eq, cases_order, cond-true, cond-false, eq-eqb, le-ltb, lt-ltb, ne_eqb}
 use Rattle.std.proofs.lemmas.List.Elements.{All-cons, All-head, All-nil, All-tail}
 use Rattle.cct_model.specs.terms.device.DeviceSetup.{DeviceSetup}
@@ -248,6 +248,31 @@ module _ {X : Type 0} (key : X → ℕ) where
       let many = length_left d.addr xs in
       omega arith
 
+  -- as many are left without those of an address, or a device of this kind has it
+  left_or_there : (there : Option DeviceSetup → Bool) (d : DeviceSetup) (ds : List DeviceSetup) (xs : List X)
+      → Rise (map key xs) → All (λ x. there (device_at (d ∷ ds) (key x)) ≡ true) xs
+      → (length xs ≤ length (set_with key d.addr None xs)) ⊎ (there (Some d) ≡ true)
+  left_or_there there d ds xs rise all = by_found (first_with key d.addr xs) refl
+    where
+      here : device_at (d ∷ ds) d.addr ≡ Some d
+      here = cond-true (d.addr == d.addr) (Some d) (device_at ds d.addr) (eq-eqb d.addr d.addr refl)
+
+      by_found : (found : Option X) → first_with key d.addr xs ≡ found
+          → (length xs ≤ length (set_with key d.addr None xs)) ⊎ (there (Some d) ≡ true)
+      by_found None is =
+          let same : set_with key d.addr None xs ≡ xs =
+          ap (λ found. set_with key d.addr found xs) (sym is) ∙ set_found d.addr xs rise in
+          let many = ap (λ (ys : List X). length ys) same in
+          inl (omega (arith, many))
+      by_found (Some x) is =
+          inr (
+          ap there (sym here)
+          ∙ ap (λ a. there (device_at (d ∷ ds) a))
+          (sym (subst (λ found. HasKey d.addr found) is (first_key d.addr xs)))
+          ∙ subst (λ found. IfSome found (λ y. there (device_at (d ∷ ds) (key y)) ≡ true)) is
+          (first_holds (λ y. there (device_at (d ∷ ds) (key y)) ≡ true) d.addr xs all)
+          )
+
   -- where none is found, none has the key
   pub none_has : (wanted : ℕ) (xs : List X) → first_with key wanted xs ≡ None → All (λ x. key x ≡ wanted → ⊥) xs
   none_has wanted [] none = All-nil (λ x. key x ≡ wanted → ⊥)
@@ -257,6 +282,39 @@ module _ {X : Type 0} (key : X → ℕ) where
         | inl same ↦ absurd (let found = sym (first_here wanted x xs same) ∙ none in cc)
         | inr other ↦ All-cons (λ y. key y ≡ wanted → ⊥) x xs other (later (sym (first_past wanted x xs other) ∙ none))
       ]
+
+-- keys of two lists that rise and are addresses of devices, of which none is of both kinds, are together no more than the
+-- devices
+pub few_both : {X Y : Type 0} (key : X → ℕ) (other : Y → ℕ) (one two : Option DeviceSetup → Bool) → one None ≡ false
+    → two None ≡ false → ((d : DeviceSetup) → one (Some d) ≡ true → two (Some d) ≡ true → ⊥)
+    → (ds : List DeviceSetup) (xs : List X) (ys : List Y) → Rise (map key xs) → Rise (map other ys)
+    → All (λ x. one (device_at ds (key x)) ≡ true) xs → All (λ y. two (device_at ds (other y)) ≡ true) ys
+    → length xs + length ys ≤ length ds
+few_both key other one two one_none two_none apart [] xs ys rise_x rise_y all_x all_y =
+    let few_x = few_in key one one_none [] xs rise_x all_x in
+    let few_y = few_in other two two_none [] ys rise_y all_y in
+    omega (arith, few_x, few_y)
+few_both {X} {Y} key other one two one_none two_none apart (d ∷ ds) xs ys rise_x rise_y all_x all_y =
+    let found_x = all_set key (λ x. one (device_at (d ∷ ds) (key x)) ≡ true) d.addr None xs tt all_x in
+    let found_y = all_set other (λ y. two (device_at (d ∷ ds) (other y)) ≡ true) d.addr None ys tt all_y in
+    let others_x = none_left key d.addr xs rise_x in
+    let others_y = none_left other d.addr ys rise_y in
+    let later = few_both key other one two one_none two_none apart ds (set_with key d.addr None xs)
+    (set_with other d.addr None ys) (rise_set key d.addr None xs tt rise_x) (rise_set other d.addr None ys tt rise_y)
+    (λ i x below. there_later key one d ds _ (found_x i x below) (others_x i x below))
+    (λ i y below. there_later other two d ds _ (found_y i y below) (others_y i y below)) in
+    let many_x = length_left key d.addr xs in
+    let many_y = length_left other d.addr ys in
+    by_left later many_x many_y (left_or_there key one d ds xs rise_x all_x) (left_or_there other two d ds ys rise_y all_y)
+  where
+    by_left : length (set_with key d.addr None xs) + length (set_with other d.addr None ys) ≤ length ds
+        → length xs ≤ length (set_with key d.addr None xs) + 1 → length ys ≤ length (set_with other d.addr None ys) + 1
+        → (length xs ≤ length (set_with key d.addr None xs)) ⊎ (one (Some d) ≡ true)
+        → (length ys ≤ length (set_with other d.addr None ys)) ⊎ (two (Some d) ≡ true)
+        → length xs + length ys ≤ length (d ∷ ds)
+    by_left later many_x many_y (inl same) second = omega (arith, later, many_y, same)
+    by_left later many_x many_y (inr first) (inl same) = omega (arith, later, many_x, same)
+    by_left later many_x many_y (inr first) (inr second) = absurd (apart d first second)
 
 -- what is found by one key is the first by another, in whose order the list rises
 pub first_by_both : {X : Type 0} (key other : X → ℕ) (wanted : ℕ) (xs : List X) (x : X) → Rise (map key xs)
