@@ -19,6 +19,8 @@
 //! - `on_wire` of `proofs/OnWire.antt`: the entries of a `next`, and after an exchange that was forged the one that tells
 //!   so, are those of a `next` on the wire of a machine;
 //! - `books_legal` of `proofs/money/Books.antt`: of every legal past, ids are in order and the books are kept;
+//! - `steady_step` of `proofs/jobs/Tries.antt`, `polls_step` of `proofs/jobs/Scans.antt` and `good_step` of
+//!   `proofs/text/Texts.antt`, by which tries, polls and what is written go along from any past on;
 //! - `kept_due_allowed` of `proofs/money/Journal.antt` and `kept_restart_suits` of `proofs/money/Restarts.antt`: a ledger then
 //!   takes what a job is about to put, and a power cut is survived.
 #![tactic(auto)]

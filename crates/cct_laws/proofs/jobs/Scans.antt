@@ -29,7 +29,7 @@ pub record Polls (lines : List Line) : Type 0 where
   pub each : AllPast ScanTriesAt lines
   pub few : HasFewTries (job lines)
 
-abbrev PollsAt : List Entry → Type 0
+abbrev pub PollsAt : List Entry → Type 0
 PollsAt past = Polls (scan_lines past)
 
 -- one poll is at most one failed try more
@@ -120,7 +120,7 @@ restart_kept : (past : List Entry) → PollsAt past → Polls (restarted ∷ sca
 restart_kept past polls = record { each = (polls.few, polls.each); few = tt }
 
 -- what each step brings at address 0
-polls_step : (capacity : ℕ) (setup : Setup) → IsSoundSetup setup → (past news : List Entry) (s : Step) → ⊤ →
+pub polls_step : (capacity : ℕ) (setup : Setup) → IsSoundSetup setup → (past news : List Entry) (s : Step) → ⊤ →
     Ids setup past → Brought capacity setup past s news → PollsAt past → PollsAt (news ++ past)
 polls_step capacity setup sound past _ _ any ids (of_device d s news own told) polls =
     subst Polls (sym (unscanned capacity setup d past news s sound own told)) polls

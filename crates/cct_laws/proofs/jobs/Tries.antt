@@ -163,7 +163,7 @@ tries_at : (past : List Line) (l : Line) → GivenUpAt past l → TriesAt past l
 tries_at past (ended NoAnswer) given = given.0
 tries_at past l few = few
 
-all_tries : (lines : List Line) → AllPast GivenUpAt lines → AllPast TriesAt lines
+pub all_tries : (lines : List Line) → AllPast GivenUpAt lines → AllPast TriesAt lines
 all_tries [] each = tt
 all_tries (l ∷ lines) each = (tries_at lines l each.0, all_tries lines each.1)
 
@@ -417,7 +417,7 @@ steady_lost d past _ (kept_here c since r at_work is_row owned) steady =
 steady_lost d past _ (kept_elsewhere r away caused) steady =
     subst (Steady d) (sym (lines_kept_elsewhere d past r away)) (steady_restart d (lines_of d past) steady)
 
-steady_step : (capacity : ℕ) (setup : Setup) (d : DeviceSetup) → IsSoundSetup setup → IsOf setup d →
+pub steady_step : (capacity : ℕ) (setup : Setup) (d : DeviceSetup) → IsSoundSetup setup → IsOf setup d →
     (past news : List Entry) (s : Step) → ⊤ → Ids setup past → Brought capacity setup past s news →
     Steady d (lines_of d past) → Steady d (lines_of d (news ++ past))
 steady_step capacity setup d sound own past news s any ids told steady =

@@ -119,7 +119,7 @@ settle_needs : (found : Option DeviceSetup) (addr : ℕ) → need_for found (com
 settle_needs None addr = refl
 settle_needs (Some d) addr = refl
 
-settle_has_room : (capacity : ℕ) (setup : Setup) (past : List Entry) (addr : ℕ) →
+pub settle_has_room : (capacity : ℕ) (setup : Setup) (past : List Entry) (addr : ℕ) →
     length (records past) + held setup past ≤ capacity →
     IsNotFull (refusal capacity setup past (command.Settle addr))
 settle_has_room capacity setup past addr room =

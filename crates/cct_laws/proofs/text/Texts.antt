@@ -38,11 +38,11 @@ use Rattle.cct_laws.proofs.Lists.{Fine, IsAsked, fine_begun, row_asked, fine_mor
 use Rattle.cct_laws.proofs.text.Told.{IsTold, AllTold, told_written, heard_bytes, FitsAsk, ask_bytes, poll_fits, FitsJob, job_fits, FitsRow, row_fits, exchange_ends, put_ends}
 
 -- what holds of a past
-abbrev FineJob : Job → Type 0
+abbrev pub FineJob : Job → Type 0
 FineJob free = ⊤
 FineJob (works c since) = Fine since
 
-record Good (past : List Entry) : Type 0 where
+pub record Good (past : List Entry) : Type 0 where
   pub told : AllTold past
   pub scan : FineJob (job (scan_lines past))
 
@@ -139,17 +139,17 @@ poll_good setup past c since check addr sound is_job is_row good =
     }
 
 -- what a step says is in range, and of bytes
-abbrev Says : Step → Type 0
+abbrev pub Says : Step → Type 0
 Says s = IsInRange s × HasBytes s
 
-all_say : (steps : List Step) → All IsInRange steps → All HasBytes steps → All Says steps
+pub all_say : (steps : List Step) → All IsInRange steps → All HasBytes steps → All Says steps
 all_say [] range bytes = All-nil Says
 all_say (s ∷ steps) range bytes =
     All-cons Says s steps (All-head IsInRange s steps range, All-head HasBytes s steps bytes)
     (all_say steps (All-tail IsInRange s steps range) (All-tail HasBytes s steps bytes))
 
 -- every step
-good_step : (capacity : ℕ) (setup : Setup) → IsSoundSetup setup → (past news : List Entry) (s : Step) → Says s →
+pub good_step : (capacity : ℕ) (setup : Setup) → IsSoundSetup setup → (past news : List Entry) (s : Step) → Says s →
     Ids setup past → Brought capacity setup past s news → Good past → Good (news ++ past)
 good_step capacity setup sound past _ _ says ids (of_device d s news own at_it) good = record {
   told = told_there capacity setup d past news s sound own says.0 says.1 at_it good.told;
