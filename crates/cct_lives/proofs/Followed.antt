@@ -3,7 +3,7 @@
 use Rattle.hex.specs.Hex.{IsBytes}
 use Rattle.std.proofs.Common.{◌≡◌, ◌⊎◌, inl, inr, ℕ, ◌≤◌, ◌<◌, List, [], ◌∷◌, ◌++◌, length, refl, sym, ap, ◌∙◌, subst, Option, Some, None, All, arith, append_assoc}
 use Rattle.std.specs.Prelude.{⊤}
-use Rattle.std.proofs.lemmas.List.Elements.{All-head, All-tail, All-nil, All-cons}
+use Rattle.std.proofs.lemmas.List.Elements.{All-append, All-head, All-tail, All-nil, All-cons}
 use Rattle.cct_model.specs.terms.wire.TheConstants.{BROADCAST, MOST_HEARD}
 use Rattle.cct_model.specs.terms.device.DeviceSetup.{DeviceSetup}
 use Rattle.cct_model.specs.terms.device.Setup.{Setup}
@@ -219,11 +219,6 @@ legal_on capacity setup [] more past middle end first second =
 legal_on capacity setup (s ∷ steps) more past middle end first second =
     (first.0, first.1, legal_on capacity setup steps more (first.0 ++ past) middle end first.2 second)
 
-all_on : {A : Type 0} (P : A → Type 0) (steps more : List A) → All P steps → All P more → All P (steps ++ more)
-all_on P [] more first second = second
-all_on P (s ∷ steps) more first second =
-    All-cons P s (steps ++ more) (All-head P s steps first) (all_on P steps more (All-tail P s steps first) second)
-
 all_later : {A : Type 0} (P : A → Type 0) (first more : List A) → All P (first ++ more) → All P more
 all_later P [] more all = all
 all_later P (x ∷ first) more all = all_later P first more (All-tail P x (first ++ more) all)
@@ -273,9 +268,9 @@ follows_from capacity setup (s ∷ lived) past end range is =
     record {
       steps = one.steps ++ rest.steps;
       past = rest.past;
-      in_range = all_on IsInRange one.steps rest.steps one.in_range rest.in_range;
+      in_range = All-append IsInRange one.steps rest.steps one.in_range rest.in_range;
       bytes = λ said heard.
-          all_on HasBytes one.steps rest.steps
+          All-append HasBytes one.steps rest.steps
           (one.bytes (All-head SaysBytes s lived said, news_heard capacity setup lived (shown past) is.0 end is.2 heard))
           (rest.bytes (All-tail SaysBytes s lived said) heard);
       legal = legal_on capacity setup one.steps rest.steps past one.end rest.past one.legal rest.legal;

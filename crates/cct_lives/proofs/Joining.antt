@@ -11,7 +11,7 @@ use Rattle.cct_laws.specs.Recorded.{HasNoJob}
 use Rattle.cct_laws.proofs.money.Restarts.{entries_free}
 use Rattle.cct_lives.specs.LiveStep.{LiveStep}
 use Rattle.cct_lives.specs.LiveStep as live
-use Rattle.cct_lives.specs.Live.{GoesOnAs, LiveEntries, LiveFrom, started}
+use Rattle.cct_lives.specs.Live.{GoesOnAs, IsOneWith, LiveEntries, LiveFrom, started}
 use Rattle.cct_lives.proofs.Alike.{Alike, alike_entry}
 use Rattle.cct_lives.proofs.Onward.{totals_same, refusal_same, restart_over, next_over}
 
@@ -65,3 +65,26 @@ pub lives_join : (capacity : ℕ) (setup : Setup) (past news : List Entry) (at :
 lives_join capacity setup past news at steps end restarted is =
     live_over capacity setup steps (started (records (news ++ past))) (news ++ past) end
     (alike_started (news ++ past) (entries_free setup past at news restarted)) is
+
+-- live hosts go on, so all that was told is told by live ones
+pub live_on : (capacity : ℕ) (setup : Setup) (lived steps : List LiveStep) (past middle end : List Entry) →
+    LiveFrom capacity setup past lived middle → LiveFrom capacity setup middle steps end →
+    LiveFrom capacity setup past (lived ++ steps) end
+live_on capacity setup [] steps past middle end first second =
+    subst (λ es. LiveFrom capacity setup es steps end) first second
+live_on capacity setup (s ∷ lived) steps past middle end first second =
+    (first.0, first.1, live_on capacity setup lived steps (first.0 ++ past) middle end first.2 second)
+
+pub lives_whole : (capacity : ℕ) (setup : Setup) (lived : List LiveStep) (past news : List Entry) (at : Option CrashAt)
+    (steps : List LiveStep) (end : List Entry) → LiveFrom capacity setup [] lived past → EntriesOfRestart setup past at news →
+    LiveFrom capacity setup (started (records (news ++ past))) steps end →
+    IsOneWith capacity setup lived past news at steps end
+lives_whole capacity setup lived past news at steps end first restarted is =
+    let on = lives_join capacity setup past news at steps end restarted is in
+    record {
+      told = on.told;
+      ends = on.ends;
+      live =
+          live_on capacity setup lived (live.start at ∷ steps) [] past (on.told ++ (news ++ past)) first
+          (news, restarted, on.goes);
+    }

@@ -9,6 +9,8 @@ pub mod Joining
 pub mod Life
 pub mod LifeBooks
 pub mod LifeLaws
+pub mod LifeTexts
+pub mod LifeTries
 pub mod Onward
 pub mod Posting
 pub mod Sends

@@ -1,6 +1,6 @@
 -- One life of a host: it begins over the records that it found, and goes on by a command, by a `next`, and by a balance.
 use Rattle.std.proofs.Common.{◌≡◌, ℕ, ◌≤◌, true, List, [], ◌∷◌, ◌++◌, length, map, refl, ap, sym, subst, All}
-use Rattle.std.proofs.lemmas.List.Elements.{All-head, All-tail, All-nil, All-cons}
+use Rattle.std.proofs.lemmas.List.Elements.{All-nil, All-push, All-weaker}
 use Rattle.cct_model.specs.terms.wire.TheConstants.{MOST_HEARD}
 use Rattle.cct_model.specs.terms.device.Setup.{Setup}
 use Rattle.cct_model.specs.lines.command.Command.{Command}
@@ -17,6 +17,7 @@ use Rattle.cct_lives.specs.Live.{IsShown, IsTellable, LiveEntries, LiveFrom, sho
 use Rattle.cct_lives.specs.LiveStep.{LiveStep}
 use Rattle.cct_lives.specs.LiveStep as live
 use Rattle.cct_lives.proofs.Followed.{followed_from}
+use Rattle.cct_lives.proofs.Joining.{live_on}
 
 -- it begins
 pub life_begins : (capacity : ℕ) (setup : Setup) (found : List Record) → all_follow setup found ≡ true →
@@ -24,29 +25,14 @@ pub life_begins : (capacity : ℕ) (setup : Setup) (found : List Record) → all
 life_begins capacity setup found follow =
     record { follow = follow; steps_are = All-nil IsLifeStep; live = refl }
 
--- one step more
-live_on : (capacity : ℕ) (setup : Setup) (past : List Entry) (steps : List LiveStep) (end : List Entry) (s : LiveStep)
-    (news : List Entry) → LiveFrom capacity setup past steps end → LiveEntries capacity setup end s news →
-    LiveFrom capacity setup past (steps ++ s ∷ []) (news ++ end)
-live_on capacity setup past [] end s news is told =
-    (news, subst (λ es. LiveEntries capacity setup es s news) is told, ap (λ es. news ++ es) is)
-live_on capacity setup past (x ∷ steps) end s news is told =
-    (is.0, is.1, live_on capacity setup (is.0 ++ past) steps end s news is.2 told)
-
-step_on : (steps : List LiveStep) (s : LiveStep) → All IsLifeStep steps → IsLifeStep s → All IsLifeStep (steps ++ s ∷ [])
-step_on [] s all is = All-cons IsLifeStep s [] is (All-nil IsLifeStep)
-step_on (x ∷ steps) s all is =
-    All-cons IsLifeStep x (steps ++ s ∷ []) (All-head IsLifeStep x steps all)
-    (step_on steps s (All-tail IsLifeStep x steps all) is)
-
 module _ (capacity : ℕ) (setup : Setup) (found : List Record) (steps : List LiveStep) (past : List Entry) where
   -- it goes on
   pub life_goes : (s : LiveStep) (news : List Entry) → IsLife capacity setup found steps past → IsLifeStep s →
       LiveEntries capacity setup past s news → IsLife capacity setup found (steps ++ s ∷ []) (news ++ past)
   life_goes s news life is told = record {
     follow = life.follow;
-    steps_are = step_on steps s life.steps_are is;
-    live = live_on capacity setup (started found) steps past s news life.live told;
+    steps_are = All-push IsLifeStep steps s life.steps_are is;
+    live = live_on capacity setup steps (s ∷ []) (started found) past (news ++ past) life.live (news, told, refl);
   }
 
   pub life_command : (c : Command) → IsLife capacity setup found steps past → IsCommand c →
@@ -70,16 +56,14 @@ tells live.balance is = tt
 tells (live.start at) is = absurd is
 
 pub all_tell : (steps : List LiveStep) → All IsLifeStep steps → All IsTellable steps
-all_tell [] all = All-nil IsTellable
-all_tell (s ∷ steps) all =
-    All-cons IsTellable s steps (tells s (All-head IsLifeStep s steps all)) (all_tell steps (All-tail IsLifeStep s steps all))
+all_tell steps all = All-weaker IsLifeStep IsTellable tells steps all
 
 -- it is what a legal past shows that goes on from its start
 puts_shown : (found : List Record) → shown (map (λ r. entry.Put r) found) ≡ map (λ r. entry.Put r) found
 puts_shown [] = refl
 puts_shown (r ∷ found) = ap (λ es. entry.Put r ∷ es) (puts_shown found)
 
-start_shown : (found : List Record) → shown (started found) ≡ started found
+pub start_shown : (found : List Record) → shown (started found) ≡ started found
 start_shown found = ap (λ es. entry.Crash (length found) ∷ es) (puts_shown found)
 
 pub life_shows : (capacity : ℕ) (setup : Setup) (found : List Record) (steps : List LiveStep) (past : List Entry) →

@@ -17,6 +17,10 @@ use Rattle.cct_lives.specs.Texts.{HearsBytes, IsInBytes}
 use Rattle.cct_lives.proofs.Carrying.{each_shown, whole}
 use Rattle.cct_lives.proofs.Followed.{follows_from}
 
+pub all_of : (P : Entry → Type 0) (es : List Entry) → EachEntry (λ older e. P e) es → All P es
+all_of P [] each = All-nil P
+all_of P (e ∷ es) each = All-cons P e es each.0 (all_of P es each.1)
+
 -- every entry of a live transcript in bytes is written
 pub live_written : (capacity : ℕ) (setup : Setup) (steps : List LiveStep) (transcript : List Entry) →
     IsSoundSetup setup → IsInBytes capacity setup steps transcript → All IsWritten transcript
@@ -29,10 +33,6 @@ live_written capacity setup steps transcript sound is =
     let each = subst (EachEntry (λ older e. IsWritten e)) (whole by.past) (each_onto IsWritten [] (reverse by.past) tt all) in
     (onto_each IsWritten [] transcript
     (subst (EachEntry (λ older e. IsWritten e)) by.shows (each_shown (λ older e. IsWritten e) (λ past e is. is) by.past each))).1
-  where
-    all_of : (P : Entry → Type 0) (es : List Entry) → EachEntry (λ older e. P e) es → All P es
-    all_of P [] each = All-nil P
-    all_of P (e ∷ es) each = All-cons P e es each.0 (all_of P es each.1)
 
 pub live_text : (capacity room : ℕ) (setup : Setup) (steps others : List LiveStep) (first second : List Entry) →
     IsSoundSetup setup → IsInBytes capacity setup steps first → IsInBytes room setup others second →

@@ -30,13 +30,13 @@ tries_over : (past other : List Line) (l : Line) → job past ≡ job other → 
 tries_over past other (ended NoAnswer) same at = subst (λ at_work. failed_in at_work ≡ 3) same at
 tries_over past other l same at = subst (λ at_work. failed_in at_work < 3) same at
 
-tries_undosed : (lines : List Line) → AllPast TriesAt lines → AllPast TriesAt (undosed lines)
+pub tries_undosed : (lines : List Line) → AllPast TriesAt lines → AllPast TriesAt (undosed lines)
 tries_undosed [] all = tt
 tries_undosed (dispensed count ∷ lines) all = tries_undosed lines all.1
 tries_undosed (l ∷ lines) all =
     (tries_over lines (undosed lines) l (job_undosed lines) all.0, tries_undosed lines all.1)
 
-tries_seen : (lines : List Line) → AllPast TriesAt (undosed lines) → AllPast SeenTriesAt lines
+pub tries_seen : (lines : List Line) → AllPast TriesAt (undosed lines) → AllPast SeenTriesAt lines
 tries_seen [] all = tt
 tries_seen (dispensed count ∷ lines) all = (tt, tries_seen lines all)
 tries_seen (l ∷ lines) all =
@@ -71,7 +71,7 @@ live_few_tries =
     subst (λ at_work. failed_in at_work < 3) ((alike_shown past).devices d) (few d own))
 
 -- the lines of scans are the same
-scans_shown : (past : List Entry) → scan_lines past ≡ scan_lines (shown past)
+pub scans_shown : (past : List Entry) → scan_lines past ≡ scan_lines (shown past)
 scans_shown [] = refl
 scans_shown (entry.Fault f ∷ past) = scans_shown past
 scans_shown (entry.Forged addr ∷ past) = scans_shown past

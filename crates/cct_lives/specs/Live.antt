@@ -1,15 +1,17 @@
 -- A live transcript: what hosts send, record and tell, whatever is heard in their exchanges, over any number of lives of
 -- the process over one journal.
-use Rattle.std.specs.Prelude.{◌≡◌, ◌≤◌, ℕ, List, [], ◌∷◌, ◌++◌, length, map, ⊤}
+use Rattle.std.specs.Prelude.{◌≡◌, ◌≤◌, ℕ, List, [], ◌∷◌, ◌++◌, length, map, Option, ⊤}
 use Rattle.std.specs.List.{All}
 use Rattle.cct_model.specs.terms.wire.TheConstants.{MOST_HEARD}
 use Rattle.cct_model.specs.terms.device.Setup.{Setup}
 use Rattle.cct_model.specs.lines.record.Record.{Record}
+use Rattle.cct_model.specs.lines.command.CrashAt.{CrashAt}
 use Rattle.cct_model.specs.lines.command.Step.{Step}
 use Rattle.cct_model.specs.lines.entry.Entry.{Entry}
 use Rattle.cct_model.specs.lines.entry.Entry.TheVariants as entry
 use Rattle.cct_model.specs.Legal.{command_entry, EntriesOfNext, EntriesOfRestart, LegalFrom}
 use Rattle.cct_model.specs.Money.{totals}
+use Rattle.cct_model.specs.Records.{records}
 use Rattle.cct_model.specs.Refusal.{refusal}
 use Rattle.cct_model.specs.Script.{IsCommand, IsCrash, IsInRange}
 use Rattle.cct_model.specs.Setup.{IsSoundSetup}
@@ -55,6 +57,14 @@ pub record GoesOnAs (capacity : ℕ) (setup : Setup) (past : List Entry) (steps 
   pub told : List Entry
   pub ends : end ≡ told ++ past
   pub goes : LiveFrom capacity setup other steps (told ++ other)
+
+-- What a life told behind a start over the records that earlier lives left, in these steps, is together with all that they
+-- told what live hosts tell in the steps of all.
+pub record IsOneWith (capacity : ℕ) (setup : Setup) (lived : List LiveStep) (past news : List Entry) (at : Option CrashAt)
+    (steps : List LiveStep) (end : List Entry) : Type 0 where
+  pub told : List Entry
+  pub ends : end ≡ told ++ started (records (news ++ past))
+  pub live : LiveFrom capacity setup [] (lived ++ live.start at ∷ steps) (told ++ (news ++ past))
 
 -- A past is what a legal one shows, which went on from this one by steps in range.
 pub record IsShown (capacity : ℕ) (setup : Setup) (before end : List Entry) : Type 0 where

@@ -30,16 +30,17 @@ ghost use Rattle.cct_model.specs.Refusal.{held, refusal};
 ghost use Rattle.cct_model.specs.Transcript.{lines_of, onto, scan_lines};
 ghost use Rattle.cct_laws.specs.Balanced.{IsBalanced, IsConserved};
 ghost use Rattle.cct_laws.specs.Law.{EachEntry, IsOf, lines_in};
+ghost use Rattle.cct_laws.specs.Recorded.{open_orders};
 ghost use Rattle.cct_lives.specs.Counters.{IsTallied, told_in};
 ghost use Rattle.cct_lives.specs.Life.{EachLife, EachSinceStart, room_over};
-ghost use Rattle.cct_lives.specs.Live.{EachLive, GoesOnAs, IsShown, LiveFrom, started};
+ghost use Rattle.cct_lives.specs.Live.{EachLive, GoesOnAs, IsOneWith, IsShown, LiveFrom, started};
 ghost use Rattle.cct_lives.specs.LiveStep.{LiveStep};
 ghost use Rattle.cct_model.specs.terms.device.DeviceSetup.{DeviceSetup};
 ghost use Rattle.cct_model.specs.lines.command.Step.{Step};
 ghost use Rattle.cct_model.specs.Setup.{IsSoundSetup};
 ghost use Rattle.cct_lives.specs.Posts.{PostAt};
 ghost use Rattle.cct_lives.specs.Sends.{SentAt, sent_in};
-ghost use Rattle.cct_lives.specs.Texts.{IsInBytes};
+ghost use Rattle.cct_lives.specs.Texts.{IsInBytes, IsLifeInBytes};
 ghost use Rattle.cct_model.specs.Text.{text};
 ghost use Rattle.cct_model.specs.Claims.{AllPast};
 ghost use Rattle.cct_model.specs.Job.{job};
@@ -55,12 +56,17 @@ pub fn a_live_transcript_is_what_a_legal_one_shows()
 
 /// All lives are one. A host that starts over a journal knows its records alone. What it then does, it also does after all
 /// that the earlier hosts told, in the same steps and with the same entries. Its start may be after any past, within a put
-/// or not. So the laws below hold over all lives together.
+/// or not. So what it tells behind all that they told is live with it, and the laws below hold over all lives together.
 pub fn all_lives_are_one()
-    ensures { (capacity : ℕ) (setup : Setup) (past news : List Entry) (at : Option CrashAt) (steps : List LiveStep)
-        (end : List Entry)
+    ensures goes_on { (capacity : ℕ) (setup : Setup) (past news : List Entry) (at : Option CrashAt)
+        (steps : List LiveStep) (end : List Entry)
         → EntriesOfRestart setup past at news → LiveFrom capacity setup (started (records (news ++ past))) steps end
         → GoesOnAs capacity setup (started (records (news ++ past))) steps end (news ++ past) }
+    ensures whole { (capacity : ℕ) (setup : Setup) (lived : List LiveStep) (past news : List Entry)
+        (at : Option CrashAt) (steps : List LiveStep) (end : List Entry)
+        → LiveFrom capacity setup [] lived past → EntriesOfRestart setup past at news
+        → LiveFrom capacity setup (started (records (news ++ past))) steps end
+        → IsOneWith capacity setup lived past news at steps end }
 {}
 
 /// No id is used twice over all lives, whatever is heard: no two records that open an order or sell have the same id. In one
@@ -111,7 +117,7 @@ pub fn money_is_conserved_over_all_lives()
 /// A put never meets a full journal, in any life, whatever is heard. Its records and those that are held for running jobs and
 /// open orders find room. So one that a job is about to put does, and no settlement is refused for want of it. One life over
 /// any journal needs no more room than that journal has, where it has room for one record more for each order that was found
-/// open. Where it hasn't, it needs no more than these.
+/// open; then no settlement is refused either. Where it hasn't, the life needs no more than these.
 pub fn a_put_of_a_life_finds_room()
     ensures held { EachLive (λ capacity setup transcript.
         length (records (onto [] transcript)) + held setup (onto [] transcript) ≤ capacity) }
@@ -119,6 +125,9 @@ pub fn a_put_of_a_life_finds_room()
         → due_at setup (onto [] transcript) addr ≡ Some r → length (records (onto [] transcript)) < capacity) }
     ensures settlements { EachLive (λ capacity setup transcript. (addr used held need : ℕ)
         → refusal capacity setup (onto [] transcript) (Settle addr) ≢ Some (JournalFull used held need)) }
+    ensures life_settlements { EachLife (λ capacity setup found past. length found + open_orders setup found ≤ capacity
+        → (addr used held need : ℕ)
+        → refusal capacity setup past (Settle addr) ≢ Some (JournalFull used held need)) }
     ensures life_held { EachLife (λ capacity setup found past.
         length (records past) + held setup past ≤ room_over capacity setup found) }
     ensures life_puts { EachLife (λ capacity setup found past. (addr : ℕ) (r : Record)
@@ -184,7 +193,7 @@ pub fn no_event_is_posted_twice()
 
 /// A job of a live host ends for want of an answer exactly after the third failed try in succession of one of its rows,
 /// whatever is heard, and so does a scan. That end stands after three failed tries, and any other line that the host sees
-/// after fewer; a job that goes on has fewer than three.
+/// after fewer; a job that goes on has fewer than three. It is so over all lives, and in one life over any journal.
 pub fn the_third_failed_try_ends_a_job_in_any_life()
     ensures jobs { EachLive (λ capacity setup transcript. (d : DeviceSetup) → IsOf setup d
         → AllPast SeenTriesAt (lines_in d transcript)) }
@@ -192,13 +201,24 @@ pub fn the_third_failed_try_ends_a_job_in_any_life()
         → failed_in (job (lines_in d transcript)) < 3) }
     ensures scans { EachLive (λ capacity setup transcript. AllPast ScanTriesAt (scan_lines (onto [] transcript))) }
     ensures scan_goes_on { EachLive (λ capacity setup transcript. HasFewTries (job (scan_lines (onto [] transcript)))) }
+    ensures life_jobs { EachLife (λ capacity setup found past. (d : DeviceSetup) → IsOf setup d
+        → AllPast SeenTriesAt (lines_of d past)) }
+    ensures life_goes_on { EachLife (λ capacity setup found past. (d : DeviceSetup) → IsOf setup d
+        → failed_in (job (lines_of d past)) < 3) }
+    ensures life_scans { EachLife (λ capacity setup found past. AllPast ScanTriesAt (scan_lines past)) }
+    ensures life_scan_goes_on { EachLife (λ capacity setup found past. HasFewTries (job (scan_lines past))) }
 {}
 
 /// Where two live transcripts of one setup have the same text, they are the same, whatever their journals take: so whoever
-/// reads what the hosts printed knows all that they sent, heard, recorded and told. They are in bytes: the address of each
-/// `next`, the address and the mask of each command, and all that is heard. It says nothing of the steps, nor of two setups.
+/// reads what the hosts printed knows all that they sent, heard, recorded and told. So it is with what two lives tell, each
+/// behind its start over any journal. They are in bytes: the address of each `next`, the address and the mask of each
+/// command, and all that is heard. It says nothing of the steps, nor of two setups.
 pub fn a_text_tells_its_live_transcript()
-    ensures { (capacity room : ℕ) (setup : Setup) (steps others : List LiveStep) (first second : List Entry)
+    ensures live { (capacity room : ℕ) (setup : Setup) (steps others : List LiveStep) (first second : List Entry)
         → IsSoundSetup setup → IsInBytes capacity setup steps first → IsInBytes room setup others second
         → text first ≡ text second → first ≡ second }
+    ensures life { (capacity room : ℕ) (setup : Setup) (found others : List Record) (steps more : List LiveStep)
+        (first second : List Entry)
+        → IsSoundSetup setup → IsLifeInBytes capacity setup found steps first
+        → IsLifeInBytes room setup others more second → text first ≡ text second → first ≡ second }
 {}

@@ -1,5 +1,6 @@
 use Rattle.cct_lives.proofs.Carrying.{live_put, live_room, live_settle}
 use Rattle.cct_lives.proofs.LifeBooks.{life_put, life_room}
+use Rattle.cct_lives.proofs.LifeTries.{life_settle}
 use Rattle.cct_lives.proofs.a_put_of_a_life_finds_room.Goals as goal
 
 pub returns : goal.returns
@@ -7,6 +8,7 @@ returns c = record {
   held = live_room;
   puts = live_put;
   settlements = live_settle;
+  life_settlements = life_settle;
   life_held = life_room;
   life_puts = life_put;
 }
