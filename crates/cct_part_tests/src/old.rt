@@ -1,9 +1,7 @@
 // Bodies of journals of versions 1 and 2, worked out by hand, and bodies that spelt nothing in them.
-ghost use Rattle.std.specs.Prelude.{◌≤◌};
-
-use crate::record::body;
+use crate::record::{body, five_coins, one_coin};
 use arrayvec::ArrayVec;
-use cct_lines::{Carry, CarryEpoch, CarryEpochs, CarryOrder, CarryOrders, Coin, Coins, Record};
+use cct_lines::{Carry, CarryEpoch, CarryEpochs, CarryOrder, CarryOrders, Coins, Record};
 use cct_record::{read_old, read_old_carry};
 use std::alloc::Global;
 use std::process::Abort;
@@ -30,17 +28,6 @@ fn check(rt: &impl Abort, alloc: Global, fields: &[u8], entry: &Record) -> Resul
     Ok(())
 }
 
-fn coins(all: &[(u8, u8)]) -> Coins {
-    let mut coins = Coins::new();
-    for (place, path) in all {
-        let _ = coins.try_push(Coin {
-            place: *place,
-            path: *path,
-        });
-    }
-    coins
-}
-
 #[test]
 fn records_of_an_old_epoch_are_read(rt: HostRuntime) -> Result<(), Fail> {
     let alloc = rt.alloc();
@@ -55,7 +42,7 @@ fn records_of_an_old_epoch_are_read(rt: HostRuntime) -> Result<(), Fail> {
         counter: 1,
         lost: 0,
         accepts: 0,
-        posted: coins(&[(5, 1)]),
+        posted: one_coin(5, 1),
     };
     check(&rt, alloc, &[2, 2, 1, 0, 1, 5, 1], &reading)?;
     let full = Record::Reading {
@@ -63,7 +50,7 @@ fn records_of_an_old_epoch_are_read(rt: HostRuntime) -> Result<(), Fail> {
         counter: 254,
         lost: 249,
         accepts: 0,
-        posted: coins(&[(5, 1), (8, 16), (1, 255), (255, 0), (2, 2)]),
+        posted: five_coins(),
     };
     let fields = [2, 255, 254, 249, 5, 5, 1, 8, 16, 1, 255, 255, 0, 2, 2];
     check(&rt, alloc, &fields, &full)?;
@@ -81,9 +68,9 @@ fn records_of_an_old_epoch_are_read(rt: HostRuntime) -> Result<(), Fail> {
         counter: 4,
         lost: 0,
         accepts: 0,
-        posted: coins(&[(16, 8), (1, 1)]),
+        posted: one_coin(16, 8),
     };
-    check(&rt, alloc, &[3, 3, 4, 0xfe, 0xff, 2, 16, 8, 1, 1], &broken)?;
+    check(&rt, alloc, &[3, 3, 4, 0xfe, 0xff, 1, 16, 8], &broken)?;
     check(&rt, alloc, &[4, 2], &Record::EpochEnd { addr: 2 })
 }
 

@@ -17,7 +17,7 @@ pub(crate) fn body(fields: &[u8]) -> [u8; 31] {
     body
 }
 
-fn one_coin(place: u8, path: u8) -> Coins
+pub(crate) fn one_coin(place: u8, path: u8) -> Coins
     requires { 1 ≤ place }
     ensures { result ≡ record { place = place; path = path } ∷ [] }
 {
@@ -26,7 +26,7 @@ fn one_coin(place: u8, path: u8) -> Coins
     coins
 }
 
-fn five_coins() -> Coins
+pub(crate) fn five_coins() -> Coins
     ensures { All IsPlaced result }
 {
     let mut coins = one_coin(5, 1);
