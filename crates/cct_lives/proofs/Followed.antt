@@ -229,7 +229,7 @@ all_first P (x ∷ first) more all =
     All-cons P x first (All-head P x (first ++ more) all) (all_first P first more (All-tail P x (first ++ more) all))
 
 -- steps add to a past
-live_grown : (capacity : ℕ) (setup : Setup) (steps : List LiveStep) (past end : List Entry) →
+pub live_grown : (capacity : ℕ) (setup : Setup) (steps : List LiveStep) (past end : List Entry) →
     LiveFrom capacity setup past steps end → (more : List Entry) × (end ≡ more ++ past)
 live_grown capacity setup [] past end is = ([], is)
 live_grown capacity setup (s ∷ steps) past end is =

@@ -1,6 +1,6 @@
 -- One life of a host: it begins over the records that it found, and goes on by a command, by a `next`, and by a balance.
 use Rattle.std.proofs.Common.{◌≡◌, ℕ, ◌≤◌, true, List, [], ◌∷◌, ◌++◌, length, map, refl, ap, sym, subst, All}
-use Rattle.std.proofs.lemmas.List.Elements.{All-nil, All-push, All-weaker}
+use Rattle.std.proofs.lemmas.List.Elements.{All-append, All-cons, All-nil, All-weaker}
 use Rattle.cct_model.specs.terms.wire.TheConstants.{MOST_HEARD}
 use Rattle.cct_model.specs.terms.device.Setup.{Setup}
 use Rattle.cct_model.specs.lines.command.Command.{Command}
@@ -26,14 +26,19 @@ life_begins capacity setup found follow =
     record { follow = follow; steps_are = All-nil IsLifeStep; live = refl }
 
 module _ (capacity : ℕ) (setup : Setup) (found : List Record) (steps : List LiveStep) (past : List Entry) where
-  -- it goes on
+  -- it goes on by steps, and by one
+  pub life_on : (more : List LiveStep) (end : List Entry) → IsLife capacity setup found steps past → All IsLifeStep more →
+      LiveFrom capacity setup past more end → IsLife capacity setup found (steps ++ more) end
+  life_on more end life are told = record {
+    follow = life.follow;
+    steps_are = All-append IsLifeStep steps more life.steps_are are;
+    live = live_on capacity setup steps more (started found) past end life.live told;
+  }
+
   pub life_goes : (s : LiveStep) (news : List Entry) → IsLife capacity setup found steps past → IsLifeStep s →
       LiveEntries capacity setup past s news → IsLife capacity setup found (steps ++ s ∷ []) (news ++ past)
-  life_goes s news life is told = record {
-    follow = life.follow;
-    steps_are = All-push IsLifeStep steps s life.steps_are is;
-    live = live_on capacity setup steps (s ∷ []) (started found) past (news ++ past) life.live (news, told, refl);
-  }
+  life_goes s news life is told =
+      life_on (s ∷ []) (news ++ past) life (All-cons IsLifeStep s [] is (All-nil IsLifeStep)) (news, told, refl)
 
   pub life_command : (c : Command) → IsLife capacity setup found steps past → IsCommand c →
       IsLife capacity setup found (steps ++ live.command c ∷ []) (command_entry c (refusal capacity setup past c) ∷ past)

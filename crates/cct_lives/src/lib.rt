@@ -178,9 +178,9 @@ pub fn what_is_posted_was_heard()
 /// No event is posted twice by the counters' own account, whatever the wire does: in the newest epoch of each acceptor, in
 /// every live and in every legal transcript. Its readings, and the break that may end it, together post at most as many coins
 /// as the event counters tell events, each from the recorded one to its own. They tell at most as many coins as lost as the
-/// accept counters tell. Posted and lost together are at least as many as these tell. In one life over any journal it is so if
-/// it was so of the records that were found. Over a wire that lies they may be more: where an event counter tells a coin that
-/// no accept counter tells, it is posted. `one_round` of `proofs/Worked.antt` is such a run.
+/// accept counters tell. Posted and lost together are at least as many as the accept counters tell. Over a wire that lies
+/// they may be more: a coin is posted where an event counter tells it and no accept counter does, as in `one_round` of
+/// `proofs/Worked.antt`. In one life over any journal all this is so if it was so of the records that were found.
 pub fn no_event_is_posted_twice()
     ensures legal { (capacity : ℕ) (setup : Setup) (steps : List Step) (transcript : List Entry) (d : DeviceSetup)
         → IsSoundSetup setup → IsOf setup d → Legal capacity setup steps transcript
