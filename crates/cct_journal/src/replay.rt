@@ -17,7 +17,7 @@ pub trait Replay {
 
     /// Goes over the carry of `base` records, before any record.
     fn begin(&mut self, base: u32, carry: &Carry)
-        requires few { base < MOST_RECORDS }
+        requires few { base ≤ MOST_RECORDS }
         requires rightly { IsRightly base carry.now }
         ensures { replayed self.old base carry.now [] self.new };
 

@@ -1,0 +1,46 @@
+//! What a half of version 2 begins with, as bytes.
+ghost use Rattle.std.specs.Prelude.{◌≡◌, ℕ, ◌≤◌, ◌<◌, ◌↔◌, IfNone, IfSome, IsTrue};
+ghost use Rattle.cct_lines.specs.Carried.{IsRightly};
+ghost use Rattle.cct_lines.specs.declared.carry.Carry.{Carry};
+ghost use Rattle.cct_record.specs.OldCarryBody.{OldSpellsCarry};
+ghost use Rattle.cct_journal.specs.Half.{turns_in};
+ghost use Rattle.cct_journal.specs.OldImage.{BeginsSecond, MayBeginOld};
+ghost use Rattle.cct_journal.specs.StartReading.{base_in, bodies_in, count_in};
+
+use crate::format::{MOST_RECORDS, SECOND_VERSION, START};
+use crate::start::{Start, bodies_at, four_at, has_parity, spell_with};
+use cct_record::read_old_carry;
+
+/// Whether a half of version 2 may begin so, where the carry may be that of so many records.
+fn may_begin_old(start: &Start, second: bool) -> bool
+    requires { IsRightly start.now.base start.now.carry }
+    ensures { IsTrue result ↔ MayBeginOld second start.now.generation start.now.base start.now.carry }
+{
+    has_parity(start.generation, second)
+        && start.generation <= start.base
+        && u64::from(start.base) < MOST_RECORDS
+}
+
+/// What a half of version 2 begins with that has these first bytes, or none where no such half begins so.
+pub(crate) fn read_old_start(bytes: &[u8; START], second: bool) -> Option<Start>
+    ensures begins { IfSome result (λ s. BeginsSecond second s.generation s.base s.carry bytes.now) }
+    // Only bytes with which no such half begins.
+    ensures none { IfNone result ((generation base : ℕ) (carry : Carry)
+        → BeginsSecond second generation base carry bytes.now → ⊥) }
+{
+    let bodies = bodies_at(bytes)?;
+    let base = four_at(bytes, 20);
+    let carry = read_old_carry(base, bodies.as_slice())?;
+    let generation = four_at(bytes, 16);
+    let is_spelt = spell_with(SECOND_VERSION, generation, base, bodies.as_slice()) == *bytes;
+    let start = Start {
+        generation,
+        base,
+        carry,
+    };
+    if may_begin_old(&start, second) && is_spelt {
+        Some(start)
+    } else {
+        None
+    }
+}
