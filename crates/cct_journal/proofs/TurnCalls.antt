@@ -1,18 +1,19 @@
 -- What the calls of a turn make of a disk on which a journal stands.
 use Rattle.std.proofs.Common.{◌≡◌, inl, ⊎_elim, true, false, ℕ, ◌+◌, ◌<◌, ◌≤◌, Bool, not, Option, Some}
-use Rattle.std.proofs.Common.{List, [], ◌∷◌, length, sym, ◌∙◌, ap, subst, arith}
+use Rattle.std.proofs.Common.{List, [], ◌∷◌, length, cond, refl, sym, ◌∙◌, ap, subst, arith}
 use Rattle.std.proofs.lemmas.List.{append-nil}
 use Rattle.cct_lines.specs.Carried.{IsRightly}
 use Rattle.cct_lines.specs.declared.carry.Carry.{Carry}
 use Rattle.cct_lines.specs.declared.record.Record.{Record}
-use Rattle.cct_disk.specs.Disk.{Holds, LeavesOnly}
+use Rattle.cct_disk.specs.Disk.{Holds, LeavesOnly, SameOutside, put_at}
 use Rattle.cct_journal.specs.declared.format.TheConstants.{MOST_RECORDS, START}
 use Rattle.cct_journal.specs.declared.place.Place.{Place}
 use Rattle.cct_journal.specs.Image.{Continues, StandsFor, StandsForOneOf, room_of}
 use Rattle.cct_journal.specs.Places.{after_turn}
 use Rattle.cct_journal.specs.Stands.{HasPlace, IsPlaced, Puts, Stands, StandsWith}
 use Rattle.cct_journal.specs.Start.{HasParity, MayBegin, start_of}
-use Rattle.cct_journal.specs.Turning.{IsTurnedBy, turned_by}
+use Rattle.cct_journal.specs.Half.{start_at}
+use Rattle.cct_journal.specs.Turning.{IsClosing, IsTurnedBy, closed_by, closing_at, other_start, turned_by}
 use Rattle.cct_journal.proofs.Calls.{stands_for}
 use Rattle.cct_journal.proofs.Moments.{started, then, weaker}
 use Rattle.cct_journal.proofs.Turns.{IsKept, half_kept, turning_either, turning_gate, turning_has}
@@ -46,6 +47,42 @@ may_turn size place carry placed full few rightly =
     let turned = turned_few size place placed full few in
     may_turn_at place.second place.generation place.used carry placed.begins.parity turned (omega (arith, turned, few))
     (omega (arith, few)) rightly
+
+-- The place of the first write.
+closing_by : (is_open : Bool) (start at from : ℕ) → start ≡ from → (is_open ≡ true → at ≡ start)
+    → (is_open ≡ false → at ≡ start + 1) → at ≡ cond is_open from (from + 1)
+closing_by true start at from same opened shut = opened refl ∙ same
+closing_by false start at from same opened shut = shut refl ∙ ap (λ n. n + 1) same
+
+-- Where the other half begins.
+pub start_here : {D : Type 0} (size : D → ℕ) (seen : D → Option (List ℕ))
+    → ((disk : D) (s : List ℕ) → seen disk ≡ Some s → length s ≡ size disk) → (old : D) (place : Place) (len : ℕ)
+    → len ≡ size old → (start : ℕ) → start ≡ start_at len (not place.second) → (image : List ℕ) → seen old ≡ Some image
+    → start ≡ other_start place image
+start_here size seen fits old place len len_is start start_is image told =
+    start_is ∙ ap (λ n. start_at n (not place.second)) (len_is ∙ sym (fits old image told))
+
+-- The first two calls.
+module _ {D : Type 0} (size : D → ℕ) (honest : D → Bool) (seen : D → Option (List ℕ)) (may_leave : D → List ℕ → Type 0)
+    (moment : D → ℕ) (left_since : D → ℕ → List ℕ → Type 0)
+    (fits : (disk : D) (s : List ℕ) → seen disk ≡ Some s → length s ≡ size disk)
+    (old : D) (place : Place) (len : ℕ) (len_is : len ≡ size old) (start : ℕ)
+    (start_is : start ≡ start_at len (not place.second)) (at : ℕ) (opened : place.other_open ≡ true → at ≡ start)
+    (shut : place.other_open ≡ false → at ≡ start + 1) (image : List ℕ)
+    (held : Holds honest seen may_leave old image) where
+  -- The write goes where it should.
+  closing_here : at ≡ closing_at place image
+  closing_here =
+      closing_by place.other_open start at (other_start place image)
+      (start_here size seen fits old place len len_is start start_is image held.tells) opened shut
+
+  pub close_moments : (new : D) → LeavesOnly moment left_since old new (SameOutside at 1 image)
+      → LeavesOnly moment left_since old new (IsClosing place image)
+  close_moments new run = subst (λ k. LeavesOnly moment left_since old new (SameOutside k 1 image)) closing_here run
+
+  pub close_done : (new : D) → Holds honest seen may_leave new (put_at image at (0 ∷ []))
+      → Holds honest seen may_leave new (closed_by place image)
+  close_done new run = subst (λ k. Holds honest seen may_leave new (put_at image k (0 ∷ []))) closing_here run
 
 module _ {D : Type 0} (size : D → ℕ) (honest : D → Bool) (seen : D → Option (List ℕ)) (may_leave : D → List ℕ → Type 0)
     (moment : D → ℕ) (left_since : D → ℕ → List ℕ → Type 0) (old : D) (place : Place) (carry : Carry)

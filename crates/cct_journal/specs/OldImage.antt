@@ -33,7 +33,7 @@ old_bodies Two image second base = bodies_in image second base
 
 -- Where the slot of the record of an index begins.
 abbrev pub old_slot : OldVersion → ℕ → Bool → ℕ → ℕ → ℕ
-old_slot One size second base index = 32 * (1 + index)
+old_slot One size second base index = 32 * (1 + (index - base))
 old_slot Two size second base index = start_at size second + 32 * (FIRST_SLOT + (index - base))
 
 -- Records are spelt by bodies, one by one.

@@ -13,19 +13,19 @@ disk_of journal = journal.disk
 
 -- Where it stands on its disk.
 abbrev pub place_of : {D : Type 0} {ghosts : Ghosts D} → OldJournal D ghosts → OldPlace
-place_of journal = journal.old
+place_of journal = journal.at
 
 -- How many records stood before its current half.
 abbrev pub base_of : {D : Type 0} {ghosts : Ghosts D} → OldJournal D ghosts → ℕ
-base_of journal = journal.old.place.base
+base_of journal = journal.at.place.base
 
 -- The carry of these.
 abbrev pub carry_before : {D : Type 0} {ghosts : Ghosts D} → OldJournal D ghosts → Carry
-carry_before journal = journal.old.place.carry
+carry_before journal = journal.at.place.carry
 
 -- How many records it has.
 abbrev pub used_of : {D : Type 0} {ghosts : Ghosts D} → OldJournal D ghosts → ℕ
-used_of journal = journal.old.place.used
+used_of journal = journal.at.place.used
 
 -- It stands for these records after those of its carry.
 abbrev pub OldJournalStands : {D : Type 0} {ghosts : Ghosts D} → OldJournal D ghosts → List Record → Type 0

@@ -1,5 +1,5 @@
 //! A journal of an older version, which is brought forward.
-ghost use Rattle.std.specs.Prelude.{◌≡◌, ℕ, ◌<◌, ◌≤◌, false, Err, Some, List, IfErr, IfOk, IsErrAnd, MatchResult};
+ghost use Rattle.std.specs.Prelude.{◌≡◌, ℕ, ◌+◌, ◌<◌, ◌≤◌, false, Bool, Err, Some, List, IfErr, IfOk, IsErrAnd, MatchResult, length};
 ghost use Rattle.cct_edge.specs.Faults.{Caused, HasCause};
 ghost use Rattle.cct_lines.specs.Carried.{IsRightly};
 ghost use Rattle.cct_lines.specs.declared.carry.Carry.{Carry};
@@ -7,8 +7,9 @@ ghost use Rattle.cct_lines.specs.declared.record.Record.{Record};
 ghost use Rattle.cct_disk.specs.Disk.{GoesOn, Holds, LeavesOnly, OnlyReads};
 ghost use Rattle.cct_journal.specs.Image.{least_size};
 ghost use Rattle.cct_journal.specs.Places.{after_turn};
-ghost use Rattle.cct_journal.specs.OldImage.{HasOldFrom, IsTurning};
-ghost use Rattle.cct_journal.specs.OldStands.{GivesOld, IsOldPlaced, IsOldPlaced-prop, IsTurned, OldCounts, OldReadsFrom};
+ghost use Rattle.cct_journal.specs.declared.old_place.OldVersion.{OldVersion};
+ghost use Rattle.cct_journal.specs.OldImage.{HasOldFrom, IsOldHeaded, IsTurning, old_bodies};
+ghost use Rattle.cct_journal.specs.OldStands.{GivesOld, HasFreeHalf, IsOldPlaced, IsOldPlaced-prop, IsTurned, OldCounts, OldReadsFrom};
 ghost use Rattle.cct_journal.specs.OldStands.{OldStands, RefusesOld, RefusesOldRecord};
 
 use crate::format::MOST_RECORDS;
@@ -26,8 +27,8 @@ use cct_lines::{Carry, Record};
 #[derive(Drop)]
 pub struct OldJournal<D: Disk> {
     disk: D,
-    old: OldPlace,
-    ghost placed: { IsOldPlaced (D.size disk) old } by { IsOldPlaced-prop (D.size disk) old },
+    at: OldPlace,
+    ghost placed: { IsOldPlaced (D.size disk) at } by { IsOldPlaced-prop (D.size disk) at },
 }
 
 impl<D: Disk> OldJournal<D> {
@@ -57,6 +58,11 @@ impl<D: Disk> OldJournal<D> {
 
         // why it is refused
         ensures refused { IfErr result (λ e. (image : List ℕ) → D.seen disk ≡ Some image → RefusesOld e.1 image) }
+        // An old journal with a free half is refused only if the disk failed.
+        ensures never { IfErr result (λ e. (image : List ℕ) (version : OldVersion) (second : Bool) (generation base : ℕ)
+            (carry : Carry) → D.seen disk ≡ Some image → IsOldHeaded image version second generation base carry
+            → HasFreeHalf version (length image) (base + length (old_bodies version image second base))
+            → e.1 ≡ OldNo.Disk) }
         ensures short { D.size disk < least_size → IsErrAnd result (λ e. e.1 ≡ OldNo.Alien) }
 
         // the disk
@@ -69,7 +75,7 @@ impl<D: Disk> OldJournal<D> {
     {
         let mut disk = disk;
         match find_old(&mut disk) {
-            Ok(old) => Ok(OldJournal { disk, old }),
+            Ok(at) => Ok(OldJournal { disk, at }),
             Err(why) => Err((disk, why)),
         }
     }
@@ -80,7 +86,7 @@ impl<D: Disk> OldJournal<D> {
         ensures fits { result < MOST_RECORDS }
         ensures later { result ≤ used_of self.now }
     {
-        self.old.place.base
+        self.at.place.base
     }
 
     /// How many records the journal has, with those before its current half. Each open slot counts, whatever its body is.
@@ -89,7 +95,7 @@ impl<D: Disk> OldJournal<D> {
         ensures fits { result ≤ MOST_RECORDS }
         ensures later { base_of self.now ≤ result }
     {
-        self.old.place.used
+        self.at.place.used
     }
 
     /// The carry of the records before the current half: the empty one in version 1.
@@ -97,14 +103,14 @@ impl<D: Disk> OldJournal<D> {
         ensures value { result.now ≡ carry_before self.now }
         ensures rightly { IsRightly (base_of self.now) result.now }
     {
-        &self.old.place.carry
+        &self.at.place.carry
     }
 
     /// The disk.
     pub fn into_disk(self) -> D
         ensures { result ≡ disk_of self }
     {
-        let OldJournal { disk, old: _ } = self;
+        let OldJournal { disk, at: _ } = self;
         disk
     }
 
@@ -129,7 +135,7 @@ impl<D: Disk> OldJournal<D> {
         ensures cause { Caused (D.faults (disk_of self.old)) (D.faults (disk_of self.new))
             (result ≡ Err ReadNo.Disk) }
     {
-        read_old_record(&mut self.disk, &self.old, index)
+        read_old_record(&mut self.disk, &self.at, index)
     }
 
     /// Brings the journal forward: the other half is begun in today's version, by six disk calls, with the carry of all
@@ -166,8 +172,8 @@ impl<D: Disk> OldJournal<D> {
         ensures cause { MatchResult result (λ journal. D.faults (disk_of self) ≤ D.faults (journals.disk_of journal))
             (λ e. HasCause (D.faults (disk_of self)) (D.faults e.0) result) }
     {
-        let OldJournal { mut disk, old } = self;
-        match turn_old(&mut disk, &old, carry) {
+        let OldJournal { mut disk, at } = self;
+        match turn_old(&mut disk, &at, carry) {
             Ok(place) => Ok(Journal::at(disk, place)),
             Err(failed) => Err((disk, failed)),
         }

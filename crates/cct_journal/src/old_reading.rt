@@ -35,7 +35,7 @@ fn old_slot_on(len: u64, old: &OldPlace, index: u32) -> u64
     ensures within { result + SLOT ≤ len }
 {
     match old.version {
-        OldVersion::One => SLOT * (1 + u64::from(index)),
+        OldVersion::One => SLOT * (1 + u64::from(index - old.place.base)),
         OldVersion::Two => {
             let start = start_on(len, old.place.second);
             start + SLOT * (FIRST_SLOT + u64::from(index - old.place.base))

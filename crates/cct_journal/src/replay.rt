@@ -1,5 +1,5 @@
 //! The records of a journal are replayed as they are found.
-ghost use Rattle.std.specs.Prelude.{◌≡◌, ℕ, ◌<◌, ◌+◌, List, [], ◌∷◌, length};
+ghost use Rattle.std.specs.Prelude.{◌≡◌, ℕ, ◌<◌, ◌≤◌, ◌+◌, List, [], ◌∷◌, length};
 ghost use Rattle.cct_lines.specs.Carried.{IsRightly};
 ghost use Rattle.cct_lines.specs.declared.carry.Carry.{Carry};
 ghost use Rattle.cct_lines.specs.declared.record.Record.{Record};

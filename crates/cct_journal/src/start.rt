@@ -1,6 +1,6 @@
 //! What a half begins with, as bytes: its header and its carry.
-ghost use Rattle.std.specs.Prelude.{◌≡◌, ℕ, ◌+◌, ◌-◌, ◌*◌, ◌≤◌, ◌↔◌, ◌∷◌, ◌++◌, IfNone, IfSome, IsTrue, flat_map, length, replicate};
-ghost use Rattle.std.specs.Int.{from_le_bytes, to_le_bytes, w32};
+ghost use Rattle.std.specs.Prelude.{◌≡◌, ℕ, ◌+◌, ◌-◌, ◌*◌, ◌<◌, ◌≤◌, ◌↔◌, ◌++◌, IfNone, IfSome, IsTrue, flat_map, length, replicate};
+ghost use Rattle.std.specs.Int.{from_le_bytes, w32};
 ghost use Rattle.cct_lines.specs.Carried.{IsRightly};
 ghost use Rattle.cct_lines.specs.declared.carry.Carry.{Carry};
 ghost use Rattle.cct_record.specs.CarryBody.{SpellsNone};

@@ -92,7 +92,6 @@ fn begin_other<D: Disk>(disk: &mut D, place: &Place, carry: &Carry) -> Result<Pl
     ensures done { OnOk result ((image : List ℕ) → Holds D.honest D.seen D.may_leave disk.old image
         → Holds D.honest D.seen D.may_leave disk.new (begun_by place.now carry.now image)) }
     ensures place { IfOk result (λ turned. turned ≡ after_turn place.now carry.now) }
-    ensures whole { length (start_of (place.now.generation + 1) place.now.used carry.now) ≡ START }
     ensures goes_on { GoesOn D.size D.honest D.seen D.cuts disk.old disk.new }
     ensures cause { HasCause (D.faults disk.old) (D.faults disk.new) result }
 {
@@ -119,7 +118,6 @@ pub(crate) fn turn_half<D: Disk>(disk: &mut D, place: &Place, carry: &Carry) -> 
     ensures done { OnOk result ((image : List ℕ) → Holds D.honest D.seen D.may_leave disk.old image
         → Holds D.honest D.seen D.may_leave disk.new (turned_by place.now carry.now image)) }
     ensures place { IfOk result (λ turned. turned ≡ after_turn place.now carry.now) }
-    ensures whole { length (start_of (place.now.generation + 1) place.now.used carry.now) ≡ START }
     ensures goes_on { GoesOn D.size D.honest D.seen D.cuts disk.old disk.new }
     ensures cause { HasCause (D.faults disk.old) (D.faults disk.new) result }
 {
