@@ -6,7 +6,7 @@ use crate::format::{FIRST_VERSION, SECOND_VERSION};
 use crate::place::Place;
 
 /// The versions before this one. Of none of them is anything written any more.
-#[derive(Clone, Copy, Debug, PartialEq, Eq)]
+#[derive(Clone, Copy)]
 pub(crate) enum OldVersion {
     /// Version 1 had no halves and no carry: its records run through the whole disk.
     One,
@@ -15,7 +15,7 @@ pub(crate) enum OldVersion {
 }
 
 /// Where a journal of an older version stands on its disk.
-#[derive(Clone, Debug, Drop)]
+#[derive(Drop)]
 pub(crate) struct OldPlace {
     pub(crate) version: OldVersion,
     /// The half that it counts as: of version 1 that is the first one, with generation 0, base 0 and the empty carry.

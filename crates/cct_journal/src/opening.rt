@@ -5,7 +5,7 @@ ghost use Rattle.cct_edge.specs.Faults.{Caused, HasCause};
 ghost use Rattle.cct_lines.specs.declared.carry.Carry.{Carry};
 ghost use Rattle.cct_lines.specs.declared.record.Record.{Record};
 ghost use Rattle.cct_disk.specs.Disk.{OnlyReads};
-ghost use Rattle.cct_journal.specs.Half.{IsCurrent, IsVersionOf, half};
+ghost use Rattle.cct_journal.specs.Half.{IsCurrent, IsOpen, IsVersionOf, half};
 ghost use Rattle.cct_journal.specs.Start.{Begins, MayBegin};
 ghost use Rattle.cct_journal.specs.Fronts.{BeginsAt, IsCurrentHalf, IsFront, before_records};
 ghost use Rattle.cct_journal.specs.Image.{least_size};
@@ -24,7 +24,7 @@ use cct_edge::Failed;
 const FRONT: usize = 20;
 
 /// What stands at the front of a half.
-#[derive(Clone, Copy, Debug)]
+#[derive(Clone, Copy)]
 pub(crate) struct Front {
     /// Whether the gate is open.
     gate_open: bool,
@@ -35,7 +35,7 @@ pub(crate) struct Front {
 }
 
 /// The half that counts, where there is one.
-#[derive(Clone, Copy, Debug)]
+#[derive(Clone, Copy)]
 pub(crate) struct Current {
     pub(crate) second: bool,
     pub(crate) version: u8,
@@ -54,6 +54,13 @@ fn may_have(second: bool, version: u8) -> bool
     }
 }
 
+/// Whether the first or the second half is open, by its first bytes.
+fn is_open(bytes: &[u8; FRONT], second: bool) -> bool
+    ensures { IsTrue result ↔ IsOpen second bytes.now }
+{
+    bytes[..15] == TITLE[..] && may_have(second, bytes[15])
+}
+
 /// The generation of a half of a version, by the number that stands in its header.
 fn generation_of(version: u8, turns: u32) -> u32
     ensures { result ≡ (if version == 1 then 0 else turns) }
@@ -69,7 +76,7 @@ fn front_of(bytes: &[u8; FRONT], second: bool) -> Front
     let turns = u32::from_le_bytes([bytes[16], bytes[17], bytes[18], bytes[19]]);
     Front {
         gate_open: bytes[0] == OPEN,
-        is_open: bytes[..15] == TITLE[..] && may_have(second, version),
+        is_open: is_open(bytes, second),
         version,
         generation: generation_of(version, turns),
     }
