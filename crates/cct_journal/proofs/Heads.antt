@@ -22,7 +22,7 @@ AreBodies [] = Unit {0}
 AreBodies (body ∷ bodies) = (length body ≡ 31) × AreBodies bodies
 
 -- Two lists of them one after the other.
-both_bodies : (some more : List (List ℕ)) → AreBodies some → AreBodies more → AreBodies (some ++ more)
+pub both_bodies : (some more : List (List ℕ)) → AreBodies some → AreBodies more → AreBodies (some ++ more)
 both_bodies [] more first second = second
 both_bodies (body ∷ some) more first second = (first.0, both_bodies some more first.1 second)
 
@@ -33,13 +33,13 @@ epoch_bodies [] = tt
 epoch_bodies (e ∷ es) = (refl, epoch_bodies es)
 
 -- And those of orders.
-order_bodies : (os : List CarryOrder) → AreBodies (map order_body os)
+pub order_bodies : (os : List CarryOrder) → AreBodies (map order_body os)
 unfolding order_body
 order_bodies [] = tt
 order_bodies (o ∷ os) = (refl, order_bodies os)
 
 -- And so have those of sums.
-sums_long : (c : Carry) → (length (first_sums c) ≡ 31) × (length (second_sums c) ≡ 31) × (length (third_sums c) ≡ 31)
+pub sums_long : (c : Carry) → (length (first_sums c) ≡ 31) × (length (second_sums c) ≡ 31) × (length (third_sums c) ≡ 31)
 unfolding first_sums second_sums third_sums
 sums_long c = (refl, refl, refl)
 

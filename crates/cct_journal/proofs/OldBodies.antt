@@ -1,9 +1,9 @@
 -- The slots of a journal of an older version: how many are open, and what their bodies spell.
 use Rattle.std.proofs.Common.{◌≡◌, ◌≢◌, inl, inr, Option, Some, ℕ, zero, suc, ◌+◌, ◌-◌, ◌*◌, ◌<◌, ◌≤◌, Bool, List, [], ◌∷◌, ◌++◌}
-use Rattle.std.proofs.Common.{length, take, drop, slice_index, refl, sym, ◌∙◌, ap, ap₂, subst, arith, length-append, length-drop}
+use Rattle.std.proofs.Common.{length, take, drop, slice_index, refl, sym, ◌∙◌, ap, ap₂, subst, arith, length-append, length-drop, cond, ◌==◌}
 use Rattle.std.specs.List.{slice_get}
 use Rattle.std.proofs.lemmas.Bool.{cases_eq}
-use Rattle.std.proofs.lemmas.List.{drop-drop, drop_more, get_or-drop}
+use Rattle.std.proofs.lemmas.List.{drop-drop, drop-take, drop_more, get_or-drop, take-take}
 use Rattle.cct_lines.specs.declared.record.Record.{Record}
 use Rattle.cct_record.specs.OldBody.{IsRefusedOld, OldSpells}
 use Rattle.cct_record.proofs.OldBack.{one_old_spelling}
@@ -75,6 +75,17 @@ area_body Two image second base index long within =
     (omega (arith, within, long))
     ∙ ap (λ n. take 31 (drop n image)) there
 
+-- The bytes of a slot that were read after its gate are its body.
+pub body_of_slot : (bytes image body : List ℕ) (at place : ℕ) → bytes ≡ take (length bytes) (drop at image)
+    → length bytes ≡ 32 → at ≡ place → body ≡ take 31 (drop 1 bytes) → body ≡ take 31 (drop (place + 1) image)
+body_of_slot bytes image body at place read whole there is =
+    is
+    ∙ ap (λ (l : List ℕ). take 31 (drop 1 l)) read
+    ∙ ap (λ n. take 31 (drop 1 (take n (drop at image)))) whole
+    ∙ ap (λ (l : List ℕ). take 31 l) (drop-take 1 31 (drop at image))
+    ∙ take-take 31 31 (drop 1 (drop at image)) (omega arith)
+    ∙ ap (λ (l : List ℕ). take 31 l) (drop-drop 1 at image ∙ ap (λ n. drop (n + 1) image) there)
+
 -- How many bodies there are, slot by slot.
 module _ (n many : ℕ) (xs : List ℕ) (below : many < n) (long : 32 * n ≤ length xs) where
   -- The slot that comes next.
@@ -110,10 +121,9 @@ pub counted_none : (image : List ℕ) (old : OldPlace) → HasCounted image old 
 counted_none image old =
     let all : old_room old.version (length image) old.place.base - 0 ≡ old_room old.version (length image) old.place.base =
     omega arith in
-    record {
-      so_far = ap length (bodies_of_area old.version image old.place.second old.place.base)
-          ∙ ap (λ n. length (bodies n (old_area old.version image old.place.second))) (sym all);
-    }
+    let are = ap length (bodies_of_area old.version image old.place.second old.place.base)
+    ∙ ap (λ n. length (bodies n (old_area old.version image old.place.second))) (sym all) in
+    record { so_far = omega (arith, are) }
 
 module _ (image : List ℕ) (old : OldPlace) (many : ℕ) (counted : HasCounted image old many) where
   -- After the last slot.
@@ -150,7 +160,18 @@ module _ (image : List ℕ) (old : OldPlace) (many : ℕ) (counted : HasCounted 
         (area_long old.version image old.place.second old.place.base long) (gate_next ∙ is_open) in
         record { so_far = omega (arith, counted.so_far, next) }
 
--- The body of an index among those of slots.
+-- The body of an index among those of slots, by those after the first one.
+later_body : (n gate : ℕ) (rest : List ℕ) (i : ℕ) → i < suc (length (bodies n (drop 31 rest)))
+    → ((k : ℕ) → k < length (bodies n (drop 31 rest))
+    → slice_get (bodies n (drop 31 rest)) k ≡ Some (take 31 (drop (32 * k + 1) (drop 31 rest))))
+    → slice_get (take 31 rest ∷ bodies n (drop 31 rest)) i ≡ Some (take 31 (drop (32 * i + 1) (gate ∷ rest)))
+later_body n gate rest zero few later = refl
+later_body n gate rest (suc i) few later =
+    let place : suc (31 + (32 * i + 1)) ≡ 32 * suc i + 1 = omega arith in
+    later i (omega arith)
+    ∙ ap (λ (l : List ℕ). Some (take 31 l))
+    (drop-drop (32 * i + 1) 31 rest ∙ ap (λ k. drop k (gate ∷ rest)) place)
+
 body_at_index : (n : ℕ) (xs : List ℕ) (i : ℕ) → i < length (bodies n xs)
     → slice_get (bodies n xs) i ≡ Some (take 31 (drop (32 * i + 1) xs))
 body_at_index zero xs i few = absurd (omega arith)
@@ -159,20 +180,33 @@ body_at_index (suc n) (gate ∷ rest) i few = elim (cases_eq gate open_gate) [
   | inr shut ↦ absurd (omega (arith, few, ap length (closed (suc n) gate rest shut)))
   | inl is_open ↦
       let are = opened n gate rest is_open in
-      ap (λ bs. slice_get bs i) are ∙ by_index n gate rest i (omega (arith, few, ap length are))
+      ap (λ bs. slice_get bs i) are
+      ∙ later_body n gate rest i (omega (arith, few, ap length are)) (body_at_index n (drop 31 rest))
 ]
-  where
-    by_index : (n gate : ℕ) (rest : List ℕ) (i : ℕ) → i < suc (length (bodies n (drop 31 rest)))
-        → slice_get (take 31 rest ∷ bodies n (drop 31 rest)) i ≡ Some (take 31 (drop (32 * i + 1) (gate ∷ rest)))
-    by_index n gate rest zero few = refl
-    by_index n gate rest (suc i) few =
-        let place : suc (31 + (32 * i + 1)) ≡ 32 * suc i + 1 = omega arith in
-        body_at_index n (drop 31 rest) i (omega arith)
-        ∙ ap (λ (l : List ℕ). Some (take 31 l))
-        (drop-drop (32 * i + 1) 31 rest ∙ ap (λ k. drop k (gate ∷ rest)) place)
+
+-- Bodies of slots by their bytes alone.
+pub bodies_by : (n : ℕ) (xs ys : List ℕ) → take (32 * n) xs ≡ take (32 * n) ys → 32 * n ≤ length xs
+    → 32 * n ≤ length ys → bodies n xs ≡ bodies n ys
+bodies_by zero xs ys same long other = refl
+bodies_by (suc n) [] ys same long other = absurd (omega arith)
+bodies_by (suc n) (g ∷ rest) [] same long other = absurd (omega arith)
+bodies_by (suc n) (g ∷ rest) (h ∷ more) same long other =
+    let many : 32 * suc n ≡ suc (31 + 32 * n) = omega arith in
+    let heads : take (suc (31 + 32 * n)) (g ∷ rest) ≡ take (suc (31 + 32 * n)) (h ∷ more) =
+    subst (λ k. take k (g ∷ rest) ≡ take k (h ∷ more)) many same in
+    let first : g ≡ h = cc in
+    let later : take (31 + 32 * n) rest ≡ take (31 + 32 * n) more = cc in
+    let body : take 31 rest ≡ take 31 more =
+    sym (take-take 31 (31 + 32 * n) rest (omega arith)) ∙ ap (λ (l : List ℕ). take 31 l) later
+    ∙ take-take 31 (31 + 32 * n) more (omega arith) in
+    let others : bodies n (drop 31 rest) ≡ bodies n (drop 31 more) =
+    bodies_by n (drop 31 rest) (drop 31 more)
+    (sym (drop-take 31 (32 * n) rest) ∙ ap (λ (l : List ℕ). drop 31 l) later ∙ drop-take 31 (32 * n) more)
+    (omega (arith, length-drop 31 rest)) (omega (arith, length-drop 31 more)) in
+    ap₂ (λ x xs. cond (x == open_gate) xs []) first (ap₂ (λ x xs. x ∷ xs) body others)
 
 -- There are no more bodies than slots.
-bodies_few : (n : ℕ) (xs : List ℕ) → length (bodies n xs) ≤ n
+pub bodies_few : (n : ℕ) (xs : List ℕ) → length (bodies n xs) ≤ n
 bodies_few zero xs = omega arith
 bodies_few (suc n) [] = omega arith
 bodies_few (suc n) (gate ∷ rest) = elim (cases_eq gate open_gate) [

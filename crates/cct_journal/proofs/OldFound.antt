@@ -6,11 +6,11 @@ use Rattle.cct_lines.specs.Carried.{empty_carry}
 use Rattle.cct_lines.specs.declared.carry.Carry.{Carry}
 use Rattle.cct_lines.specs.declared.record.Record.{Record}
 use Rattle.cct_disk.specs.Disk.{Holds}
-use Rattle.cct_journal.specs.Fronts.{IsCurrentHalf}
+use Rattle.cct_journal.specs.Fronts.{IsCurrentHalf, before_records}
 use Rattle.cct_journal.specs.Half.{IsCurrent, half, has_open_gate, slots_in, version_in, window}
-use Rattle.cct_journal.specs.Image.{IsAlien}
+use Rattle.cct_journal.specs.Image.{IsAlien, least_size}
 use Rattle.cct_journal.specs.OldImage.{BeginsSecond, HasNoOld, HasOldFrom, HasOldHalf, HasOldPlace, IsOldHeaded, OldBegins, bodies_at, first_header, number_of, old_bodies}
-use Rattle.cct_journal.specs.OldStands.{HasFreeHalf, HasNoRoom, OldCounts, OldReadsFrom, OldStands, RefusesOld}
+use Rattle.cct_journal.specs.OldStands.{HasFreeHalf, HasNoRoom, MayBeCounted, OldBeginsAt, OldCounts, OldReadsFrom, OldReadsUpTo, OldStands, RefusesOld, first_at}
 use Rattle.cct_journal.specs.Start.{Begins}
 use Rattle.cct_journal.specs.declared.format.TheConstants.{START}
 use Rattle.cct_journal.specs.declared.old_place.OldPlace.{OldPlace}
@@ -22,6 +22,7 @@ use Rattle.cct_journal.specs.declared.refusal.OldNo.TheVariants.{Disk, Alien, No
 use Rattle.cct_journal.specs.declared.refusal.OldNo.TheVariants as opening
 use Rattle.cct_journal.specs.declared.start.Start.{Start}
 use Rattle.cct_record.specs.CarryBody.{bodies_of}
+use Rattle.cct_journal.proofs.Blanks.{empty_rightly}
 use Rattle.cct_journal.proofs.Currents.{same_half}
 use Rattle.cct_journal.proofs.Heads.{begun_version}
 use Rattle.cct_journal.proofs.OldBodies.{spelt_many}
@@ -101,6 +102,50 @@ first_is_first image found current is =
     ⊎_elim (λ first. first.1)
     (λ others. absurd (⊎_elim (λ two. omega (arith, two, is, current.version_is))
     (λ three. omega (arith, three, is, current.version_is)) others)) current.current.is_open.version_is
+
+-- So a journal of version 1 begins there.
+pub first_begins : (image : List ℕ) (found : Current) → least_size ≤ length image → IsCurrentHalf image found
+    → found.version ≡ 1 → take 32 (half image false) ≡ first_header → OldBeginsAt image (first_at found.other_open)
+first_begins image found long current is starts =
+    let side : found.second ≡ false = first_is_first image found current is in record {
+      headed = record {
+        long = long;
+        current = subst (λ s. IsCurrent s image) side current.current;
+        begins = record {
+          first = refl;
+          none_turned = refl;
+          none_before = refl;
+          none_carried = refl;
+          starts = starts;
+        };
+      };
+      other_gate = ap (λ s. has_open_gate (half image (not s))) (sym side) ∙ current.other_gate;
+    }
+
+-- It may be counted.
+pub first_counted : (size : ℕ) (other_open : Bool) → least_size ≤ size → MayBeCounted size (first_at other_open)
+first_counted size other_open long = record {
+  long = long;
+  begins = record { parity = refl; turned = omega arith; base_fits = omega arith; rightly = empty_rightly };
+}
+
+-- And so one of version 2 begins.
+pub second_begins : (image : List ℕ) (found : Current) (start : Start) → least_size ≤ length image
+    → IsCurrentHalf image found
+    → BeginsSecond found.second start.generation start.base start.carry (half image found.second)
+    → OldBeginsAt image (record { version = Two; place = before_records found start })
+second_begins image found start long current begins = record {
+  headed = record { long = long; current = current.current; begins = begins };
+  other_gate = current.other_gate;
+}
+
+-- What is neither of version 1 nor of version 2 is of today.
+pub version_three : (image : List ℕ) (found : Current) → IsCurrentHalf image found → found.version ≢ 1
+    → found.version ≢ 2 → found.version ≡ 3
+version_three image found current first second =
+    ⊎_elim (λ one. absurd (first (current.version_is ∙ one.0)))
+    (λ others. ⊎_elim (λ two. absurd (second (current.version_is ∙ two))) (λ three. current.version_is ∙ three) others)
+    current.current.is_open.version_is
 
 -- What was read of the first bytes of a half of version 2 is what was read of the half.
 pub second_read : (second : Bool) (bytes whole : List ℕ) (found : Option Start) → bytes ≡ window 0 START whole
@@ -185,3 +230,19 @@ found_stands honest seen may_leave disk old image rest held gate reads =
       count = reads.count;
       other_gate = gate;
     }
+
+-- A disk that is only read tells the same of the records up to an index.
+pub up_same : {D : Type 0} {seen : D → Option (List ℕ)} {before disk : D} (old : OldPlace) (index : ℕ)
+    (records : List Record) → seen disk ≡ seen before → OldReadsUpTo seen before old index records
+    → OldReadsUpTo seen disk old index records
+up_same old index records same reads = record {
+  counts = record {
+    image = reads.counts.image;
+    tells = same ∙ reads.counts.tells;
+    headed = reads.counts.headed;
+    count = reads.counts.count;
+    free = reads.counts.free;
+  };
+  count = reads.count;
+  spelt = reads.spelt;
+}

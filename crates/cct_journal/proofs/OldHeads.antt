@@ -1,39 +1,45 @@
 -- What a half of an older version begins with: an image has one such beginning at most.
-use Rattle.std.proofs.Common.{◌≡◌, inl, inr, ℕ, ◌+◌, ◌^◌, ◌<◌, ◌≤◌, Bool, false, List, [], ◌∷◌, ◌++◌, length, take, slice_index}
+use Rattle.std.proofs.Common.{◌≡◌, inl, inr, ℕ, ◌+◌, ◌^◌, ◌<◌, ◌≤◌, Bool, false, List, [], ◌∷◌, length, map, take, slice_index}
 use Rattle.std.proofs.Common.{cond, ◌==◌, refl, sym, ◌∙◌, ap, subst, arith, get_or-take}
-use Rattle.std.specs.List.{All}
 use Rattle.std.proofs.lemmas.List.{length-take-le, take-take, take_all}
-use Rattle.std.proofs.lemmas.List.Elements.{All-head, All-tail}
 use Rattle.cct_lines.specs.declared.carry.Carry.{Carry}
-use Rattle.cct_record.specs.CarryBody.{bodies_of}
-use Rattle.cct_record.specs.OldCarryBody.{OldSpellsCarry}
-use Rattle.cct_record.specs.Today.{IsLong}
-use Rattle.cct_record.proofs.OldCarryBack.{old_bodies_few, old_bodies_long, one_old_carry}
+use Rattle.cct_lines.specs.declared.carry.CarryEpoch.{CarryEpoch}
+use Rattle.cct_record.specs.CarryBody.{bodies_of, order_body}
+use Rattle.cct_record.specs.OldCarryBody.{OldSpellsCarry, OldSpellsNone, old_bodies_of, old_epoch_body}
+use Rattle.cct_record.proofs.OldCarryBack.{old_bodies_few, one_old_carry}
 use Rattle.cct_journal.specs.Half.{generation_in, half, turns_in, version_in}
 use Rattle.cct_journal.specs.Start.{start_with}
 use Rattle.cct_journal.specs.StartReading.{base_in, bodies_in, count_in}
 use Rattle.cct_journal.specs.Image.{IsHeaded}
-use Rattle.cct_journal.specs.OldImage.{BeginsFirst, BeginsSecond, IsOldHeaded, OldBegins, number_of}
+use Rattle.cct_journal.specs.OldImage.{BeginsFirst, BeginsSecond, IsOldHeaded, MayBeginOld, OldBegins, number_of}
 use Rattle.cct_journal.specs.declared.format.TheConstants.{START}
 use Rattle.cct_journal.specs.declared.old_place.OldVersion.{OldVersion}
 use Rattle.cct_journal.specs.declared.old_place.OldVersion.TheVariants.{One, Two}
 use Rattle.cct_journal.proofs.Beginnings.{generation_by}
 use Rattle.cct_journal.proofs.Currents.{same_half}
 use Rattle.cct_journal.proofs.Sides.{half_long}
-use Rattle.cct_journal.proofs.Heads.{AreBodies, base_back, begun_tells, begun_version, bodies_back, count_there, generation_back}
+use Rattle.cct_journal.proofs.Heads.{AreBodies, base_back, begun_tells, begun_version, bodies_back, both_bodies, count_there, generation_back}
+use Rattle.cct_journal.proofs.Heads.{order_bodies, sums_long}
 
--- Bodies of 31 bytes each.
-are_bodies : (bodies : List (List ℕ)) → All IsLong bodies → AreBodies bodies
-are_bodies [] long = tt
-are_bodies (body ∷ bodies) long =
-    (All-head IsLong body bodies long, are_bodies bodies (All-tail IsLong body bodies long))
+-- The bodies of old epochs have 31 bytes each.
+old_epoch_bodies : (es : List CarryEpoch) → AreBodies (map old_epoch_body es)
+unfolding old_epoch_body
+old_epoch_bodies [] = tt
+old_epoch_bodies (e ∷ es) = (refl, old_epoch_bodies es)
+
+-- And so has each old body of a carry.
+old_carry_bodies : (c : Carry) → AreBodies (old_bodies_of c)
+old_carry_bodies c =
+    let long = sums_long c in
+    (long.0, (long.1, (long.2, both_bodies (map old_epoch_body c.epochs) (map order_body c.orders)
+    (old_epoch_bodies c.epochs) (order_bodies c.orders))))
 
 -- The bytes with which a half of version 2 begins are those of its numbers and of the bodies of its carry.
 module _ (second : Bool) (generation base : ℕ) (carry : Carry) (bytes : List ℕ)
     (begins : BeginsSecond second generation base carry bytes) where
   -- Its bodies have 31 bytes each.
   pub second_bodies : AreBodies begins.carried
-  second_bodies = are_bodies begins.carried (old_bodies_long base carry begins.carried begins.spelt)
+  second_bodies = subst AreBodies begins.spelt.spelt (old_carry_bodies carry)
 
   pub second_few : length begins.carried ≤ 35
   second_few = old_bodies_few base carry begins.carried begins.spelt
@@ -67,6 +73,60 @@ module _ (second : Bool) (generation base : ℕ) (carry : Carry) (bytes : List �
     second_carried =
         ap (λ (l : List ℕ). bodies_in (count_in l) l) (sym second_whole)
         ∙ bodies_back 2 generation base begins.carried second_bodies
+
+-- No half of version 2 begins with bytes in which no carry of it stands.
+pub second_none : (second : Bool) (bytes : List ℕ) (many : ℕ) (bodies : List (List ℕ)) → length bytes ≡ START
+    → many ≡ base_in bytes → bodies ≡ bodies_in (count_in bytes) bytes → OldSpellsNone many bodies
+    → (generation base : ℕ) (carry : Carry) → BeginsSecond second generation base carry bytes → ⊥
+second_none second bytes many bodies whole many_is are none generation base carry begins =
+    none carry
+    (subst (λ k. OldSpellsCarry k carry bodies)
+    (sym (many_is ∙ second_base_in second generation base carry bytes begins whole))
+    (subst (λ bs. OldSpellsCarry base carry bs)
+    (sym (are ∙ second_carried second generation base carry bytes begins whole)) begins.spelt))
+
+-- Nor does one with more bodies than a carry has.
+pub second_fewer : (second : Bool) (bytes : List ℕ) → length bytes ≡ START → 35 < count_in bytes
+    → (generation base : ℕ) (carry : Carry) → BeginsSecond second generation base carry bytes → ⊥
+second_fewer second bytes whole more generation base carry begins =
+    omega (arith, more, second_count second generation base carry bytes begins whole,
+    second_few second generation base carry bytes begins)
+
+-- It begins with the numbers that stand there, and the carry that they spell.
+pub second_so : (second : Bool) (generation base : ℕ) (c : Carry) (bytes : List ℕ) (bodies : List (List ℕ))
+    → length bytes ≡ START → OldSpellsCarry base c bodies → MayBeginOld second generation base c
+    → start_with 2 generation base bodies ≡ bytes → BeginsSecond second generation base c bytes
+second_so second generation base c bytes bodies whole spelt may is = record {
+  may = may;
+  carried = bodies;
+  spelt = spelt;
+  starts = take_all START bytes (omega arith) ∙ sym is;
+}
+
+-- It begins with no other ones.
+pub second_no_other : (second : Bool) (generation base : ℕ) (c : Carry) (bytes : List ℕ) (bodies : List (List ℕ))
+    → length bytes ≡ START → generation ≡ turns_in bytes → base ≡ base_in bytes
+    → bodies ≡ bodies_in (count_in bytes) bytes → OldSpellsCarry base c bodies
+    → ((MayBeginOld second generation base c × (start_with 2 generation base bodies ≡ bytes)) → ⊥)
+    → (more basis : ℕ) (carry : Carry) → BeginsSecond second more basis carry bytes → ⊥
+second_no_other second generation base c bytes bodies whole turns bases are spelt not more basis carry begins =
+    let same_turns : more ≡ generation =
+    sym (turns ∙ second_turns second more basis carry bytes begins whole) in
+    let same_base : basis ≡ base = sym (bases ∙ second_base_in second more basis carry bytes begins whole) in
+    let same_bodies : begins.carried ≡ bodies =
+    sym (are ∙ second_carried second more basis carry bytes begins whole) in
+    let same_carry : carry ≡ c =
+    one_old_carry carry c basis base bodies (second_base second more basis carry bytes begins)
+    (omega (arith, same_base, second_base second more basis carry bytes begins))
+    (subst (λ bs. OldSpellsCarry basis carry bs) same_bodies begins.spelt) spelt in
+    not (
+      subst (λ x. MayBeginOld second generation base x) same_carry
+      (subst (λ b. MayBeginOld second generation b carry) same_base
+      (subst (λ g. MayBeginOld second g basis carry) same_turns begins.may)),
+      ap (λ g. start_with 2 g base bodies) (sym same_turns) ∙ ap (λ b. start_with 2 more b bodies) (sym same_base)
+      ∙ ap (λ bs. start_with 2 more basis bs) (sym same_bodies)
+      ∙ second_whole second more basis carry bytes begins whole,
+    )
 
 -- What a half of version 2 begins with is in its first bytes.
 pub second_in_half : (second : Bool) (generation base : ℕ) (carry : Carry) (bytes whole : List ℕ)

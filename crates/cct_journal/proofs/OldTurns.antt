@@ -1,6 +1,7 @@
 -- What the calls of a turn make of a disk on which a journal of an older version stands.
 use Rattle.std.proofs.Common.{◌≡◌, ⊎_elim, inl, inr, ℕ, ◌+◌, ◌-◌, ◌*◌, ◌<◌, ◌≤◌, Bool, true, false, not, Option, Some, List, [], ◌∷◌, ◌++◌}
-use Rattle.std.proofs.Common.{length, take, drop, refl, sym, ◌∙◌, ap, subst, arith, take-append-drop, length-drop}
+use Rattle.std.proofs.Common.{length, take, drop, refl, sym, ◌∙◌, ap, subst, arith, length-drop, Result, Ok, Err, IfOk, OnOk}
+use Rattle.std.proofs.lemmas.Bool.{cases_lt}
 use Rattle.std.proofs.lemmas.List.{append-nil, drop-take, take-take}
 use Rattle.cct_lines.specs.Carried.{IsRightly}
 use Rattle.cct_lines.specs.declared.carry.Carry.{Carry}
@@ -20,7 +21,7 @@ use Rattle.cct_journal.specs.declared.old_place.OldVersion.{OldVersion}
 use Rattle.cct_journal.specs.declared.old_place.OldVersion.TheVariants.{One, Two}
 use Rattle.cct_journal.specs.declared.place.Place.{Place}
 use Rattle.cct_journal.proofs.Moments.{weaker}
-use Rattle.cct_journal.proofs.OldBodies.{spelt_many}
+use Rattle.cct_journal.proofs.OldBodies.{bodies_by, spelt_many}
 use Rattle.cct_journal.proofs.OldHeads.{old_tells}
 use Rattle.cct_journal.proofs.Rooms.{bodies_same, room}
 use Rattle.cct_journal.proofs.Sides.{wins_on}
@@ -56,9 +57,15 @@ old_bodies_stay One image c second base used long side start count free size sam
     let few : length old + 2 ≤ slots_in (length image) = omega (arith, free, count, start refl) in
     let first : half c false ≡ half image false = subst (λ s. half c s ≡ half image s) (side refl) same in
     ap (λ k. bodies (old_room One k base) (drop 32 c)) size
-    ∙ bodies_same n (drop 32 image) (drop 32 c) old
-    (room n (drop 32 image) old refl (omega (arith, few, long)) (omega (arith, length-drop 32 image, long)))
-    (same_part image c (32 * length old + 1) size first (omega (arith, few)))
+    ∙ elim (cases_lt (length old) n) [
+      | inl less ↦ bodies_same n (drop 32 image) (drop 32 c) old
+          (room n (drop 32 image) old refl less (omega (arith, length-drop 32 image, long)))
+          (same_part image c (32 * length old + 1) size first (omega (arith, few)))
+      | inr all ↦
+          let full : n ≤ length old = all in
+          bodies_by n (drop 32 c) (drop 32 image) (same_part image c (32 * n) size first (omega (arith, few, full)))
+          (omega (arith, length-drop 32 c, size, long)) (omega (arith, length-drop 32 image, long))
+    ]
 
 -- What begins as version 1 does is the first half, before which no record stood.
 first_side : (version : OldVersion) (second : Bool) (generation base : ℕ) (carry : Carry) (bytes : List ℕ)
@@ -183,7 +190,7 @@ module _ {D : Type 0} (size : D → ℕ) (honest : D → Bool) (seen : D → Opt
   }
 
 -- A half of today that has no record yet is what was brought forward,
-pub empty_turned : {D : Type 0} {honest : D → Bool} {seen : D → Option (List ℕ)} {may_leave : D → List ℕ → Type 0}
+empty_turned : {D : Type 0} {honest : D → Bool} {seen : D → Option (List ℕ)} {may_leave : D → List ℕ → Type 0}
     {disk : D} (place : Place) → BeginsEmpty honest seen may_leave disk place
     → IsTurned honest seen may_leave disk place.base place.carry
 empty_turned place begins = record {
@@ -193,7 +200,7 @@ empty_turned place begins = record {
 }
 
 -- and a journal stands there for all records of which that is the carry.
-pub empty_stands : {D : Type 0} {honest : D → Bool} {seen : D → Option (List ℕ)} {may_leave : D → List ℕ → Type 0}
+empty_stands : {D : Type 0} {honest : D → Bool} {seen : D → Option (List ℕ)} {may_leave : D → List ℕ → Type 0}
     {disk : D} (place : Place) → BeginsEmpty honest seen may_leave disk place → place.used ≡ place.base
     → (carry_of : List Record → Carry) (records : List Record) → place.base ≡ length records
     → place.carry ≡ carry_of records → Stands carry_of honest seen may_leave disk place records
@@ -206,3 +213,26 @@ empty_stands place begins none carry_of records many carry_is = record {
   count = none ∙ many;
   other_gate = begins.other_gate;
 }
+
+-- What a turn makes at its end is said of the place that it tells.
+pub on_place : {E Done : Type 0} (place : Place) (P : Place → Type 0) (result : Result Place E)
+    → IfOk result (λ turned. turned ≡ place) → OnOk result Done → (Done → P place) → IfOk result P
+on_place place P (Ok turned) is done makes = subst P (sym is) (makes done)
+on_place place P (Err e) is done makes = tt
+
+-- At the place to which a turn led a journal stands for all records of its carry,
+module _ {D : Type 0} {honest : D → Bool} {seen : D → Option (List ℕ)} {may_leave : D → List ℕ → Type 0} {disk : D}
+    (place at : Place) (carry : Carry) (is : at ≡ after_turn place carry)
+    (begins : BeginsEmpty honest seen may_leave disk at) where
+  here : BeginsEmpty honest seen may_leave disk (after_turn place carry)
+  here = subst (BeginsEmpty honest seen may_leave disk) is begins
+
+  pub turned_stands : (carry_of : List Record → Carry) (records : List Record) → place.used ≡ length records
+      → carry ≡ carry_of records → Stands carry_of honest seen may_leave disk at records
+  turned_stands carry_of records many carry_is =
+      subst (λ p. Stands carry_of honest seen may_leave disk p records) (sym is)
+      (empty_stands (after_turn place carry) here refl carry_of records many carry_is)
+
+  -- and the image has that carry, and no record after it.
+  pub turned_is : IsTurned honest seen may_leave disk place.used carry
+  turned_is = empty_turned (after_turn place carry) here

@@ -22,7 +22,7 @@ number_of Two = 2
 -- How many records a journal of an older version takes on so many bytes, after so many before its half. Those of version 1
 -- run through the whole disk.
 abbrev pub old_room : OldVersion → ℕ → ℕ → ℕ
-old_room One size base = min (size / 32 - 1) MOST_RECORDS
+old_room One size base = min (size / 32 - 1) (MOST_RECORDS - base)
 old_room Two size base = room_of size base
 
 -- The bodies of its records: those of version 1 stand behind one slot, whatever half that is, and those of version 2 as

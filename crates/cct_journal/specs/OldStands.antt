@@ -149,6 +149,20 @@ pub record IsTurned {D : Type 0} (honest : D → Bool) (seen : D → Option (Lis
   pub held : Holds honest seen may_leave disk image
   pub has : HasFrom image used carry []
 
+-- The place of a journal of version 1 before its first record.
+abbrev pub first_at : Bool → OldPlace
+first_at other_open = record {
+  version = One;
+  place = record {
+    used = 0;
+    second = false;
+    generation = 0;
+    base = 0;
+    carry = empty_carry;
+    other_open = other_open;
+  };
+}
+
 -- A place with so many records.
 abbrev pub with_used : OldPlace → ℕ → OldPlace
 with_used old used = record {

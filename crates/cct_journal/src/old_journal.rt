@@ -23,7 +23,7 @@ use cct_disk::Disk;
 use cct_edge::Failed;
 use cct_lines::{Carry, Record};
 
-/// A journal of version 1 or 2, which is only read until it is brought forward (`docs/JOURNAL.md`, "The older versions").
+/// A journal of version 1 or 2, which is only read until it is brought forward (`docs/JOURNAL.md`, "Old versions").
 #[derive(Drop)]
 pub struct OldJournal<D: Disk> {
     disk: D,

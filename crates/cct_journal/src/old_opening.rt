@@ -8,7 +8,7 @@ ghost use Rattle.cct_journal.specs.Half.{half, has_open_gate};
 ghost use Rattle.cct_journal.specs.Fronts.{IsCurrentHalf};
 ghost use Rattle.cct_journal.specs.Image.{least_size};
 ghost use Rattle.cct_journal.specs.OldImage.{BeginsSecond, IsOldAt, first_header};
-ghost use Rattle.cct_journal.specs.OldStands.{HasFreeHalf, IsOldPlaced, MayBeCounted, OldBeginsAt, OldFinds, RefusesOld, with_used};
+ghost use Rattle.cct_journal.specs.OldStands.{HasFreeHalf, IsOldPlaced, MayBeCounted, OldBeginsAt, OldFinds, RefusesOld, first_at, with_used};
 ghost use Rattle.cct_journal.specs.OldStands.{OldBeginsWhere, RefusesWhere};
 
 use crate::OldNo;
@@ -19,7 +19,6 @@ use crate::old_start::read_old_start;
 use crate::opening::{Current, find_current, find_start, place_at};
 use crate::place::Place;
 use crate::reading::{read_in, slots_on};
-use crate::start::Start;
 use cct_disk::Disk;
 use cct_edge::Failed;
 use cct_lines::Carry;
@@ -37,6 +36,24 @@ fn is_first_header(bytes: &[u8; FIRST_HEADER]) -> bool
     header == *bytes
 }
 
+/// The place of a journal of version 1 before its first record: in the first half, with generation 0, base 0 and the empty
+/// carry.
+fn first_place(other_open: bool) -> OldPlace
+    ensures { result ≡ first_at other_open }
+{
+    OldPlace {
+        version: OldVersion::One,
+        place: Place {
+            used: 0,
+            second: false,
+            generation: 0,
+            base: 0,
+            carry: Carry::empty(),
+            other_open,
+        },
+    }
+}
+
 /// Reads what a journal of version 1 begins with, and tells its place before its first record.
 fn find_first<D: Disk>(disk: &mut D, current: Current) -> Result<OldPlace, OldNo>
     requires { least_size ≤ D.size disk.old }
@@ -50,18 +67,11 @@ fn find_first<D: Disk>(disk: &mut D, current: Current) -> Result<OldPlace, OldNo
 {
     let mut bytes = [0; FIRST_HEADER];
     read_in(disk, false, 0, &mut bytes)?;
-    if !is_first_header(&bytes) {
-        return Err(OldNo::Alien);
+    if is_first_header(&bytes) {
+        Ok(first_place(current.other_open))
+    } else {
+        Err(OldNo::Alien)
     }
-    let start = Start {
-        generation: 0,
-        base: 0,
-        carry: Carry::empty(),
-    };
-    Ok(OldPlace {
-        version: OldVersion::One,
-        place: place_at(current, start),
-    })
 }
 
 /// Reads what a half of version 2 begins with, and tells its place before its first record.
@@ -86,17 +96,18 @@ fn find_second<D: Disk>(disk: &mut D, current: Current) -> Result<OldPlace, OldN
     })
 }
 
-/// Why no older version is found where the current half has today's: that version itself, or a start that is none.
-fn refuse_today<D: Disk>(disk: &mut D, current: Current) -> Result<OldNo, Failed>
+/// Why no older version is found where the current half has today's: that version itself, a start that is none, or a
+/// failure.
+fn refuse_today<D: Disk>(disk: &mut D, current: Current) -> OldNo
     requires { least_size ≤ D.size disk.old }
-    ensures refused { IfOk result (λ why. (image : List ℕ) → D.seen disk.old ≡ Some image
-        → RefusesWhere VERSION current why image) }
+    ensures refused { (image : List ℕ) → D.seen disk.old ≡ Some image → RefusesWhere VERSION current result image }
     ensures reads { OnlyReads D.size D.honest D.seen D.may_leave D.moment D.left_since D.cuts disk.old disk.new }
-    ensures cause { HasCause (D.faults disk.old) (D.faults disk.new) result }
+    ensures cause { Caused (D.faults disk.old) (D.faults disk.new) (result ≡ OldNo.Disk) }
 {
-    match find_start(disk, current.second)? {
-        Some(_) => Ok(OldNo::Current),
-        None => Ok(OldNo::Alien),
+    match find_start(disk, current.second) {
+        Ok(Some(_)) => OldNo::Current,
+        Ok(None) => OldNo::Alien,
+        Err(Failed) => OldNo::Disk,
     }
 }
 
@@ -117,7 +128,7 @@ fn find_old_half<D: Disk>(disk: &mut D) -> Result<OldPlace, OldNo>
     } else if current.version == SECOND_VERSION {
         find_second(disk, current)
     } else {
-        Err(refuse_today(disk, current)?)
+        Err(refuse_today(disk, current))
     }
 }
 

@@ -19,10 +19,11 @@ use cct_record::read_old;
 /// How many records a journal of an older version takes on so many bytes, after so many before its half.
 fn old_room_on(len: u64, old: &OldPlace) -> u32
     requires { least_size ≤ len }
-    ensures { result ≡ old_room old.now.version len old.now.place.base }
+    ensures value { result ≡ old_room old.now.version len old.now.place.base }
+    ensures fits { result + old.now.place.base ≤ MOST_RECORDS }
 {
     match old.version {
-        OldVersion::One => (len / SLOT - 1).min(MOST_RECORDS) as u32,
+        OldVersion::One => (len / SLOT - 1).min(MOST_RECORDS - u64::from(old.place.base)) as u32,
         OldVersion::Two => room_on(len, old.place.base),
     }
 }
