@@ -82,7 +82,13 @@ empty_rightly = record {
 
 -- The first half may begin with it.
 pub empty_may : MayBegin false 0 0 empty_carry
-empty_may = record { parity = refl; turned = omega arith; base_fits = omega arith; rightly = empty_rightly }
+empty_may = record {
+  parity = refl;
+  turned = omega arith;
+  generation_fits = omega arith;
+  base_fits = omega arith;
+  rightly = empty_rightly;
+}
 
 -- An image of which no half has an open gate is that of no journal.
 alien_by : (c : List ℕ) → ((second : Bool) → slice_index (half c second) 0 ≢ open_gate) → IsAlien c

@@ -1,17 +1,17 @@
 -- What the place that is found on an image is to it.
-use Rattle.std.proofs.Common.{◌≡◌, inl, inr, ℕ, Bool, true, false, not, Option, Some, ◌+◌, List, length}
-use Rattle.std.proofs.Common.{None, MatchOption, ◌⊎◌, reverse, sym, ◌∙◌, ap, subst, arith, length-append}
+use Rattle.std.proofs.Common.{◌≡◌, ℕ, ◌≤◌, Bool, not, Option, Some, ◌+◌, List, length}
+use Rattle.std.proofs.Common.{None, MatchOption, reverse, sym, ◌∙◌, ap, subst, arith, length-append}
 use Rattle.std.proofs.lemmas.List.{reverse-reverse}
 use Rattle.cct_lines.specs.declared.carry.Carry.{Carry}
 use Rattle.cct_lines.specs.declared.record.Record.{Record}
 use Rattle.cct_disk.specs.Disk.{Holds}
 use Rattle.cct_journal.specs.Half.{IsCurrent, half, has_open_gate}
 use Rattle.cct_journal.specs.Start.{Begins}
-use Rattle.cct_journal.specs.Fronts.{IsFront}
-use Rattle.cct_journal.specs.Image.{Continues, HasFrom, IsAlien, StandsFor}
+use Rattle.cct_journal.specs.Fronts.{BeginsAt, IsCurrentHalf, before_records}
+use Rattle.cct_journal.specs.Image.{Continues, HasFrom, IsAlien, StandsFor, least_size}
 use Rattle.cct_journal.specs.Opening.{CountsIn, ReplaysAll, Replayed}
 use Rattle.cct_journal.specs.Stands.{HasPlace, Reads, ReadsFrom, Stands}
-use Rattle.cct_journal.specs.declared.opening.Front.{Front}
+use Rattle.cct_journal.specs.declared.opening.Current.{Current}
 use Rattle.cct_journal.specs.declared.place.Place.{Place}
 use Rattle.cct_journal.specs.declared.start.Start.{Start}
 use Rattle.cct_journal.proofs.Currents.{same_half}
@@ -40,17 +40,35 @@ begins_there image second found start is begins =
     ((generation base : ℕ) (carry : Carry) → Begins second generation base carry (half image second) → ⊥)
     (λ s. Begins second s.generation s.base s.carry (half image second))) is begins
 
--- The gate of the half that isn't the current one.
-pub other_gate : (image : List ℕ) (first second other : Front) (current : Bool) → IsFront first (half image false)
-    → IsFront second (half image true)
-    → ((current ≡ true) × (other ≡ first)) ⊎ ((current ≡ false) × (other ≡ second))
-    → has_open_gate (half image (not current)) ≡ other.gate_open
-other_gate image first second other true is_first is_second (inl case) =
-    sym is_first.gate ∙ ap (λ h. h.gate_open) (sym case.1)
-other_gate image first second other true is_first is_second (inr case) = absurd cc
-other_gate image first second other false is_first is_second (inl case) = absurd cc
-other_gate image first second other false is_first is_second (inr case) =
-    sym is_second.gate ∙ ap (λ h. h.gate_open) (sym case.1)
+-- The current half that was looked for is there,
+pub current_there : {image : List ℕ} (found : Option Current) (current : Current) → found ≡ Some current
+    → MatchOption found ((second : Bool) → IsCurrent second image → ⊥) (IsCurrentHalf image)
+    → IsCurrentHalf image current
+current_there {image} found current is there =
+    subst (λ o. MatchOption o ((second : Bool) → IsCurrent second image → ⊥) (IsCurrentHalf image)) is there
+
+-- or isn't,
+pub current_nowhere : {image : List ℕ} (found : Option Current) → found ≡ None
+    → MatchOption found ((second : Bool) → IsCurrent second image → ⊥) (IsCurrentHalf image) → (second : Bool)
+    → IsCurrent second image → ⊥
+current_nowhere {image} found is none =
+    subst (λ o. MatchOption o ((second : Bool) → IsCurrent second image → ⊥) (IsCurrentHalf image)) is none
+
+-- and then the image is that of no journal.
+pub nowhere_alien : {image : List ℕ} (found : Option Current) → found ≡ None
+    → MatchOption found ((second : Bool) → IsCurrent second image → ⊥) (IsCurrentHalf image) → IsAlien image
+nowhere_alien found is none second generation base carry headed =
+    current_nowhere found is none second headed.current
+
+-- A journal whose current half begins so begins at this place.
+pub begins_at : (image : List ℕ) (current : Current) (start : Start) → least_size ≤ length image
+    → IsCurrentHalf image current
+    → Begins current.second start.generation start.base start.carry (half image current.second)
+    → BeginsAt image (before_records current start)
+begins_at image current start long is begins = record {
+  headed = record { long = long; current = is.current; begins = begins };
+  other_gate = is.other_gate;
+}
 
 -- Where an image stands for records, the half that has others is theirs.
 pub continues_at : (image : List ℕ) (place : Place) (counted : List Record) (carry_of : List Record → Carry)

@@ -1,11 +1,11 @@
 -- What is read of the first bytes of a half.
 use Rattle.std.proofs.Common.{◌≡◌, ℕ, Bool, ◌+◌, ◌≤◌, ◌==◌, List, [], ◌∷◌, length, take, drop, slice_index}
-use Rattle.std.proofs.Common.{sym, ◌∙◌, ap, subst, arith, get_or-take}
+use Rattle.std.proofs.Common.{sym, ◌∙◌, ap, ap₂, cond, subst, arith, get_or-take}
 use Rattle.std.proofs.Common.{Option, Some, None, IfSome, IfNone, MatchOption}
 use Rattle.std.specs.Int.{w32, from_le_bytes}
 use Rattle.std.proofs.lemmas.List.{drop-take, drop_more, take-take}
 use Rattle.cct_lines.specs.declared.carry.Carry.{Carry}
-use Rattle.cct_journal.specs.Half.{open_gate, window}
+use Rattle.cct_journal.specs.Half.{IsVersionOf, open_gate, turns_in, version_in, window}
 use Rattle.cct_journal.specs.Start.{Begins}
 use Rattle.cct_journal.specs.Fronts.{IsFront}
 use Rattle.cct_journal.specs.declared.format.TheConstants.{START}
@@ -25,17 +25,28 @@ four bytes at within =
     (drop_more bytes (at + 1 + 1 + 1) 0 (omega arith))
 
 -- What the front of a half says is in its first 20 bytes.
-pub front_of_half : (front : Front) (bytes whole : List ℕ) → bytes ≡ window 0 20 whole → IsFront front bytes → IsFront front whole
-front_of_half front bytes whole read is =
-    let here : IsFront front (take 20 whole) = subst (IsFront front) read is in
-    let opening : take 16 (take 20 whole) ≡ take 16 whole = take-take 16 20 whole (omega arith) in
-    let number : window 16 4 (take 20 whole) ≡ window 16 4 whole =
-    ap (λ (l : List ℕ). take 4 l) (drop-take 16 4 whole) ∙ take-take 4 4 (drop 16 whole) (omega arith) in
+pub front_of_half : (second : Bool) (front : Front) (bytes whole : List ℕ) → bytes ≡ window 0 20 whole
+    → IsFront second front bytes → IsFront second front whole
+front_of_half second front bytes whole read is =
+    let here : IsFront second front (take 20 whole) = subst (IsFront second front) read is in
+    let opening : take 15 (take 20 whole) ≡ take 15 whole = take-take 15 20 whole (omega arith) in
+    let version : version_in (take 20 whole) ≡ version_in whole = get_or-take 20 whole 15 0 (omega arith) in
+    let number : turns_in (take 20 whole) ≡ turns_in whole =
+    ap (from_le_bytes w32)
+    (ap (λ (l : List ℕ). take 4 l) (drop-take 16 4 whole) ∙ take-take 4 4 (drop 16 whole) (omega arith)) in
     record {
       gate = here.gate ∙ ap (λ g. g == open_gate) (get_or-take 20 whole 0 0 (omega arith));
-      title = λ is_open. sym opening ∙ here.title is_open;
-      titled = λ begins. here.titled (opening ∙ begins);
-      generation_is = here.generation_is ∙ ap (from_le_bytes w32) number;
+      title = λ is_open.
+          let first = here.title is_open in record {
+            titled = sym opening ∙ first.titled;
+            version_is = subst (IsVersionOf second) version first.version_is;
+          };
+      titled = λ begins. here.titled (record {
+        titled = opening ∙ begins.titled;
+        version_is = subst (IsVersionOf second) (sym version) begins.version_is;
+      });
+      version = here.version ∙ version;
+      generation_is = here.generation_is ∙ ap₂ (λ v n. cond (v == 1) 0 n) version number;
     }
 
 -- What a half begins with is in its first bytes.

@@ -1,6 +1,6 @@
 -- The bytes that a half begins with: how long they are, and that they tell what a half begins with.
-use Rattle.std.proofs.Common.{◌≡◌, ℕ, zero, suc, ◌+◌, ◌-◌, ◌*◌, ◌^◌, ◌<◌, ◌≤◌, Bool, List, [], ◌∷◌, ◌++◌, length, map, take, drop, replicate, get_or, refl, sym, ◌∙◌, ap, subst, arith}
-use Rattle.std.proofs.Common.{append_assoc, length-append, lit≤}
+use Rattle.std.proofs.Common.{◌≡◌, ℕ, zero, suc, ◌+◌, ◌-◌, ◌*◌, ◌^◌, ◌<◌, ◌≤◌, Bool, List, [], ◌∷◌, ◌++◌, length, map, take, drop, replicate, slice_index, get_or, refl, sym, ◌∙◌, ap, subst, arith}
+use Rattle.std.proofs.Common.{append_assoc, get_or-take, length-append, lit≤}
 use Rattle.std.specs.Prelude.{flat_map}
 use Rattle.std.specs.Int.{w32, to_le_bytes, from_le_bytes}
 use Rattle.std.proofs.lemmas.Nat.{from_le_bytes-to_le_bytes_4}
@@ -11,8 +11,8 @@ use Rattle.cct_lines.specs.declared.carry.CarryEpoch.{CarryEpoch}
 use Rattle.cct_lines.specs.declared.carry.CarryOrder.{CarryOrder}
 use Rattle.cct_record.specs.CarryBody.{SpellsCarry, SpellsNone, bodies_of, epoch_body, first_sums, order_body, second_sums, third_sums}
 use Rattle.cct_record.proofs.CarryBack.{one_carry}
-use Rattle.cct_journal.specs.Half.{generation_in, open_gate, title, window}
-use Rattle.cct_journal.specs.Start.{Begins, MayBegin, area_of, carry_slot, header_of, start_of}
+use Rattle.cct_journal.specs.Half.{open_gate, title, turns_in, version_in, window}
+use Rattle.cct_journal.specs.Start.{Begins, MayBegin, area_with, carry_slot, header_with, start_of, start_with}
 use Rattle.cct_journal.specs.StartReading.{TellsStart, base_in, bodies_in, count_in}
 use Rattle.cct_journal.specs.declared.format.TheConstants.{START}
 
@@ -22,7 +22,7 @@ AreBodies [] = Unit {0}
 AreBodies (body ∷ bodies) = (length body ≡ 31) × AreBodies bodies
 
 -- Two lists of them one after the other.
-both_bodies : (some more : List (List ℕ)) → AreBodies some → AreBodies more → AreBodies (some ++ more)
+pub both_bodies : (some more : List (List ℕ)) → AreBodies some → AreBodies more → AreBodies (some ++ more)
 both_bodies [] more first second = second
 both_bodies (body ∷ some) more first second = (first.0, both_bodies some more first.1 second)
 
@@ -33,13 +33,13 @@ epoch_bodies [] = tt
 epoch_bodies (e ∷ es) = (refl, epoch_bodies es)
 
 -- And those of orders.
-order_bodies : (os : List CarryOrder) → AreBodies (map order_body os)
+pub order_bodies : (os : List CarryOrder) → AreBodies (map order_body os)
 unfolding order_body
 order_bodies [] = tt
 order_bodies (o ∷ os) = (refl, order_bodies os)
 
 -- And so have those of sums.
-sums_long : (c : Carry) → (length (first_sums c) ≡ 31) × (length (second_sums c) ≡ 31) × (length (third_sums c) ≡ 31)
+pub sums_long : (c : Carry) → (length (first_sums c) ≡ 31) × (length (second_sums c) ≡ 31) × (length (third_sums c) ≡ 31)
 unfolding first_sums second_sums third_sums
 sums_long c = (refl, refl, refl)
 
@@ -84,63 +84,80 @@ filled_long front many long few =
     omega arith
 
 -- The slots of a carry have 1,120 bytes.
-pub area_long : (base : ℕ) (c : Carry) → IsRightly base c → length (area_of c) ≡ 1120
-area_long base c rightly =
-    filled_long (flat_map carry_slot (bodies_of c)) (length (bodies_of c)) (slots_long (bodies_of c) (carry_bodies c))
-    (carry_count base c rightly)
+area_long : (bodies : List (List ℕ)) → AreBodies bodies → length bodies ≤ 35 → length (area_with bodies) ≡ 1120
+area_long bodies are few = filled_long (flat_map carry_slot bodies) (length bodies) (slots_long bodies are) few
 
 -- What a half begins with are a header and the slots of a carry.
-start_header : (generation base : ℕ) (c : Carry) → length (start_of generation base c) ≡ 32 + length (area_of c)
-unfolding start_of
-start_header generation base c =
-    let both = length-append (header_of generation base c) (area_of c) in
+start_header : (version generation base : ℕ) (bodies : List (List ℕ))
+    → length (start_with version generation base bodies) ≡ 32 + length (area_with bodies)
+unfolding start_with
+start_header version generation base bodies =
+    let both = length-append (header_with version generation base (length bodies)) (area_with bodies) in
     both
 
 -- What a half begins with has 1,152 bytes.
-pub start_len : (generation base : ℕ) (c : Carry) → IsRightly base c → length (start_of generation base c) ≡ 1152
-start_len generation base c rightly =
-    let area = area_long base c rightly in
-    let both = start_header generation base c in
+pub with_len : (version generation base : ℕ) (bodies : List (List ℕ)) → AreBodies bodies → length bodies ≤ 35
+    → length (start_with version generation base bodies) ≡ 1152
+with_len version generation base bodies are few =
+    let area = area_long bodies are few in
+    let both = start_header version generation base bodies in
     omega arith
 
--- It begins with the open gate and the title.
-pub start_opens : (generation base : ℕ) (c : Carry) → take 16 (start_of generation base c) ≡ title
-unfolding start_of
-start_opens generation base c = refl
+pub start_len : (generation base : ℕ) (c : Carry) → IsRightly base c → length (start_of generation base c) ≡ 1152
+start_len generation base c rightly =
+    with_len 3 generation base (bodies_of c) (carry_bodies c) (carry_count base c rightly)
+
+-- It begins with the open gate and the title,
+start_opens : (version generation base : ℕ) (bodies : List (List ℕ))
+    → take 15 (start_with version generation base bodies) ≡ title
+unfolding start_with
+start_opens version generation base bodies = refl
+
+-- and then its version stands.
+start_version : (version generation base : ℕ) (bodies : List (List ℕ))
+    → version_in (start_with version generation base bodies) ≡ version
+unfolding start_with
+start_version version generation base bodies = refl
 
 -- Its first byte is the open gate.
 pub start_gate : (generation base : ℕ) (c : Carry)
     → start_of generation base c ≡ open_gate ∷ drop 1 (start_of generation base c)
-unfolding start_of
+unfolding start_with
 start_gate generation base c = refl
 
 -- The generation, the base and how many bodies there are stand in it.
-generation_there : (generation base : ℕ) (c : Carry) → window 16 4 (start_of generation base c) ≡ to_le_bytes w32 generation
-unfolding start_of
-generation_there generation base c = refl
+generation_there : (version generation base : ℕ) (bodies : List (List ℕ))
+    → window 16 4 (start_with version generation base bodies) ≡ to_le_bytes w32 generation
+unfolding start_with
+generation_there version generation base bodies = refl
 
-base_there : (generation base : ℕ) (c : Carry) → window 20 4 (start_of generation base c) ≡ to_le_bytes w32 base
-unfolding start_of
-base_there generation base c = refl
+base_there : (version generation base : ℕ) (bodies : List (List ℕ))
+    → window 20 4 (start_with version generation base bodies) ≡ to_le_bytes w32 base
+unfolding start_with
+base_there version generation base bodies = refl
 
-count_there : (generation base : ℕ) (c : Carry) → count_in (start_of generation base c) ≡ length (bodies_of c)
-unfolding start_of
-count_there generation base c = refl
+pub count_there : (version generation base : ℕ) (bodies : List (List ℕ))
+    → count_in (start_with version generation base bodies) ≡ length bodies
+unfolding start_with
+count_there version generation base bodies = refl
 
-area_there : (generation base : ℕ) (c : Carry) → drop 32 (start_of generation base c) ≡ area_of c
-unfolding start_of
-area_there generation base c = refl
+area_there : (version generation base : ℕ) (bodies : List (List ℕ))
+    → drop 32 (start_with version generation base bodies) ≡ area_with bodies
+unfolding start_with
+area_there version generation base bodies = refl
 
 -- The generation is read back.
-generation_back : (generation base : ℕ) (c : Carry) → generation < 2 ^ 32
-    → generation_in (start_of generation base c) ≡ generation
-generation_back generation base c fits =
-    ap (from_le_bytes w32) (generation_there generation base c) ∙ from_le_bytes-to_le_bytes_4 generation fits
+pub generation_back : (version generation base : ℕ) (bodies : List (List ℕ)) → generation < 2 ^ 32
+    → turns_in (start_with version generation base bodies) ≡ generation
+generation_back version generation base bodies fits =
+    ap (from_le_bytes w32) (generation_there version generation base bodies)
+    ∙ from_le_bytes-to_le_bytes_4 generation fits
 
 -- And so is the base.
-base_back : (generation base : ℕ) (c : Carry) → base < 2 ^ 32 → base_in (start_of generation base c) ≡ base
-base_back generation base c fits =
-    ap (from_le_bytes w32) (base_there generation base c) ∙ from_le_bytes-to_le_bytes_4 base fits
+pub base_back : (version generation base : ℕ) (bodies : List (List ℕ)) → base < 2 ^ 32
+    → base_in (start_with version generation base bodies) ≡ base
+base_back version generation base bodies fits =
+    ap (from_le_bytes w32) (base_there version generation base bodies) ∙ from_le_bytes-to_le_bytes_4 base fits
 
 -- Bytes that begin with those of another half have the same four bytes at a place before 1,149.
 same_window : (at : ℕ) (bytes start : List ℕ) → at + 4 ≤ START → take START bytes ≡ start → window at 4 bytes ≡ window at 4 start
@@ -148,12 +165,23 @@ same_window at bytes start early same =
     sym (drop-take at 4 bytes) ∙ sym (ap (λ (xs : List ℕ). drop at xs) (take-take (at + 4) START bytes early))
     ∙ drop-take at 4 (take START bytes) ∙ ap (λ (xs : List ℕ). window at 4 xs) same
 
--- The bytes of a half that begins so tell its generation.
-pub start_tells : (generation base : ℕ) (c : Carry) (bytes : List ℕ) → generation < 2 ^ 32
-    → take START bytes ≡ start_of generation base c → generation_in bytes ≡ generation
-start_tells generation base c bytes fits begins =
-    ap (from_le_bytes w32) (same_window 16 bytes (start_of generation base c) (lit≤ tt) begins)
-    ∙ generation_back generation base c fits
+module _ (version generation base : ℕ) (bodies : List (List ℕ)) (bytes : List ℕ)
+    (begins : take START bytes ≡ start_with version generation base bodies) where
+  -- The bytes of a half that begins so have the title,
+  pub begun_title : take 15 bytes ≡ title
+  begun_title = sym (take-take 15 START bytes (lit≤ tt)) ∙ ap (λ (l : List ℕ). take 15 l) begins
+      ∙ start_opens version generation base bodies
+
+  -- and tell its version
+  pub begun_version : version_in bytes ≡ version
+  begun_version = sym (get_or-take START bytes 15 0 (lit≤ tt)) ∙ ap (λ (l : List ℕ). slice_index l 15) begins
+      ∙ start_version version generation base bodies
+
+  -- and its generation.
+  pub begun_tells : generation < 2 ^ 32 → turns_in bytes ≡ generation
+  begun_tells fits =
+      ap (from_le_bytes w32) (same_window 16 bytes (start_with version generation base bodies) (lit≤ tt) begins)
+      ∙ generation_back version generation base bodies fits
 
 -- The body of a slot stands at its place after other slots.
 slot_there : (bodies : List (List ℕ)) (rest : List ℕ) (n : ℕ) → AreBodies bodies → n < length bodies
@@ -174,39 +202,40 @@ slot_there (body ∷ bodies) rest (suc n) are here =
     ∙ ap (λ (xs : List ℕ). window (32 * n + 1) 31 xs) first ∙ next
 
 -- The first bodies of a carry are read back.
-some_back : (generation base : ℕ) (c : Carry) (n : ℕ) → n ≤ length (bodies_of c)
-    → bodies_in n (start_of generation base c) ≡ take n (bodies_of c)
-some_back generation base c zero few = refl
-some_back generation base c (suc n) few =
-    let before = some_back generation base c n (omega arith) in
-    let start = start_of generation base c in
+some_back : (version generation base : ℕ) (bodies : List (List ℕ)) → AreBodies bodies → (n : ℕ) → n ≤ length bodies
+    → bodies_in n (start_with version generation base bodies) ≡ take n bodies
+some_back version generation base bodies are zero few = refl
+some_back version generation base bodies are (suc n) few =
+    let before = some_back version generation base bodies are n (omega arith) in
+    let start = start_with version generation base bodies in
     let more : n + 1 ≡ suc n = omega arith in
     let place : 33 + 32 * n ≡ 32 + (32 * n + 1) = omega arith in
-    let here : window (33 + 32 * n) 31 start ≡ get_or (bodies_of c) n [] =
+    let here : window (33 + 32 * n) 31 start ≡ get_or bodies n [] =
     ap (λ k. window k 31 start) place
     ∙ ap (λ (xs : List ℕ). take 31 xs) (sym (drop-drop (32 * n + 1) 32 start))
-    ∙ ap (λ (xs : List ℕ). window (32 * n + 1) 31 xs) (area_there generation base c)
-    ∙ slot_there (bodies_of c) (replicate (1120 - 32 * length (bodies_of c)) 0) n (carry_bodies c) (omega arith) in
+    ∙ ap (λ (xs : List ℕ). window (32 * n + 1) 31 xs) (area_there version generation base bodies)
+    ∙ slot_there bodies (replicate (1120 - 32 * length bodies) 0) n are (omega arith) in
     ap (λ (xs : List (List ℕ)). xs ++ window (33 + 32 * n) 31 start ∷ []) before
-    ∙ ap (λ (x : List ℕ). take n (bodies_of c) ++ x ∷ []) here
-    ∙ sym (take_more (bodies_of c) n [] (omega arith))
-    ∙ ap (λ k. take k (bodies_of c)) more
+    ∙ ap (λ (x : List ℕ). take n bodies ++ x ∷ []) here
+    ∙ sym (take_more bodies n [] (omega arith))
+    ∙ ap (λ k. take k bodies) more
 
 -- All bodies of a carry are read back.
-bodies_back : (generation base : ℕ) (c : Carry)
-    → bodies_in (count_in (start_of generation base c)) (start_of generation base c) ≡ bodies_of c
-bodies_back generation base c =
-    ap (λ n. bodies_in n (start_of generation base c)) (count_there generation base c)
-    ∙ some_back generation base c (length (bodies_of c)) (omega arith)
-    ∙ take_all (length (bodies_of c)) (bodies_of c) (omega arith)
+pub bodies_back : (version generation base : ℕ) (bodies : List (List ℕ)) → AreBodies bodies
+    → bodies_in (count_in (start_with version generation base bodies)) (start_with version generation base bodies)
+    ≡ bodies
+bodies_back version generation base bodies are =
+    ap (λ n. bodies_in n (start_with version generation base bodies)) (count_there version generation base bodies)
+    ∙ some_back version generation base bodies are (length bodies) (omega arith)
+    ∙ take_all (length bodies) bodies (omega arith)
 
 -- Numbers and a carry with which a half may begin stand in the bytes that it begins with.
 pub start_told : (second : Bool) (generation base : ℕ) (c : Carry) → MayBegin second generation base c
     → TellsStart generation base c (start_of generation base c)
 start_told second generation base c may = record {
-  generation_stands = generation_back generation base c (omega (arith, may.turned, may.base_fits));
-  base_stands = base_back generation base c (omega (arith, may.base_fits));
-  carry_stands = record { rightly = may.rightly; spelt = sym (bodies_back generation base c) };
+  generation_stands = generation_back 3 generation base (bodies_of c) may.generation_fits;
+  base_stands = base_back 3 generation base (bodies_of c) (omega (arith, may.base_fits));
+  carry_stands = record { rightly = may.rightly; spelt = sym (bodies_back 3 generation base (bodies_of c) (carry_bodies c)) };
 }
 
 -- No other numbers stand in the same bytes, and no other carry.
@@ -249,7 +278,7 @@ pub begins_none : (second : Bool) (bytes : List ℕ) → length bytes ≡ START
 begins_none second bytes long none generation base c begins =
     let told = begun_told second generation base c bytes long begins in
     let whole = begun_whole second generation base c bytes long begins in
-    let count : count_in bytes ≡ length (bodies_of c) = ap count_in (sym whole) ∙ count_there generation base c in
+    let count : count_in bytes ≡ length (bodies_of c) = ap count_in (sym whole) ∙ count_there 3 generation base (bodies_of c) in
     let few = carry_count base c begins.may.rightly in
     none (omega arith) c (subst (λ many. SpellsCarry many c (bodies_in (count_in bytes) bytes)) (sym told.base_stands)
     told.carry_stands)

@@ -21,3 +21,7 @@ mod Indexed
 mod Found
 mod Gathered
 mod Cuts
+mod OldHeads
+pub mod OldBodies
+mod OldTurns
+mod OldFound

@@ -1,14 +1,14 @@
 -- The two halves of an image: what a write in one of them leaves of both, and when the current one stays so.
 use Rattle.std.proofs.Common.{◌≡◌, ◌⊎◌, inl, inr, ⊎_elim, ℕ, ◌+◌, ◌*◌, ◌<◌, ◌≤◌, Bool, true, false, not, List}
 use Rattle.std.proofs.Common.{length, take, drop, map, slice_index, refl, sym, ◌∙◌, ap, subst, arith}
-use Rattle.std.proofs.Common.{All}
+use Rattle.std.proofs.Common.{All, ◌==◌, ap₂, cond}
 use Rattle.std.specs.Int.{w32, from_le_bytes}
 use Rattle.std.proofs.lemmas.List.{get_or-drop, get_or-take, take-take}
 use Rattle.cct_lines.specs.declared.carry.Carry.{Carry}
 use Rattle.cct_lines.specs.declared.record.Record.{Record}
 use Rattle.cct_record.specs.Body.{InRange, body_of}
 use Rattle.cct_disk.specs.Disk.{SameOutside}
-use Rattle.cct_journal.specs.Half.{IsOpen, Wins, generation_in, half, open_gate, slots_in, start_at, window}
+use Rattle.cct_journal.specs.Half.{IsOpen, IsVersionOf, Wins, generation_in, half, open_gate, slots_in, start_at, turns_in, version_in, window}
 use Rattle.cct_journal.specs.Image.{HasHalf, bodies, room_of}
 use Rattle.cct_journal.specs.declared.format.TheConstants.{START}
 use Rattle.cct_journal.proofs.Bytes.{same_before}
@@ -76,36 +76,46 @@ not_not false = refl
 not_not true = refl
 
 -- What a half's first bytes say.
-pub open_gate_first : (bytes : List ℕ) → IsOpen bytes → slice_index bytes 0 ≡ open_gate
+pub open_gate_first : {second : Bool} (bytes : List ℕ) → IsOpen second bytes → slice_index bytes 0 ≡ open_gate
 open_gate_first bytes is_open =
-    sym (get_or-take 16 bytes 0 0 (omega arith)) ∙ ap (λ (l : List ℕ). slice_index l 0) is_open
+    sym (get_or-take 15 bytes 0 0 (omega arith)) ∙ ap (λ (l : List ℕ). slice_index l 0) is_open.titled
 
 -- Bytes with the same beginning say the same.
 module _ (mine other : List ℕ) (same : take START mine ≡ take START other) where
-  -- Their first bytes are the same.
-  pub same_title : take 16 mine ≡ take 16 other
-  same_title = sym (take-take 16 START mine (omega arith)) ∙ ap (λ (l : List ℕ). take 16 l) same
-      ∙ take-take 16 START other (omega arith)
+  -- They have the same version.
+  pub same_version : version_in mine ≡ version_in other
+  same_version = sym (get_or-take START mine 15 0 (omega arith)) ∙ ap (λ (l : List ℕ). slice_index l 15) same
+      ∙ get_or-take START other 15 0 (omega arith)
+
+  -- They are open where the others are.
+  pub same_title : {second : Bool} → IsOpen second other → IsOpen second mine
+  same_title {second} is_open = record {
+    titled = sym (take-take 15 START mine (omega arith)) ∙ ap (λ (l : List ℕ). take 15 l) same
+        ∙ take-take 15 START other (omega arith) ∙ is_open.titled;
+    version_is = subst (IsVersionOf second) (sym same_version) is_open.version_is;
+  }
 
   -- They say the same generation.
   pub same_generation : generation_in mine ≡ generation_in other
   same_generation =
+      let turns : turns_in mine ≡ turns_in other =
       ap (λ (l : List ℕ). from_le_bytes w32 l)
       (sym (part_of_part mine 0 START 16 4 (omega arith)) ∙ ap (λ (l : List ℕ). window 16 4 l) same
-      ∙ part_of_part other 0 START 16 4 (omega arith))
+      ∙ part_of_part other 0 START 16 4 (omega arith)) in
+      ap₂ (λ v n. cond (v == 1) 0 n) same_version turns
 
 -- A half goes on to count beside the other one.
 pub wins_on : (second : Bool) (mine other new_mine new_other : List ℕ) → generation_in new_mine ≡ generation_in mine
-    → (IsOpen new_other → new_other ≡ other) → Wins second mine other → Wins second new_mine new_other
+    → (IsOpen (not second) new_other → new_other ≡ other) → Wins second mine other → Wins second new_mine new_other
 wins_on false mine other new_mine new_other same stays wins = λ is_open.
     let are = stays is_open in
-    let was : IsOpen other = subst IsOpen are is_open in
+    let was : IsOpen true other = subst (IsOpen true) are is_open in
     let less : generation_in other ≤ generation_in mine = wins was in
     let there : generation_in new_other ≡ generation_in other = ap generation_in are in
     omega (arith, less, there, same)
 wins_on true mine other new_mine new_other same stays wins = λ is_open.
     let are = stays is_open in
-    let was : IsOpen other = subst IsOpen are is_open in
+    let was : IsOpen false other = subst (IsOpen false) are is_open in
     let less : generation_in other < generation_in mine = wins was in
     let there : generation_in new_other ≡ generation_in other = ap generation_in are in
     omega (arith, less, there, same)
@@ -120,7 +130,7 @@ wins_over true mine other less = λ is_open. less
 pub has_again : (image c : List ℕ) (second : Bool) (generation base : ℕ) (carry : Carry) (old rest : List Record)
     → HasHalf image second generation base carry old → length c ≡ length image
     → take START (half c second) ≡ take START (half image second)
-    → (IsOpen (half c (not second)) → half c (not second) ≡ half image (not second))
+    → (IsOpen (not second) (half c (not second)) → half c (not second) ≡ half image (not second))
     → bodies (room_of (length image) base) (drop START (half c second)) ≡ map body_of rest → All InRange rest
     → HasHalf c second generation base carry rest
 has_again image c second generation base carry old rest has size begins other are in_range =
@@ -128,7 +138,7 @@ has_again image c second generation base carry old rest has size begins other ar
       headed = record {
         long = omega (arith, size, headed.long);
         current = record {
-          is_open = same_title (half c second) (half image second) begins ∙ headed.current.is_open;
+          is_open = same_title (half c second) (half image second) begins headed.current.is_open;
           wins = wins_on second (half image second) (half image (not second)) (half c second) (half c (not second))
               (same_generation (half c second) (half image second) begins) other headed.current.wins;
         };

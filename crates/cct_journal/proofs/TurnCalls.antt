@@ -1,6 +1,6 @@
 -- What the calls of a turn make of a disk on which a journal stands.
 use Rattle.std.proofs.Common.{◌≡◌, inl, ⊎_elim, true, false, ℕ, ◌+◌, ◌<◌, ◌≤◌, Bool, not, Option, Some}
-use Rattle.std.proofs.Common.{List, [], ◌∷◌, length, sym, ◌∙◌, ap, subst, arith}
+use Rattle.std.proofs.Common.{List, [], ◌∷◌, length, cond, refl, sym, ◌∙◌, ap, subst, arith}
 use Rattle.std.proofs.lemmas.List.{append-nil}
 use Rattle.cct_lines.specs.Carried.{IsRightly}
 use Rattle.cct_lines.specs.declared.carry.Carry.{Carry}
@@ -8,142 +8,135 @@ use Rattle.cct_lines.specs.declared.record.Record.{Record}
 use Rattle.cct_disk.specs.Disk.{Holds, LeavesOnly, SameOutside, put_at}
 use Rattle.cct_journal.specs.declared.format.TheConstants.{MOST_RECORDS, START}
 use Rattle.cct_journal.specs.declared.place.Place.{Place}
-use Rattle.cct_journal.specs.Half.{half, has_open_gate, start_at}
-use Rattle.cct_journal.specs.Image.{Continues, HasHalf, StandsFor, StandsForOneOf, room_of}
-use Rattle.cct_journal.specs.Gated.{IsBegun, behind_open_gate}
-use Rattle.cct_journal.specs.Places.{after_close, after_turn, behind_start}
-use Rattle.cct_journal.specs.Stands.{IsPlaced, Puts, Stands, StandsWith}
+use Rattle.cct_journal.specs.Image.{Continues, StandsFor, StandsForOneOf, room_of}
+use Rattle.cct_journal.specs.Places.{after_turn}
+use Rattle.cct_journal.specs.Stands.{HasPlace, IsPlaced, Puts, Stands, StandsWith}
 use Rattle.cct_journal.specs.Start.{HasParity, MayBegin, start_of}
+use Rattle.cct_journal.specs.Half.{start_at}
+use Rattle.cct_journal.specs.Turning.{IsClosing, IsTurnedBy, closed_by, closing_at, other_start, turned_by}
 use Rattle.cct_journal.proofs.Calls.{stands_for}
 use Rattle.cct_journal.proofs.Moments.{started, then, weaker}
-use Rattle.cct_journal.proofs.Turns.{ClosesAt, begun_either, closed_gate, closed_has, closing, turned_gate, turned_has}
+use Rattle.cct_journal.proofs.Turns.{IsKept, half_kept, turning_either, turning_gate, turning_has}
 
 -- The next generation has the other half's parity.
 next_parity : (second : Bool) (generation : ℕ) → HasParity second generation → HasParity (not second) (generation + 1)
 next_parity false generation even = omega (arith, even)
 next_parity true generation odd = omega (arith, odd)
 
--- After a full half the other one may begin with all records.
-pub may_turn : (size : ℕ) (place : Place) (carry : Carry) → IsPlaced size place
-    → place.used ≡ place.base + room_of size place.base → place.used < MOST_RECORDS → IsRightly place.used carry
-    → MayBegin (not place.second) (place.generation + 1) place.used carry
-may_turn size place carry placed full few rightly = record {
-  parity = next_parity place.second place.generation placed.begins.parity;
-  turned = omega (arith, placed.begins.turned, placed.begins.base_fits, placed.long, full);
-  base_fits = few;
+-- The other half may begin with all records, where the journal hasn't turned more often than it has records.
+pub may_turn_at : (second : Bool) (generation used : ℕ) (carry : Carry) → HasParity second generation
+    → generation ≤ used → generation < MOST_RECORDS → used ≤ MOST_RECORDS → IsRightly used carry
+    → MayBegin (not second) (generation + 1) used carry
+may_turn_at second generation used carry parity turned few fits rightly = record {
+  parity = next_parity second generation parity;
+  turned = omega (arith, turned);
+  generation_fits = omega (arith, few);
+  base_fits = fits;
   rightly = rightly;
 }
 
+-- So it may after a full half.
+pub turned_few : (size : ℕ) (place : Place) → IsPlaced size place
+    → place.used ≡ place.base + room_of size place.base → place.used < MOST_RECORDS → place.generation ≤ place.used
+turned_few size place placed full few = omega (arith, placed.begins.turned, placed.begins.base_fits, placed.long, full, few)
+
+pub may_turn : (size : ℕ) (place : Place) (carry : Carry) → IsPlaced size place
+    → place.used ≡ place.base + room_of size place.base → place.used < MOST_RECORDS → IsRightly place.used carry
+    → MayBegin (not place.second) (place.generation + 1) place.used carry
+may_turn size place carry placed full few rightly =
+    let turned = turned_few size place placed full few in
+    may_turn_at place.second place.generation place.used carry placed.begins.parity turned (omega (arith, turned, few))
+    (omega (arith, few)) rightly
+
+-- The place of the first write.
+closing_by : (is_open : Bool) (start at from : ℕ) → start ≡ from → (is_open ≡ true → at ≡ start)
+    → (is_open ≡ false → at ≡ start + 1) → at ≡ cond is_open from (from + 1)
+closing_by true start at from same opened shut = opened refl ∙ same
+closing_by false start at from same opened shut = shut refl ∙ ap (λ n. n + 1) same
+
+-- Where the other half begins.
+pub start_here : {D : Type 0} (size : D → ℕ) (seen : D → Option (List ℕ))
+    → ((disk : D) (s : List ℕ) → seen disk ≡ Some s → length s ≡ size disk) → (old : D) (place : Place) (len : ℕ)
+    → len ≡ size old → (start : ℕ) → start ≡ start_at len (not place.second) → (image : List ℕ) → seen old ≡ Some image
+    → start ≡ other_start place image
+start_here size seen fits old place len len_is start start_is image told =
+    start_is ∙ ap (λ n. start_at n (not place.second)) (len_is ∙ sym (fits old image told))
+
+-- The first two calls.
 module _ {D : Type 0} (size : D → ℕ) (honest : D → Bool) (seen : D → Option (List ℕ)) (may_leave : D → List ℕ → Type 0)
     (moment : D → ℕ) (left_since : D → ℕ → List ℕ → Type 0)
     (fits : (disk : D) (s : List ℕ) → seen disk ≡ Some s → length s ≡ size disk)
     (old : D) (place : Place) (len : ℕ) (len_is : len ≡ size old) (start : ℕ)
-    (start_is : start ≡ start_at len (not place.second)) where
-  -- Where the other half begins.
-  start_here : (image : List ℕ) → seen old ≡ Some image → start_at (length image) (not place.second) ≡ start
-  start_here image told =
-      ap (λ n. start_at n (not place.second)) (fits old image told ∙ sym len_is) ∙ sym start_is
+    (start_is : start ≡ start_at len (not place.second)) (at : ℕ) (opened : place.other_open ≡ true → at ≡ start)
+    (shut : place.other_open ≡ false → at ≡ start + 1) (image : List ℕ)
+    (held : Holds honest seen may_leave old image) where
+  -- The write goes where it should.
+  closing_here : at ≡ closing_at place image
+  closing_here =
+      closing_by place.other_open start at (other_start place image)
+      (start_here size seen fits old place len len_is start start_is image held.tells) opened shut
 
-  -- The first two calls.
-  module _ (at : ℕ) (opened : place.other_open ≡ true → at ≡ start) (shut : place.other_open ≡ false → at ≡ start + 1)
-      (carry_of : List Record → Carry) (records : List Record)
-      (stands : Stands carry_of honest seen may_leave old place records) where
-    -- The first write goes where it should.
-    closes : ClosesAt (start_at (length stands.image) (not place.second)) place.other_open at
-    closes =
-        subst (λ s. ClosesAt s place.other_open at) (sym (start_here stands.image stands.held.tells)) (opened, shut)
+  pub close_moments : (new : D) → LeavesOnly moment left_since old new (SameOutside at 1 image)
+      → LeavesOnly moment left_since old new (IsClosing place image)
+  close_moments new run = subst (λ k. LeavesOnly moment left_since old new (SameOutside k 1 image)) closing_here run
 
-    -- At each moment an image stands for the records.
-    pub close_moments : (new : D)
-        → ((image : List ℕ) → Holds honest seen may_leave old image
-        → LeavesOnly moment left_since old new (SameOutside at 1 image))
-        → LeavesOnly moment left_since old new (λ c. StandsFor carry_of c records)
-    close_moments new run =
-        weaker moment left_since old new (SameOutside at 1 stands.image) (λ c. StandsFor carry_of c records)
-        (λ c same. stands_for
-        (closing stands.image place.second place.generation place.base place.carry stands.rest stands.has
-        place.other_open at stands.other_gate closes c same) stands.continues)
-        (run stands.image stands.held)
+  pub close_done : (new : D) → Holds honest seen may_leave new (put_at image at (0 ∷ []))
+      → Holds honest seen may_leave new (closed_by place image)
+  close_done new run = subst (λ k. Holds honest seen may_leave new (put_at image k (0 ∷ []))) closing_here run
 
-    -- At the end the journal does, and the gate is shut.
-    pub close_done : (new : D)
-        → ((image : List ℕ) → Holds honest seen may_leave old image
-        → Holds honest seen may_leave new (put_at image at (0 ∷ [])))
-        → Stands carry_of honest seen may_leave new (after_close place) records
-    close_done new run = record {
-      image = put_at stands.image at (0 ∷ []);
-      held = run stands.image stands.held;
-      rest = stands.rest;
-      has = closed_has stands.image place.second place.generation place.base place.carry stands.rest stands.has
-          place.other_open at stands.other_gate closes;
-      continues = stands.continues;
-      count = stands.count;
-      other_gate = closed_gate stands.image place.second place.generation place.base place.carry stands.rest stands.has
-          place.other_open at stands.other_gate closes;
-    }
+module _ {D : Type 0} (size : D → ℕ) (honest : D → Bool) (seen : D → Option (List ℕ)) (may_leave : D → List ℕ → Type 0)
+    (moment : D → ℕ) (left_since : D → ℕ → List ℕ → Type 0) (old : D) (place : Place) (carry : Carry)
+    (placed : IsPlaced (size old) place) (full : place.used ≡ place.base + room_of (size old) place.base)
+    (few : place.used < MOST_RECORDS) (rightly : IsRightly place.used carry)
+    (whole : length (start_of (place.generation + 1) place.used carry) ≡ START) (carry_of : List Record → Carry)
+    (records : List Record) (with_carry : StandsWith carry_of honest seen may_leave old place carry records) where
+  -- The other half may begin.
+  turns : MayBegin (not place.second) (place.generation + 1) place.used carry
+  turns = may_turn (size old) place carry placed full few rightly
 
-  -- The other four.
-  module _ (carry : Carry) (placed : IsPlaced (size old) place)
-      (full : place.used ≡ place.base + room_of (size old) place.base) (few : place.used < MOST_RECORDS)
-      (rightly : IsRightly place.used carry)
-      (whole : length (start_of (place.generation + 1) place.used carry) ≡ START) (carry_of : List Record → Carry)
-      (records : List Record)
-      (with_carry : StandsWith carry_of honest seen may_leave old (after_close place) carry records) where
-    -- The other half may begin.
-    turns : MayBegin (not place.second) (place.generation + 1) place.used carry
-    turns = may_turn (size old) place carry placed full few rightly
+  -- All records are those of the carry.
+  all_carried : Continues carry_of place.used carry [] records
+  all_carried = record {
+    first = records;
+    all = sym (append-nil records);
+    many = with_carry.stands.count;
+    carry_is = with_carry.carry_is;
+  }
 
-    -- All records are those of the carry.
-    all_carried : Continues carry_of place.used carry [] records
-    all_carried = record {
-      first = records;
-      all = sym (append-nil records);
-      many = with_carry.stands.count;
-      carry_is = with_carry.carry_is;
-    }
+  -- What the image has is kept up to the last write.
+  kept : IsKept place.second place.generation (λ c. HasPlace c place with_carry.stands.rest)
+  kept = half_kept place.second place.generation place.base place.carry with_carry.stands.rest
 
-    -- At each moment an image stands for the records.
-    pub begin_moments : (new : D)
-        → ((image : List ℕ) → Holds honest seen may_leave old image
-        → LeavesOnly moment left_since old new (IsBegun start (behind_start (place.generation + 1) place.used carry) image))
-        → LeavesOnly moment left_since old new (λ c. StandsFor carry_of c records)
-    begin_moments new run =
-        let stands = with_carry.stands in
-        weaker moment left_since old new
-        (IsBegun start (behind_start (place.generation + 1) place.used carry) stands.image)
-        (λ c. StandsFor carry_of c records)
-        (subst (λ s. (c : List ℕ) → IsBegun s (behind_start (place.generation + 1) place.used carry) stands.image c
-        → StandsFor carry_of c records) (start_here stands.image stands.held.tells)
-        (λ c begun. ⊎_elim (λ has. stands_for has stands.continues) (λ has. stands_for has all_carried)
-        (begun_either stands.image place.second place.generation place.base place.carry stands.rest stands.has
-        place.used carry turns whole stands.other_gate c begun)))
-        (run stands.image stands.held)
+  -- At each moment an image stands for the records.
+  pub turn_moments : (new : D)
+      → ((image : List ℕ) → Holds honest seen may_leave old image
+      → LeavesOnly moment left_since old new (IsTurnedBy place carry image))
+      → LeavesOnly moment left_since old new (λ c. StandsFor carry_of c records)
+  turn_moments new run =
+      let stands = with_carry.stands in
+      weaker moment left_since old new (IsTurnedBy place carry stands.image) (λ c. StandsFor carry_of c records)
+      (λ c turning. ⊎_elim (λ has. stands_for has stands.continues) (λ has. stands_for has all_carried)
+      (turning_either place (λ c. HasPlace c place stands.rest) kept carry turns whole stands.image stands.has
+      stands.other_gate c turning))
+      (run stands.image stands.held)
 
-    -- At the end the journal does, in the other half.
-    pub begin_done : (new : D)
-        → ((image : List ℕ) → Holds honest seen may_leave old image
-        → Holds honest seen may_leave new
-        (behind_open_gate start (behind_start (place.generation + 1) place.used carry) image))
-        → Stands carry_of honest seen may_leave new (after_turn place carry) records
-    begin_done new run =
-        let stands = with_carry.stands in
-        let bytes = behind_start (place.generation + 1) place.used carry in
-        let here = start_here stands.image stands.held.tells in
-        record {
-          image = behind_open_gate start bytes stands.image;
-          held = run stands.image stands.held;
-          rest = [];
-          has = subst (λ s. HasHalf (behind_open_gate s bytes stands.image) (not place.second) (place.generation + 1)
-              place.used carry []) here
-              (turned_has stands.image place.second place.generation place.base place.carry stands.rest stands.has
-              place.used carry turns whole stands.other_gate);
-          continues = all_carried;
-          count = stands.count;
-          other_gate = subst (λ s. has_open_gate (half (behind_open_gate s bytes stands.image)
-              (not (not place.second))) ≡ true) here
-              (turned_gate stands.image place.second place.generation place.base place.carry stands.rest stands.has
-              place.used carry turns whole stands.other_gate);
-        }
+  -- At the end the journal does, in the other half.
+  pub turn_done : (new : D)
+      → ((image : List ℕ) → Holds honest seen may_leave old image
+      → Holds honest seen may_leave new (turned_by place carry image))
+      → Stands carry_of honest seen may_leave new (after_turn place carry) records
+  turn_done new run =
+      let stands = with_carry.stands in record {
+        image = turned_by place carry stands.image;
+        held = run stands.image stands.held;
+        rest = [];
+        has = turning_has place (λ c. HasPlace c place stands.rest) kept carry turns whole stands.image stands.has
+            stands.other_gate;
+        continues = all_carried;
+        count = stands.count;
+        other_gate = turning_gate place (λ c. HasPlace c place stands.rest) kept carry turns whole stands.image stands.has
+            stands.other_gate;
+      }
 
 -- Without a call a disk on which a journal stands leaves its image.
 pub same_moments : {D : Type 0} {honest : D → Bool} {seen : D → Option (List ℕ)} {may_leave : D → List ℕ → Type 0}

@@ -5,8 +5,12 @@ pub mod Fronts
 pub mod Gated
 pub mod Stands
 pub mod Places
+pub mod Turning
 pub mod PowerCuts
 pub mod Opening
 pub mod Creating
 pub mod Journal
 pub mod StartReading
+pub mod OldImage
+pub mod OldStands
+pub mod OldJournal

@@ -1,5 +1,5 @@
 -- The places to which a put and a turn lead, and the bytes that begin a half.
-use Rattle.std.specs.Prelude.{ℕ, ◌+◌, true, false, not, Option, None, Some, List, [], ◌∷◌, ◌++◌, drop}
+use Rattle.std.specs.Prelude.{ℕ, ◌+◌, true, not, Option, None, Some, List, [], ◌∷◌, ◌++◌, drop}
 use Rattle.cct_lines.specs.declared.carry.Carry.{Carry}
 use Rattle.cct_journal.specs.Start.{start_of}
 use Rattle.cct_journal.specs.declared.place.Place.{Place}
@@ -13,17 +13,6 @@ after_put place = record {
   base = place.base;
   carry = place.carry;
   other_open = place.other_open;
-}
-
--- The place after the other half was closed.
-abbrev pub after_close : Place → Place
-after_close place = record {
-  used = place.used;
-  second = place.second;
-  generation = place.generation;
-  base = place.base;
-  carry = place.carry;
-  other_open = false;
 }
 
 -- The place after the other half was begun, with the carry of all records.

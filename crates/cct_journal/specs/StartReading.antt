@@ -3,7 +3,7 @@ use Rattle.std.specs.Prelude.{◌≡◌, ℕ, zero, suc, ◌+◌, ◌*◌, List,
 use Rattle.std.specs.Int.{w32, from_le_bytes}
 use Rattle.cct_lines.specs.declared.carry.Carry.{Carry}
 use Rattle.cct_record.specs.CarryBody.{SpellsCarry}
-use Rattle.cct_journal.specs.Half.{generation_in, window}
+use Rattle.cct_journal.specs.Half.{turns_in, window}
 
 -- The base in a header.
 abbrev pub base_in : List ℕ → ℕ
@@ -20,6 +20,6 @@ bodies_in (suc count) bytes = bodies_in count bytes ++ window (33 + 32 * count) 
 
 -- These numbers and this carry stand there.
 pub record TellsStart (generation base : ℕ) (carry : Carry) (bytes : List ℕ) : Type 0 where
-  pub generation_stands : generation_in bytes ≡ generation
+  pub generation_stands : turns_in bytes ≡ generation
   pub base_stands : base_in bytes ≡ base
   pub carry_stands : SpellsCarry base carry (bodies_in (count_in bytes) bytes)

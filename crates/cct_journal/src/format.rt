@@ -6,10 +6,19 @@ pub(crate) const SLOT: u64 = 32;
 /// The gate of a slot that counts.
 pub(crate) const OPEN: u8 = 0xa5;
 
-/// The first bytes of an open half: its gate, the title and the version.
-pub(crate) const TITLE: [u8; 16] = [
-    OPEN, b'C', b'C', b'T', b'A', b'L', b'K', b' ', b'J', b'O', b'U', b'R', b'N', b'A', b'L', 3,
+/// The first bytes of an open half: its gate and the title. The version follows.
+pub(crate) const TITLE: [u8; 15] = [
+    OPEN, b'C', b'C', b'T', b'A', b'L', b'K', b' ', b'J', b'O', b'U', b'R', b'N', b'A', b'L',
 ];
+
+/// The version that had no halves.
+pub(crate) const FIRST_VERSION: u8 = 1;
+
+/// The version that had no accept counters.
+pub(crate) const SECOND_VERSION: u8 = 2;
+
+/// The version of the journals that are written today.
+pub(crate) const VERSION: u8 = 3;
 
 /// The bodies of a carry at most: three of sums, and one each of 32 epochs and orders.
 pub(crate) const CARRY_BODIES: usize = 35;

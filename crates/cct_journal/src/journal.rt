@@ -81,10 +81,24 @@ impl<D: Disk> Journal<D> {
         }
     }
 
+    /// A journal at a place of a disk.
+    pub(crate) fn at(disk: D, place: Place) -> Journal<D>
+        requires { IsPlaced (D.size disk) place }
+        ensures disk { disk_of result ≡ disk }
+        ensures place { place_of result ≡ place }
+        ensures unbroken { has_failed result ≡ false }
+    {
+        Journal {
+            disk,
+            place,
+            failed: false,
+        }
+    }
+
     /// Opens the journal that stands on a disk, and tells how many records it has. The disk is only read.
     ///
-    /// [`OpenNo::Alien`] comes where the disk has fewer than 2,368 bytes, no half of it is open, or the current one begins
-    /// with no header and carry, and [`OpenNo::BadRecord`] at the first body after an open gate of it that spells no
+    /// [`OpenNo::Alien`] comes where the disk has fewer than 2,368 bytes, no half of it is open, or the current one has an
+    /// older version or begins with no header and carry, and [`OpenNo::BadRecord`] at the first body after an open gate of it that spells no
     /// record, where no shut gate stands before it.
     pub fn reopen(disk: D) -> Result<(Journal<D>, u32), (D, OpenNo)>
         ensures finds { IfOk result (λ opened. Finds D.seen disk (disk_of opened.0) (place_of opened.0)) }
@@ -144,7 +158,7 @@ impl<D: Disk> Journal<D> {
     /// them.
     pub fn base(&self) -> u32
         ensures value { result ≡ base_of self.now }
-        ensures fits { result < MOST_RECORDS }
+        ensures fits { result ≤ MOST_RECORDS }
         ensures later { result ≤ used_of self.now }
     {
         self.place.base

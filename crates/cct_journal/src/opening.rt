@@ -1,18 +1,18 @@
 //! The journal that stands on a disk is found.
-ghost use Rattle.std.specs.Prelude.{◌≡◌, ℕ, ◌<◌, ◌≤◌, true, false, Bool, Err, Some, List};
+ghost use Rattle.std.specs.Prelude.{◌≡◌, ◌↔◌, ℕ, ◌<◌, ◌≤◌, ◌==◌, true, false, Bool, Err, Some, List, IsTrue, if◌then◌else◌};
 ghost use Rattle.std.specs.Prelude.{IfErr, IfOk, IfSome, MatchOption};
 ghost use Rattle.cct_edge.specs.Faults.{Caused, HasCause};
 ghost use Rattle.cct_lines.specs.declared.carry.Carry.{Carry};
 ghost use Rattle.cct_lines.specs.declared.record.Record.{Record};
 ghost use Rattle.cct_disk.specs.Disk.{OnlyReads};
-ghost use Rattle.cct_journal.specs.Half.{IsCurrent, half};
+ghost use Rattle.cct_journal.specs.Half.{IsCurrent, IsOpen, IsVersionOf, half};
 ghost use Rattle.cct_journal.specs.Start.{Begins, MayBegin};
-ghost use Rattle.cct_journal.specs.Fronts.{BeginsAt, IsFront};
+ghost use Rattle.cct_journal.specs.Fronts.{BeginsAt, IsCurrentHalf, IsFront, before_records};
 ghost use Rattle.cct_journal.specs.Image.{least_size};
 ghost use Rattle.cct_journal.specs.Opening.{Finds, RefusesOpen, ReplaysAll};
 ghost use Rattle.cct_journal.specs.Stands.{IsPlaced, Settled, Stands};
 
-use crate::format::{LEAST, OPEN, START, TITLE};
+use crate::format::{FIRST_VERSION, LEAST, OPEN, SECOND_VERSION, START, TITLE, VERSION};
 use crate::place::Place;
 use crate::reading::{read_in, replay_records};
 use crate::start::{Start, read_start};
@@ -24,23 +24,61 @@ use cct_edge::Failed;
 const FRONT: usize = 20;
 
 /// What stands at the front of a half.
-#[derive(Clone, Copy, Debug)]
+#[derive(Clone, Copy)]
 pub(crate) struct Front {
     /// Whether the gate is open.
     gate_open: bool,
-    /// Whether the half is open: its gate is, and it has the title and the version.
+    /// Whether the half is open: its gate is, and it has the title and a version that it may have.
     is_open: bool,
+    version: u8,
     generation: u32,
 }
 
-/// What the first bytes of a half say.
-fn front_of(bytes: &[u8; FRONT]) -> Front
-    ensures { IsFront result bytes.now }
+/// The half that counts, where there is one.
+#[derive(Clone, Copy)]
+pub(crate) struct Current {
+    pub(crate) second: bool,
+    pub(crate) version: u8,
+    /// Whether the gate of the other half is open.
+    pub(crate) other_open: bool,
+}
+
+/// Whether the first or the second half may have a version.
+fn may_have(second: bool, version: u8) -> bool
+    ensures { IsTrue result ↔ IsVersionOf second version }
 {
+    if version == FIRST_VERSION {
+        !second
+    } else {
+        version == SECOND_VERSION || version == VERSION
+    }
+}
+
+/// Whether the first or the second half is open, by its first bytes.
+fn is_open(bytes: &[u8; FRONT], second: bool) -> bool
+    ensures { IsTrue result ↔ IsOpen second bytes.now }
+{
+    bytes[..15] == TITLE[..] && may_have(second, bytes[15])
+}
+
+/// The generation of a half of a version, by the number that stands in its header.
+fn generation_of(version: u8, turns: u32) -> u32
+    ensures { result ≡ (if version == 1 then 0 else turns) }
+{
+    if version == FIRST_VERSION { 0 } else { turns }
+}
+
+/// What the first bytes of a half say.
+fn front_of(bytes: &[u8; FRONT], second: bool) -> Front
+    ensures { IsFront second result bytes.now }
+{
+    let version = bytes[15];
+    let turns = u32::from_le_bytes([bytes[16], bytes[17], bytes[18], bytes[19]]);
     Front {
         gate_open: bytes[0] == OPEN,
-        is_open: bytes[..16] == TITLE[..],
-        generation: u32::from_le_bytes([bytes[16], bytes[17], bytes[18], bytes[19]]),
+        is_open: is_open(bytes, second),
+        version,
+        generation: generation_of(version, turns),
     }
 }
 
@@ -48,31 +86,66 @@ fn front_of(bytes: &[u8; FRONT]) -> Front
 fn look_at<D: Disk>(disk: &mut D, second: bool) -> Result<Front, Failed>
     requires { least_size ≤ D.size disk.old }
     ensures front { IfOk result (λ front. (image : List ℕ) → D.seen disk.old ≡ Some image
-        → IsFront front (half image second)) }
+        → IsFront second front (half image second)) }
     ensures reads { OnlyReads D.size D.honest D.seen D.may_leave D.moment D.left_since D.cuts disk.old disk.new }
     ensures cause { HasCause (D.faults disk.old) (D.faults disk.new) result }
 {
     let mut bytes = [0; FRONT];
     read_in(disk, second, 0, &mut bytes)?;
-    Ok(front_of(&bytes))
+    Ok(front_of(&bytes, second))
 }
 
-/// Which half is the current one, the second or the first, where there is one.
-fn choose(first: Front, second: Front) -> Option<bool>
-    ensures { (image : List ℕ) → IsFront first (half image false) → IsFront second (half image true)
-        → MatchOption result ((second : Bool) → IsCurrent second image → ⊥) (λ second. IsCurrent second image) }
+/// Which half is the current one, where there is one.
+fn choose(first: Front, second: Front) -> Option<Current>
+    ensures { (image : List ℕ) → IsFront false first (half image false) → IsFront true second (half image true)
+        → MatchOption result ((second : Bool) → IsCurrent second image → ⊥) (IsCurrentHalf image) }
 {
     if first.is_open && (!second.is_open || second.generation <= first.generation) {
-        Some(false)
+        Some(Current {
+            second: false,
+            version: first.version,
+            other_open: second.gate_open,
+        })
     } else if second.is_open {
-        Some(true)
+        Some(Current {
+            second: true,
+            version: second.version,
+            other_open: first.gate_open,
+        })
     } else {
         None
     }
 }
 
+/// Finds the current half of a disk, of whatever version, where there is one.
+pub(crate) fn find_current<D: Disk>(disk: &mut D) -> Result<Option<Current>, Failed>
+    requires { least_size ≤ D.size disk.old }
+    ensures found { IfOk result (λ found. (image : List ℕ) → D.seen disk.old ≡ Some image
+        → MatchOption found ((second : Bool) → IsCurrent second image → ⊥) (IsCurrentHalf image)) }
+    ensures reads { OnlyReads D.size D.honest D.seen D.may_leave D.moment D.left_since D.cuts disk.old disk.new }
+    ensures cause { HasCause (D.faults disk.old) (D.faults disk.new) result }
+{
+    let first = look_at(disk, false)?;
+    let second = look_at(disk, true)?;
+    Ok(choose(first, second))
+}
+
+/// The place of a journal whose current half begins so, before its first record.
+pub(crate) fn place_at(current: Current, start: Start) -> Place
+    ensures { result ≡ before_records current start }
+{
+    Place {
+        used: start.base,
+        second: current.second,
+        generation: start.generation,
+        base: start.base,
+        carry: start.carry,
+        other_open: current.other_open,
+    }
+}
+
 /// Reads what a half begins with before its records, if it is the one spelling of a start.
-fn find_start<D: Disk>(disk: &mut D, second: bool) -> Result<Option<Start>, Failed>
+pub(crate) fn find_start<D: Disk>(disk: &mut D, second: bool) -> Result<Option<Start>, Failed>
     requires { least_size ≤ D.size disk.old }
     ensures may { IfOk result (λ found. IfSome found (λ s. MayBegin second s.generation s.base s.carry)) }
     ensures found { IfOk result (λ found. (image : List ℕ) → D.seen disk.old ≡ Some image → MatchOption found
@@ -95,23 +168,13 @@ fn find_half<D: Disk>(disk: &mut D) -> Result<Place, OpenNo>
     ensures reads { OnlyReads D.size D.honest D.seen D.may_leave D.moment D.left_since D.cuts disk.old disk.new }
     ensures cause { Caused (D.faults disk.old) (D.faults disk.new) (result ≡ Err OpenNo.Disk) }
 {
-    let first_front = look_at(disk, false)?;
-    let second_front = look_at(disk, true)?;
-    let Some(second) = choose(first_front, second_front) else {
+    let Some(current) = find_current(disk)? else {
         return Err(OpenNo::Alien);
     };
-    let Some(start) = find_start(disk, second)? else {
+    let Some(start) = find_start(disk, current.second)? else {
         return Err(OpenNo::Alien);
     };
-    let other = if second { first_front } else { second_front };
-    Ok(Place {
-        used: start.base,
-        second,
-        generation: start.generation,
-        base: start.base,
-        carry: start.carry,
-        other_open: other.gate_open,
-    })
+    Ok(place_at(current, start))
 }
 
 /// The place of the journal on a disk, which is only read. Its carry is replayed, and each of its records after it.

@@ -1,5 +1,5 @@
 //! What stands on the disk is read: bytes of a half, single slots of it, and its records.
-ghost use Rattle.std.specs.Prelude.{◌≡◌, ℕ, ◌+◌, ◌*◌, ◌<◌, ◌≤◌, Err, Some, List, length, IfErr, IfOk, OnOk};
+ghost use Rattle.std.specs.Prelude.{◌≡◌, ℕ, ◌+◌, ◌*◌, ◌<◌, ◌≤◌, Err, Some, List, length, IfErr, IfOk, OnOk, drop, slice_index, take};
 ghost use Rattle.cct_edge.specs.Faults.{Caused, HasCause};
 ghost use Rattle.cct_lines.specs.declared.record.Record.{Record};
 ghost use Rattle.cct_disk.specs.Disk.{OnlyReads};
@@ -21,6 +21,19 @@ use cct_record::read;
 pub(crate) struct Slot {
     pub(crate) gate: u8,
     pub(crate) body: [u8; 31],
+}
+
+/// What stands in a slot of these bytes.
+pub(crate) fn slot_of(bytes: &[u8; 32]) -> Slot
+    ensures gate { result.gate ≡ slice_index bytes.now 0 }
+    ensures body { result.body ≡ take 31 (drop 1 bytes.now) }
+{
+    let mut body = [0; 31];
+    body.copy_from_slice(&bytes[1..]);
+    Slot {
+        gate: bytes[0],
+        body,
+    }
 }
 
 /// How many slots each half has, on so many bytes.
@@ -81,12 +94,7 @@ pub(crate) fn read_slot<D: Disk>(disk: &mut D, second: bool, many: u32) -> Resul
         SLOT * (FIRST_SLOT + u64::from(many)),
         &mut bytes,
     )?;
-    let mut body = [0; 31];
-    body.copy_from_slice(&bytes[1..]);
-    Ok(Slot {
-        gate: bytes[0],
-        body,
-    })
+    Ok(slot_of(&bytes))
 }
 
 /// Replays the carry of a place and then the records after it, each as it is found, and tells how many records there are:

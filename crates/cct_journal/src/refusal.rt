@@ -84,3 +84,30 @@ pub enum JournalNo {
     #[error("the disk failed")]
     Disk,
 }
+
+/// Why no journal of an older version was opened.
+#[derive(Debug, Drop, Error)]
+pub enum OldNo {
+    /// The disk failed.
+    #[error("the disk failed")]
+    Disk,
+    /// The disk has no half that counts, or it begins with no header and carry of its version.
+    #[error("the disk has no journal")]
+    Alien,
+    /// The journal has today's version.
+    #[error("the journal has today's version")]
+    Current,
+    /// A journal of version 1 has `used` records: so many that they reach into the second half, which a turn needs.
+    #[error("{used} records leave no room for a turn")]
+    NoRoom { used: u32 },
+}
+
+impl From<Failed> for OldNo {
+    ghost use Rattle.cct_journal.specs.declared.refusal.OldNo.TheVariants.{Disk};
+
+    ghost from_gives = { λ _ e. e ≡ Disk };
+
+    fn from(_: Failed) -> Self {
+        OldNo::Disk
+    }
+}

@@ -1,5 +1,5 @@
 //! The records of a journal are replayed as they are found.
-ghost use Rattle.std.specs.Prelude.{◌≡◌, ℕ, ◌<◌, ◌+◌, List, [], ◌∷◌, length};
+ghost use Rattle.std.specs.Prelude.{◌≡◌, ℕ, ◌<◌, ◌≤◌, ◌+◌, List, [], ◌∷◌, length};
 ghost use Rattle.cct_lines.specs.Carried.{IsRightly};
 ghost use Rattle.cct_lines.specs.declared.carry.Carry.{Carry};
 ghost use Rattle.cct_lines.specs.declared.record.Record.{Record};
@@ -17,7 +17,7 @@ pub trait Replay {
 
     /// Goes over the carry of `base` records, before any record.
     fn begin(&mut self, base: u32, carry: &Carry)
-        requires few { base < MOST_RECORDS }
+        requires few { base ≤ MOST_RECORDS }
         requires rightly { IsRightly base carry.now }
         ensures { replayed self.old base carry.now [] self.new };
 

@@ -1,14 +1,14 @@
 //! What a half begins with, as bytes: its header and its carry.
-ghost use Rattle.std.specs.Prelude.{◌≡◌, ℕ, ◌+◌, ◌-◌, ◌*◌, ◌≤◌, ◌↔◌, ◌∷◌, ◌++◌, IfNone, IfSome, IsTrue, flat_map, length, replicate};
-ghost use Rattle.std.specs.Int.{from_le_bytes, to_le_bytes, w32};
+ghost use Rattle.std.specs.Prelude.{◌≡◌, ℕ, ◌+◌, ◌-◌, ◌*◌, ◌<◌, ◌≤◌, ◌↔◌, ◌++◌, IfNone, IfSome, IsTrue, flat_map, length, replicate};
+ghost use Rattle.std.specs.Int.{from_le_bytes, w32};
 ghost use Rattle.cct_lines.specs.Carried.{IsRightly};
 ghost use Rattle.cct_lines.specs.declared.carry.Carry.{Carry};
 ghost use Rattle.cct_record.specs.CarryBody.{SpellsNone};
-ghost use Rattle.cct_journal.specs.Half.{title, window};
-ghost use Rattle.cct_journal.specs.Start.{Begins, HasParity, MayBegin, carry_slot, start_of};
+ghost use Rattle.cct_journal.specs.Half.{window};
+ghost use Rattle.cct_journal.specs.Start.{Begins, HasParity, MayBegin, carry_slot, header_with, start_of, start_with};
 ghost use Rattle.cct_journal.specs.StartReading.{TellsStart, base_in, bodies_in, count_in};
 
-use crate::format::{CARRY_BODIES, MOST_RECORDS, START, TITLE};
+use crate::format::{CARRY_BODIES, START, TITLE, VERSION};
 use arrayvec::ArrayVec;
 use cct_lines::Carry;
 use cct_record::{encode_carry, read_carry};
@@ -17,7 +17,7 @@ use cct_record::{encode_carry, read_carry};
 const HEADER: usize = 32;
 
 /// The bytes of a body.
-const BODY: usize = 31;
+pub(crate) const BODY: usize = 31;
 
 /// What a half begins with.
 #[derive(Drop)]
@@ -27,26 +27,35 @@ pub(crate) struct Start {
     pub(crate) carry: Carry,
 }
 
-/// The bytes that a half begins with.
-#[tactic(auto, unfolding(crate::specs::Start::start_of))]
+/// The bytes that a half of today begins with.
 pub(crate) fn spell_start(generation: u32, base: u32, carry: &Carry) -> [u8; START]
     requires { IsRightly base carry.now }
     ensures { result ≡ start_of generation base carry.now }
 {
     let mut bodies = ArrayVec::new();
     encode_carry(carry, &mut bodies);
+    spell_with(VERSION, generation, base, bodies.as_slice())
+}
+
+/// The bytes that a half begins with, in a version whose carry has these bodies.
+#[tactic(auto, unfolding(crate::specs::Start::start_with))]
+pub(crate) fn spell_with(version: u8, generation: u32, base: u32, bodies: &[[u8; BODY]]) -> [u8; START]
+    requires { length bodies.now ≤ CARRY_BODIES }
+    ensures { result ≡ start_with version generation base bodies.now }
+{
     let mut start = [0; START];
-    start[..HEADER].copy_from_slice(&spell_header(generation, base, bodies.len() as u8));
-    fill_slots(&mut start[HEADER..], bodies.as_slice());
+    start[..HEADER].copy_from_slice(&spell_header(version, generation, base, bodies.len() as u8));
+    fill_slots(&mut start[HEADER..], bodies);
     start
 }
 
-/// The header of a half: the title, the numbers, how many bodies its carry has, and bytes 0.
-fn spell_header(generation: u32, base: u32, bodies: u8) -> [u8; HEADER]
-    ensures { result ≡ title ++ to_le_bytes w32 generation ++ to_le_bytes w32 base ++ bodies ∷ replicate 7 0 }
+/// The header of a half: the title and the version, the numbers, how many bodies its carry has, and bytes 0.
+fn spell_header(version: u8, generation: u32, base: u32, bodies: u8) -> [u8; HEADER]
+    ensures { result ≡ header_with version generation base bodies }
 {
     let mut header = [0; HEADER];
-    header[..16].copy_from_slice(&TITLE);
+    header[..15].copy_from_slice(&TITLE);
+    header[15] = version;
     header[16..20].copy_from_slice(&generation.to_le_bytes());
     header[20..24].copy_from_slice(&base.to_le_bytes());
     header[24] = bodies;
@@ -95,12 +104,11 @@ fn may_begin(start: &Start, second: bool) -> bool
     ensures { IsTrue result ↔ MayBegin second start.now.generation start.now.base start.now.carry }
 {
     has_parity(start.generation, second)
-        && start.generation <= start.base
-        && u64::from(start.base) < MOST_RECORDS
+        && u64::from(start.generation) <= u64::from(start.base) + 1
 }
 
 /// Whether a generation is one of the first or of the second half.
-fn has_parity(generation: u32, second: bool) -> bool
+pub(crate) fn has_parity(generation: u32, second: bool) -> bool
     ensures { IsTrue result ↔ HasParity second generation }
 {
     if second {
@@ -124,12 +132,9 @@ fn start_in(bytes: &[u8; START]) -> Option<Start>
     ensures none { IfNone result (count_in bytes.now ≤ CARRY_BODIES
         → SpellsNone (base_in bytes.now) (bodies_in (count_in bytes.now) bytes.now)) }
 {
-    let count = bytes[24] as usize;
-    if CARRY_BODIES < count {
-        return None;
-    }
+    let bodies = bodies_at(bytes)?;
     let base = four_at(bytes, 20);
-    let carry = read_carry(base, bodies_in(bytes, count).as_slice())?;
+    let carry = read_carry(base, bodies.as_slice())?;
     Some(Start {
         generation: four_at(bytes, 16),
         base,
@@ -137,8 +142,21 @@ fn start_in(bytes: &[u8; START]) -> Option<Start>
     })
 }
 
+/// The bodies of a carry in the first bytes of a half, or none where there are more than a carry has.
+pub(crate) fn bodies_at(bytes: &[u8; START]) -> Option<ArrayVec<[u8; BODY], CARRY_BODIES>>
+    ensures found { IfSome result (λ bodies. bodies.items ≡ bodies_in (count_in bytes.now) bytes.now) }
+    ensures few { IfSome result (λ bodies. length bodies.items ≤ CARRY_BODIES) }
+    ensures none { IfNone result (CARRY_BODIES < count_in bytes.now) }
+{
+    let count = bytes[24] as usize;
+    if CARRY_BODIES < count {
+        return None;
+    }
+    Some(bodies_in(bytes, count))
+}
+
 /// The number of four bytes, low byte first.
-fn four_at(bytes: &[u8; START], at: usize) -> u32
+pub(crate) fn four_at(bytes: &[u8; START], at: usize) -> u32
     requires { at + 4 ≤ START }
     ensures { result ≡ from_le_bytes w32 (window at 4 bytes.now) }
 {

@@ -6,8 +6,9 @@ ghost use Rattle.cct_lines.specs.declared.carry.Carry.{Carry};
 ghost use Rattle.cct_lines.specs.declared.record.Record.{Record};
 ghost use Rattle.cct_disk.specs.Disk.{GoesOn, Holds, LeavesOnly};
 ghost use Rattle.cct_journal.specs.Gated.{IsBegun, behind_open_gate};
-ghost use Rattle.cct_journal.specs.Image.{StandsFor, room_of};
-ghost use Rattle.cct_journal.specs.Places.{after_close, after_turn, behind_start, turned_or};
+ghost use Rattle.cct_journal.specs.Image.{StandsFor, least_size, room_of};
+ghost use Rattle.cct_journal.specs.Places.{after_turn, behind_start, turned_or};
+ghost use Rattle.cct_journal.specs.Turning.{IsBeginning, IsClosing, IsTurnedBy, begun_by, closed_by, turned_by};
 ghost use Rattle.cct_journal.specs.Stands.{IsPlaced, Stands, StandsWith};
 ghost use Rattle.cct_journal.specs.Start.{start_of};
 
@@ -32,13 +33,11 @@ fn closing_place(start: u64, is_open: bool) -> u64
 
 /// Shuts the gate of the other half, by two disk calls, which are made too if it is shut.
 fn close_other<D: Disk>(disk: &mut D, place: &Place) -> Result<(), Failed>
-    requires placed { IsPlaced (D.size disk.old) place.now }
-    ensures moments { (carry_of : List Record → Carry) (records : List Record)
-        → Stands carry_of D.honest D.seen D.may_leave disk.old place.now records
-        → LeavesOnly D.moment D.left_since disk.old disk.new (λ c. StandsFor carry_of c records) }
-    ensures done { OnOk result ((carry_of : List Record → Carry) (records : List Record)
-        → Stands carry_of D.honest D.seen D.may_leave disk.old place.now records
-        → Stands carry_of D.honest D.seen D.may_leave disk.new (after_close place.now) records) }
+    requires { least_size ≤ D.size disk.old }
+    ensures moments { (image : List ℕ) → Holds D.honest D.seen D.may_leave disk.old image
+        → LeavesOnly D.moment D.left_since disk.old disk.new (IsClosing place.now image) }
+    ensures done { OnOk result ((image : List ℕ) → Holds D.honest D.seen D.may_leave disk.old image
+        → Holds D.honest D.seen D.may_leave disk.new (closed_by place.now image)) }
     ensures goes_on { GoesOn D.size D.honest D.seen D.cuts disk.old disk.new }
     ensures cause { HasCause (D.faults disk.old) (D.faults disk.new) result }
 {
@@ -83,21 +82,16 @@ pub(crate) fn write_start<D: Disk>(
     write_gated(disk, at, &bytes, GATED_CALLS)
 }
 
-/// Begins the other half with the carry of all records so far, by four disk calls. The current half has to be full and
-/// the gate of the other one shut.
+/// Begins the other half with the carry of all records so far, by four disk calls.
 fn begin_other<D: Disk>(disk: &mut D, place: &Place, carry: &Carry) -> Result<Place, Failed>
-    requires placed { IsPlaced (D.size disk.old) place.now }
-    requires full { place.now.used ≡ place.now.base + room_of (D.size disk.old) place.now.base }
-    requires few { place.now.used < MOST_RECORDS }
+    requires long { least_size ≤ D.size disk.old }
+    requires turned { place.now.generation < MOST_RECORDS }
     requires rightly { IsRightly place.now.used carry.now }
-    ensures moments { (carry_of : List Record → Carry) (records : List Record)
-        → StandsWith carry_of D.honest D.seen D.may_leave disk.old (after_close place.now) carry.now records
-        → LeavesOnly D.moment D.left_since disk.old disk.new (λ c. StandsFor carry_of c records) }
+    ensures moments { (image : List ℕ) → Holds D.honest D.seen D.may_leave disk.old image
+        → LeavesOnly D.moment D.left_since disk.old disk.new (IsBeginning place.now carry.now image) }
+    ensures done { OnOk result ((image : List ℕ) → Holds D.honest D.seen D.may_leave disk.old image
+        → Holds D.honest D.seen D.may_leave disk.new (begun_by place.now carry.now image)) }
     ensures place { IfOk result (λ turned. turned ≡ after_turn place.now carry.now) }
-    ensures placed { IfOk result (IsPlaced (D.size disk.old)) }
-    ensures done { OnOk result ((carry_of : List Record → Carry) (records : List Record)
-        → StandsWith carry_of D.honest D.seen D.may_leave disk.old (after_close place.now) carry.now records
-        → Stands carry_of D.honest D.seen D.may_leave disk.new (after_turn place.now carry.now) records) }
     ensures goes_on { GoesOn D.size D.honest D.seen D.cuts disk.old disk.new }
     ensures cause { HasCause (D.faults disk.old) (D.faults disk.new) result }
 {
@@ -112,6 +106,23 @@ fn begin_other<D: Disk>(disk: &mut D, place: &Place, carry: &Carry) -> Result<Pl
         carry: carry.copied(),
         other_open: true,
     })
+}
+
+/// Begins the other half with the carry of all records so far, by six disk calls, and then tells its place.
+pub(crate) fn turn_half<D: Disk>(disk: &mut D, place: &Place, carry: &Carry) -> Result<Place, Failed>
+    requires long { least_size ≤ D.size disk.old }
+    requires turned { place.now.generation < MOST_RECORDS }
+    requires rightly { IsRightly place.now.used carry.now }
+    ensures moments { (image : List ℕ) → Holds D.honest D.seen D.may_leave disk.old image
+        → LeavesOnly D.moment D.left_since disk.old disk.new (IsTurnedBy place.now carry.now image) }
+    ensures done { OnOk result ((image : List ℕ) → Holds D.honest D.seen D.may_leave disk.old image
+        → Holds D.honest D.seen D.may_leave disk.new (turned_by place.now carry.now image)) }
+    ensures place { IfOk result (λ turned. turned ≡ after_turn place.now carry.now) }
+    ensures goes_on { GoesOn D.size D.honest D.seen D.cuts disk.old disk.new }
+    ensures cause { HasCause (D.faults disk.old) (D.faults disk.new) result }
+{
+    close_other(disk, place)?;
+    begin_other(disk, place, carry)
 }
 
 /// Begins the other half, if the current one is full, by six disk calls, and then tells its place.
@@ -139,7 +150,6 @@ pub(crate) fn turn_if_full<D: Disk>(
     if place.used - place.base < room_on(disk.len(), place.base) {
         return Ok(None);
     }
-    close_other(disk, place)?;
-    let turned = begin_other(disk, place, carry)?;
+    let turned = turn_half(disk, place, carry)?;
     Ok(Some(turned))
 }

@@ -21,6 +21,8 @@ mod machine;
 #[cfg(test)]
 mod old;
 #[cfg(test)]
+mod older;
+#[cfg(test)]
 mod opening;
 #[cfg(test)]
 mod port;

@@ -131,7 +131,7 @@ const DAMAGES: [(usize, u8); 27] = [
     (15, 1),
     (15, 2),
     (15, 4),
-    // a generation that is odd, or above the base
+    // a generation that is odd, or above the base and one more
     (16, 1),
     (16, 2),
     (19, 2),
@@ -192,6 +192,10 @@ fn the_current_half_counts(rt: HostRuntime) -> Result<(), Fail> {
     // generations that are equal, and a first half that turned back
     check_found(&rt, alloc, &changed(image, &[(1264, 0)]), 0, 0)?;
     check_found(&rt, alloc, &changed(image, &[(16, 2), (20, 2)]), 2, 2)?;
+    // one turn more than there are records, and two
+    check_found(&rt, alloc, &changed(image, &[(16, 2), (20, 1)]), 1, 1)?;
+    let twice = changed(image, &[(16, 4), (20, 2)]);
+    assert!(rt; matches!(found(disk_with(alloc, &twice, &[])?), Err(OpenNo::Alien)));
     // an older half never stands in for a current one that begins with no header and carry
     for damage in [
         [(1409, 6), (0, 0xa5)],
@@ -226,9 +230,9 @@ fn a_journal_ends_with_the_most_records(rt: HostRuntime) -> Result<(), Fail> {
     check_found(&rt, alloc, &image, 4_294_967_294, 4_294_967_294)?;
     let image = changed(image, &[(1152, 0xa5), (1153, 4), (1184, 0xa5)]);
     check_found(&rt, alloc, &image, 4_294_967_294, 4_294_967_295)?;
+    // after so many none is
     let image = changed(image, &[(20, 255)]);
-    assert!(rt; matches!(found(disk_with(alloc, &image, &[])?), Err(OpenNo::Alien)));
-    Ok(())
+    check_found(&rt, alloc, &image, 4_294_967_295, 4_294_967_295)
 }
 
 // The index of a bad record counts those before the half.

@@ -4,5 +4,5 @@ use Rattle.cct_journal.proofs.opening.look_at.Goals as goal
 
 pub returns-clause-front : goal.returns-clause-front
 returns-clause-front g c image told =
-    front_of_half c.front_of.result c.read_in.new.room (half image c.args.second)
+    front_of_half c.args.second c.front_of.result c.read_in.new.room (half image c.args.second)
     (c.in_ok-read_in.ensures.gives image told) c.front_of.ensures

@@ -7,5 +7,5 @@ use Rattle.cct_journal.proofs.reading.read_slot.Goals as goal
 pub returns-clause-body : goal.returns-clause-body
 returns-clause-body g c image told =
     let place : 32 * (36 + c.from.result) ≡ 32 * (FIRST_SLOT + c.args.many) = search rules in
-    body_read c.read_in.new.room c.copy_from_slice.new.self (half image c.args.second) _ (FIRST_SLOT + c.args.many)
-    (c.in_ok-read_in.ensures.gives image told) place c.copy_from_slice.ensures.after
+    body_read c.read_in.new.room c.slot_of.result.body (half image c.args.second) _ (FIRST_SLOT + c.args.many)
+    (c.in_ok-read_in.ensures.gives image told) place c.slot_of.ensures.body
