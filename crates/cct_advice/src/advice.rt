@@ -1,6 +1,6 @@
 //! What is said of how the program ended.
 
-use crate::ending::meaning_of;
+use crate::ending::{Meaning, meaning_of};
 use crate::fields::first_field;
 use crate::refusal::Refusal;
 use crate::window::Window;
@@ -16,13 +16,13 @@ pub struct Advice<'a>(Said<'a>);
 enum Said<'a> {
     /// What is wrong with a line of the script.
     Refusal(Refusal<'a>),
-    /// What the last line means.
-    Sentence(&'static str),
+    /// What the last line means, of the journal in this file.
+    Meaning { meaning: Meaning, journal: &'a str },
 }
 
 /// What there is to say after this last line of a transcript, which may have its line feed, and after these last bytes
-/// of the script; `None` after a line that says all itself.
-pub fn advise<'a>(last: &'a [u8], script: &'a Window) -> Option<Advice<'a>> {
+/// of the script; `None` after a line that says all itself. The journal is named as `journal`.
+pub fn advise<'a>(last: &'a [u8], script: &'a Window, journal: &'a str) -> Option<Advice<'a>> {
     let line = match last {
         [line @ .., b'\n'] => line,
         _ => last,
@@ -31,7 +31,10 @@ pub fn advise<'a>(last: &'a [u8], script: &'a Window) -> Option<Advice<'a>> {
     let rest = rest.unwrap_or(b"");
     let said = match word {
         b"refused" => Said::Refusal(refusal_of(rest, script)?),
-        _ => Said::Sentence(meaning_of(word, rest)?),
+        _ => Said::Meaning {
+            meaning: meaning_of(word, rest)?,
+            journal,
+        },
     };
     Some(Advice(said))
 }
@@ -52,7 +55,19 @@ impl fmt::Display for Advice<'_> {
     fn fmt<W: fmt::Write>(&self, f: &mut fmt::Formatter<W>) -> fmt::Result {
         match &self.0 {
             Said::Refusal(refusal) => write!(f, "{refusal}"),
-            Said::Sentence(text) => f.write_str(text),
+            Said::Meaning { meaning, journal } => write_meaning(*meaning, journal, f),
         }
+    }
+}
+
+/// Writes what a last line means.
+fn write_meaning<W: fmt::Write>(
+    meaning: Meaning,
+    journal: &str,
+    f: &mut fmt::Formatter<W>,
+) -> fmt::Result {
+    match meaning {
+        Meaning::Plain(text) => f.write_str(text),
+        Meaning::OfJournal { before, after } => write!(f, "{before}{journal}{after}"),
     }
 }

@@ -18,34 +18,61 @@ pub const UNWRITTEN: &str =
 pub const NO_JOURNAL: &str =
     "this folder has no cctalk.jnl, and none was made (docs/OPERATING.md, \"A journal that isn't right\")";
 
-const UNREAD: &str =
-    "standard input couldn't be read; the steps before were played (docs/OPERATING.md, \"Exit statuses\")";
+const UNREAD: Meaning = Meaning::Plain(
+    "standard input couldn't be read; the steps before were played (docs/OPERATING.md, \"Exit statuses\")",
+);
 
-const DISK_FAULT: &str =
-    "cctalk.jnl couldn't be opened, made, read, written or synced; on a read-only medium, copy it first (docs/OPERATING.md, \"After a disk fault\")";
+const DISK_FAULT: Meaning = Meaning::OfJournal {
+    before: "",
+    after: " couldn't be opened, made, read, written or synced; on a read-only medium, copy it first (docs/OPERATING.md, \"After a disk fault\")",
+};
 
-const NOT_BLANK: &str =
-    "cctalk.jnl is used, mostly by an earlier run; report it, move it away, and run again (docs/OPERATING.md, \"Exit statuses\")";
+const NOT_BLANK: Meaning = Meaning::OfJournal {
+    before: "",
+    after: " is used, mostly by an earlier run; report it, move it away, and run again (docs/OPERATING.md, \"Exit statuses\")",
+};
 
-const EMPTY: &str =
-    "cctalk.jnl is empty, since its making was broken off; remove it (docs/OPERATING.md, \"Exit statuses\")";
+const EMPTY: Meaning = Meaning::OfJournal {
+    before: "",
+    after: " is empty, since its making was broken off; remove it (docs/OPERATING.md, \"Exit statuses\")",
+};
 
-const OTHER_SIZE: &str =
-    "cctalk.jnl hasn't 2097152 bytes, so it is no journal of this program; move it away (docs/OPERATING.md, \"Exit statuses\")";
+const OTHER_SIZE: Meaning = Meaning::OfJournal {
+    before: "",
+    after: " hasn't 2097152 bytes, so it is no journal of this program; move it away (docs/OPERATING.md, \"Exit statuses\")",
+};
 
-const ALIEN: &str =
-    "cctalk.jnl is blank, or another file than a journal (docs/OPERATING.md, \"A journal that isn't right\")";
+const ALIEN: Meaning = Meaning::OfJournal {
+    before: "",
+    after: " is blank, or another file than a journal (docs/OPERATING.md, \"A journal that isn't right\")",
+};
 
-const BAD: &str =
-    "a record of cctalk.jnl can't be read, or doesn't follow those before it; keep the file as it is (docs/OPERATING.md, \"A journal that isn't right\")";
+const BAD: Meaning = Meaning::OfJournal {
+    before: "a record of ",
+    after: " can't be read, or doesn't follow those before it; keep the file as it is (docs/OPERATING.md, \"A journal that isn't right\")",
+};
 
-const LOST: &str =
-    "after a power cut cctalk.jnl has another number of records than were put; keep the file as it is (docs/OPERATING.md, \"A journal that isn't right\")";
+const LOST: Meaning = Meaning::OfJournal {
+    before: "after a power cut ",
+    after: " has another number of records than were put; keep the file as it is (docs/OPERATING.md, \"A journal that isn't right\")",
+};
+
+/// What a last line means.
+#[derive(Clone, Copy)]
+pub(crate) enum Meaning {
+    /// A sentence.
+    Plain(&'static str),
+    /// A sentence that names the file of the journal between these parts.
+    OfJournal {
+        before: &'static str,
+        after: &'static str,
+    },
+}
 
 /// What a last line means that is no refusal of a script's line, by its fields.
-pub(crate) fn meaning_of(word: &[u8], rest: &[u8]) -> Option<&'static str> {
+pub(crate) fn meaning_of(word: &[u8], rest: &[u8]) -> Option<Meaning> {
     match word {
-        b"words" => Some(USAGE),
+        b"words" => Some(Meaning::Plain(USAGE)),
         b"readfault" => Some(UNREAD),
         b"diskfault" => Some(DISK_FAULT),
         b"notblank" => Some(NOT_BLANK),
@@ -59,7 +86,7 @@ pub(crate) fn meaning_of(word: &[u8], rest: &[u8]) -> Option<&'static str> {
 }
 
 /// What is wrong with a journal, by what stands after the word `journal`.
-fn journal_meaning(rest: &[u8]) -> Option<&'static str> {
+fn journal_meaning(rest: &[u8]) -> Option<Meaning> {
     match first_field(rest).0 {
         b"alien" => Some(ALIEN),
         b"bad" => Some(BAD),

@@ -16,8 +16,10 @@ mod rule;
 mod shown;
 mod window;
 mod word;
+mod words;
 
 pub use advice::{Advice, advise};
 pub use ending::{MEMORY, NO_JOURNAL, UNWRITTEN, USAGE};
 pub use kept::{KeptSink, KeptSource};
 pub use window::Window;
+pub use words::words_of;

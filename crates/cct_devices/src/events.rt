@@ -4,11 +4,10 @@ ghost use Rattle.cct_model.specs.Family.{IsPlaced};
 ghost use Rattle.cct_model.specs.Script.{IsInRange};
 
 use crate::machine::Machine;
-use crate::setup::next_line;
 use crate::status::{Refused, Stop, Text};
 use cct_edge::Source;
 use cct_model::{Happening, LineKind, Step};
-use cct_script::{Lines, read_step_line};
+use cct_script::{Line, Lines, LinesNo, read_step_line};
 
 /// Something that befalls the device at an address.
 #[derive(Clone, Copy, Debug, PartialEq, Eq)]
@@ -39,7 +38,7 @@ impl<S: Source> Events<S> {
     /// Lets the next event befall its device: true then, and false where there is none left.
     pub(crate) fn befall_next(&mut self, machine: &mut Machine<'_>) -> Result<bool, Stop> {
         let number = self.number.saturating_add(1);
-        let line = match next_line(Text::Events, number, self.lines.line(&mut self.source))? {
+        let line = match next_line(number, self.lines.line(&mut self.source))? {
             None => return Ok(false),
             Some(line) => line,
         };
@@ -50,6 +49,19 @@ impl<S: Source> Events<S> {
             Err(kind) => Err(refused(number, kind)),
         }
     }
+}
+
+/// The next line of the events, or none at their end, by what the reader of lines answers.
+fn next_line(number: u32, answer: Result<Line<'_>, LinesNo>) -> Result<Option<&[u8]>, Stop> {
+    let kind = match answer {
+        Ok(Line::Text(line)) => return Ok(Some(line)),
+        Ok(Line::End) => return Ok(None),
+        Err(LinesNo::Read) => return Err(Stop::Read),
+        Err(LinesNo::Long) => LineKind::Long,
+        Err(LinesNo::Cut) => LineKind::Cut,
+        Err(LinesNo::TooMany) => LineKind::Lines,
+    };
+    Err(refused(number, kind))
 }
 
 /// An events line is refused.

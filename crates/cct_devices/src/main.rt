@@ -6,7 +6,6 @@ mod answer;
 mod events;
 mod machine;
 mod port;
-mod setup;
 mod status;
 #[cfg(test)]
 mod tests;
@@ -15,14 +14,12 @@ use crate::answer::answer;
 use crate::events::Events;
 use crate::machine::Machine;
 use crate::port::FilePort;
-use crate::setup::read_setup;
 use crate::status::{Refused, Status, Stop, Text};
+use cct_advice::words_of;
 use cct_edge::StdSource;
+use cct_script::read_setup;
 use std::fs::{File, Files, OpenOptions};
-use std::io::ErrorKind;
 use std::process::ExitCode;
-use std::rt::Env;
-use std::{env, io};
 
 /// How the program is called.
 const HELP: &str = "\
@@ -55,7 +52,7 @@ struct Places<'w> {
 }
 
 fn main(rt: HostRuntime) -> ExitCode {
-    let status = match words(&rt) {
+    let status = match words_of(&rt) {
         Ok(words) => obey(&rt, asked_by(words.as_slice())),
         Err(_) => tell(&rt, Err(Stop::Memory)),
     };
@@ -148,13 +145,4 @@ fn on_line<'w>(
         port: port.as_str(),
         echoes,
     })
-}
-
-/// The words of the command line, without the program's name. Where one isn't UTF-8, there are none.
-fn words(rt: &(impl Env + AllocGlobal)) -> io::Result<Vec<String>> {
-    match env::args(rt) {
-        Ok(words) => Ok(words.skip(1).collect(rt.alloc())?),
-        Err(error) if error.kind() == ErrorKind::InvalidData => Ok(Vec::new(rt.alloc())),
-        Err(error) => Err(error),
-    }
 }

@@ -1,6 +1,7 @@
 //! How the program ends.
 
 use cct_model::LineKind;
+use cct_script::SetupNo;
 use std::alloc::AllocError;
 
 /// Which text a line is of.
@@ -32,6 +33,17 @@ pub(crate) enum Stop {
     Write,
     /// There was no memory.
     Memory,
+}
+
+impl From<SetupNo> for Stop {
+    fn from(why: SetupNo) -> Stop {
+        match why {
+            SetupNo::Read => Stop::Read,
+            SetupNo::Line { number, kind } => {
+                Stop::Line(Text::Setup, Refused { number, kind })
+            }
+        }
+    }
 }
 
 impl From<AllocError> for Stop {

@@ -3,10 +3,10 @@ use crate::answer::{MOST_SILENCES, answer};
 use crate::events::Events;
 use crate::machine::Machine;
 use crate::port::Port;
-use crate::setup::read_setup;
 use crate::status::{Refused, Stop, Text};
 use cct_edge::{Failed, MemSource};
 use cct_model::LineKind;
+use cct_script::read_setup;
 use std::alloc::Global;
 use std::test::Fail;
 
@@ -94,7 +94,7 @@ fn ended(
 ) -> Result<Result<(), Stop>, Fail> {
     let setup = match read_setup(&mut text(alloc, setup)?) {
         Ok(setup) => setup,
-        Err(why) => return Ok(Err(why)),
+        Err(why) => return Ok(Err(why.into())),
     };
     let mut machine = Machine::new(alloc, &setup)?;
     let mut events = Events::new(text(alloc, events)?);

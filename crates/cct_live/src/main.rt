@@ -117,7 +117,7 @@ fn host_line(rt: &HostRuntime, places: Places<'_>) -> Status {
         Stop::SetupUnread => rt.eprintln("cct_live: the setup can't be opened or read"),
         Stop::NoPort => rt.eprintln("cct_live: the port can't be opened"),
         Stop::Unwritten => rt.eprintln(UNWRITTEN),
-        _ => match advise(out.last(), input.window()) {
+        _ => match advise(out.last(), input.window(), places.journal) {
             Some(advice) => rt.eprintln(advice),
             None => Ok(()),
         },

@@ -3,7 +3,7 @@
 //! on standard error (`cct_advice`).
 #![tactic(auto)]
 
-use cct_advice::{KeptSink, KeptSource, MEMORY, NO_JOURNAL, UNWRITTEN, USAGE, advise};
+use cct_advice::{KeptSink, KeptSource, MEMORY, NO_JOURNAL, UNWRITTEN, USAGE, advise, words_of};
 use cct_bench::{Status, bench};
 use cct_disk::FileDisk;
 use cct_edge::{Failed, StdSink, StdSource};
@@ -12,14 +12,13 @@ use cct_text::put_entry;
 use std::fs::Files;
 use std::io::ErrorKind;
 use std::process::ExitCode;
-use std::rt::Env;
-use std::{env, fs, io};
+use std::{fs, io};
 
 /// The file of the journal, in the current folder.
 const JOURNAL: &str = "cctalk.jnl";
 
 fn main(rt: HostRuntime) -> ExitCode {
-    let status = match words(&rt) {
+    let status = match words_of(&rt) {
         Ok(words) if is_help(words.as_slice()) => help(&rt),
         Ok(words) => play(&rt, words.as_slice()),
         Err(_) => {
@@ -43,7 +42,7 @@ fn play(rt: &HostRuntime, words: &[String]) -> Status {
         Status::Done => Ok(()),
         Status::OutOfMemory => rt.eprintln(MEMORY),
         Status::WriteFault => rt.eprintln(UNWRITTEN),
-        _ => match advise(out.last(), script.window()) {
+        _ => match advise(out.last(), script.window(), JOURNAL) {
             Some(advice) => rt.eprintln(advice),
             None => Ok(()),
         },
@@ -89,15 +88,5 @@ fn help(rt: &impl Print) -> Status {
     match rt.println(USAGE) {
         Ok(()) => Status::Done,
         Err(_) => Status::WriteFault,
-    }
-}
-
-/// The words of the command line, without the program's name. A word that isn't UTF-8 can't be one of the grammar, and
-/// there are then no words.
-fn words(rt: &(impl Env + AllocGlobal)) -> io::Result<Vec<String>> {
-    match env::args(rt) {
-        Ok(words) => Ok(words.skip(1).collect(rt.alloc())?),
-        Err(error) if error.kind() == ErrorKind::InvalidData => Ok(Vec::new(rt.alloc())),
-        Err(error) => Err(error),
     }
 }

@@ -227,6 +227,59 @@ fn what_came_before_is_dropped(rt: HostRuntime) {
     assert!(rt; is_both(&heard(&mut line, POLL), POLL, REPLY));
 }
 
+/// A reply that comes twice, and then one to each of two further messages.
+const TWICE: &[Part] = &[
+    Part {
+        write: 0,
+        delay: 0,
+        bytes: b"\x01\x00\x02\x00\xfd\x01\x00\x02\x00\xfd",
+    },
+    Part {
+        write: 1,
+        delay: 0,
+        bytes: REPLY,
+    },
+    Part {
+        write: 2,
+        delay: 0,
+        bytes: REPLY,
+    },
+];
+
+/// A port over a line on which that reply comes twice, five bytes in each read.
+fn port_twice(echoes: bool, gap: u16) -> Port<StdLine<Played>> {
+    let mut line = Played::new(TWICE);
+    line.echoes = echoes;
+    line.most = 5;
+    let options = Options {
+        echoes,
+        gap: 1,
+        patience: 3,
+        longest: 12,
+    };
+    let mut port = Port::new(StdLine::new(line), options);
+    port.set_gap(gap);
+    port
+}
+
+#[test]
+fn a_reply_that_comes_twice_stands_before_the_next_echo(rt: HostRuntime) {
+    let mut port = port_twice(true, 0);
+    assert!(rt; is_both(&heard(&mut port, POLL), POLL, REPLY));
+    assert!(rt; is_both(&heard(&mut port, POLL), REPLY, POLL));
+    assert!(rt; !port.is_settled());
+    assert!(rt; is_both(&heard(&mut port, POLL), POLL, REPLY));
+    assert!(rt; port.is_settled());
+}
+
+#[test]
+fn a_reply_that_comes_twice_is_dropped_by_a_silent_read(rt: HostRuntime) {
+    let mut port = port_twice(false, 1);
+    assert!(rt; is_both(&heard(&mut port, POLL), POLL, REPLY));
+    assert!(rt; is_both(&heard(&mut port, POLL), POLL, REPLY));
+    assert!(rt; port.is_settled());
+}
+
 /// Whether one of the next twenty exchanges with device 6, which is silent, takes the late reply of device 5 for its
 /// own. That one comes so many silent reads after the exchange with device 5 gave up.
 fn takes_late(late: u16, longest: u16) -> bool {

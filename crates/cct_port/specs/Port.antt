@@ -74,3 +74,7 @@ echo_in (byte ∷ heard) = Some (is_some (after_echo address_poll (byte ∷ hear
 -- A port over a line of which this is told.
 abbrev pub with_echo : {L : Type 0} → Bool → Port L → Port L
 with_echo echoes port = record port { options = record port.options { echoes = echoes } }
+
+-- A port that waits for so many silent reads before it sends, after a message that was answered.
+abbrev pub with_gap : {L : Type 0} → ℕ → Port L → Port L
+with_gap gap port = record port { options = record port.options { gap = gap } }

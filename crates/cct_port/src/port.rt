@@ -20,7 +20,10 @@ const ADDRESS_POLL: [u8; 5] = [0, 0, 1, 253, 2];
 pub struct Options {
     /// Whether the line gives back what is sent. Where it doesn't, the port writes the echo itself.
     pub echoes: bool,
-    /// How long the line has to be silent before a message is sent, if the last one was answered.
+    /// How long the line has to be silent before a message is sent, if the last one was answered. After a whole reply no
+    /// device owes anything. So 0 does where the line gives the echo: what came since then stands before the echo of the
+    /// next message, which then counts as not answered. Where it doesn't, a reply that came twice would be taken for that
+    /// to the next message, so 1 is the least.
     pub gap: u16,
     /// How long an answer is waited for, and how long it may pause.
     pub patience: u16,
@@ -40,7 +43,7 @@ pub struct Port<L> {
 
 impl<L: Line> Port<L> {
     ghost use Rattle.cct_port.specs.Port.{line_of, options_of, settled, faults_of, patience, wanted};
-    ghost use Rattle.cct_port.specs.Port.{Gives, address_poll, echo_in, with_echo};
+    ghost use Rattle.cct_port.specs.Port.{Gives, address_poll, echo_in, with_echo, with_gap};
 
     /// A port over a line of which nothing is known, so its first exchange waits.
     pub fn new(line: L, options: Options) -> Port<L>
@@ -87,6 +90,13 @@ impl<L: Line> Port<L> {
         let found = echo_in(heard.as_slice());
         self.options.echoes = found.unwrap_or(told);
         found
+    }
+
+    /// From now on the line has to be silent for so long before a message is sent, if the last one was answered.
+    pub fn set_gap(&mut self, gap: u16)
+        ensures { self.new ≡ with_gap gap self.old }
+    {
+        self.options.gap = gap;
     }
 
     /// How many reads in a row have to be silent before the next message.

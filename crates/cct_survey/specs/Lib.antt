@@ -1,0 +1,4 @@
+pub mod Asking
+pub mod Survey
+pub mod Twins
+pub mod Worth

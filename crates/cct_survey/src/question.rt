@@ -1,0 +1,234 @@
+//! A question over a link: it is asked until it is answered, three times at most.
+ghost use Rattle.std.specs.Prelude.{◌≡◌, ◌≤◌, is_some};
+ghost use Rattle.std.specs.Option.{option_map};
+ghost use Rattle.cct_terms.specs.Exchange.{after_echo, ask, got};
+ghost use Rattle.cct_terms.specs.Reply.{reply_shown};
+ghost use Rattle.cct_terms.specs.declared.request.Request.TheVariants as request;
+ghost use Rattle.cct_terms.specs.declared.request.ReplyForm.TheVariants as form;
+ghost use Rattle.cct_survey.specs.declared.question.TheConstants.{TRIES};
+ghost use Rattle.cct_survey.specs.Asking.{Asked, Asks, answers_to_all, category_told, id_told, reply_to, serial_told};
+
+use crate::category::Category;
+use crate::room::Room;
+use cct_msg::{encode_request, read_reply};
+use cct_terms::{BROADCAST, CheckKind, Reply, ReplyForm, Request};
+use cct_wire::{Heard, Link, bare_after_echo, hear};
+
+/// How often a question is asked at most.
+pub(crate) const TRIES: u8 = 3;
+
+/// The reply in the form that is wanted from an address under a check, in what was heard after a request.
+#[tactic(auto, unfolding(cct_terms::specs::Exchange::got))]
+fn wanted_reply<'h>(
+    kind: CheckKind,
+    addr: u8,
+    form: ReplyForm,
+    sent: &[u8],
+    heard: &'h [u8],
+) -> Option<Reply<'h>>
+    ensures { option_map reply_shown result ≡ got kind addr form sent.now heard.now }
+{
+    match hear(kind, sent, heard) {
+        Heard::EchoBad { .. } => None,
+        Heard::Silence => None,
+        Heard::Broken(_) => None,
+        Heard::Message(view) => match read_reply(form, addr, &view) {
+            Ok(reply) => Some(reply),
+            Err(_) => None,
+        },
+    }
+}
+
+/// Asks a request of an address until the reply in the form that is wanted is heard, or so many times.
+fn question<L: Link>(
+    link: &mut L,
+    kind: CheckKind,
+    addr: u8,
+    request: Request,
+    form: ReplyForm,
+    tries: u8,
+    room: &mut Room,
+)
+    requires some { 1 ≤ tries }
+    requires few { tries ≤ TRIES }
+    ensures asked { Asked L.gives (ask kind addr request) (reply_to kind addr request form) link.old
+        (reply_to kind addr request form room.new.heard.items) link.new }
+    ensures sent { room.new.sent.items ≡ ask kind addr request }
+{
+    encode_request(kind, addr, &request, &mut room.sent);
+    for _ in 0..tries {
+        if is_answered(link, kind, addr, form, room) {
+            return;
+        }
+    }
+}
+
+/// Sends what is in the room, and tells whether the reply in the form that is wanted is heard.
+fn is_answered<L: Link>(
+    link: &mut L,
+    kind: CheckKind,
+    addr: u8,
+    form: ReplyForm,
+    room: &mut Room,
+) -> bool
+    ensures gives { L.gives link.old room.old.sent.items room.new.heard.items link.new }
+    ensures sent { room.new.sent.items ≡ room.old.sent.items }
+    ensures answered { result ≡ is_some (got kind addr form room.new.sent.items room.new.heard.items) }
+{
+    link.exchange(room.sent.as_slice(), &mut room.heard);
+    wanted_reply(
+        kind,
+        addr,
+        form,
+        room.sent.as_slice(),
+        room.heard.as_slice(),
+    )
+    .is_some()
+}
+
+/// The serial number that the device at an address tells under a check.
+pub(crate) fn serial_of<L: Link>(
+    link: &mut L,
+    kind: CheckKind,
+    addr: u8,
+    room: &mut Room,
+) -> Option<u32>
+    ensures { Asks L.gives kind addr request.SerialNumber form.Serial serial_told link.old result link.new }
+{
+    question(
+        link,
+        kind,
+        addr,
+        Request::SerialNumber,
+        ReplyForm::Serial,
+        TRIES,
+        room,
+    );
+    match wanted_reply(
+        kind,
+        addr,
+        ReplyForm::Serial,
+        room.sent.as_slice(),
+        room.heard.as_slice(),
+    ) {
+        Some(Reply::Serial { serial }) => Some(serial),
+        _ => None,
+    }
+}
+
+/// The category that the device at an address tells under a check.
+pub(crate) fn category_of<L: Link>(
+    link: &mut L,
+    kind: CheckKind,
+    addr: u8,
+    room: &mut Room,
+) -> Option<Category>
+    ensures { Asks L.gives kind addr request.Category form.Text category_told link.old result link.new }
+{
+    question(
+        link,
+        kind,
+        addr,
+        Request::Category,
+        ReplyForm::Text,
+        TRIES,
+        room,
+    );
+    match wanted_reply(
+        kind,
+        addr,
+        ReplyForm::Text,
+        room.sent.as_slice(),
+        room.heard.as_slice(),
+    ) {
+        Some(Reply::Text { text }) => Some(Category::of(text)),
+        _ => None,
+    }
+}
+
+/// The identification of the coin of a place that the device at an address tells under a check.
+pub(crate) fn coin_id_of<L: Link>(
+    link: &mut L,
+    kind: CheckKind,
+    addr: u8,
+    place: u8,
+    room: &mut Room,
+) -> Option<[u8; 6]>
+    ensures { Asks L.gives kind addr (request.CoinId place) form.CoinId id_told link.old result link.new }
+{
+    question(
+        link,
+        kind,
+        addr,
+        Request::CoinId { place },
+        ReplyForm::CoinId,
+        TRIES,
+        room,
+    );
+    match wanted_reply(
+        kind,
+        addr,
+        ReplyForm::CoinId,
+        room.sent.as_slice(),
+        room.heard.as_slice(),
+    ) {
+        Some(Reply::CoinId { id }) => Some(id),
+        _ => None,
+    }
+}
+
+/// Whether the device at an address acknowledges one of so many polls under a check.
+pub(crate) fn is_there<L: Link>(
+    link: &mut L,
+    kind: CheckKind,
+    addr: u8,
+    tries: u8,
+    room: &mut Room,
+) -> bool
+    requires some { 1 ≤ tries }
+    requires few { tries ≤ TRIES }
+    ensures { Asks L.gives kind addr request.SimplePoll form.Ack is_some link.old result link.new }
+{
+    question(
+        link,
+        kind,
+        addr,
+        Request::SimplePoll,
+        ReplyForm::Ack,
+        tries,
+        room,
+    );
+    wanted_reply(
+        kind,
+        addr,
+        ReplyForm::Ack,
+        room.sent.as_slice(),
+        room.heard.as_slice(),
+    )
+    .is_some()
+}
+
+/// Polls all devices under a check until the echo is good, three times at most. The addresses that answer, bare bytes, are
+/// what follows the echo of what is in the room then.
+pub(crate) fn poll_all<L: Link>(link: &mut L, kind: CheckKind, room: &mut Room)
+    ensures asked { Asked L.gives (ask kind BROADCAST request.AddressPoll) (answers_to_all kind)
+        link.old (answers_to_all kind room.new.heard.items) link.new }
+    ensures sent { room.new.sent.items ≡ ask kind BROADCAST request.AddressPoll }
+{
+    encode_request(kind, BROADCAST, &Request::AddressPoll, &mut room.sent);
+    for _ in 0..TRIES {
+        if is_echoed(link, room) {
+            return;
+        }
+    }
+}
+
+/// Sends what is in the room, and tells whether the echo is good.
+fn is_echoed<L: Link>(link: &mut L, room: &mut Room) -> bool
+    ensures gives { L.gives link.old room.old.sent.items room.new.heard.items link.new }
+    ensures sent { room.new.sent.items ≡ room.old.sent.items }
+    ensures echoed { result ≡ is_some (after_echo room.new.sent.items room.new.heard.items) }
+{
+    link.exchange(room.sent.as_slice(), &mut room.heard);
+    bare_after_echo(room.sent.as_slice(), room.heard.as_slice()).is_ok()
+}
