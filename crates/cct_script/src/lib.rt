@@ -6,8 +6,10 @@
 mod adding;
 mod buffer;
 mod bytes;
+mod endless;
 mod fields;
 mod lines;
+mod live;
 mod numbers;
 mod setup;
 mod step;
@@ -16,7 +18,9 @@ mod words;
 
 pub use adding::add;
 pub use cct_lines::SetupLine;
+pub use endless::{EndlessLines, MOST_PASSED, NextLine};
 pub use lines::{Line, Lines, LinesNo};
+pub use live::{LiveLine, read_live_line};
 pub use numbers::ranged;
 pub use setup::read_setup_line;
 pub use step::{read_step_into, read_step_line};
