@@ -1,5 +1,6 @@
 //! A link that tells how often it failed.
-ghost use Rattle.std.specs.Prelude.{◌≡◌, ℕ};
+ghost use Rattle.std.specs.Prelude.{◌≡◌, ◌≤◌, ℕ, List, length};
+ghost use Rattle.cct_terms.specs.declared.wire.TheConstants.{MOST_HEARD};
 
 use crate::{Line, Port};
 use cct_wire::Link;
@@ -12,12 +13,18 @@ pub trait CountedLink: Link {
     /// How many exchanges failed, as far as a number goes.
     fn faults(&self) -> u64
         ensures { result ≡ failures self.now };
+
+    /// An exchange hears no more than a message has room for.
+    ghost few: { (old : Self) (sent heard : List ℕ) (new : Self) → Self.gives old sent heard new
+        → length heard ≤ MOST_HEARD };
 }
 
 impl<L: Line> CountedLink for Port<L> {
     ghost use Rattle.cct_port.specs.Port.{faults_of};
 
     ghost failures = { faults_of };
+
+    ghost few = { λ old sent heard new given. given.few };
 
     fn faults(&self) -> u64 {
         Port::faults(self)

@@ -1,9 +1,7 @@
 //! The lines of an input that has no last one.
-ghost use Rattle.std.specs.Prelude.{◌≡◌, ◌≤◌, ◌<◌, ◌*◌, List, ℕ, [], ◌++◌, drop, length, position, None, Err, IfOk, Ok};
-ghost use Rattle.std.specs.Io.KnownBytes.{Consumes, IsAtEnd};
+ghost use Rattle.std.specs.Prelude.{◌≡◌, ◌≤◌, ◌<◌, [], length, Err, IfOk};
 ghost use Rattle.cct_edge.specs.Bytes.{Serves};
-ghost use Rattle.cct_lines.specs.Script.{is_line_feed};
-ghost use Rattle.cct_script.specs.Window.{Fills};
+ghost use Rattle.cct_lines.specs.Script.{most_bytes};
 
 use crate::buffer::{Held, LineBuffer};
 use crate::bytes::place_of;
@@ -54,7 +52,7 @@ impl EndlessLines {
     ghost use Rattle.std.specs.Borrow.{sem, follows_so};
     ghost use mathlib.Core.Option.{none};
     ghost use Rattle.cct_script.specs.contracts.endless.EndlessLines.{the_row};
-    ghost use Rattle.cct_script.specs.Endless.{GivesNext, found_given, held_of, next_given};
+    ghost use Rattle.cct_script.specs.Endless.{FitsIn, GivesNext, found_given, held_of, next_given};
 
     /// No byte is held.
     pub fn new() -> Self
@@ -70,6 +68,7 @@ impl EndlessLines {
     fn find<S: Source>(&mut self, source: &mut S) -> Result<Found, LinesNo>
         ensures gives { GivesNext (held_of self.old) (held_of self.new) (S.left source.old) (S.left source.new)
             (found_given self.new.buffer result) }
+        ensures fits { IfOk result (FitsIn self.new.buffer) }
         ensures serves { Serves S.left S.faults source.old source.new (result ≡ Err LinesNo.Read) }
     {
         let spent = self.spent;
@@ -80,37 +79,10 @@ impl EndlessLines {
                 self.spent = len + 1;
                 Ok(Found::Text(len))
             }
-            Ok(Held::Long) => self.pass(source),
-            Ok(Held::Ended) => Ok(self.end()),
+            Ok(Held::Long) => self.buffer.pass(source),
+            Ok(Held::Ended) => Ok(self.buffer.end()),
             Err(Failed) => Err(LinesNo::Read),
         }
-    }
-
-    /// Whether the input ended within a line: its bytes are given up.
-    fn end(&mut self) -> Found {
-        let held = self.buffer.held().len();
-        self.buffer.advance(held);
-        if held == 0 { Found::End } else { Found::Cut }
-    }
-
-    /// Passes over a line that is too long, with its line feed.
-    fn pass<S: Source>(&mut self, source: &mut S) -> Result<Found, LinesNo>
-    {
-        for _ in 0..MOST_PASSED {
-            let held = self.buffer.held();
-            let len = held.len();
-            if let Some(at) = place_of(held, b'\n') {
-                self.buffer.advance(at + 1);
-                return Ok(Found::Long);
-            }
-            self.buffer.advance(len);
-            match self.buffer.fill(source) {
-                Ok(0) => return Ok(Found::Cut),
-                Ok(_) => {}
-                Err(Failed) => return Err(LinesNo::Read),
-            }
-        }
-        Err(LinesNo::Long)
     }
 
     /// What comes next: a line, one that is too long, the end within a line, or the end. It takes from the source only while
@@ -119,6 +91,10 @@ impl EndlessLines {
     /// `Read` comes where the source failed, and `Long` where a line is so long that it isn't passed over either: 1,048,576
     /// bytes or more. After either of them the reader isn't asked again.
     pub fn line<S: Source>(&mut self, source: &mut S) -> Result<NextLine<'_>, LinesNo>
+        // Each line once, in order and whole, and each end exactly where it is.
+        ensures* gives { sem 𝓛 (follows_so the_row the_row self.entry.ghost_name none (λ _ _. ⊤)
+            (λ new. GivesNext (held_of self.old) (held_of new) (S.left source.old) (S.left source.new)
+            (next_given result))) }
         ensures serves { Serves S.left S.faults source.old source.new (result ≡ Err LinesNo.Read) }
     {
         match self.find(source) {
@@ -128,5 +104,60 @@ impl EndlessLines {
             Ok(Found::End) => Ok(NextLine::End),
             Err(why) => Err(why),
         }
+    }
+}
+
+impl LineBuffer {
+    ghost use Rattle.cct_script.specs.Endless.{DropsLine, EndsWith, GivesNext, IsNoText, IsOneLine, found_given};
+
+    /// Gives up the bytes that are left at the end of the input, and tells whether there were any.
+    fn end(&mut self) -> Found
+        ensures all { self.new ≡ [] }
+        ensures cut { EndsWith self.old result }
+    {
+        let len = self.held().len();
+        self.advance(len);
+        if len == 0 { Found::End } else { Found::Cut }
+    }
+
+    /// Gives up the bytes held up to and with the first line feed, and tells whether there is one; else all of them.
+    fn drop_line(&mut self) -> bool
+        ensures { DropsLine self.old self.new result }
+    {
+        match place_of(self.held(), b'\n') {
+            Some(at) => {
+                self.advance(at + 1);
+                true
+            }
+            None => {
+                let len = self.held().len();
+                self.advance(len);
+                false
+            }
+        }
+    }
+
+    /// Passes over a line of which more is held than a line may have, with its line feed.
+    fn pass<S: Source>(&mut self, source: &mut S) -> Result<Found, LinesNo>
+        requires alone { IsOneLine self.old }
+        requires long { most_bytes < length self.old }
+        ensures gives { GivesNext self.old self.new (S.left source.old) (S.left source.new)
+            (found_given [] result) }
+        ensures long { IfOk result IsNoText }
+        ensures serves { Serves S.left S.faults source.old source.new (result ≡ Err LinesNo.Read) }
+    {
+        let len = self.held().len();
+        self.advance(len);
+        for _passed in 0..MOST_PASSED {
+            match self.fill(source) {
+                Ok(0) => return Ok(Found::Cut),
+                Ok(_) => {}
+                Err(Failed) => return Err(LinesNo::Read),
+            }
+            if self.drop_line() {
+                return Ok(Found::Long);
+            }
+        }
+        Err(LinesNo::Long)
     }
 }

@@ -5,10 +5,9 @@ ghost use Rattle.cct_script.specs.Live.{IsTold, live_line, do_form, live_word, o
 ghost use Rattle.cct_lines.specs.Grammar.{step_line};
 ghost use Rattle.std.specs.Option.{ok_or};
 
-use crate::fields::{first_field, one};
+use crate::fields::{alone, first_field, one};
 use crate::numbers::ranged_u8;
 use crate::step::read_step_line;
-use crate::step_fields::nothing;
 use cct_lines::{Command, LineKind, Step};
 
 const DO: &[u8] = b"do";
@@ -39,6 +38,7 @@ pub enum LiveLine {
 /// What a line says to a host on a real line, without its line feed: a command, `next`, `balance` or `end` as in a script,
 /// or `do A`, `poll` or `status`. `Word` where the first field is no word of these, a bench's `coin` or `crash` among them;
 /// else `Form` where the line isn't in a form of its word.
+#[tactic(auto, unfolding(crate::specs::Live::live_line))]
 pub fn read_live_line(line: &[u8]) -> Result<LiveLine, LineKind>
     ensures reads { result ≡ live_line line.now }
     ensures told { IfOk result IsTold }
@@ -46,19 +46,14 @@ pub fn read_live_line(line: &[u8]) -> Result<LiveLine, LineKind>
     let (word, rest) = first_field(line);
     match word {
         _ if word == DO => read_do(rest),
-        _ if word == POLL => {
-            nothing(rest)?;
-            Ok(LiveLine::Poll)
-        }
-        _ if word == STATUS => {
-            nothing(rest)?;
-            Ok(LiveLine::Status)
-        }
+        _ if word == POLL => alone(LiveLine::Poll, rest).ok_or(LineKind::Form),
+        _ if word == STATUS => alone(LiveLine::Status, rest).ok_or(LineKind::Form),
         _ => read_step(line),
     }
 }
 
 /// What stands after `do`: an address alone.
+#[tactic(auto, using(crate::proofs::Forms::no_do))]
 fn read_do(rest: Option<&[u8]>) -> Result<LiveLine, LineKind>
     ensures reads { result ≡ ok_or (do_form (fields_after rest.entry)) LineKind.Form }
     ensures told { IfOk result IsTold }
