@@ -4,10 +4,12 @@
 
 mod answer;
 mod calls;
+mod counted;
 mod line;
 mod port;
 mod standard;
 
+pub use counted::CountedLink;
 pub use line::Line;
 pub use port::{Options, Port};
 pub use standard::StdLine;

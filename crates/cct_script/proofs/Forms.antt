@@ -4,6 +4,7 @@ use Rattle.cct_lines.specs.Grammar.{acceptor_line, hopper_line, value_line, text
 use Rattle.cct_lines.specs.Grammar.{coin_step, fault_step, start_step, pay_step, path_step, vend_step, crash_step}
 use Rattle.cct_lines.specs.declared.command.Step.{Step}
 use Rattle.std.specs.List.{slice_split}
+use Rattle.cct_script.specs.Live.{do_form}
 use Rattle.cct_script.proofs.Splits.{split_some}
 
 pub no_acceptor : (fields : List (List ℕ)) → length fields ≢ 4 → acceptor_line fields ≡ None
@@ -25,6 +26,10 @@ no_texts fields other = refl
 pub no_step_at : (make : ℕ → Step) (fields : List (List ℕ)) → length fields ≢ 1 → step_at make fields ≡ None
 no_step_at make (a ∷ []) other = absurd (other refl)
 no_step_at make fields other = refl
+
+pub no_do : (fields : List (List ℕ)) → length fields ≢ 1 → do_form fields ≡ None
+no_do (a ∷ []) other = absurd (other refl)
+no_do fields other = refl
 
 pub no_coin : (fields : List (List ℕ)) → length fields ≢ 2 → coin_step fields ≡ None
 no_coin (a ∷ b ∷ []) other = absurd (other refl)

@@ -6,3 +6,4 @@ pub mod Steps
 pub mod Sound
 pub mod Window
 pub mod Giving
+pub mod Passing

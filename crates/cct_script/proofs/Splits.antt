@@ -34,7 +34,7 @@ module _ {X : Type 0} where
       ap (slice_split p) (split_place xs n d h.0)
       ∙ slice_split_at p (take n xs) (get_or xs n d) (drop (n + 1) xs) (fails_in_front p xs n d h.0 h.2) h.1
 
-  fails_everywhere : (p : X → Bool) (xs : List X) → position p xs ≡ None → All (λ x. p x ≡ false) xs
+  pub fails_everywhere : (p : X → Bool) (xs : List X) → position p xs ≡ None → All (λ x. p x ≡ false) xs
   fails_everywhere p xs e k d inside =
       let last : ltb (position_or_len p xs) (length xs) ≡ false = none_first _ _ e in
       let past : length xs ≤ position_or_len p xs = ltb-false _ _ last in

@@ -4,3 +4,5 @@ pub mod Steps
 pub mod Window
 pub mod Giving
 pub mod Taking
+pub mod Endless
+pub mod Live

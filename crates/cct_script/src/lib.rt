@@ -6,8 +6,10 @@
 mod adding;
 mod buffer;
 mod bytes;
+mod endless;
 mod fields;
 mod lines;
+mod live;
 mod machine;
 mod numbers;
 mod setup;
@@ -17,7 +19,9 @@ mod words;
 
 pub use adding::add;
 pub use cct_lines::SetupLine;
+pub use endless::{EndlessLines, MOST_PASSED, NextLine};
 pub use lines::{Line, Lines, LinesNo};
+pub use live::{LiveLine, read_live_line};
 pub use machine::{SetupNo, read_setup};
 pub use numbers::ranged;
 pub use setup::read_setup_line;
