@@ -39,9 +39,7 @@ impl From<SetupNo> for Stop {
     fn from(why: SetupNo) -> Stop {
         match why {
             SetupNo::Read => Stop::Read,
-            SetupNo::Line { number, kind } => {
-                Stop::Line(Text::Setup, Refused { number, kind })
-            }
+            SetupNo::Line { number, kind } => { Stop::Line(Text::Setup, Refused { number, kind }) }
         }
     }
 }

@@ -131,11 +131,7 @@ fn is_alien_today(alloc: Global, image: &[u8]) -> Result<bool, Fail> {
 }
 
 // A record that is read, or why not.
-fn read(
-    rt: &impl Abort,
-    old: &mut OldJournal<MemDisk>,
-    index: u32,
-) -> Result<Record, ReadNo>
+fn read(rt: &impl Abort, old: &mut OldJournal<MemDisk>, index: u32) -> Result<Record, ReadNo>
     ensures { IfOk result Encodable }
 {
     assert!(rt; old.base() <= index && index < old.used());
