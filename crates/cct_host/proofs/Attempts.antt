@@ -250,15 +250,15 @@ put_by : (hears : List ℕ → List ℕ) (place : Place) (past : List Entry) (ol
     → Works place (Some old) j (model.epoch (lines_at place past)) (order (lines_at place past))
     → Knows place state owed (lines_at place past) → OwnsAt place past → last ≡ model.epoch_by r state
     → PutsOn old new r owed.order left.order → IsNoScan old → SellsOn old new r owed.order left.order
-    → left.id ≡ owed.id → Ends new end
+    → left.id ≡ owed.id → left.begun ≡ owed.begun → Ends new end
     → Settles end new (addr_of place) kept told reported
     → Goes hears place past (with_end (addr_of place) (entry.Put r) end) kept last (orders_left kept left)
 put_by hears place past old new r state last owed left end kept told reported model.free was works knows owns moved
-    puts_on no_scan sells same ends settled = absurd works
+    puts_on no_scan sells same begun ends settled = absurd works
 put_by hears scans past old new r state last owed left end kept told reported (model.works c since) was works knows
-    owns moved puts_on no_scan sells same ends settled = absurd (no_scan since works)
+    owns moved puts_on no_scan sells same begun ends settled = absurd (no_scan since works)
 put_by hears sales past old new r state last owed left end kept told reported (model.works c since) was works knows
-    owns moved puts_on no_scan sells same ends settled =
+    owns moved puts_on no_scan sells same begun ends settled =
     let row = sells.needs c since works in
     let sold = row_sold c since r past row in
     let after = sells.goes c since works in
@@ -270,10 +270,10 @@ put_by hears sales past old new r state last owed left end kept told reported (m
       at = end_at_too HOST past (entry.Put r) end (put_at HOST past r sold.0);
       keeps = left_keeps sales kept new last left past (entry.Put r) end told reported settled
           (sold_keeps c since r past last left new sold.1 after was (sells.owes c since works ∙ knows.0)
-          (same ∙ knows.1));
+          (same ∙ knows.1) (begun ∙ knows.2));
     }
 put_by hears (device d) past old new r state last owed left end kept told reported (model.works c since) was works knows
-    owns moved puts_on no_scan sells same ends settled =
+    owns moved puts_on no_scan sells same begun ends settled =
     let n = model.epoch (lines_of d past) in
     let o = order (lines_of d past) in
     let puts = puts_on.needs d c since n o works in
@@ -290,7 +290,7 @@ put_by hears (device d) past old new r state last owed left end kept told report
           (put_keeps d c since r past last left new own (λ after. puts_on.goes d c since n after o works) was
           (moved ∙ ap (model.epoch_by r) knows.0)
           (puts_on.owes d c since n (subst (Stands d old c since n) (sym knows.1) works) ∙ ap (order_by r) knows.1)
-          (same ∙ knows.2));
+          (same ∙ knows.2) (begun ∙ knows.3));
     }
 
 -- a job puts its record
@@ -298,12 +298,12 @@ pub put_attempts : {L : Type 0} (gives : L → List ℕ → List ℕ → L → T
     (r : Record) (state : EpochState) (owed moves : OrderState) (desk : JobDesk) (used : ℕ) (end : Option End)
     (report told reported : List Entry)
     → PutsOn old new r owed.order moves.order → due_by (Some old) ≡ Some r → IsNoScan old
-    → SellsOn old new r owed.order moves.order → moves.id ≡ owed.id → Ends new end
+    → SellsOn old new r owed.order moves.order → moves.id ≡ owed.id → moves.begun ≡ owed.begun → Ends new end
     → told ≡ report ++ entry.Put r ∷ [] → Settles end new addr desk.job told reported
     → desk.epoch ≡ model.epoch_by r state → desk.orders ≡ orders_left desk.job moves → used ≡ id_of r
     → Attempts gives link link addr (Some old) state owed desk used report reported
 put_attempts gives link addr old new r state owed moves desk used end report told reported puts_on due no_scan sells
-    same ends told_is settled moved left used_is = record {
+    same begun ends told_is settled moved left used_is = record {
       what = attempt.put r end;
       reported_is = reported_with report told reported addr (entry.Put r) end new desk.job told_is settled;
       link = refl;
@@ -315,7 +315,7 @@ put_attempts gives link addr old new r state owed moves desk used end report tol
           → Goes hears place past (with_end a (entry.Put r) end) desk.job desk.epoch (orders_left desk.job moves)) at
           (λ s. put_by hears place past old new r state desk.epoch owed moves end desk.job told reported
           (model.job (lines_at place past)) refl keeps.works keeps.knows owns moved puts_on no_scan sells same
-          ends s) settled);
+          begun ends s) settled);
     }
 
 -- what a job needs, wherever it is
@@ -366,13 +366,15 @@ pub desk_puts : {L : Type 0} (gives : L → List ℕ → List ℕ → L → Type
     (report reported : List Entry)
     → is_some job ≡ true → due_by job ≡ Some r → IfSome job (λ old. after ≡ owed_after old owed.order)
     → IfSome job (λ old. Puts addr old r desk.job report reported)
-    → desk.epoch ≡ model.epoch_by r state → desk.orders ≡ orders_left desk.job (record { order = after; id = owed.id })
+    → desk.epoch ≡ model.epoch_by r state
+    → desk.orders ≡ orders_left desk.job (record { order = after; id = owed.id; begun = owed.begun })
     → used ≡ id_of r → Attempts gives link link addr job state owed desk used report reported
 desk_puts gives link addr None r state owed after desk used report reported there due ordered puts moved left used_is =
     absurd cc
 desk_puts gives link addr (Some job) r state owed after desk used report reported there due ordered puts moved left
     used_is =
     let is = sym (put_is (need_of job) r (sym due)) in
-    put_attempts gives link addr job (after_put job) r state owed (record { order = after; id = owed.id }) desk used _
+    put_attempts gives link addr job (after_put job) r state owed
+    (record { order = after; id = owed.id; begun = owed.begun }) desk used _
     report _ reported (puts_next job r owed.order after is ordered) due (no_scan job r is)
-    (sells_next job r owed.order after is ordered) refl puts.ends refl puts.settles moved left used_is
+    (sells_next job r owed.order after is ordered) refl refl puts.ends refl puts.settles moved left used_is

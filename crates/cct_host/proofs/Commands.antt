@@ -33,7 +33,7 @@ use Rattle.cct_jobs.specs.Sales.{StandsSale}
 use Rattle.cct_jobs.specs.Scans.{StandsScan}
 use Rattle.cct_host.specs.Desk.{Keeps, Works}
 use Rattle.cct_host.specs.Place.{Place, device, sales, scans}
-use Rattle.cct_host.specs.Running.{begins_id, busy_by, halting_refusal, halts_in, is_halt, is_running, refusal_beside, sale_refusal, seen_at}
+use Rattle.cct_host.specs.Running.{begins_id, busy_by, command_of, halting_refusal, halts_in, is_halt, is_running, refusal_beside, sale_refusal, seen_at}
 use Rattle.cct_laws.proofs.jobs.Tests.{Pass, all_pass, test_holds}
 use Rattle.cct_jobs.proofs.Halts.{halts_known}
 use Rattle.cct_jobs.proofs.Needs.{end_known}
@@ -203,12 +203,12 @@ address_there (e ∷ es) addr d is = there_by (e.addr == addr) e d (device_at es
 pub command_taken : (setup : Setup) (d : DeviceSetup) (c : Command) (before : Option Job) (job : Job)
     (state : EpochState) (owed after : OrderState) (last : ℕ) (past : List Entry)
     → (begins_id c ≡ true → last ≡ last_id setup past) → is_of_device c ≡ true → is_running before ≡ true → after.order ≡ owed.order
-    → after.id ≡ running_id d (model.works c [])
+    → after.id ≡ running_id d (model.works c []) → after.begun ≡ Some c
     → device_at setup.devices (address_of c) ≡ Some d → refusal_beside d before state owed last c ≡ None
     → MayBegin c setup.devices state (order_of owed.order) → Stands d job c [] state (order_of owed.order)
     → Keeps (device d) before state owed (lines_of d past)
     → (None ≡ state_refusal setup past c) × Keeps (device d) (Some job) state after (lines_of d (entry.Taken c ∷ past))
-command_taken setup d c before job state owed after last past is_last of_device runs ordered named there free may
+command_taken setup d c before job state owed after last past is_last of_device runs ordered named begun there free may
     stands keeps = (
       sym free ∙ refusal_is setup d before state owed last past c is_last runs of_device there keeps,
       taken_keeps (device d) c job state after past (sym (address_there setup.devices (address_of c) d there))
@@ -218,6 +218,7 @@ command_taken setup d c before job state owed after last past is_last of_device 
             keeps.knows.0,
             ap order_of ordered ∙ keeps.knows.1,
             named ∙ ap (running_id d) (sym (begins_own c setup.devices state (order_of owed.order) _ may)),
+            begun ∙ ap command_of (sym (begins_own c setup.devices state (order_of owed.order) _ may)),
           ),
     )
 
@@ -267,15 +268,16 @@ scan_refusal setup c job state owed past is keeps = busy_same scans job _ _ _ ke
     ∙ sym (ap (state_refusal setup past) is)
 
 pub scan_taken : (setup : Setup) (c : Command) (before : Option Job) (job : Job) (state : EpochState)
-    (owed : OrderState) (past : List Entry) → c ≡ command.Scan → busy_by before ≡ None → StandsScan job []
+    (owed after : OrderState) (past : List Entry) → c ≡ command.Scan → after.begun ≡ Some c → busy_by before ≡ None
+    → StandsScan job []
     → Keeps scans before state owed (scan_lines past) → (None ≡ state_refusal setup past c)
-    × Keeps scans (Some job) state owed
+    × Keeps scans (Some job) state after
     (scan_lines (entry.Taken c ∷ past))
-scan_taken setup c before job state owed past is free stands keeps = (
-  sym free ∙ scan_refusal setup c before state owed past is keeps,
-  taken_keeps scans c job state owed past (ap address_of is)
-      (ap (λ k. model.begun k (model.job (scan_lines past))) is ∙ ap (λ k. model.works k []) (sym is)) stands tt,
-)
+scan_taken setup c before job state owed after past is begun free stands keeps =
+    let begins = ap (λ k. model.begun k (model.job (scan_lines past))) is ∙ ap (λ k. model.works k []) (sym is) in (
+      sym free ∙ scan_refusal setup c before state owed past is keeps,
+      taken_keeps scans c job state after past (ap address_of is) begins stands (begun ∙ ap command_of (sym begins)),
+    )
 
 pub scan_refused : (setup : Setup) (c : Command) (job : Option Job) (state : EpochState) (owed : OrderState) (past : List
     Entry)
@@ -298,13 +300,14 @@ sale_refusal_is setup id price job state owed last past is_last keeps =
 
 pub sale_taken : (setup : Setup) (id price : ℕ) (before : Option Job) (job : Job) (state : EpochState)
     (owed after : OrderState) (last : ℕ) (past : List Entry) → last ≡ last_id setup past → after.order ≡ owed.order
-    → after.id ≡ id → sale_refusal before id last ≡ None → StandsSale job (command.Vend id price) []
+    → after.id ≡ id → after.begun ≡ Some (command.Vend id price) → sale_refusal before id last ≡ None
+    → StandsSale job (command.Vend id price) []
     → Keeps sales before state owed (sale_lines past)
     → (None ≡ state_refusal setup past (command.Vend id price))
     × Keeps sales (Some job) state after (sale_lines (entry.Taken (command.Vend id price) ∷ past))
-sale_taken setup id price before job state owed after last past is_last ordered named free stands keeps = (
+sale_taken setup id price before job state owed after last past is_last ordered named begun free stands keeps = (
   sym free ∙ sale_refusal_is setup id price before state owed last past is_last keeps,
-  taken_keeps sales (command.Vend id price) job state after past refl refl stands (ordered ∙ keeps.knows.0, named),
+  taken_keeps sales (command.Vend id price) job state after past refl refl stands (ordered ∙ keeps.knows.0, named, begun),
 )
 
 pub sale_refused : (setup : Setup) (id price : ℕ) (job : Option Job) (state : EpochState) (owed : OrderState) (last : ℕ)

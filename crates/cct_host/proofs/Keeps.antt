@@ -25,7 +25,7 @@ use Rattle.cct_jobs.specs.Jobs.{Stands, order_of}
 use Rattle.cct_jobs.specs.Sales.{StandsSale}
 use Rattle.cct_host.specs.Desk.{Keeps, Knows, Works}
 use Rattle.cct_host.specs.Place.{IsAsBefore, Place, StandsAt, addr_of, device, line_at, lines_at, sales, scans}
-use Rattle.cct_host.specs.Running.{Settles, orders_left, is_halt}
+use Rattle.cct_host.specs.Running.{Settles, command_of, orders_left, is_halt}
 use Rattle.cct_host.proofs.Lines.{IsQuiet, job_asked, own_ended, own_put, own_taken}
 
 -- a line more of a job is of the same payment
@@ -41,27 +41,33 @@ sale_line : (x : Line) (j : model.Job) → sale_id (model.with_line x j) ≡ sal
 sale_line x model.free = refl
 sale_line x (model.works c since) = refl
 
+-- and of the same command
+command_line : (x : Line) (j : model.Job) → command_of (model.with_line x j) ≡ command_of j
+command_line x model.free = refl
+command_line x (model.works c since) = refl
+
 -- what is known of an epoch, of an open order and of a payment, where they stay
 pub knows_same : (place : Place) (state : EpochState) (owed : OrderState) (old new : List Line)
     → model.job new ≡ model.job old → model.epoch new ≡ model.epoch old → order new ≡ order old
     → Knows place state owed old → Knows place state owed new
 knows_same (device d) state owed old new jobs same ordered knows =
-    (knows.0 ∙ sym same, knows.1 ∙ sym ordered, knows.2 ∙ sym (ap (running_id d) jobs))
-knows_same scans state owed old new jobs same ordered knows = tt
-knows_same sales state owed old new jobs same ordered knows = (knows.0, knows.1 ∙ sym (ap sale_id jobs))
+    (knows.0 ∙ sym same, knows.1 ∙ sym ordered, knows.2 ∙ sym (ap (running_id d) jobs), knows.3 ∙ sym (ap command_of jobs))
+knows_same scans state owed old new jobs same ordered knows = knows ∙ sym (ap command_of jobs)
+knows_same sales state owed old new jobs same ordered knows =
+    (knows.0, knows.1 ∙ sym (ap sale_id jobs), knows.2 ∙ sym (ap command_of jobs))
 
 -- what is known where a job goes on, and where it ended
 knows_kept : (place : Place) (state : EpochState) (owed : OrderState) (job : Job) (lines : List Line)
     → Knows place state owed lines → Knows place state (orders_left (Some job) owed) lines
-knows_kept (device d) state owed job lines knows = (knows.0, knows.1, knows.2)
-knows_kept scans state owed job lines knows = tt
-knows_kept sales state owed job lines knows = (knows.0, knows.1)
+knows_kept (device d) state owed job lines knows = (knows.0, knows.1, knows.2, knows.3)
+knows_kept scans state owed job lines knows = knows
+knows_kept sales state owed job lines knows = (knows.0, knows.1, knows.2)
 
 knows_ended : (place : Place) (state : EpochState) (owed : OrderState) (end : End) (lines : List Line)
     → Knows place state owed lines → Knows place state (orders_left None owed) (line.ended end ∷ lines)
-knows_ended (device d) state owed end lines knows = (knows.0, knows.1, refl)
-knows_ended scans state owed end lines knows = tt
-knows_ended sales state owed end lines knows = (knows.0, refl)
+knows_ended (device d) state owed end lines knows = (knows.0, knows.1, refl, refl)
+knows_ended scans state owed end lines knows = refl
+knows_ended sales state owed end lines knows = (knows.0, refl, refl)
 
 -- a job that stands beside an epoch and an open order stands beside the same
 pub works_same : (place : Place) (job : Option Job) (old new : model.Job) (state after : EpochState)
@@ -96,18 +102,28 @@ pub asked_keeps : (place : Place) (c : Command) (since : List Line) (state : Epo
 asked_keeps (device d) c since state owed sent heard new lines stands was knows = record {
   works = subst (λ j. Works (device d) (Some new) (model.with_line (line_at (device d) sent heard) j)
       (model.epoch lines) (order lines)) (sym was) stands;
-  knows = (knows.0, knows.1, knows.2 ∙ sym (running_line d (line_at (device d) sent heard) (model.job lines)));
+  knows = (
+    knows.0,
+    knows.1,
+    knows.2 ∙ sym (running_line d (line_at (device d) sent heard) (model.job lines)),
+    knows.3 ∙ sym (command_line (line_at (device d) sent heard) (model.job lines)),
+  );
 }
 asked_keeps scans c since state owed sent heard new lines stands was knows = record {
   works = subst (λ j. Works scans (Some new) j (model.epoch (line_at scans sent heard ∷ lines))
       (order (line_at scans sent heard ∷ lines)))
       (sym (job_asked scans sent heard lines ∙ ap (model.with_line (line_at scans sent heard)) was)) stands;
-  knows = tt;
+  knows = knows ∙ sym (command_line (line_at scans sent heard) (model.job lines))
+      ∙ sym (ap command_of (job_asked scans sent heard lines));
 }
 asked_keeps sales c since state owed sent heard new lines stands was knows = record {
   works = subst (λ j. Works sales (Some new) (model.with_line (line_at sales sent heard) j)
       (model.epoch lines) (order lines)) (sym was) stands;
-  knows = (knows.0, knows.1 ∙ sym (sale_line (line_at sales sent heard) (model.job lines)));
+  knows = (
+    knows.0,
+    knows.1 ∙ sym (sale_line (line_at sales sent heard) (model.job lines)),
+    knows.2 ∙ sym (command_line (line_at sales sent heard) (model.job lines)),
+  );
 }
 
 -- after a put, which moved the epoch and the open order
@@ -116,27 +132,37 @@ pub put_keeps : (d : DeviceSetup) (c : Command) (since : List Line) (r : Record)
     → ((after : EpochState) → Stands d new c (line.put r ∷ since) after (order_by r (order (lines_of d past))))
     → model.job (lines_of d past) ≡ model.works c since → state ≡ model.epoch_by r (model.epoch (lines_of d past))
     → order_of owed.order ≡ order_by r (order (lines_of d past)) → owed.id ≡ running_id d (model.job (lines_of d past))
+    → owed.begun ≡ command_of (model.job (lines_of d past))
     → Keeps (device d) (Some new) state owed (lines_of d (entry.Put r ∷ past))
-put_keeps d c since r past state owed new own stands was moved ordered same =
+put_keeps d c since r past state owed new own stands was moved ordered same begun =
     subst (Keeps (device d) (Some new) state owed) (sym (own_put d r past own)) (record {
       works = subst
           (λ j. Works (device d) (Some new) (model.with_line (line.put r) j)
           (model.epoch_by r (model.epoch (lines_of d past))) (order_by r (order (lines_of d past)))) (sym was)
           (stands _);
-      knows = (moved, ordered, same ∙ sym (running_line d (line.put r) (model.job (lines_of d past))));
+      knows = (
+        moved,
+        ordered,
+        same ∙ sym (running_line d (line.put r) (model.job (lines_of d past))),
+        begun ∙ sym (command_line (line.put r) (model.job (lines_of d past))),
+      );
     })
 
 -- after the put of a sale
 pub sold_keeps : (c : Command) (since : List Line) (r : Record) (past : List Entry) (state : EpochState) (owed : OrderState)
     (new : Job) → sold_line r ≡ line.put r ∷ [] → StandsSale new c (line.put r ∷ since)
     → model.job (sale_lines past) ≡ model.works c since → owed.order ≡ None
-    → owed.id ≡ sale_id (model.job (sale_lines past))
+    → owed.id ≡ sale_id (model.job (sale_lines past)) → owed.begun ≡ command_of (model.job (sale_lines past))
     → Keeps sales (Some new) state owed (sale_lines (entry.Put r ∷ past))
-sold_keeps c since r past state owed new sold stands was none same =
+sold_keeps c since r past state owed new sold stands was none same begun =
     subst (Keeps sales (Some new) state owed) (sym (ap (λ ls. ls ++ sale_lines past) sold)) (record {
       works = subst (λ j. Works sales (Some new) (model.with_line (line.put r) j)
           (model.epoch (line.put r ∷ sale_lines past)) (order (line.put r ∷ sale_lines past))) (sym was) stands;
-      knows = (none, same ∙ sym (sale_line (line.put r) (model.job (sale_lines past))));
+      knows = (
+        none,
+        same ∙ sym (sale_line (line.put r) (model.job (sale_lines past))),
+        begun ∙ sym (command_line (line.put r) (model.job (sale_lines past))),
+      );
     })
 
 -- after a command that was taken
@@ -172,6 +198,10 @@ halt_runs_on : (d : DeviceSetup) (c : Command) (j : model.Job) → is_halt c ≡
 halt_runs_on d (command.Halt addr) j halt = running_line d (line.taken (command.Halt addr)) j
 halt_runs_on d k j halt = absurd cc
 
+halt_same : (c : Command) (j : model.Job) → is_halt c ≡ true → command_of (model.begun c j) ≡ command_of j
+halt_same (command.Halt addr) j halt = command_line (line.taken (command.Halt addr)) j
+halt_same k j halt = absurd cc
+
 -- after a halt that was taken
 pub halt_keeps : (d : DeviceSetup) (c : Command) (old new : Job) (state : EpochState) (owed : OrderState)
     (past : List Entry) → address_of c ≡ d.addr → is_halt c ≡ true → GoesByHalt old new
@@ -180,7 +210,12 @@ pub halt_keeps : (d : DeviceSetup) (c : Command) (old new : Job) (state : EpochS
 halt_keeps d c old new state owed past here halt goes keeps =
     subst (Keeps (device d) (Some new) state owed) (sym (own_taken (device d) c past here)) (record {
       works = halt_works d c old new (model.job (lines_of d past)) _ _ halt goes keeps.works;
-      knows = (keeps.knows.0, keeps.knows.1, keeps.knows.2 ∙ sym (halt_runs_on d c (model.job (lines_of d past)) halt));
+      knows = (
+        keeps.knows.0,
+        keeps.knows.1,
+        keeps.knows.2 ∙ sym (halt_runs_on d c (model.job (lines_of d past)) halt),
+        keeps.knows.3 ∙ sym (halt_same c (model.job (lines_of d past)) halt),
+      );
     })
 
 -- what stays of a job after its entry, and its end where it brought one

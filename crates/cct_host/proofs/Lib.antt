@@ -18,5 +18,6 @@ pub mod Records
 pub mod Standing
 pub mod Starting
 pub mod Talks
+pub mod Told
 pub mod Tallying
 pub mod Turning

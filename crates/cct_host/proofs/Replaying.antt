@@ -1,5 +1,5 @@
 -- What desks begin with: that nothing happened, or what a carry tells.
-use Rattle.std.proofs.Common.{◌≡◌, ℕ, ◌+◌, ◌^◌, ◌<◌, ◌==◌, Bool, true, false, cond, List, [], ◌∷◌, ◌++◌, length, take, get_or, Option, Some, option_map, sym, ap, subst, ◌∙◌, arith}
+use Rattle.std.proofs.Common.{◌≡◌, ℕ, ◌+◌, ◌^◌, ◌<◌, ◌==◌, Bool, true, false, cond, List, [], ◌∷◌, ◌++◌, length, take, get_or, Option, Some, None, option_map, sym, ap, subst, ◌∙◌, arith}
 use Rattle.std.proofs.lemmas.Grind.{take_at_read}
 use Rattle.std.proofs.lemmas.Option.{same_Some}
 use Rattle.std.specs.List.{All}
@@ -24,6 +24,7 @@ free_replays setup d k free = record {
   epoch_is = free.1;
   order_is = ap (λ (x : OrderState). order_of x.order) free.2;
   id_is = ap (λ (x : OrderState). x.id) free.2;
+  begun_is = ap (λ (x : OrderState). x.begun) free.2;
 }
 
 pub none_replayed : (setup : Setup) (ds : List DeviceSetup) (ks : List JobDesk) → length ks ≡ length ds → All IsFree ks
@@ -69,16 +70,16 @@ replays_more (e ∷ ds) (m ∷ ks) d desk k all this = (all.0, replays_more ds k
 
 pub resumed_more : (ds : List DeviceSetup) (ks new : List JobDesk) (i : ℕ) (d : DeviceSetup) (desk : JobDesk) (c : Carry)
     → i < length ds → d ≡ get_or ds i d → new ≡ ks ++ desk ∷ [] → desk.epoch ≡ epoch_held d.addr c
-    → order_of desk.orders.order ≡ order_held d.addr c → desk.orders.id ≡ 0
+    → order_of desk.orders.order ≡ order_held d.addr c → desk.orders.id ≡ 0 → desk.orders.begun ≡ None
     → ((setup : Setup) → AllReplay (take i ds) ks (known_by setup c))
     → (setup : Setup) → AllReplay (take (i + 1) ds) new (known_by setup c)
-resumed_more ds ks new i d desk c within at pushed epoch order id all setup =
+resumed_more ds ks new i d desk c within at pushed epoch order id begun all setup =
     let k = known_by setup c in
     let longer : take (i + 1) ds ≡ take i ds ++ d ∷ [] =
     (take_at_read ds i d within).1 ∙ ap (λ x. take i ds ++ x ∷ []) (sym at) in
     subst (λ es. AllReplay es new k) (sym longer)
     (subst (λ ls. AllReplay (take i ds ++ d ∷ []) ls k) (sym pushed)
-    (replays_more (take i ds) ks d desk k (all setup) (record { epoch_is = epoch; order_is = order; id_is = id })))
+    (replays_more (take i ds) ks d desk k (all setup) (record { epoch_is = epoch; order_is = order; id_is = id; begun_is = begun })))
 
 -- what is known of each device alone counts
 pub replays_same : (ds : List DeviceSetup) (ks : List JobDesk) (k m : Known)
@@ -92,6 +93,7 @@ replays_same (d ∷ ds) (e ∷ ks) k m epochs orders all = (
     epoch_is = all.0.epoch_is ∙ epochs d.addr;
     order_is = all.0.order_is ∙ orders d.addr;
     id_is = all.0.id_is;
+    begun_is = all.0.begun_is;
   },
   replays_same ds ks k m epochs orders all.1,
 )

@@ -45,6 +45,7 @@ use Rattle.cct_host.specs.Host.{Keeps, StandsFor, disk_of, setup_of}
 use Rattle.cct_host.specs.Parts.{BelongTogether}
 use Rattle.cct_host.specs.Place.{device, sales, scans}
 use Rattle.cct_host.specs.Replayed.{AllReplay, AreUnused, IsUnused, Replays, ReplaysAt}
+use Rattle.cct_host.specs.Running.{command_of}
 use Rattle.cct_host.specs.Starting.{BeginFrom, HasReplayed, HasResumed, WentOver}
 use Rattle.cct_host.proofs.Records.{rest_carry, rest_follow, rest_many}
 use Rattle.cct_host.proofs.Replaying.{replays_same}
@@ -62,6 +63,7 @@ replayed_sits d k past setup before free same unused replays = record {
     replays.epoch_is ∙ ap (epoch_in d.addr) (sym same) ∙ sym (epoch_recorded d past),
     replays.order_is ∙ ap (order_in d.addr) (sym same) ∙ sym (order_recorded d past),
     replays.id_is ∙ sym (ap (running_id d) free),
+    replays.begun_is ∙ sym (ap command_of free),
   );
 }
 
@@ -81,7 +83,7 @@ free_scan : (k : JobDesk) (past : List Entry) → model.job (scan_lines past) �
 free_scan k past none free = record {
   works = subst (λ j. Works scans k.job j (model.epoch (scan_lines past)) (order (scan_lines past))) (sym none)
       (subst (λ j. Works scans j model.free (model.epoch (scan_lines past)) (order (scan_lines past))) (sym free.0) tt);
-  knows = tt;
+  knows = ap (λ (x : OrderState). x.begun) free.2 ∙ sym (ap command_of none);
 }
 
 -- the desk of sales
@@ -92,6 +94,7 @@ free_sale k past none free = record {
   knows = (
     ap (λ (x : OrderState). x.order) free.2,
     ap (λ (x : OrderState). x.id) free.2 ∙ sym (ap sale_id none),
+    ap (λ (x : OrderState). x.begun) free.2 ∙ sym (ap command_of none),
   );
 }
 

@@ -23,7 +23,7 @@ use Rattle.cct_jobs.specs.Jobs.{order_of}
 use Rattle.cct_host.specs.declared.desk.JobDesk.{JobDesk}
 use Rattle.cct_host.specs.Attempt.{Attempt, HeardBy, Links, news_of, put_of, used_by}
 use Rattle.cct_host.specs.Held.{coins_by, due_by, held_by, puts_left, sells_only}
-use Rattle.cct_host.specs.Running.{begins_id, needed, rows_begun}
+use Rattle.cct_host.specs.Running.{begins_id, command_of, needed, rows_begun}
 use Rattle.cct_host.specs.Place.{AreAt, NextAt, OwnsAt, Place, StandsAt, addr_of, device, lines_at, sales, scans}
 
 -- What the host has at a place is the job that its lines tell, beside the epoch and the open order.
@@ -33,13 +33,15 @@ Works place (Some job) (model.works c since) state owed = StandsAt place job c s
 Works place None (model.works c since) state owed = ⊥
 Works place (Some job) model.free state owed = ⊥
 
--- What is recorded at a place is the epoch, the open order and the id of the payment that its lines tell, of sales the
--- id and no order, and of scans nothing.
+-- What is recorded at a place is the epoch, the open order, the id of the payment and the command of the job that its
+-- lines tell, of sales the id, the command and no order, and of scans the command.
 abbrev pub Knows : Place → EpochState → OrderState → List Line → Type 0
 Knows (device d) state owed lines =
     (state ≡ model.epoch lines) × (order_of owed.order ≡ order lines) × (owed.id ≡ running_id d (model.job lines))
-Knows scans state owed lines = ⊤
-Knows sales state owed lines = (owed.order ≡ None) × (owed.id ≡ sale_id (model.job lines))
+    × (owed.begun ≡ command_of (model.job lines))
+Knows scans state owed lines = owed.begun ≡ command_of (model.job lines)
+Knows sales state owed lines =
+    (owed.order ≡ None) × (owed.id ≡ sale_id (model.job lines)) × (owed.begun ≡ command_of (model.job lines))
 
 -- A job, an epoch and an open order are those of a place, by its lines.
 pub record Keeps (place : Place) (job : Option Job) (state : EpochState) (owed : OrderState)
@@ -60,7 +62,7 @@ AllSit past (d ∷ ds) [] = ⊥
 
 -- A desk at which nothing happened.
 abbrev pub IsFree : JobDesk → Type 0
-IsFree desk = (desk.job ≡ None) × (desk.epoch ≡ Idle) × (desk.orders ≡ record { order = None; id = 0 })
+IsFree desk = (desk.job ≡ None) × (desk.epoch ≡ Idle) × (desk.orders ≡ record { order = None; id = 0; begun = None })
 
 -- Why a command was refused, if it was.
 abbrev pub no_of : Result Unit CommandNo → Option CommandNo

@@ -12,3 +12,4 @@ pub mod Starting
 pub mod OnDisk
 pub mod Restarting
 pub mod Replaying
+pub mod Standing

@@ -24,11 +24,13 @@ pub record AreUnused (desks : Desks) : Type 0 where
   pub scan : IsFree desks.scan
   pub sale : IsFree desks.sale
 
--- The desk of a device has the epoch and the open order that are known of its address, and no payment is running.
+-- The desk of a device has the epoch and the open order that are known of its address, and no job is
+-- running.
 pub record ReplaysAt (d : DeviceSetup) (desk : JobDesk) (k : Known) : Type 0 where
   pub epoch_is : desk.epoch ≡ k.epoch_at d.addr
   pub order_is : order_of desk.orders.order ≡ k.order_at d.addr
   pub id_is : desk.orders.id ≡ 0
+  pub begun_is : desk.orders.begun ≡ None
 
 -- Each desk is so of the device at its index.
 abbrev pub AllReplay : List DeviceSetup → List JobDesk → Known → Type 0

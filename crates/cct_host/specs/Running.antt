@@ -14,6 +14,7 @@ use Rattle.cct_model.specs.declared.judging.EpochState.{EpochState}
 use Rattle.cct_model.specs.Device.{is_acceptor, is_hopper}
 use Rattle.cct_model.specs.Exchange.{device_at}
 use Rattle.cct_model.specs.Job.{address_of}
+use Rattle.cct_model.specs.Job as model
 use Rattle.cct_model.specs.Rows.{TableRow, has_waits, need_in, rows_for}
 use Rattle.cct_model.specs.Refusal.{View, first_of, id_refusal, money_in, state_fails, state_tests, tests_of, unless}
 use Rattle.cct_jobs.specs.declared.job.Job.{Job}
@@ -89,14 +90,24 @@ needed setup c = need_in (rows_begun setup c)
 abbrev pub amount_of : Setup → Command → ℕ
 amount_of setup c = money_in setup (tests_of c)
 
+-- The command whose job is at a place, if one is.
+abbrev pub command_of : model.Job → Option Command
+command_of model.free = None
+command_of (model.works c since) = Some c
+
 -- The id of the payment or the sale at a place after an attempt: none where its job has ended.
 abbrev pub id_left : Option Job → ℕ → ℕ
 id_left None id = 0
 id_left (Some job) id = id
 
+-- The command whose job is at a place after an attempt: none where its job has ended.
+abbrev pub begun_left : Option Job → Option Command → Option Command
+begun_left None begun = None
+begun_left (Some job) begun = begun
+
 -- What is recorded of the payments or the sales at a place after an attempt.
 abbrev pub orders_left : Option Job → OrderState → OrderState
-orders_left kept owed = record { order = owed.order; id = id_left kept owed.id }
+orders_left kept owed = record { order = owed.order; id = id_left kept owed.id; begun = begun_left kept owed.begun }
 
 -- What becomes of a job with this end: one that is done adds its end to the entries and frees the address; another
 -- stays, and adds nothing.

@@ -11,7 +11,7 @@ ghost use Rattle.cct_model.specs.Refusal.{running_id};
 ghost use Rattle.cct_jobs.specs.Jobs.{accepts_of, is_of_device, order_of, owed_after};
 ghost use Rattle.cct_host.specs.Held.{FitsIn, FitsIn-prop, due_by, price_by, sells_only};
 ghost use Rattle.cct_host.specs.Place as places;
-ghost use Rattle.cct_host.specs.Running.{id_left, is_halt, is_running};
+ghost use Rattle.cct_host.specs.Running.{is_halt, is_running, orders_left};
 
 use crate::exchange::{exchange, put};
 use crate::orders::OrderState;
@@ -41,7 +41,11 @@ impl Default for JobDesk {
         JobDesk {
             job: None,
             epoch: EpochState::Idle,
-            orders: OrderState { order: None, id: 0 },
+            orders: OrderState {
+                order: None,
+                id: 0,
+                begun: None,
+            },
         }
     }
 }
@@ -117,6 +121,7 @@ impl JobDesk {
             None => {
                 self.job = Some(Job::begin(command, setup, &self.epoch, self.order()));
                 self.orders.id = id_begun(command);
+                self.orders.begun = Some(*command);
                 Ok(())
             }
         }
@@ -144,6 +149,7 @@ impl JobDesk {
             Some(why) => Err(why),
             None => {
                 self.job = Some(Job::begin(command, setup, &self.epoch, None));
+                self.orders.begun = Some(*command);
                 Ok(())
             }
         }
@@ -168,6 +174,7 @@ impl JobDesk {
                 let command = Command::Vend { id, price };
                 self.job = Some(Job::begin(&command, setup, &self.epoch, None));
                 self.orders.id = id;
+                self.orders.begun = Some(command);
                 Ok(())
             }
         }
@@ -216,7 +223,7 @@ impl JobDesk {
         match due {
             None => {
                 exchange(&mut self.job, addr, link, report);
-                self.orders.id = self.id_left();
+                self.orders = self.orders_left();
                 0
             }
             Some(entry) => {
@@ -224,7 +231,7 @@ impl JobDesk {
                 self.epoch = epoch_by(entry, self.epoch);
                 self.orders.order = self.order_after();
                 put(&mut self.job, entry, addr, report);
-                self.orders.id = self.id_left();
+                self.orders = self.orders_left();
                 id
             }
         }
@@ -240,13 +247,17 @@ impl JobDesk {
         }
     }
 
-    /// The id of the payment or the sale that is still running, or 0.
-    fn id_left(&self) -> u32
-        ensures { result ≡ id_left self.now.job self.now.orders.id }
+    /// What is recorded of the payment, the sale or the job that is still running.
+    fn orders_left(&self) -> OrderState
+        ensures { result ≡ orders_left self.now.job self.now.orders }
     {
         match self.job {
-            None => 0,
-            Some(_) => self.orders.id,
+            None => OrderState {
+                order: self.orders.order,
+                id: 0,
+                begun: None,
+            },
+            Some(_) => self.orders,
         }
     }
 }

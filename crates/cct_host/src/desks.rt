@@ -34,11 +34,11 @@ use cct_wire::Link;
 pub struct Desks<'s> {
     setup: &'s Setup,
     /// The desk of each device, at the index of the device in the setup.
-    devices: ArrayVec<JobDesk, DEVICES>,
+    pub(crate) devices: ArrayVec<JobDesk, DEVICES>,
     /// The desk of scans.
-    scan: JobDesk,
+    pub(crate) scan: JobDesk,
     /// The desk of sales.
-    sale: JobDesk,
+    pub(crate) sale: JobDesk,
     /// The greatest id of the records.
     last: u32,
     ghost sound: { IsSoundSetup setup.now } by { IsSoundSetup-prop setup.now },

@@ -40,10 +40,10 @@ use cct_wire::Link;
 /// newest entry first. It takes no memory.
 #[derive(Drop)]
 pub struct Host<'s, D: Disk> {
-    desks: Desks<'s>,
+    pub(crate) desks: Desks<'s>,
     ledger: Ledger<'s>,
     tally: Tally<'s>,
-    journal: Journal<D>,
+    pub(crate) journal: Journal<D>,
     ghost together: { BelongTogether desks ledger tally journal } by { BelongTogether-prop desks ledger tally journal },
 }
 

@@ -14,6 +14,7 @@ mod refusal;
 mod replay;
 mod reserves;
 mod restart;
+mod state;
 
 pub use desks::Desks;
 pub use host::Host;

@@ -39,6 +39,7 @@ impl JobDesk {
         ensures epoch { result.epoch ≡ carries.epoch_held addr carry.now }
         ensures order { order_of result.orders.order ≡ carries.order_held addr carry.now }
         ensures id { result.orders.id ≡ 0 }
+        ensures begun { result.orders.begun ≡ None }
     {
         JobDesk {
             job: None,
@@ -46,6 +47,7 @@ impl JobDesk {
             orders: OrderState {
                 order: owed_held(carry, addr),
                 id: 0,
+                begun: None,
             },
         }
     }

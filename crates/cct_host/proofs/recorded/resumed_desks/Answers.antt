@@ -14,5 +14,6 @@ loop-device-preserved c =
           (All-push IsUnused c.loop-device.desks.items _ before.unused c.resume.ensures.job);
       resumed = resumed_more c.args.devices.now c.loop-device.desks.items _ c.loop-device.device-index c.device-item.result _
           c.args.carry.now (omega (arith, c.loop-device-test.true)) c.device-item.is pushed
-          c.resume.ensures.epoch c.resume.ensures.order c.resume.ensures.id before.resumed;
+          c.resume.ensures.epoch c.resume.ensures.order c.resume.ensures.id
+          c.resume.ensures.begun before.resumed;
     }

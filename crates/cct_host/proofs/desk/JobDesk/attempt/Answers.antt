@@ -1,4 +1,4 @@
-use Rattle.std.proofs.Common.{ap, refl, sym, ◌∙◌}
+use Rattle.std.proofs.Common.{refl, sym, ◌∙◌}
 use Rattle.cct_host.proofs.Attempts.{desk_asks, desk_puts}
 use Rattle.cct_host.proofs.Holding.{ask_frees, put_frees}
 use Rattle.cct_host.proofs.desk.JobDesk.attempt.Goals as goal
@@ -8,14 +8,14 @@ returns-in-None-clause-attempts g c =
     let desk = c.args.self.now in
     desk_asks g.L.Link.gives _ _ c.args.addr desk.job desk.epoch desk.orders _ _ _ c.requires.there desk.runs
     (sym c.requires.due ∙ c.in-None.is) c.exchange.ensures.exchanges refl
-    (ap (λ id. record { order = desk.orders.order; id = id }) c.id_left-self.ensures)
+    c.orders_left-self.ensures
 
 pub returns-in-Some-clause-attempts : goal.returns-in-Some-clause-attempts
 returns-in-Some-clause-attempts g c =
     let desk = c.args.self.now in
     desk_puts g.L.Link.gives _ c.args.addr desk.job c.in-Some.entry desk.epoch desk.orders c.order_after-self.result _ _ _ _
     c.requires.there (sym c.requires.due ∙ c.in-Some.is) c.order_after-self.ensures c.put.ensures.puts
-    c.epoch_by-self.ensures (ap (λ id. record { order = c.order_after-self.result; id = id }) c.id_left-self-in-Some.ensures)
+    c.epoch_by-self.ensures c.orders_left-self-in-Some.ensures
     c.id_of-id.ensures
 
 pub returns-in-None-clause-frees : goal.returns-in-None-clause-frees

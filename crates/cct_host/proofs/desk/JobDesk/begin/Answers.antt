@@ -16,7 +16,8 @@ returns-in-None-clause-commands c fits past is_last sits =
     let free = sym c.refusal.ensures ∙ c.in-None.is in
     command_taken c.args.setup.now c.args.device.now c.args.command.now c.args.self.now.job c.begin.result
     c.args.self.now.epoch c.args.self.now.orders _ c.args.last past is_last
-    c.requires.of_device c.args.self.now.runs refl (c.id_begun-self.ensures c.args.device.now c.requires.of_device) c.requires.there free
+    c.requires.of_device c.args.self.now.runs refl (c.id_begun-self.ensures c.args.device.now c.requires.of_device) refl
+    c.requires.there free
     (may_begin c.args.setup.now.devices c.args.device.now c.args.self.now.job c.args.self.now.epoch
     c.args.self.now.orders c.args.last c.args.command.now
     c.requires.no_halt c.requires.of_device c.requires.there free)

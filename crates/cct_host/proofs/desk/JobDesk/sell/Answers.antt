@@ -17,7 +17,7 @@ pub returns-in-None-clause-commands : goal.returns-in-None-clause-commands
 returns-in-None-clause-commands c past is_last sits =
     let desk = c.args.self.now in
     sale_taken c.args.setup.now c.args.id c.args.price desk.job c.begin.result desk.epoch desk.orders _ c.args.last past
-    (is_last refl) refl refl (sym c.sale_refusal.ensures ∙ c.in-None.is)
+    (is_last refl) refl refl refl (sym c.sale_refusal.ensures ∙ c.in-None.is)
     (c.begin.ensures.sale c.args.id c.args.price refl) sits
 
 pub returns-in-None-clause-takes : goal.returns-in-None-clause-takes
