@@ -30,9 +30,17 @@ old_epoch_bodies (e ∷ es) = (refl, old_epoch_bodies es)
 -- And so has each old body of a carry.
 old_carry_bodies : (c : Carry) → AreBodies (old_bodies_of c)
 old_carry_bodies c =
-    let long = sums_long c in
-    (long.0, (long.1, (long.2, both_bodies (map old_epoch_body c.epochs) (map order_body c.orders)
-    (old_epoch_bodies c.epochs) (order_bodies c.orders))))
+    let long = sums_long c in (
+      long.0,
+      (
+        long.1,
+        (
+          long.2,
+          both_bodies (map old_epoch_body c.epochs) (map order_body c.orders)
+              (old_epoch_bodies c.epochs) (order_bodies c.orders),
+        ),
+      ),
+    )
 
 -- The bytes with which a half of version 2 begins are those of its numbers and of the bodies of its carry.
 module _ (second : Bool) (generation base : ℕ) (carry : Carry) (bytes : List ℕ)
@@ -89,8 +97,12 @@ second_none second bytes many bodies whole many_is are none generation base carr
 pub second_fewer : (second : Bool) (bytes : List ℕ) → length bytes ≡ START → 35 < count_in bytes
     → (generation base : ℕ) (carry : Carry) → BeginsSecond second generation base carry bytes → ⊥
 second_fewer second bytes whole more generation base carry begins =
-    omega (arith, more, second_count second generation base carry bytes begins whole,
-    second_few second generation base carry bytes begins)
+    omega (
+      arith,
+      more,
+      second_count second generation base carry bytes begins whole,
+      second_few second generation base carry bytes begins,
+    )
 
 -- It begins with the numbers that stand there, and the carry that they spell.
 pub second_so : (second : Bool) (generation base : ℕ) (c : Carry) (bytes : List ℕ) (bodies : List (List ℕ))
@@ -121,11 +133,11 @@ second_no_other second generation base c bytes bodies whole turns bases are spel
     (subst (λ bs. OldSpellsCarry basis carry bs) same_bodies begins.spelt) spelt in
     not (
       subst (λ x. MayBeginOld second generation base x) same_carry
-      (subst (λ b. MayBeginOld second generation b carry) same_base
-      (subst (λ g. MayBeginOld second g basis carry) same_turns begins.may)),
+          (subst (λ b. MayBeginOld second generation b carry) same_base
+          (subst (λ g. MayBeginOld second g basis carry) same_turns begins.may)),
       ap (λ g. start_with 2 g base bodies) (sym same_turns) ∙ ap (λ b. start_with 2 more b bodies) (sym same_base)
-      ∙ ap (λ bs. start_with 2 more basis bs) (sym same_bodies)
-      ∙ second_whole second more basis carry bytes begins whole,
+          ∙ ap (λ bs. start_with 2 more basis bs) (sym same_bodies)
+          ∙ second_whole second more basis carry bytes begins whole,
     )
 
 -- What a half of version 2 begins with is in its first bytes.
@@ -203,12 +215,12 @@ one_second second generation later base after carry next bytes whole first other
     let here = second_carried second generation base carry bytes first whole in
     let there = second_carried second later after next bytes other whole in (
       sym (second_turns second generation base carry bytes first whole)
-      ∙ second_turns second later after next bytes other whole,
+          ∙ second_turns second later after next bytes other whole,
       sym (second_base_in second generation base carry bytes first whole)
-      ∙ second_base_in second later after next bytes other whole,
+          ∙ second_base_in second later after next bytes other whole,
       one_old_carry carry next base after first.carried (second_base second generation base carry bytes first)
-      (second_base second later after next bytes other) first.spelt
-      (subst (λ bodies. OldSpellsCarry after next bodies) (sym there ∙ here) other.spelt),
+          (second_base second later after next bytes other) first.spelt
+          (subst (λ bodies. OldSpellsCarry after next bodies) (sym there ∙ here) other.spelt),
     )
 
 -- A half begins in one way as an older version does.
@@ -224,11 +236,17 @@ one_old One One second generation later base after carry next bytes long first s
   carry_is = first.none_carried ∙ sym same.none_carried;
 }
 one_old One Two second generation later base after carry next bytes long first same =
-    absurd (omega (arith, first_version second generation base carry bytes first,
-    second_version second later after next bytes same))
+    absurd (omega (
+      arith,
+      first_version second generation base carry bytes first,
+      second_version second later after next bytes same,
+    ))
 one_old Two One second generation later base after carry next bytes long first same =
-    absurd (omega (arith, second_version second generation base carry bytes first,
-    first_version second later after next bytes same))
+    absurd (omega (
+      arith,
+      second_version second generation base carry bytes first,
+      first_version second later after next bytes same,
+    ))
 one_old Two Two second generation later base after carry next bytes long first same =
     let front = take START bytes in
     let whole : length front ≡ START = length-take-le START bytes long in

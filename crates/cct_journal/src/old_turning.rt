@@ -19,7 +19,11 @@ use cct_lines::Carry;
 
 /// Begins the other half of a journal of an older version as one of today, with the carry of all its records, by six disk
 /// calls.
-pub(crate) fn turn_old<D: Disk>(disk: &mut D, old: &OldPlace, carry: &Carry) -> Result<Place, Failed>
+pub(crate) fn turn_old<D: Disk>(
+    disk: &mut D,
+    old: &OldPlace,
+    carry: &Carry,
+) -> Result<Place, Failed>
     requires placed { IsOldPlaced (D.size disk.old) old.now }
     requires rightly { IsRightly old.now.place.used carry.now }
     ensures moments { (rest : List Record) → OldStands D.honest D.seen D.may_leave disk.old old.now rest

@@ -39,7 +39,12 @@ pub(crate) fn spell_start(generation: u32, base: u32, carry: &Carry) -> [u8; STA
 
 /// The bytes that a half begins with, in a version whose carry has these bodies.
 #[tactic(auto, unfolding(crate::specs::Start::start_with))]
-pub(crate) fn spell_with(version: u8, generation: u32, base: u32, bodies: &[[u8; BODY]]) -> [u8; START]
+pub(crate) fn spell_with(
+    version: u8,
+    generation: u32,
+    base: u32,
+    bodies: &[[u8; BODY]],
+) -> [u8; START]
     requires { length bodies.now ≤ CARRY_BODIES }
     ensures { result ≡ start_with version generation base bodies.now }
 {
@@ -103,8 +108,7 @@ fn may_begin(start: &Start, second: bool) -> bool
     requires { IsRightly start.now.base start.now.carry }
     ensures { IsTrue result ↔ MayBegin second start.now.generation start.now.base start.now.carry }
 {
-    has_parity(start.generation, second)
-        && u64::from(start.generation) <= u64::from(start.base) + 1
+    has_parity(start.generation, second) && u64::from(start.generation) <= u64::from(start.base) + 1
 }
 
 /// Whether a generation is one of the first or of the second half.

@@ -109,7 +109,11 @@ fn begin_other<D: Disk>(disk: &mut D, place: &Place, carry: &Carry) -> Result<Pl
 }
 
 /// Begins the other half with the carry of all records so far, by six disk calls, and then tells its place.
-pub(crate) fn turn_half<D: Disk>(disk: &mut D, place: &Place, carry: &Carry) -> Result<Place, Failed>
+pub(crate) fn turn_half<D: Disk>(
+    disk: &mut D,
+    place: &Place,
+    carry: &Carry,
+) -> Result<Place, Failed>
     requires long { least_size ≤ D.size disk.old }
     requires turned { place.now.generation < MOST_RECORDS }
     requires rightly { IsRightly place.now.used carry.now }
