@@ -167,13 +167,16 @@ pub no_room : (version : OldVersion) (image : List ℕ) (second : Bool) (generat
     → (HasFreeHalf version (length image) used → ⊥) → HasNoRoom image used
 no_room Two image second generation base used carry headed count full = absurd (full tt)
 no_room One image second generation base used carry headed count full =
-    let begins = headed.begins in record {
+    let begins = headed.begins in
+    let all : used ≡ 0 + length (old_bodies One image false 0) =
+    subst (λ b. used ≡ b + length (old_bodies One image false b)) begins.none_before count in
+    record {
       headed =
           subst (λ c. IsOldHeaded image One false 0 0 c) begins.none_carried
           (subst (λ b. IsOldHeaded image One false 0 b carry) begins.none_before
           (subst (λ g. IsOldHeaded image One false g base carry) begins.none_turned
           (subst (λ s. IsOldHeaded image One s generation base carry) begins.first headed)));
-      count = omega (arith, count, begins.none_before);
+      count = omega (arith, all);
       full = ⊎_elim (λ is. is) (λ room. absurd (full room)) (cases_lt (slots_in (length image)) (used + 2));
     }
 
@@ -194,12 +197,12 @@ never_old (NoRoom used) image version second generation base carry none headed f
     absurd (omega (arith, here, none.full, none.count))
 
 -- An image of an older version has its records at the place that was found.
-pub found_from : {D : Type 0} (seen : D → Option (List ℕ)) (disk : D) (old : OldPlace) (image : List ℕ) (base : ℕ)
-    (carry : Carry) (rest : List Record) → seen disk ≡ Some image → OldCounts seen disk old
+pub found_from : {D : Type 0} (seen : D → Option (List ℕ)) (before disk : D) (old : OldPlace) (image : List ℕ) (base : ℕ)
+    (carry : Carry) (rest : List Record) → seen before ≡ Some image → seen disk ≡ Some image → OldCounts seen before old
     → HasOldFrom image base carry rest
     → (base ≡ old.place.base) × (carry ≡ old.place.carry) × OldReadsFrom seen disk old rest
-found_from seen disk old image base carry rest told counts from =
-    let same : counts.image ≡ image = some_is (sym counts.tells ∙ told) in
+found_from seen before disk old image base carry rest was told counts from =
+    let same : counts.image ≡ image = some_is (sym counts.tells ∙ was) in
     let headed = subst (λ (c : List ℕ). IsOldHeaded c old.version old.place.second old.place.generation old.place.base
     old.place.carry) same counts.headed in
     let one = one_old_head image from.version old.version from.second old.place.second from.generation

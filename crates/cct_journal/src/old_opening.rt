@@ -161,10 +161,11 @@ pub(crate) fn find_old<D: Disk>(disk: &mut D) -> Result<OldPlace, OldNo>
     }
     let old = find_old_half(disk)?;
     let used = count_slots(disk, &old)?;
-    if !has_free_half(len, old.version, used) {
-        return Err(OldNo::NoRoom { used });
+    if has_free_half(len, old.version, used) {
+        Ok(counted(old, used))
+    } else {
+        Err(OldNo::NoRoom { used })
     }
-    Ok(counted(old, used))
 }
 
 /// A place with so many records.

@@ -17,14 +17,14 @@ use cct_lines::Record;
 use cct_record::read_old;
 
 /// How many records a journal of an older version takes on so many bytes, after so many before its half.
-fn old_room_on(len: u64, old: &OldPlace) -> u32
+fn old_room_on(len: u64, version: OldVersion, base: u32) -> u32
     requires { least_size ≤ len }
-    ensures value { result ≡ old_room old.now.version len old.now.place.base }
-    ensures fits { result + old.now.place.base ≤ MOST_RECORDS }
+    ensures value { result ≡ old_room version len base }
+    ensures fits { result + base ≤ MOST_RECORDS }
 {
-    match old.version {
-        OldVersion::One => (len / SLOT - 1).min(MOST_RECORDS - u64::from(old.place.base)) as u32,
-        OldVersion::Two => room_on(len, old.place.base),
+    match version {
+        OldVersion::One => (len / SLOT - 1).min(MOST_RECORDS - u64::from(base)) as u32,
+        OldVersion::Two => room_on(len, base),
     }
 }
 
@@ -74,7 +74,7 @@ pub(crate) fn count_slots<D: Disk>(disk: &mut D, old: &OldPlace) -> Result<u32, 
     ensures cause { HasCause (D.faults disk.old) (D.faults disk.new) result }
 {
     let base = old.place.base;
-    let room = old_room_on(disk.len(), old);
+    let room = old_room_on(disk.len(), old.version, base);
     for many in 0..room {
         let slot = read_old_slot(disk, old, base + many)?;
         if slot.gate != OPEN {
