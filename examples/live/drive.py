@@ -9,7 +9,7 @@ import sys
 import time
 from pathlib import Path
 
-host = subprocess.Popen([sys.argv[1], Path(__file__).with_name("setup"), *sys.argv[2:]],
+host = subprocess.Popen([sys.argv[1], Path(__file__).resolve().with_name("setup"), *sys.argv[2:]],
                         stdin=subprocess.PIPE, stdout=subprocess.PIPE, text=True)
 
 

@@ -16,11 +16,12 @@ family_told text =
     else if bytes_eq text (codes "Payout") then Some family.Hopper
     else None
 
--- A device is a hopper, and told another serial number than the setup's.
+-- A device is a hopper, and this is another serial number than the setup's.
 abbrev pub is_other_serial : DeviceSetup → Option ℕ → Bool
 is_other_serial d (Some number) = is_hopper d.body && not (number == d.serial)
 is_other_serial d None = false
 
+-- A device is a hopper, and told another serial number than the setup's.
 abbrev pub is_other : DeviceSetup → Told → Bool
 is_other d told = is_other_serial d told.serial
 

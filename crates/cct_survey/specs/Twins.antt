@@ -5,6 +5,7 @@ use Rattle.cct_terms.specs.declared.wire.CheckKind.TheVariants.{Simple, Crc}
 use Rattle.cct_terms.specs.declared.device.DeviceSetup.{DeviceSetup}
 use Rattle.cct_terms.specs.Device.{is_hopper}
 
+-- The check is the CRC.
 abbrev pub is_crc : CheckKind → Bool
 is_crc Crc = true
 is_crc Simple = false
@@ -29,6 +30,7 @@ abbrev pub two_or : ℕ → Option ℕ → Option (ℕ × ℕ) → Option (ℕ �
 two_or addr (Some other) rest = Some (addr, other)
 two_or addr None rest = rest
 
+-- The addresses of the first two devices of a list that are of one kind, and both under the CRC.
 abbrev pub crc_twins : List DeviceSetup → Option (ℕ × ℕ)
 crc_twins [] = None
 crc_twins (d ∷ devices) = two_or d.addr (twin_of d devices) (crc_twins devices)

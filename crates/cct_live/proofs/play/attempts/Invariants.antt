@@ -1,7 +1,0 @@
-use Rattle.std.proofs.Common.{◌≡◌, false}
-use Rattle.cct_host.specs.Host.{has_failed, setup_of}
-use Rattle.cct_live.proofs.play.attempts.Given as goal
-
--- No put failed, and the setup stays.
-abbrev pub invariant-loop : goal.invariant-loop
-invariant-loop g l = (has_failed l.host ≡ false) × (setup_of l.host ≡ setup_of l.fn.host)
