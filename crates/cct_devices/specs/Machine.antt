@@ -1,8 +1,9 @@
--- The devices on a line, and what they heard since the last gap.
-use Rattle.std.specs.Prelude.{◌≡◌, ◌<◌, ℕ, Bool, List, length, true, false}
-use Rattle.cct_model.specs.terms.wire.TheConstants.{MOST_SENT}
+-- The devices on a line, and what they heard of a message that isn't whole yet.
+use Rattle.std.specs.Prelude.{◌≡◌, ℕ, List, [], ◌∷◌, drop, length}
 use Rattle.cct_model.specs.terms.device.Setup.{Setup}
 use Rattle.cct_model.specs.lines.entry.Entry.{Entry}
+use Rattle.cct_model.specs.lines.entry.Entry.TheVariants as entry
+use Rattle.cct_model.specs.Transcript.{heard_after}
 use Rattle.cct_bus.specs.Bus as buses
 use Rattle.cct_devices.specs.declared.machine.Machine.{Machine}
 
@@ -10,12 +11,15 @@ use Rattle.cct_devices.specs.declared.machine.Machine.{Machine}
 abbrev pub setup_of : Machine → Setup
 setup_of machine = buses.setup_of machine.bus
 
--- The bytes since the last gap are held, or they are more than a message may have.
-abbrev pub Holds : Bool → List ℕ → List ℕ → Type 0
-Holds false held bytes = held ≡ bytes
-Holds true held bytes = MOST_SENT < length bytes
-
--- Devices on a line stand for a transcript, newest entry first, and for the bytes since the last gap.
+-- Devices on a line stand for a transcript, newest entry first, and for the bytes of a message that isn't whole yet.
 pub record StandsFor (machine : Machine) (past : List Entry) (bytes : List ℕ) : Type 0 where
   pub bus : buses.StandsFor machine.bus past
-  pub held : Holds machine.is_long machine.heard.items bytes
+  pub held : machine.heard.items ≡ bytes
+
+-- What devices answer to bytes, without their echo: byte for byte what the definitions make of all that happened.
+abbrev pub answered_to : Setup → List Entry → List ℕ → List ℕ
+answered_to setup past bytes = drop (length bytes) (heard_after setup past bytes)
+
+-- The past goes on by an exchange of these bytes, of which none is left.
+abbrev pub HasActed : Setup → List Entry → List ℕ → Machine → Type 0
+HasActed setup past bytes machine = StandsFor machine (entry.Wire 0 bytes (heard_after setup past bytes) ∷ past) []

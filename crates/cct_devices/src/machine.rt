@@ -1,5 +1,5 @@
-//! The devices on the line, and what they heard since the last gap.
-ghost use Rattle.std.specs.Prelude.{◌≡◌, ◌≤◌, ◌<◌, ℕ, List, [], ◌∷◌, ◌++◌, drop, length, IfOk, IsTrue, true};
+//! The devices on the line, and what they heard of a message that isn't whole yet.
+ghost use Rattle.std.specs.Prelude.{◌≡◌, ◌≤◌, ◌<◌, ℕ, List, [], ◌∷◌, ◌++◌, drop, length, IfOk, IsTrue, false, true};
 ghost use Rattle.cct_model.specs.terms.wire.TheConstants.{MOST_SENT};
 ghost use Rattle.cct_model.specs.lines.entry.Entry.{Entry};
 ghost use Rattle.cct_model.specs.lines.entry.Entry.TheVariants as entry;
@@ -9,6 +9,7 @@ ghost use Rattle.cct_model.specs.Legal.{OfKnowing, happening_entry};
 ghost use Rattle.cct_model.specs.Setup.{IsSoundSetup};
 ghost use Rattle.cct_model.specs.Transcript.{heard_after};
 ghost use Rattle.cct_bus.specs.Bus as buses;
+ghost use Rattle.cct_port.specs.Answer.{is_complete};
 
 use arrayvec::ArrayVec;
 use cct_bus::Bus;
@@ -17,18 +18,17 @@ use cct_wire::Link;
 use std::alloc::{AllocError, Global};
 
 /// The devices of a setup on a line. Contracts tell it by the transcript of all that happened, newest entry first, and by
-/// the bytes that came since the last gap.
+/// the bytes of a message that isn't whole yet.
 #[derive(Drop)]
 pub struct Machine<'s> {
     bus: Bus<'s>,
-    /// The bytes since the last gap, as many as the longest message has at most.
+    /// The bytes of a message that isn't whole yet.
     heard: ArrayVec<u8, MOST_SENT>,
-    /// Whether more bytes came than the longest message has. Together they are none.
-    is_long: bool,
+    ghost room: { length heard.items < MOST_SENT },
 }
 
 impl<'s> Machine<'s> {
-    ghost use Rattle.cct_devices.specs.Machine.{StandsFor, setup_of};
+    ghost use Rattle.cct_devices.specs.Machine.{HasActed, StandsFor, answered_to, setup_of};
 
     /// The devices of a setup as after power-up, to which no byte came.
     pub fn new(alloc: Global, setup: &'s Setup) -> Result<Machine<'s>, AllocError>
@@ -39,50 +39,36 @@ impl<'s> Machine<'s> {
         Ok(Machine {
             bus: Bus::new(alloc, setup)?,
             heard: ArrayVec::new(),
-            is_long: false,
         })
     }
 
-    /// The devices hear one byte more.
-    fn byte(&mut self, byte: u8)
+    /// The devices hear one byte more. Once the message is whole by the length that it tells, they act on it, and what
+    /// they answer stands in the place of what `said` holds; else nothing does.
+    pub fn hear(&mut self, byte: u8, said: &mut ArrayVec<u8, MOST_HEARD>)
         ensures setup { setup_of self.new ≡ setup_of self.old }
-        ensures heard { (past : List Entry) (bytes : List ℕ) → StandsFor self.old past bytes
-            → StandsFor self.new past (bytes ++ byte ∷ []) }
+        ensures more { (past : List Entry) (bytes : List ℕ) → StandsFor self.old past bytes
+            → is_complete (bytes ++ byte ∷ []) ≡ false
+            → (said.new.items ≡ []) × StandsFor self.new past (bytes ++ byte ∷ []) }
+        ensures whole { (past : List Entry) (bytes : List ℕ) → StandsFor self.old past bytes
+            → is_complete (bytes ++ byte ∷ []) ≡ true
+            → (said.new.items ≡ answered_to (setup_of self.old) past (bytes ++ byte ∷ []))
+            × HasActed (setup_of self.old) past (bytes ++ byte ∷ []) self.new }
     {
-        if !self.is_long && self.heard.try_push(byte).is_err() {
-            self.is_long = true;
-        }
-    }
-
-    /// The devices hear these bytes more, one by one.
-    pub fn hear(&mut self, piece: &[u8])
-        ensures setup { setup_of self.new ≡ setup_of self.old }
-        ensures heard { (past : List Entry) (bytes : List ℕ) → StandsFor self.old past bytes
-            → StandsFor self.new past (bytes ++ piece.now) }
-    {
-        for byte in piece {
-            self.byte(*byte);
-        }
-    }
-
-    /// A gap: the devices act on the bytes since the last one, and what they answer stands in the place of what `said`
-    /// holds. To more bytes than a message may have they are silent.
-    pub fn gap(&mut self, said: &mut ArrayVec<u8, MOST_HEARD>)
-        ensures setup { setup_of self.new ≡ setup_of self.old }
-        // Byte for byte what the definitions make of all that happened and of these bytes, without their echo.
-        ensures answer { (past : List Entry) (bytes : List ℕ) → StandsFor self.old past bytes → length bytes ≤ MOST_SENT
-            → said.new.items ≡ drop (length bytes) (heard_after (setup_of self.old) past bytes) }
-        ensures stands { (past : List Entry) (bytes : List ℕ) → StandsFor self.old past bytes → length bytes ≤ MOST_SENT
-            → StandsFor self.new (entry.Wire 0 bytes (heard_after (setup_of self.old) past bytes) ∷ past) [] }
-        ensures long { (past : List Entry) (bytes : List ℕ) → StandsFor self.old past bytes → MOST_SENT < length bytes
-            → (said.new.items ≡ []) × StandsFor self.new past [] }
-    {
+        self.heard.push(byte);
         said.clear();
-        if !self.is_long {
+        if is_whole(self.heard.as_slice()) {
             answer(&mut self.bus, self.heard.as_slice(), said);
+            self.heard.clear();
         }
+    }
+
+    /// A silence: the bytes of a message that isn't whole yet are none.
+    pub fn gap(&mut self)
+        ensures setup { setup_of self.new ≡ setup_of self.old }
+        ensures stands { (past : List Entry) (bytes : List ℕ) → StandsFor self.old past bytes
+            → StandsFor self.new past [] }
+    {
         self.heard.clear();
-        self.is_long = false;
     }
 
     /// Something befalls the device at an address: true then, and false where there is none whose family knows it.
@@ -101,7 +87,15 @@ impl<'s> Machine<'s> {
     }
 }
 
-/// The devices of a bus hear bytes and a gap, and what they answer stands in the place of what `said` holds.
+/// Whether bytes are at least as many as the message has that they begin. Fewer leave room for one more.
+fn is_whole(bytes: &[u8]) -> bool
+    ensures whole { result ≡ is_complete bytes.now }
+    ensures room { result ≡ false → length bytes.now < MOST_SENT }
+{
+    bytes.len() >= 5 && bytes.len() - 5 >= usize::from(bytes[1])
+}
+
+/// The devices of a bus act on a message, and what they answer stands in the place of what `said` holds.
 fn answer(bus: &mut Bus<'_>, bytes: &[u8], said: &mut ArrayVec<u8, MOST_HEARD>)
     requires short { length bytes.now ≤ MOST_SENT }
     ensures setup { buses.setup_of bus.new ≡ buses.setup_of bus.old }

@@ -5,7 +5,6 @@
 mod answer;
 mod events;
 mod machine;
-mod port;
 mod status;
 #[cfg(test)]
 mod tests;
@@ -13,10 +12,10 @@ mod tests;
 use crate::answer::answer;
 use crate::events::Events;
 use crate::machine::Machine;
-use crate::port::FilePort;
 use crate::status::{Refused, Status, Stop, Text};
 use cct_advice::words_of;
 use cct_edge::StdSource;
+use cct_port::StdLine;
 use cct_script::read_setup;
 use std::fs::{File, Files, OpenOptions};
 use std::process::ExitCode;
@@ -28,7 +27,7 @@ SETUP   file with lines acceptor, hopper, value, texts (docs/SCRIPT.md); it ends
 EVENTS  file with lines coin A PLACE, alien A, fall A, jam A, reset A; one is read at each silence
 PORT    terminal where a read gives 0 bytes at a silence: stty -F PORT raw -echo min 0 time 1
 --echo  write back all that is heard, as a line does on which everyone hears everyone
-The devices answer at a silence what they heard since the last one.
+The devices answer a message once it is whole by its length. A silence in a message cuts it off.
 exit status 0: every event was read, and 600 silences came one after another; 1: a line is refused; 2: wrong words;
 3: a file or the port can't be opened or read, as where its other end is closed; 4: writing failed; 8: no memory";
 
@@ -74,8 +73,8 @@ fn play(rt: &HostRuntime, places: Places<'_>) -> Result<(), Stop> {
     let setup = read_setup(&mut text)?;
     let mut events = Events::new(source(rt, places.events)?);
     let mut machine = Machine::new(rt.alloc(), &setup)?;
-    let mut port = FilePort::new(open_port(rt, places.port)?);
-    answer(&mut machine, &mut events, &mut port, places.echoes)
+    let mut line = StdLine::new(open_port(rt, places.port)?);
+    answer(&mut machine, &mut events, &mut line, places.echoes)
 }
 
 /// The bytes of a file.

@@ -1,11 +1,11 @@
-//! Devices over a port in memory.
+//! Devices over a line in memory.
 use crate::answer::{MOST_SILENCES, answer};
 use crate::events::Events;
 use crate::machine::Machine;
-use crate::port::Port;
 use crate::status::{Refused, Stop, Text};
 use cct_edge::{Failed, MemSource};
 use cct_model::LineKind;
+use cct_port::Line;
 use cct_script::read_setup;
 use std::alloc::Global;
 use std::test::Fail;
@@ -29,24 +29,26 @@ const NO_EVENT: &[u8] = b"\x01\x0b\x02\x00\x00\x00\x00\x00\x00\x00\x00\x00\x00\x
 /// A silence.
 const SILENCE: &[u8] = b"";
 
-/// A line in memory: what each call hears of it, and what was said. After these it is silent.
+/// A line in memory: what each read hears of it, and what was said. After these it is silent.
 #[derive(Drop)]
-struct MemPort {
+struct MemLine {
     heard: &'static [&'static [u8]],
-    /// How many calls there were.
+    /// How many reads there were.
     calls: usize,
     said: Vec<u8>,
     /// Whether nothing can be said.
     is_mute: bool,
-    /// Whether a call fails where all was heard.
+    /// Whether a read fails where all was heard.
     is_cut: bool,
 }
 
-impl Port for MemPort {
+impl Line for MemLine {
     // The tests look at what was said.
-    ghost says = { λ _ _ _. Unit {0} };
+    ghost reads = { λ _ _ _. Unit {0} };
 
-    fn hear(&mut self, room: &mut [u8]) -> Result<usize, Failed> {
+    ghost writes = { λ _ _ _ _. Unit {0} };
+
+    fn read(&mut self, room: &mut [u8]) -> Result<usize, Failed> {
         let call = self.calls;
         self.calls = call.saturating_add(1);
         match self.heard.get(call) {
@@ -60,7 +62,7 @@ impl Port for MemPort {
         }
     }
 
-    fn say(&mut self, bytes: &[u8]) -> Result<(), Failed> {
+    fn write(&mut self, bytes: &[u8]) -> Result<(), Failed> {
         if self.is_mute || self.said.extend_from_slice(bytes).is_err() {
             return Err(Failed);
         }
@@ -69,8 +71,8 @@ impl Port for MemPort {
 }
 
 /// A line on which this is heard.
-fn port(alloc: Global, heard: &'static [&'static [u8]]) -> MemPort {
-    MemPort {
+fn memory_line(alloc: Global, heard: &'static [&'static [u8]]) -> MemLine {
+    MemLine {
         heard,
         calls: 0,
         said: Vec::new(alloc),
@@ -89,7 +91,7 @@ fn ended(
     alloc: Global,
     setup: &[u8],
     events: &[u8],
-    port: &mut MemPort,
+    line: &mut MemLine,
     echoes: bool,
 ) -> Result<Result<(), Stop>, Fail> {
     let setup = match read_setup(&mut text(alloc, setup)?) {
@@ -98,7 +100,7 @@ fn ended(
     };
     let mut machine = Machine::new(alloc, &setup)?;
     let mut events = Events::new(text(alloc, events)?);
-    Ok(answer(&mut machine, &mut events, port, echoes))
+    Ok(answer(&mut machine, &mut events, line, echoes))
 }
 
 /// A line of the events is refused.
@@ -112,10 +114,15 @@ fn bad_setup(number: u32, kind: LineKind) -> Result<(), Stop> {
 }
 
 #[test]
-fn bytes_that_come_one_by_one_are_answered_at_the_silence(rt: HostRuntime) -> Result<(), Fail> {
+fn bytes_that_come_one_by_one_are_answered_with_the_last(rt: HostRuntime) -> Result<(), Fail> {
     let alloc = rt.alloc();
-    let mut line = port(alloc, &[b"\x02", b"\x00\x01", b"\xfe", b"\xff", SILENCE]);
-    assert_eq!(rt; ended(alloc, SETUP, b"", &mut line, false)?, Ok(()));
+    let mut line = memory_line(alloc, &[b"\x02", b"\x00\x01", b"\xfe", b"\xff"]);
+    // No silence comes.
+    line.is_cut = true;
+    assert_eq!(rt;
+        ended(alloc, SETUP, b"", &mut line, false)?,
+        Err(Stop::Read)
+    );
     assert_eq!(rt; line.said.as_slice(), ACK);
     Ok(())
 }
@@ -123,7 +130,7 @@ fn bytes_that_come_one_by_one_are_answered_at_the_silence(rt: HostRuntime) -> Re
 #[test]
 fn a_message_with_a_silence_in_it_is_none(rt: HostRuntime) -> Result<(), Fail> {
     let alloc = rt.alloc();
-    let mut line = port(alloc, &[b"\x02\x00\x01", SILENCE, b"\xfe\xff", SILENCE]);
+    let mut line = memory_line(alloc, &[b"\x02\x00\x01", SILENCE, b"\xfe\xff", SILENCE]);
     assert_eq!(rt; ended(alloc, SETUP, b"", &mut line, false)?, Ok(()));
     assert_eq!(rt; line.said.as_slice(), SILENCE);
     Ok(())
@@ -133,7 +140,7 @@ fn a_message_with_a_silence_in_it_is_none(rt: HostRuntime) -> Result<(), Fail> {
 fn two_devices_answer_under_their_checks(rt: HostRuntime) -> Result<(), Fail> {
     let alloc = rt.alloc();
     // Header 254 to address 3 under the CRC, and its acknowledgement.
-    let mut line = port(alloc, &[POLL, SILENCE, b"\x03\x00\x81\xfe\x57", SILENCE]);
+    let mut line = memory_line(alloc, &[POLL, b"\x03\x00\x81\xfe\x57"]);
     assert_eq!(rt; ended(alloc, SETUP, b"", &mut line, false)?, Ok(()));
     assert_eq!(rt;
         line.said.as_slice(),
@@ -146,7 +153,7 @@ fn two_devices_answer_under_their_checks(rt: HostRuntime) -> Result<(), Fail> {
 fn an_address_poll_is_answered_in_rising_order(rt: HostRuntime) -> Result<(), Fail> {
     let alloc = rt.alloc();
     let setup = b"hopper 7 simple 1 0 10\nacceptor 2 simple 1 0\nbegin\nno line of a setup\n";
-    let mut line = port(alloc, &[b"\x00\x00\x01\xfd\x02", SILENCE]);
+    let mut line = memory_line(alloc, &[b"\x00\x00\x01\xfd\x02"]);
     assert_eq!(rt; ended(alloc, setup, b"", &mut line, false)?, Ok(()));
     assert_eq!(rt; line.said.as_slice(), b"\x02\x07".as_slice());
     Ok(())
@@ -156,10 +163,7 @@ fn an_address_poll_is_answered_in_rising_order(rt: HostRuntime) -> Result<(), Fa
 fn a_coin_falls_between_two_polls(rt: HostRuntime) -> Result<(), Fail> {
     let alloc = rt.alloc();
     // A mask of coin place 5, low byte first: the acceptor acknowledges it. Only then the first event comes.
-    let mut line = port(
-        alloc,
-        &[b"\x02\x02\x01\xe7\x10\x00\x04", SILENCE, READ, SILENCE],
-    );
+    let mut line = memory_line(alloc, &[b"\x02\x02\x01\xe7\x10\x00\x04", SILENCE, READ]);
     assert_eq!(rt;
         ended(alloc, SETUP, b"coin 2 5\n", &mut line, false)?,
         Ok(())
@@ -178,9 +182,9 @@ fn a_coin_falls_between_two_polls(rt: HostRuntime) -> Result<(), Fail> {
 }
 
 #[test]
-fn an_event_comes_after_the_answer_of_its_silence(rt: HostRuntime) -> Result<(), Fail> {
+fn an_event_comes_at_a_silence_and_not_before(rt: HostRuntime) -> Result<(), Fail> {
     let alloc = rt.alloc();
-    let mut line = port(alloc, &[READ, SILENCE]);
+    let mut line = memory_line(alloc, &[READ, SILENCE]);
     assert_eq!(rt;
         ended(alloc, SETUP, b"coin 2 5\n", &mut line, false)?,
         Ok(())
@@ -192,7 +196,7 @@ fn an_event_comes_after_the_answer_of_its_silence(rt: HostRuntime) -> Result<(),
 #[test]
 fn a_line_that_echoes_has_what_is_heard_before_the_answer(rt: HostRuntime) -> Result<(), Fail> {
     let alloc = rt.alloc();
-    let mut line = port(alloc, &[b"\x02\x00", b"\x01\xfe\xff", SILENCE]);
+    let mut line = memory_line(alloc, &[b"\x02\x00", b"\x01\xfe\xff"]);
     assert_eq!(rt; ended(alloc, SETUP, b"", &mut line, true)?, Ok(()));
     assert_eq!(rt;
         line.said.as_slice(),
@@ -202,10 +206,10 @@ fn a_line_that_echoes_has_what_is_heard_before_the_answer(rt: HostRuntime) -> Re
 }
 
 #[test]
-fn more_bytes_than_a_message_has_are_none(rt: HostRuntime) -> Result<(), Fail> {
+fn after_the_longest_message_the_next_one_is_heard(rt: HostRuntime) -> Result<(), Fail> {
     let alloc = rt.alloc();
-    // 256 bytes and 5 more, which are one too many. The next message is heard.
-    let mut line = port(alloc, &[&[2; 256], POLL, SILENCE, POLL, SILENCE]);
+    // It says 255 data bytes, and has the 260 bytes that make it whole. Its check is wrong.
+    let mut line = memory_line(alloc, &[b"\x02\xff\x00\x00", &[0; 256], POLL]);
     assert_eq!(rt; ended(alloc, SETUP, b"", &mut line, false)?, Ok(()));
     assert_eq!(rt; line.said.as_slice(), ACK);
     Ok(())
@@ -214,7 +218,7 @@ fn more_bytes_than_a_message_has_are_none(rt: HostRuntime) -> Result<(), Fail> {
 #[test]
 fn the_line_is_at_its_end_after_many_silences(rt: HostRuntime) -> Result<(), Fail> {
     let alloc = rt.alloc();
-    let mut line = port(alloc, &[SILENCE, POLL]);
+    let mut line = memory_line(alloc, &[SILENCE, POLL]);
     assert_eq!(rt;
         ended(alloc, SETUP, b"alien 2\nfall 3\n", &mut line, false)?,
         Ok(())
@@ -237,7 +241,7 @@ fn a_wrong_events_line_is_told_with_its_number(rt: HostRuntime) -> Result<(), Fa
         (b"\n", bad_event(1, LineKind::Word)),
     ];
     for (events, wanted) in cases {
-        let mut line = port(alloc, &[]);
+        let mut line = memory_line(alloc, &[]);
         assert_eq!(rt; ended(alloc, SETUP, events, &mut line, false)?, wanted);
     }
     Ok(())
@@ -259,7 +263,7 @@ fn a_wrong_setup_line_is_told_with_its_number(rt: HostRuntime) -> Result<(), Fai
         (b"acceptor 2 simple 1 0\nbegin", bad_setup(2, LineKind::Cut)),
     ];
     for (setup, wanted) in cases {
-        let mut line = port(alloc, &[]);
+        let mut line = memory_line(alloc, &[]);
         assert_eq!(rt; ended(alloc, setup, b"", &mut line, false)?, wanted);
         assert_eq!(rt; line.calls, 0);
     }
@@ -269,13 +273,13 @@ fn a_wrong_setup_line_is_told_with_its_number(rt: HostRuntime) -> Result<(), Fai
 #[test]
 fn faults_of_the_line_end_it(rt: HostRuntime) -> Result<(), Fail> {
     let alloc = rt.alloc();
-    let mut line = port(alloc, &[POLL, SILENCE]);
+    let mut line = memory_line(alloc, &[POLL]);
     line.is_mute = true;
     assert_eq!(rt;
         ended(alloc, SETUP, b"", &mut line, false)?,
         Err(Stop::Write)
     );
-    let mut line = port(alloc, &[POLL, SILENCE]);
+    let mut line = memory_line(alloc, &[POLL]);
     line.is_cut = true;
     assert_eq!(rt;
         ended(alloc, SETUP, b"", &mut line, false)?,
