@@ -1,5 +1,5 @@
 -- What a half of an older version begins with: an image has one such beginning at most.
-use Rattle.std.proofs.Common.{◌≡◌, inl, inr, ℕ, ◌+◌, ◌^◌, ◌<◌, ◌≤◌, Bool, false, List, [], ◌∷◌, length, map, take, slice_index}
+use Rattle.std.proofs.Common.{◌≡◌, ℕ, ◌^◌, ◌<◌, ◌≤◌, Bool, List, [], ◌∷◌, length, map, take, slice_index}
 use Rattle.std.proofs.Common.{cond, ◌==◌, refl, sym, ◌∙◌, ap, subst, arith, get_or-take}
 use Rattle.std.proofs.lemmas.List.{length-take-le, take-take, take_all}
 use Rattle.cct_lines.specs.declared.carry.Carry.{Carry}

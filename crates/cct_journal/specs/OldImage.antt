@@ -6,7 +6,7 @@ use Rattle.cct_lines.specs.declared.carry.Carry.{Carry}
 use Rattle.cct_lines.specs.declared.record.Record.{Record}
 use Rattle.cct_record.specs.OldBody.{OldSpells}
 use Rattle.cct_record.specs.OldCarryBody.{OldSpellsCarry}
-use Rattle.cct_journal.specs.Half.{IsCurrent, half, slots_in, start_at, title_of}
+use Rattle.cct_journal.specs.Half.{IsCurrent, half, start_at, title_of}
 use Rattle.cct_journal.specs.Start.{HasParity, start_with}
 use Rattle.cct_journal.specs.Image.{Continues, HasFrom, bodies, bodies_in, least_size, room_of}
 use Rattle.cct_journal.specs.declared.format.TheConstants.{FIRST_SLOT, MOST_RECORDS, START}

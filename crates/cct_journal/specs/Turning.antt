@@ -1,5 +1,5 @@
 -- What the writes of a turn make of an image, whatever stands on it.
-use Rattle.std.specs.Prelude.{◌⊎◌, ℕ, ◌+◌, Bool, not, if◌then◌else◌, List, [], ◌∷◌, length}
+use Rattle.std.specs.Prelude.{◌⊎◌, ℕ, ◌+◌, not, if◌then◌else◌, List, [], ◌∷◌, length}
 use Rattle.cct_lines.specs.declared.carry.Carry.{Carry}
 use Rattle.cct_disk.specs.Disk.{SameOutside, put_at}
 use Rattle.cct_journal.specs.Half.{start_at}

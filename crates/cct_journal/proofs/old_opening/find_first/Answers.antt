@@ -1,7 +1,6 @@
 use Rattle.std.proofs.Common.{◌∙◌, sym, ap, subst, arith, take}
 use Rattle.std.proofs.lemmas.Bool.Decides.{not_from_Decides}
 use Rattle.cct_journal.specs.Half.{half}
-use Rattle.cct_journal.specs.OldImage.{first_header}
 use Rattle.cct_journal.specs.OldStands.{MayBeCounted, OldBeginsAt}
 use Rattle.cct_journal.proofs.OldFound.{first_alien, first_begins, first_counted, first_is_first}
 use Rattle.cct_journal.proofs.old_opening.find_first.Goals as goal

@@ -1,4 +1,4 @@
-use Rattle.std.proofs.Common.{◌≡◌, ◌∙◌, ℕ, subst, arith, MatchOption}
+use Rattle.std.proofs.Common.{ℕ, subst, arith, MatchOption}
 use Rattle.cct_lines.specs.declared.carry.Carry.{Carry}
 use Rattle.cct_journal.specs.Half.{half}
 use Rattle.cct_journal.specs.Start.{Begins}
