@@ -1,2 +1,3 @@
 pub mod Notice
 pub mod Told
+pub mod Parts
