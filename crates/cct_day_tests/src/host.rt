@@ -23,7 +23,7 @@ use std::test::Fail;
 /// accepted coin, an acknowledgement; one accepted coin, one credit, the mask, and one accepted coin. After these come those
 /// of a hopper that is to pay two coins: an acknowledgement, life count 0, an acknowledgement; none to three questions how
 /// far it is; then two coins paid, and life count 2.
-const REPLIES: [&[u8]; 16] = [
+pub(crate) const REPLIES: [&[u8]; 16] = [
     b"\x01\0\x02\0\xfd",
     b"\x01\x0b\x02\0\0\0\0\0\0\0\0\0\0\0\0\xf2",
     b"\x01\x03\x02\0\0\0\0\xfa",
@@ -102,7 +102,7 @@ fn acceptor() -> DeviceBody
 }
 
 /// An acceptor at 2, a hopper at 3, whose coins are worth 10, and a further acceptor at 4.
-fn setup() -> Setup
+pub(crate) fn setup() -> Setup
     ensures { IsSoundSetup result }
 {
     let mut devices = Devices::new();

@@ -6,4 +6,6 @@ mod day;
 #[cfg(test)]
 mod host;
 #[cfg(test)]
+mod service;
+#[cfg(test)]
 mod turning;

@@ -1,0 +1,3 @@
+pub mod Notice
+pub mod Told
+pub mod Parts

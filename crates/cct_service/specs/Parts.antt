@@ -1,0 +1,63 @@
+-- The parts of a life: what a host does, and what is told of it.
+use Rattle.std.specs.Prelude.{◌≡◌, ℕ, List, [], ◌∷◌, ◌++◌, Option, Some, None, Result, Ok, Err, reverse}
+use Rattle.cct_edge.specs.declared.fault.Failed.{Failed}
+use Rattle.cct_model.specs.terms.device.Setup.{Setup}
+use Rattle.cct_model.specs.lines.record.Record.{Record}
+use Rattle.cct_model.specs.lines.entry.Entry.{Entry}
+use Rattle.cct_model.specs.Legal.{due_at}
+use Rattle.cct_model.specs.Records.{records}
+use Rattle.cct_disk.specs.declared.disk.Disk.{Ghosts}
+use Rattle.cct_disk.specs.Disk.{IsTrusted}
+use Rattle.cct_journal.specs.declared.format.TheConstants.{MOST_RECORDS}
+use Rattle.cct_host.specs.declared.host.Host.{Host}
+use Rattle.cct_host.specs.Host.{Keeps, StandsFor, disk_of, setup_of}
+use Rattle.cct_host.specs.OnDisk.{LeavesRecords}
+use Rattle.cct_lives.specs.Life.{IsLife}
+use Rattle.cct_lives.specs.LiveStep.{LiveStep}
+use Rattle.cct_service.specs.declared.served.Served.{Served}
+use Rattle.cct_service.specs.declared.served.Served.TheVariants as served
+use Rattle.cct_service.specs.Told.{Told, WritesTold, news_of}
+
+-- By these steps a life goes on, from a past of which one thing holds to a past of which the other does, and the entries
+-- among what is told are those of the steps.
+abbrev pub LifeGoes : Setup → (List Entry → Type 0) → List LiveStep → List Told → (List Entry → Type 0) → Type 0
+LifeGoes setup Before steps told After =
+    (found : List Record) (before : List LiveStep) (past : List Entry) → IsLife MOST_RECORDS setup found before past
+    → Before past
+    → IsLife MOST_RECORDS setup found (before ++ steps) (news_of told ++ past) × After (news_of told ++ past)
+
+-- of a sink, before and after
+module _ {K : Type 0} (written : K → Option (List ℕ)) (puts : K → List ℕ → Result (Unit {0}) Failed → K → Type 0) where
+  -- A life went on by some steps, and they were told so.
+  pub record Part (old new : K) (answer : Result (Unit {0}) Failed) (setup : Setup) (Before After : List Entry → Type 0)
+      : Type 0 where
+    pub steps : List LiveStep
+    pub told : List Told
+    pub wrote : WritesTold written puts old told answer new
+    pub goes : LifeGoes setup Before steps told After
+
+-- A put failed: the host has all of the past, a record was due at an address, and whatever a power cut leaves on a trusted
+-- disk stands for the records of the past, or for these and that one.
+pub record FailedToPut {D : Type 0} {g : Ghosts D} (host : Host D g) (past : List Entry) : Type 0 where
+  pub keeps : Keeps host past
+  pub addr : ℕ
+  pub r : Record
+  pub due : due_at (setup_of host) past addr ≡ Some r
+  pub left : IsTrusted g.honest g.seen (disk_of host)
+      → LeavesRecords (setup_of host) g.honest g.seen g.may_leave (disk_of host) (Some r) (reverse (records past))
+
+module _ {K : Type 0} (written : K → Option (List ℕ)) (puts : K → List ℕ → Result (Unit {0}) Failed → K → Type 0)
+    {D : Type 0} {g : Ghosts D} where
+  -- A host lived on up to this end: where a line couldn't be written, its lines are told up to that, and where a put
+  -- failed, up to before it.
+  abbrev pub LivesTo : Served → K → K → Host D g → Host D g → Type 0
+  LivesTo served.Unwritten out out1 old new =
+      (failed : Failed) × Part written puts out out1 (Err failed) (setup_of old) (StandsFor old) (StandsFor new)
+  LivesTo served.Disk out out1 old new = Part written puts out out1 (Ok tt) (setup_of old) (StandsFor old) (FailedToPut new)
+  LivesTo how out out1 old new = Part written puts out out1 (Ok tt) (setup_of old) (StandsFor old) (StandsFor new)
+
+  -- A host lives on, or lived up to an end.
+  abbrev pub LivesOn : Result (Unit {0}) Served → K → K → Host D g → Host D g → Type 0
+  LivesOn (Ok done) out out1 old new =
+      Part written puts out out1 (Ok tt) (setup_of old) (StandsFor old) (StandsFor new)
+  LivesOn (Err how) out out1 old new = LivesTo how out out1 old new

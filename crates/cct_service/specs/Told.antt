@@ -1,0 +1,54 @@
+-- What a host on a real line tells, and what writing it does to a sink.
+use Rattle.std.specs.Prelude.{◌≡◌, ℕ, List, [], ◌∷◌, ◌++◌, flat_map, map, reverse, Bool, true, false, Option, Result, Ok, Err, MatchResult}
+use Rattle.std.specs.Io.KnownBytes.{Appends}
+use Rattle.cct_edge.specs.Bytes.{AppendsFront}
+use Rattle.cct_edge.specs.declared.fault.Failed.{Failed}
+use Rattle.cct_model.specs.lines.entry.Entry.{Entry}
+use Rattle.cct_model.specs.lines.entry.Entry.TheVariants as entry_of
+use Rattle.cct_model.specs.lines.entry.LineKind.{LineKind}
+use Rattle.cct_model.specs.Text.{line_of}
+use Rattle.cct_text.specs.Writing.{Puts}
+use Rattle.cct_service.specs.declared.notice.Notice.{Notice}
+use Rattle.cct_service.specs.declared.notice.Notice.TheVariants as notice_of
+use Rattle.cct_service.specs.Notice.{notice_line}
+
+-- An entry of a step, a line of the input that is refused, by its number and kind, or a notice.
+pub data Told : Type 0 where
+  entry : (e : Entry) → Told
+  refused : (number : ℕ) (why : LineKind) → Told
+  notice : (n : Notice) → Told
+
+-- The line of each.
+abbrev pub told_line : Told → List ℕ
+told_line (entry e) = line_of e
+told_line (refused number why) = line_of (entry_of.Line number why)
+told_line (notice n) = notice_line n
+
+-- All lines.
+abbrev pub told_text : List Told → List ℕ
+told_text told = flat_map told_line told
+
+-- The entries of steps among what is told, newest first.
+abbrev pub news_of : List Told → List Entry
+news_of [] = []
+news_of (entry e ∷ told) = news_of told ++ e ∷ []
+news_of (refused number why ∷ told) = news_of told
+news_of (notice n ∷ told) = news_of told
+
+-- Entries are told as they are.
+abbrev pub as_told : List Entry → List Told
+as_told entries = map (λ e. entry e) entries
+
+-- The port is told as failing, or not.
+abbrev pub fault_told : Bool → List Told
+fault_told true = notice notice_of.LineFault ∷ []
+fault_told false = []
+
+-- These were written to a sink: the line of each was put once, in their order, up to the first whose put failed; and what is
+-- told of the bytes grew by their text, or by a front of it where a put failed.
+pub record WritesTold {K : Type 0} (written : K → Option (List ℕ))
+    (puts : K → List ℕ → Result (Unit {0}) Failed → K → Type 0) (before : K) (told : List Told)
+    (result : Result (Unit {0}) Failed) (now : K) : Type 0 where
+  pub put : Puts puts before (map told_line told) result now
+  pub bytes : MatchResult result (λ _. Appends (written before) (written now) (told_text told))
+      (λ _. AppendsFront (written before) (written now) (told_text told))

@@ -1,0 +1,78 @@
+//! The main call: all that a host does on a real line, over the disk of its journal.
+ghost use Rattle.std.specs.Prelude.{◌≡◌, false};
+ghost use Rattle.cct_host.specs.Host.{has_failed, setup_of};
+ghost use Rattle.cct_model.specs.Setup.{IsSoundSetup};
+
+use crate::opening::open_journal;
+use crate::page::Page;
+use crate::play::play;
+use crate::served::{Served, close, unstarted};
+use crate::standing::tell_found;
+use cct_disk::Disk;
+use cct_edge::{Sink, Source};
+use cct_host::Host;
+use cct_model::{DeviceSet, Setup};
+use cct_port::CountedLink;
+
+/// Opens the journal of a disk, or makes it where the disk is blank, starts a host over it, and does what each line of the
+/// input says, up to `end` or the end of the input. The disk is given back, with how it ended; the last line, where there is
+/// one, is written.
+///
+/// `withheld` has the hoppers at which another serial number was found than the setup names: no payment there is given to
+/// the host. `page` may be used for one service after another.
+pub fn serve<S: Source, K: Sink, D: Disk, L: CountedLink>(
+    setup: &Setup,
+    withheld: &DeviceSet,
+    input: &mut S,
+    out: &mut K,
+    disk: D,
+    link: &mut L,
+    page: &mut Page,
+) -> (Served, D)
+    requires sound { IsSoundSetup setup.now }
+{
+    let (how, disk) = live(setup, withheld, input, out, disk, link, page);
+    (close(how, out, &mut page.line), disk)
+}
+
+/// All of it but the last line.
+fn live<S: Source, K: Sink, D: Disk, L: CountedLink>(
+    setup: &Setup,
+    withheld: &DeviceSet,
+    input: &mut S,
+    out: &mut K,
+    disk: D,
+    link: &mut L,
+    page: &mut Page,
+) -> (Served, D)
+    requires sound { IsSoundSetup setup.now }
+{
+    let (journal, was_there) = match open_journal(disk) {
+        Ok(opened) => opened,
+        Err(ended) => return ended,
+    };
+    let mut host = match Host::start(setup, journal) {
+        Ok(host) => host,
+        Err((disk, why)) => return (unstarted(why), disk),
+    };
+    let how = live_on(&mut host, was_there, withheld, input, out, link, page);
+    (how, host.into_disk())
+}
+
+/// Tells what was found, and does what each line says.
+fn live_on<S: Source, K: Sink, D: Disk, L: CountedLink>(
+    host: &mut Host<'_, D>,
+    was_there: bool,
+    withheld: &DeviceSet,
+    input: &mut S,
+    out: &mut K,
+    link: &mut L,
+    page: &mut Page,
+) -> Served
+    requires whole { has_failed host.old ≡ false }
+{
+    match tell_found(host, was_there, out, &mut page.line) {
+        Ok(()) => play(host, withheld, input, out, link, page),
+        Err(_) => Served::Unwritten,
+    }
+}

@@ -1,0 +1,84 @@
+//! How a host stands, told in notices.
+ghost use Rattle.std.specs.Prelude.{◌≡◌, ◌≤◌, length};
+ghost use Rattle.cct_host.specs.Host.{setup_of};
+
+use crate::notice::{Notice, tell};
+use cct_disk::Disk;
+use cct_edge::{Failed, Sink};
+use cct_host::Host;
+use cct_model::EpochState;
+use cct_text::TextLine;
+
+/// Tells what a host that has just started found.
+pub(crate) fn tell_found<K: Sink, D: Disk>(
+    host: &Host<'_, D>,
+    was_there: bool,
+    out: &mut K,
+    line: &mut TextLine,
+) -> Result<(), Failed> {
+    let notice = if was_there {
+        Notice::Found {
+            records: host.records(),
+            orders: open_orders(host),
+            epochs: running_epochs(host),
+        }
+    } else {
+        Notice::Made
+    };
+    tell(out, line, &notice)
+}
+
+/// How many orders are open.
+fn open_orders<D: Disk>(host: &Host<'_, D>) -> u32 {
+    let mut count = 0;
+    for device in host.setup().devices.as_slice() {
+        if host.order_at(device.addr).is_some() {
+            count += 1;
+        }
+    }
+    count
+}
+
+/// How many epochs run.
+fn running_epochs<D: Disk>(host: &Host<'_, D>) -> u32 {
+    let mut count = 0;
+    for device in host.setup().devices.as_slice() {
+        if runs(host.epoch_at(device.addr)) {
+            count += 1;
+        }
+    }
+    count
+}
+
+/// Whether an epoch runs.
+pub(crate) fn runs(epoch: EpochState) -> bool {
+    match epoch {
+        EpochState::Idle => false,
+        EpochState::Running { .. } => true,
+    }
+}
+
+/// Tells how each device stands, in the order of the setup, and then how much room the journal has.
+pub(crate) fn tell_status<K: Sink, D: Disk>(
+    host: &Host<'_, D>,
+    out: &mut K,
+    line: &mut TextLine,
+) -> Result<(), Failed> {
+    for device in host.setup().devices.as_slice() {
+        let addr = device.addr;
+        let notice = Notice::Device {
+            addr,
+            job: host.command_at(addr),
+            epoch: host.epoch_at(addr),
+            order: host.order_at(addr),
+        };
+        tell(out, line, &notice)?;
+    }
+    tell(
+        out,
+        line,
+        &Notice::Room {
+            records: host.room(),
+        },
+    )
+}
