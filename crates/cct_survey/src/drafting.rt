@@ -3,13 +3,14 @@ ghost use Rattle.std.specs.Prelude.{◌≡◌};
 ghost use Rattle.cct_survey.specs.Asking.{Inquires};
 
 use crate::lines::{
-    Page, note_category, note_hopper, note_silent, put_acceptor, put_begin, put_hopper, put_value,
+    note_category, note_hopper, note_silent, put_acceptor, put_begin, put_hopper, put_value,
 };
 use crate::question::{category_of, coin_id_of, serial_of};
 use crate::room::Room;
 use crate::search::{addresses_heard, check_at};
 use cct_edge::{Failed, Sink};
 use cct_lines::{COIN_PLACES, CheckKind, Family};
+use cct_text::TextLine;
 use cct_wire::Link;
 
 /// The last of the addresses that the standard gives to coin acceptors and hoppers, 2 to 17 (ccTalk Generic Specification 4,
@@ -32,15 +33,15 @@ pub fn draft<L: Link, K: Sink, N: Sink>(
     ensures inquires { Inquires L.gives link.old link.new }
 {
     let mut room = Room::new();
-    let mut page = Page::new();
+    let mut line = TextLine::new();
     let heard = addresses_heard(link, &mut room);
     for addr in 2..=255 {
         let was_heard = heard.has(addr);
         if was_heard || addr <= LAST_USUAL {
-            draft_address(addr, was_heard, link, &mut room, &mut page, out, notes)?;
+            draft_address(addr, was_heard, link, &mut room, &mut line, out, notes)?;
         }
     }
-    put_begin(&mut page, out)
+    put_begin(&mut line, out)
 }
 
 /// Writes the lines of the device at an address, if one is there.
@@ -49,15 +50,15 @@ fn draft_address<L: Link, K: Sink, N: Sink>(
     was_heard: bool,
     link: &mut L,
     room: &mut Room,
-    page: &mut Page,
+    line: &mut TextLine,
     out: &mut K,
     notes: &mut N,
 ) -> Result<(), Failed>
     ensures inquires { (first : L) → Inquires L.gives first link.old → Inquires L.gives first link.new }
 {
     match check_at(link, addr, was_heard, room) {
-        Some(kind) => draft_device(kind, addr, link, room, page, out, notes),
-        None if was_heard => note_silent(addr, page, notes),
+        Some(kind) => draft_device(kind, addr, link, room, line, out, notes),
+        None if was_heard => note_silent(addr, line, notes),
         None => Ok(()),
     }
 }
@@ -68,7 +69,7 @@ fn draft_device<L: Link, K: Sink, N: Sink>(
     addr: u8,
     link: &mut L,
     room: &mut Room,
-    page: &mut Page,
+    line: &mut TextLine,
     out: &mut K,
     notes: &mut N,
 ) -> Result<(), Failed>
@@ -82,14 +83,14 @@ fn draft_device<L: Link, K: Sink, N: Sink>(
     };
     match (family, serial) {
         (Some(Family::Acceptor), Some(serial)) => {
-            put_acceptor(kind, addr, serial, page, out)?;
-            draft_coins(kind, addr, link, room, page, out, notes)
+            put_acceptor(kind, addr, serial, line, out)?;
+            draft_coins(kind, addr, link, room, line, out, notes)
         }
         (Some(Family::Hopper), Some(serial)) => {
-            put_hopper(kind, addr, serial, page, out)?;
-            note_hopper(addr, page, notes)
+            put_hopper(kind, addr, serial, line, out)?;
+            note_hopper(addr, line, notes)
         }
-        _ => note_category(addr, &category, page, notes),
+        _ => note_category(addr, &category, line, notes),
     }
 }
 
@@ -99,7 +100,7 @@ fn draft_coins<L: Link, K: Sink, N: Sink>(
     addr: u8,
     link: &mut L,
     room: &mut Room,
-    page: &mut Page,
+    line: &mut TextLine,
     out: &mut K,
     notes: &mut N,
 ) -> Result<(), Failed>
@@ -107,7 +108,7 @@ fn draft_coins<L: Link, K: Sink, N: Sink>(
 {
     for place in 1..=COIN_PLACES as u8 {
         if let Some(id) = coin_id_of(link, kind, addr, place, room) {
-            put_value(addr, place, id, page, out, notes)?;
+            put_value(addr, place, id, line, out, notes)?;
         }
     }
     Ok(())

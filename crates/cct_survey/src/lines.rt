@@ -11,32 +11,17 @@ use cct_text::TextLine;
 /// The identification of a coin place that has no coin.
 const NO_COIN: [u8; 6] = *b"......";
 
-/// The line that is written.
-#[derive(Drop)]
-pub(crate) struct Page {
-    line: TextLine,
-}
-
-impl Page {
-    /// Nothing is written.
-    pub(crate) fn new() -> Page {
-        Page {
-            line: TextLine::new(),
-        }
-    }
-}
-
 /// `acceptor A CHECK SERIAL 0`
 pub(crate) fn put_acceptor<K: Sink>(
     kind: CheckKind,
     addr: u8,
     serial: u32,
-    page: &mut Page,
+    line: &mut TextLine,
     out: &mut K,
 ) -> Result<(), Failed> {
-    begin_device(b"acceptor ", kind, addr, serial, &mut page.line);
-    page.line.push(b" 0\n");
-    out.put(page.line.as_slice())
+    begin_device(b"acceptor ", kind, addr, serial, line);
+    line.push(b" 0\n");
+    out.put(line.as_slice())
 }
 
 /// `hopper A CHECK SERIAL 0 0`: the last 0 stands for a value that isn't known.
@@ -44,12 +29,12 @@ pub(crate) fn put_hopper<K: Sink>(
     kind: CheckKind,
     addr: u8,
     serial: u32,
-    page: &mut Page,
+    line: &mut TextLine,
     out: &mut K,
 ) -> Result<(), Failed> {
-    begin_device(b"hopper ", kind, addr, serial, &mut page.line);
-    page.line.push(b" 0 0\n");
-    out.put(page.line.as_slice())
+    begin_device(b"hopper ", kind, addr, serial, line);
+    line.push(b" 0 0\n");
+    out.put(line.as_slice())
 }
 
 /// The line of a device up to its serial number.
@@ -73,14 +58,13 @@ pub(crate) fn put_value<K: Sink, N: Sink>(
     addr: u8,
     place: u8,
     id: [u8; 6],
-    page: &mut Page,
+    line: &mut TextLine,
     out: &mut K,
     notes: &mut N,
 ) -> Result<(), Failed> {
     if id == NO_COIN {
         return Ok(());
     }
-    let line = &mut page.line;
     line.clear();
     line.push(b"value ");
     line.push_byte(addr);
@@ -110,30 +94,38 @@ fn is_printing(id: [u8; 6]) -> bool {
 }
 
 /// `begin`
-pub(crate) fn put_begin<K: Sink>(page: &mut Page, out: &mut K) -> Result<(), Failed> {
-    page.line.clear();
-    page.line.push(b"begin\n");
-    out.put(page.line.as_slice())
+pub(crate) fn put_begin<K: Sink>(line: &mut TextLine, out: &mut K) -> Result<(), Failed> {
+    line.clear();
+    line.push(b"begin\n");
+    out.put(line.as_slice())
 }
 
 /// Notes that the value of a hopper's coins is to be written.
-pub(crate) fn note_hopper<N: Sink>(addr: u8, page: &mut Page, notes: &mut N) -> Result<(), Failed> {
+pub(crate) fn note_hopper<N: Sink>(
+    addr: u8,
+    line: &mut TextLine,
+    notes: &mut N,
+) -> Result<(), Failed> {
     note(
         addr,
         b"hopper ",
         b": write the value of its coins for the last 0\n",
-        page,
+        line,
         notes,
     )
 }
 
 /// Notes that an address was heard, and that nobody acknowledges a poll there.
-pub(crate) fn note_silent<N: Sink>(addr: u8, page: &mut Page, notes: &mut N) -> Result<(), Failed> {
+pub(crate) fn note_silent<N: Sink>(
+    addr: u8,
+    line: &mut TextLine,
+    notes: &mut N,
+) -> Result<(), Failed> {
     note(
         addr,
         b"device ",
         b": it answers the address poll, and no other\n",
-        page,
+        line,
         notes,
     )
 }
@@ -143,27 +135,26 @@ fn note<N: Sink>(
     addr: u8,
     word: &[u8],
     text: &[u8],
-    page: &mut Page,
+    line: &mut TextLine,
     notes: &mut N,
 ) -> Result<(), Failed>
     requires word { length word.now ≤ 20 }
     requires text { length text.now ≤ 100 }
 {
-    page.line.clear();
-    page.line.push(word);
-    page.line.push_byte(addr);
-    page.line.push(text);
-    notes.put(page.line.as_slice())
+    line.clear();
+    line.push(word);
+    line.push_byte(addr);
+    line.push(text);
+    notes.put(line.as_slice())
 }
 
 /// Notes that a device is left out, with its category.
 pub(crate) fn note_category<N: Sink>(
     addr: u8,
     category: &Option<Category>,
-    page: &mut Page,
+    line: &mut TextLine,
     notes: &mut N,
 ) -> Result<(), Failed> {
-    let line = &mut page.line;
     line.clear();
     line.push(b"device ");
     line.push_byte(addr);
