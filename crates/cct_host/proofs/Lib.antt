@@ -21,3 +21,6 @@ pub mod Talks
 pub mod Told
 pub mod Tallying
 pub mod Turning
+pub mod OldTallying
+pub mod Epochs
+pub mod Upgrades

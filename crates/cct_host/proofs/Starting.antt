@@ -160,7 +160,7 @@ nothing_reserved desks unused =
 pub nothing_yet : HasNoJob []
 nothing_yet = record { devices = λ d. refl; scan = refl; sale = refl }
 
-within : (used base room : ℕ) → base < MOST_RECORDS → used ≤ base + min room (MOST_RECORDS - base)
+within : (used base room : ℕ) → base ≤ MOST_RECORDS → used ≤ base + min room (MOST_RECORDS - base)
     → used ≤ MOST_RECORDS
 within used base room few fits = omega (arith, few, fits, min-le_right room (MOST_RECORDS - base))
 

@@ -18,7 +18,7 @@ use Rattle.cct_host.specs.Starting.{RefusesResume, TalliesFirst, TalliesOver}
 
 -- one record more, which follows or doesn't
 
-tallied_more : (setup : Setup) (c now next : Carry) (first : List Record) (r : Record) → TalliesOver setup c first now
+pub tallied_more : (setup : Setup) (c now next : Carry) (first : List Record) (r : Record) → TalliesOver setup c first now
     → follows_carry setup now r ≡ true → next ≡ carry_with setup r now → TalliesOver setup c (first ++ r ∷ []) next
 tallied_more setup c now next first r over follows goes = record {
   fits = over.fits;

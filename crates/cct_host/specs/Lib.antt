@@ -13,3 +13,5 @@ pub mod OnDisk
 pub mod Restarting
 pub mod Replaying
 pub mod Standing
+pub mod Upgrading
+pub mod OldTally
