@@ -1,5 +1,5 @@
 //! Tests of the bench: runs, coins that are lost, power cuts in the midst of a script, disks that fail, bytes that are damaged
-//! or forged, the words of the command line, reports and loads.
+//! or forged, the words of the command line, reports, upgrades and loads.
 #![tactic(auto)]
 
 #[cfg(test)]
@@ -16,3 +16,5 @@ mod loads;
 mod losses;
 #[cfg(test)]
 mod runs;
+#[cfg(test)]
+mod upgrades;
