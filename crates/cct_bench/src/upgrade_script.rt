@@ -44,11 +44,7 @@ fn take_rest(rest: &[u8]) -> Result<(), LineKind>
 }
 
 /// Reads the line `end` of an upgrade's script, where the line has this number.
-fn read_end<S: Source>(
-    lines: &mut Lines,
-    number: u32,
-    script: &mut S,
-) -> Result<(), ScriptStop>
+fn read_end<S: Source>(lines: &mut Lines, number: u32, script: &mut S) -> Result<(), ScriptStop>
     requires { IsNext number (standing_of lines.old) }
     ensures reads { OnOk result ((setup : Setup) → WithMoreTaken (standing_of lines.old).held (S.left script.old)
         (S.left script.new) (λ held. GoesOnIn upgrade_from number (at_steps setup) held (opens (at_end setup))

@@ -20,7 +20,9 @@ const FIRST: (u64, &[u8]) = (0, b"\xa5CCTALK JOURNAL\x01");
 
 /// An epoch of the acceptor, a coin of place 5 by path 1, and the end of the epoch, one slot after the other.
 const EPOCH: (u64, &[u8]) = (32, b"\xa5\x01\x02\xff\xff");
+
 const READING: (u64, &[u8]) = (64, b"\xa5\x02\x02\x01\x00\x01\x05\x01");
+
 const EPOCH_END: (u64, &[u8]) = (96, b"\xa5\x04\x02");
 
 /// What stands on a disk: bytes at their places.
@@ -57,7 +59,15 @@ fn upgrade<D: Disk + Drop>(
     script: &[u8],
     disk: D,
 ) -> Result<(Status, Vec<u8>, D), Fail> {
-    play(alloc, &["upgrade"], script.to_vec(alloc)?, 7, &[], &[], disk)
+    play(
+        alloc,
+        &["upgrade"],
+        script.to_vec(alloc)?,
+        7,
+        &[],
+        &[],
+        disk,
+    )
 }
 
 /// What a report of a disk tells.
@@ -72,7 +82,10 @@ fn a_journal_is_brought_forward_once(rt: HostRuntime) -> Result<(), Fail> {
     let listed = report(alloc, disk_of(&rt, alloc, &STOPPED)?)?;
     assert_eq!(rt; listed.as_slice(), b"journal alien\n".as_slice());
     let (status, written, brought) = upgrade(alloc, SETUP, disk_of(&rt, alloc, &STOPPED)?)?;
-    assert_eq!(rt; (status, written.as_slice()), (Status::Done, b"upgraded 3\n".as_slice()));
+    assert_eq!(rt;
+        (status, written.as_slice()),
+        (Status::Done, b"upgraded 3\n".as_slice())
+    );
     let (status, written, brought) = upgrade(alloc, SETUP, brought)?;
     assert_eq!(rt;
         (status, written.as_slice()),
@@ -145,8 +158,15 @@ fn a_journal_that_is_refused_stays_as_it_was(rt: HostRuntime) -> Result<(), Fail
         let (ended, told, left) = upgrade(alloc, SETUP, disk_of(&rt, alloc, written)?)?;
         assert_eq!(rt; (ended, told.as_slice()), (status, text), "{written:?}");
         let (ended, told, left) = upgrade(alloc, SETUP, left)?;
-        assert_eq!(rt; (ended, told.as_slice()), (status, text), "{written:?}, again");
-        assert_eq!(rt; report(alloc, left)?.as_slice(), b"journal alien\n".as_slice());
+        assert_eq!(rt;
+            (ended, told.as_slice()),
+            (status, text),
+            "{written:?}, again"
+        );
+        assert_eq!(rt;
+            report(alloc, left)?.as_slice(),
+            b"journal alien\n".as_slice()
+        );
     }
     Ok(())
 }
@@ -156,10 +176,26 @@ fn a_journal_that_is_refused_stays_as_it_was(rt: HostRuntime) -> Result<(), Fail
 fn too_many_records_leave_no_half_free(rt: HostRuntime) -> Result<(), Fail> {
     let alloc = rt.alloc();
     for (used, status, text) in [
-        (32_766u64, Status::JournalLost, b"journal bad 0\n".as_slice()),
-        (32_767, Status::NotUpgraded, b"upgrade room 32767\n".as_slice()),
-        (32_768, Status::NotUpgraded, b"upgrade room 32768\n".as_slice()),
-        (65_535, Status::NotUpgraded, b"upgrade room 65535\n".as_slice()),
+        (
+            32_766u64,
+            Status::JournalLost,
+            b"journal bad 0\n".as_slice(),
+        ),
+        (
+            32_767,
+            Status::NotUpgraded,
+            b"upgrade room 32767\n".as_slice(),
+        ),
+        (
+            32_768,
+            Status::NotUpgraded,
+            b"upgrade room 32768\n".as_slice(),
+        ),
+        (
+            65_535,
+            Status::NotUpgraded,
+            b"upgrade room 65535\n".as_slice(),
+        ),
     ] {
         let mut gates = Vec::new(alloc);
         for _ in 0..used {
@@ -232,7 +268,10 @@ fn an_upgrade_stops_at_each_fault(rt: HostRuntime) -> Result<(), Fail> {
     let script = SETUP.to_vec(alloc)?;
     let full = disk_of(&rt, alloc, &STOPPED)?;
     let (status, told, _) = play(alloc, &["upgrade"], script, 7, &[], &[1], full)?;
-    assert_eq!(rt; (status, told.as_slice()), (Status::WriteFault, b"".as_slice()));
+    assert_eq!(rt;
+        (status, told.as_slice()),
+        (Status::WriteFault, b"".as_slice())
+    );
     let (status, told, _) = upgrade(alloc, SETUP, disk(alloc, DISK, &[1])?)?;
     assert_eq!(rt;
         (status, told.as_slice()),
