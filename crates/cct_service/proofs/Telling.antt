@@ -3,7 +3,7 @@ use Rattle.std.proofs.Common.{◌≡◌, ℕ, List, [], ◌∷◌, ◌++◌, fla
 use Rattle.std.proofs.Common.{Ok, Err, refl, ap, sym, ◌∙◌, subst, append_assoc, inl, inr}
 use Rattle.std.specs.Prelude.{OnOk, OnErr, MatchResult}
 use Rattle.std.specs.Io.KnownBytes.{Appends}
-use Rattle.std.proofs.lemmas.List.{append-nil, map-append, reverse-reverse}
+use Rattle.std.proofs.lemmas.List.{append-nil, map-append, reverse-append, reverse-reverse}
 use Rattle.std.proofs.lemmas.List.Concat.{flat_map-append}
 use Rattle.cct_edge.specs.Bytes.{AppendsFront}
 use Rattle.cct_edge.specs.declared.fault.Failed.{Failed}
@@ -11,7 +11,7 @@ use Rattle.cct_edge.proofs.Chains.{Appends-nil, Appends-trans, Appends-then_fron
 use Rattle.cct_model.specs.lines.entry.Entry.{Entry}
 use Rattle.cct_model.specs.Text.{line_of, text}
 use Rattle.cct_text.specs.Writing.{Puts, PutsLine, Writes}
-use Rattle.cct_service.specs.Told.{Told, WritesTold, as_told, entry, fault_told, news_of, notice, refused, told_line, told_text}
+use Rattle.cct_service.specs.Told.{Told, WritesTold, as_told, entry, fault_told, last, news_of, notice, refused, told_line, told_text}
 
 -- the news of what is told first and then
 pub news_then : (first then : List Told) → news_of (first ++ then) ≡ news_of then ++ news_of first
@@ -20,11 +20,13 @@ news_then (entry e ∷ first) then =
     ap (λ news. news ++ e ∷ []) (news_then first then) ∙ append_assoc (news_of then) (news_of first) (e ∷ [])
 news_then (refused number why ∷ first) then = news_then first then
 news_then (notice n ∷ first) then = news_then first then
+news_then (last e ∷ first) then = news_then first then
 
 -- entries that are told as they are
 pub news_as : (entries : List Entry) → news_of (as_told entries) ≡ reverse entries
 news_as [] = refl
-news_as (e ∷ entries) = ap (λ news. news ++ e ∷ []) (news_as entries)
+news_as (e ∷ entries) =
+    ap (λ news. news ++ e ∷ []) (news_as entries) ∙ sym (reverse-append (e ∷ []) entries)
 
 lines_as : (entries : List Entry) → map told_line (as_told entries) ≡ map line_of entries
 lines_as [] = refl

@@ -1,3 +1,5 @@
 pub mod Notice
 pub mod Told
 pub mod Parts
+pub mod Turn
+pub mod Ending

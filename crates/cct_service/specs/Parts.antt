@@ -1,5 +1,5 @@
 -- The parts of a life: what a host does, and what is told of it.
-use Rattle.std.specs.Prelude.{◌≡◌, ℕ, List, [], ◌∷◌, ◌++◌, Option, Some, None, Result, Ok, Err, reverse}
+use Rattle.std.specs.Prelude.{◌≡◌, ℕ, List, [], ◌∷◌, ◌++◌, Option, Some, None, Result, Ok, Err, reverse, false}
 use Rattle.cct_edge.specs.declared.fault.Failed.{Failed}
 use Rattle.cct_model.specs.terms.device.Setup.{Setup}
 use Rattle.cct_model.specs.lines.record.Record.{Record}
@@ -10,7 +10,7 @@ use Rattle.cct_disk.specs.declared.disk.Disk.{Ghosts}
 use Rattle.cct_disk.specs.Disk.{IsTrusted}
 use Rattle.cct_journal.specs.declared.format.TheConstants.{MOST_RECORDS}
 use Rattle.cct_host.specs.declared.host.Host.{Host}
-use Rattle.cct_host.specs.Host.{Keeps, StandsFor, disk_of, setup_of}
+use Rattle.cct_host.specs.Host.{Keeps, StandsFor, disk_of, has_failed, setup_of}
 use Rattle.cct_host.specs.OnDisk.{LeavesRecords}
 use Rattle.cct_lives.specs.Life.{IsLife}
 use Rattle.cct_lives.specs.LiveStep.{LiveStep}
@@ -61,3 +61,9 @@ module _ {K : Type 0} (written : K → Option (List ℕ)) (puts : K → List ℕ
   LivesOn (Ok done) out out1 old new =
       Part written puts out out1 (Ok tt) (setup_of old) (StandsFor old) (StandsFor new)
   LivesOn (Err how) out out1 old new = LivesTo how out out1 old new
+
+  -- A host lives on, and no put of its journal failed.
+  pub record StillLives (out out1 : K) (old new : Host D g) : Type 0 where
+    pub whole : has_failed new ≡ false
+    pub same : setup_of new ≡ setup_of old
+    pub lives : Part written puts out out1 (Ok tt) (setup_of old) (StandsFor old) (StandsFor new)

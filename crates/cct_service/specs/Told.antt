@@ -12,17 +12,19 @@ use Rattle.cct_service.specs.declared.notice.Notice.{Notice}
 use Rattle.cct_service.specs.declared.notice.Notice.TheVariants as notice_of
 use Rattle.cct_service.specs.Notice.{notice_line}
 
--- An entry of a step, a line of the input that is refused, by its number and kind, or a notice.
+-- An entry of a step, a line of the input that is refused, by its number and kind, a notice, or the last line.
 pub data Told : Type 0 where
   entry : (e : Entry) → Told
   refused : (number : ℕ) (why : LineKind) → Told
   notice : (n : Notice) → Told
+  last : (e : Entry) → Told
 
 -- The line of each.
 abbrev pub told_line : Told → List ℕ
 told_line (entry e) = line_of e
 told_line (refused number why) = line_of (entry_of.Line number why)
 told_line (notice n) = notice_line n
+told_line (last e) = line_of e
 
 -- All lines.
 abbrev pub told_text : List Told → List ℕ
@@ -34,6 +36,7 @@ news_of [] = []
 news_of (entry e ∷ told) = news_of told ++ e ∷ []
 news_of (refused number why ∷ told) = news_of told
 news_of (notice n ∷ told) = news_of told
+news_of (last e ∷ told) = news_of told
 
 -- Entries are told as they are.
 abbrev pub as_told : List Entry → List Told
@@ -52,3 +55,9 @@ pub record WritesTold {K : Type 0} (written : K → Option (List ℕ))
   pub put : Puts puts before (map told_line told) result now
   pub bytes : MatchResult result (λ _. Appends (written before) (written now) (told_text told))
       (λ _. AppendsFront (written before) (written now) (told_text told))
+
+-- Notices were written.
+abbrev pub TellsNotices : {K : Type 0} → (K → Option (List ℕ)) → (K → List ℕ → Result (Unit {0}) Failed → K → Type 0) → K
+    → Result (Unit {0}) Failed → K → Type 0
+TellsNotices written puts before result now =
+    (notices : List Notice) × WritesTold written puts before (map (λ n. notice n) notices) result now

@@ -7,11 +7,11 @@ mod opening;
 mod page;
 mod play;
 mod poll;
-mod serve;
 mod served;
+mod serving;
 mod standing;
 
 pub use notice::Notice;
 pub use page::Page;
-pub use serve::serve;
 pub use served::Served;
+pub use serving::serve;

@@ -1,13 +1,39 @@
-//! The journal that is there is gone on with, and a blank one is made new.
-ghost use Rattle.std.specs.Prelude.{◌≡◌, false, IfOk};
+//! The host over the journal of a disk: one that is there is gone on with, and a blank one is made new.
+ghost use Rattle.std.specs.Prelude.{◌≡◌, false, IfErr, IfOk};
+ghost use Rattle.cct_host.specs.Host as hosts;
 ghost use Rattle.cct_journal.specs.Journal as journals;
+ghost use Rattle.cct_model.specs.Setup.{IsSoundSetup};
+ghost use Rattle.cct_service.specs.Ending.{IsOfDisk};
 
-use crate::served::{Served, unmade};
+use crate::served::{Served, unmade, unstarted};
 use cct_disk::{Disk, MADE_LEN};
+use cct_host::Host;
 use cct_journal::{Journal, OpenNo};
+use cct_model::Setup;
 
-/// The journal of a disk, and whether it was there: else the disk was blank.
-pub(crate) fn open_journal<D: Disk>(disk: D) -> Result<(Journal<D>, bool), (Served, D)>
+/// A host over the journal of a disk, and whether the journal was there: else the disk was blank.
+pub(crate) fn open_host<'s, D: Disk>(
+    setup: &'s Setup,
+    disk: D,
+) -> Result<(Host<'s, D>, bool), (Served, D)>
+    requires sound { IsSoundSetup setup.now }
+    ensures unbegun { IfErr result (λ e. IsOfDisk e.0) }
+    ensures whole { IfOk result (λ opened. hosts.has_failed opened.0 ≡ false) }
+    ensures setup { IfOk result (λ opened. hosts.setup_of opened.0 ≡ setup.now) }
+{
+    let (journal, was_there) = match open_journal(disk) {
+        Ok(opened) => opened,
+        Err(ended) => return Err(ended),
+    };
+    match Host::start(setup, journal) {
+        Ok(host) => Ok((host, was_there)),
+        Err((disk, why)) => Err((unstarted(why), disk)),
+    }
+}
+
+/// The journal of a disk, and whether it was there.
+fn open_journal<D: Disk>(disk: D) -> Result<(Journal<D>, bool), (Served, D)>
+    ensures unbegun { IfErr result (λ e. IsOfDisk e.0) }
     ensures whole { IfOk result (λ opened. journals.has_failed opened.0 ≡ false) }
 {
     let len = disk.len();
@@ -16,18 +42,24 @@ pub(crate) fn open_journal<D: Disk>(disk: D) -> Result<(Journal<D>, bool), (Serv
     }
     match Journal::reopen(disk) {
         Ok((journal, _)) => Ok((journal, true)),
-        Err((disk, OpenNo::Alien)) => make_journal(disk),
-        Err((disk, OpenNo::Disk)) => Err((Served::Disk, disk)),
-        Err((disk, OpenNo::BadRecord { index })) => Err((Served::BadRecord { index }, disk)),
+        Err((disk, why)) => match why {
+            OpenNo::Alien => match make_journal(disk) {
+                Ok(journal) => Ok((journal, false)),
+                Err(ended) => Err(ended),
+            },
+            OpenNo::Disk => Err((Served::Disk, disk)),
+            OpenNo::BadRecord { index } => Err((Served::BadRecord { index }, disk)),
+        },
     }
 }
 
-/// A new journal on a blank disk, which wasn't there.
-fn make_journal<D: Disk>(disk: D) -> Result<(Journal<D>, bool), (Served, D)>
-    ensures whole { IfOk result (λ opened. journals.has_failed opened.0 ≡ false) }
+/// A new journal on a blank disk.
+fn make_journal<D: Disk>(disk: D) -> Result<Journal<D>, (Served, D)>
+    ensures unbegun { IfErr result (λ e. IsOfDisk e.0) }
+    ensures whole { IfOk result (λ journal. journals.has_failed journal ≡ false) }
 {
     match Journal::create(disk) {
-        Ok(journal) => Ok((journal, false)),
+        Ok(journal) => Ok(journal),
         Err((disk, why)) => Err((unmade(why), disk)),
     }
 }

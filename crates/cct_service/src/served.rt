@@ -1,6 +1,10 @@
 //! How a service ends.
+ghost use Rattle.std.specs.Prelude.{◌≡◌, Result};
+ghost use Rattle.cct_edge.specs.declared.fault.Failed.{Failed};
+ghost use Rattle.cct_service.specs.Ending.{IsOfDisk, by_writing, closed_by, last_entry, last_told};
+ghost use Rattle.cct_service.specs.Told.{WritesTold};
 
-use cct_edge::Sink;
+use cct_edge::{Failed, Sink};
 use cct_host::StartNo;
 use cct_journal::CreateNo;
 use cct_model::{Entry, LineKind};
@@ -29,7 +33,9 @@ pub enum Served {
 
 impl Served {
     /// The last line, if there is one.
-    fn last_entry(&self) -> Option<Entry> {
+    fn last_entry(&self) -> Option<Entry>
+        ensures { result ≡ last_entry self.now }
+    {
         match self {
             Served::Done => None,
             Served::Refused { number, kind } => Some(Entry::Line {
@@ -47,7 +53,10 @@ impl Served {
 }
 
 /// Writes the last line of a service that ends so, where it has one.
-pub(crate) fn close<K: Sink>(how: Served, out: &mut K, line: &mut TextLine) -> Served {
+pub(crate) fn close<K: Sink>(how: Served, out: &mut K, line: &mut TextLine) -> Served
+    ensures writes { (answer : Result (Unit {0}) Failed)
+        × WritesTold K.written K.puts out.old (last_told how) answer out.new × (result ≡ closed_by answer how) }
+{
     match how.last_entry() {
         None => how,
         Some(entry) => match write_entry(out, line, &entry) {
@@ -58,7 +67,9 @@ pub(crate) fn close<K: Sink>(how: Served, out: &mut K, line: &mut TextLine) -> S
 }
 
 /// Why no journal is made on a disk that has the length of one.
-pub(crate) fn unmade(why: CreateNo) -> Served {
+pub(crate) fn unmade(why: CreateNo) -> Served
+    ensures { IsOfDisk result }
+{
     match why {
         CreateNo::Small { len } => Served::OtherSize { len },
         CreateNo::Disk => Served::Disk,
@@ -67,9 +78,21 @@ pub(crate) fn unmade(why: CreateNo) -> Served {
 }
 
 /// Why no host starts over a journal.
-pub(crate) fn unstarted(why: StartNo) -> Served {
+pub(crate) fn unstarted(why: StartNo) -> Served
+    ensures { IsOfDisk result }
+{
     match why {
         StartNo::Disk => Served::Disk,
         StartNo::BadRecord { index } => Served::BadRecord { index },
+    }
+}
+
+/// Goes on, or ends where a line couldn't be written.
+pub(crate) fn by_writing(answer: Result<(), Failed>) -> Result<(), Served>
+    ensures { result ≡ by_writing answer }
+{
+    match answer {
+        Ok(()) => Ok(()),
+        Err(_) => Err(Served::Unwritten),
     }
 }

@@ -1,7 +1,4 @@
 //! How a host stands, told in notices.
-ghost use Rattle.std.specs.Prelude.{◌≡◌, ◌≤◌, length};
-ghost use Rattle.cct_host.specs.Host.{setup_of};
-
 use crate::notice::{Notice, tell};
 use cct_disk::Disk;
 use cct_edge::{Failed, Sink};

@@ -3,10 +3,10 @@ ghost use Rattle.std.specs.Prelude.{◌≡◌, false};
 ghost use Rattle.cct_host.specs.Host.{has_failed, setup_of};
 ghost use Rattle.cct_model.specs.Setup.{IsSoundSetup};
 
-use crate::opening::open_journal;
+use crate::opening::open_host;
 use crate::page::Page;
 use crate::play::play;
-use crate::served::{Served, close, unstarted};
+use crate::served::{Served, close};
 use crate::standing::tell_found;
 use cct_disk::Disk;
 use cct_edge::{Sink, Source};
@@ -47,14 +47,11 @@ fn live<S: Source, K: Sink, D: Disk, L: CountedLink>(
 ) -> (Served, D)
     requires sound { IsSoundSetup setup.now }
 {
-    let (journal, was_there) = match open_journal(disk) {
+    let (host, was_there) = match open_host(setup, disk) {
         Ok(opened) => opened,
         Err(ended) => return ended,
     };
-    let mut host = match Host::start(setup, journal) {
-        Ok(host) => host,
-        Err((disk, why)) => return (unstarted(why), disk),
-    };
+    let mut host = host;
     let how = live_on(&mut host, was_there, withheld, input, out, link, page);
     (how, host.into_disk())
 }
@@ -70,6 +67,7 @@ fn live_on<S: Source, K: Sink, D: Disk, L: CountedLink>(
     page: &mut Page,
 ) -> Served
     requires whole { has_failed host.old ≡ false }
+    ensures setup { setup_of host.new ≡ setup_of host.old }
 {
     match tell_found(host, was_there, out, &mut page.line) {
         Ok(()) => play(host, withheld, input, out, link, page),

@@ -1,0 +1,7 @@
+use Rattle.std.proofs.Common.{◌≡◌, false}
+use Rattle.cct_host.specs.Host.{has_failed, setup_of}
+use Rattle.cct_service.proofs.play.play.Given as goal
+
+-- No put failed, and the setup stays.
+abbrev pub invariant-loop-number : goal.invariant-loop-number
+invariant-loop-number g l = (has_failed l.host ≡ false) × (setup_of l.host ≡ setup_of l.fn.host)

@@ -1,0 +1,48 @@
+use Rattle.std.proofs.Common.{Ok, None, Some, refl, sym, ◌∙◌, subst, Result, Err}
+use Rattle.cct_service.specs.Ending.{lines_of}
+use Rattle.cct_service.specs.Told.{WritesTold, last}
+use Rattle.cct_service.proofs.Telling.{told_none, told_one}
+use Rattle.cct_service.proofs.served.close.Goals as goal
+
+pub returns-in-None : goal.returns-in-None
+returns-in-None g c =
+    let sink = g.K.Sink in
+    let out = c.args.out.now in
+    let none = sym c.in-None.is ∙ c.last_entry.ensures in
+    record {
+      writes = (
+        Ok tt,
+        subst (λ e. WritesTold sink.written sink.puts out (lines_of e) (Ok tt) out) none
+            (told_none sink.written sink.puts out),
+        refl,
+      );
+    }
+
+pub returns-in-Ok : goal.returns-in-Ok
+returns-in-Ok g c =
+    let sink = g.K.Sink in
+    let out = c.args.out.now in
+    let some = sym c.in-Some.is ∙ c.last_entry.ensures in
+    record {
+      writes = (
+        Ok tt,
+        subst (λ e. WritesTold sink.written sink.puts out (lines_of e) (Ok tt) c.write_entry.new.out) some
+            (told_one sink.written sink.puts out c.write_entry.new.out (last c.in-Some.entry) (Ok tt) c.in-Ok.ensures.puts),
+        refl,
+      );
+    }
+
+pub returns-in-Err : goal.returns-in-Err
+returns-in-Err g c =
+    let sink = g.K.Sink in
+    let out = c.args.out.now in
+    let some = sym c.in-Some.is ∙ c.last_entry.ensures in
+    let why = c.in-Err.field-0 in
+    record {
+      writes = (
+        Err why,
+        subst (λ e. WritesTold sink.written sink.puts out (lines_of e) (Err why) c.write_entry.new.out) some
+            (told_one sink.written sink.puts out c.write_entry.new.out (last c.in-Some.entry) (Err why) c.in-Err.ensures.puts),
+        refl,
+      );
+    }
