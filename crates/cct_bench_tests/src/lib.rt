@@ -1,5 +1,5 @@
-//! Tests of the bench: runs, coins that are lost, power cuts in the midst of a script, disks that fail, bytes that are damaged
-//! or forged, the words of the command line, reports, upgrades and loads.
+//! Tests of the bench: runs, as many devices as there may be, coins that are lost, power cuts in the midst of a script, disks
+//! that fail, bytes that are damaged or forged, the words of the command line, reports, upgrades and loads.
 #![tactic(auto)]
 
 #[cfg(test)]
@@ -8,6 +8,8 @@ mod commands;
 mod crashes;
 #[cfg(test)]
 mod damaged;
+#[cfg(test)]
+mod devices;
 #[cfg(test)]
 mod faults;
 #[cfg(test)]
