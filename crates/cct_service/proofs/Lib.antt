@@ -1,3 +1,6 @@
 pub mod Suiting
 pub mod Telling
 pub mod Parts
+pub mod Begins
+pub mod Lawful
+pub mod Living

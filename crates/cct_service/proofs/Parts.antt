@@ -1,5 +1,5 @@
 -- One part of a life after another.
-use Rattle.std.proofs.Common.{◌≡◌, ◌≤◌, ℕ, List, [], ◌∷◌, ◌++◌, Bool, true, false, length, map, reverse, Option, Some, None, Result}
+use Rattle.std.proofs.Common.{◌≡◌, ◌≤◌, ℕ, List, [], ◌∷◌, ◌++◌, Bool, false, length, map, Option, Result}
 use Rattle.std.proofs.Common.{Ok, Err, refl, ap, sym, ◌∙◌, subst, append_assoc, arith}
 use Rattle.std.proofs.lemmas.List.{append-nil, map-append}
 use Rattle.cct_edge.specs.declared.fault.Failed.{Failed}
@@ -7,16 +7,14 @@ use Rattle.cct_model.specs.terms.wire.TheConstants.{MOST_HEARD}
 use Rattle.cct_model.specs.terms.device.Setup.{Setup}
 use Rattle.cct_model.specs.lines.command.Command.{Command}
 use Rattle.cct_model.specs.lines.command.CommandNo.{CommandNo}
-use Rattle.cct_model.specs.lines.record.Record.{Record}
 use Rattle.cct_model.specs.lines.entry.Entry.{Entry}
 use Rattle.cct_model.specs.lines.entry.Entry.TheVariants as entry_of
 use Rattle.cct_model.specs.lines.entry.Totals.{Totals}
-use Rattle.cct_model.specs.Legal.{EntriesOfNext, command_entry}
+use Rattle.cct_model.specs.Legal.{command_entry}
 use Rattle.cct_model.specs.Money.{totals}
-use Rattle.cct_model.specs.Refusal.{refusal}
 use Rattle.cct_model.specs.Script.{IsCommand}
 use Rattle.cct_disk.specs.declared.disk.Disk.{Ghosts}
-use Rattle.cct_disk.specs.Disk.{GoesOn, IsTrusted}
+use Rattle.cct_disk.specs.Disk.{GoesOn}
 use Rattle.cct_journal.specs.declared.format.TheConstants.{MOST_RECORDS}
 use Rattle.cct_host.specs.declared.host.Host.{Host}
 use Rattle.cct_host.specs.Attempt.{Attempt, HeardBy, Links, asked, idle, put}
@@ -25,7 +23,6 @@ use Rattle.cct_host.specs.Desk.{no_of}
 use Rattle.cct_host.specs.Host.{Answers, Fails, Keeps, Nexts, StandsFor, disk_of, has_failed, setup_of}
 use Rattle.cct_host.proofs.Quiet.{balance_quiet, host_quiet}
 use Rattle.cct_lives.specs.Life.{IsLife}
-use Rattle.cct_lives.specs.Live.{LiveEntries}
 use Rattle.cct_lives.specs.LiveStep.{LiveStep}
 use Rattle.cct_lives.specs.LiveStep as live
 use Rattle.cct_lives.proofs.Life.{life_balance, life_command, life_next}
@@ -35,13 +32,13 @@ use Rattle.cct_service.specs.Parts.{FailedToPut, LifeGoes, LivesOn, LivesTo, Par
 use Rattle.cct_service.specs.Ending.{by_writing}
 use Rattle.cct_service.specs.Turn.{IsOfInput}
 use Rattle.cct_service.specs.declared.notice.Notice.{Notice}
-use Rattle.cct_service.specs.Told.{TellsNotices, Told, WritesTold, as_told, entry, fault_told, news_of, notice, refused}
+use Rattle.cct_service.specs.Told.{TellsNotices, Told, WritesTold, as_told, fault_told, news_of, notice, refused}
 use Rattle.cct_text.specs.Writing.{PutsLine}
 use Rattle.cct_model.specs.Text.{line_of}
 use Rattle.cct_service.specs.Notice.{notice_line}
 use Rattle.cct_model.specs.lines.entry.LineKind.{LineKind}
 use Rattle.cct_service.proofs.Suiting.{life_suits}
-use Rattle.cct_service.proofs.Telling.{news_as, news_next, news_then, told_none, told_one, told_then}
+use Rattle.cct_service.proofs.Telling.{news_next, news_then, told_none, told_one, told_then}
 
 -- a life goes on by one part, and then by another
 pub goes_then : (setup : Setup) (A B C : List Entry → Type 0) (first then : List LiveStep) (told later : List Told) →
@@ -318,3 +315,13 @@ notices_one written puts a b n answer line = (n ∷ [], told_one written puts a 
 pub notices_none : {K : Type 0} (written : K → Option (List ℕ)) (puts : K → List ℕ → Result (Unit {0}) Failed → K → Type 0)
     (a : K) → TellsNotices written puts a (Ok tt) a
 notices_none written puts a = ([], told_none written puts a)
+
+-- notices, and then more
+pub notices_then : {K : Type 0} (written : K → Option (List ℕ)) (puts : K → List ℕ → Result (Unit {0}) Failed → K → Type 0)
+    (a b c : K) (answer : Result (Unit {0}) Failed) → TellsNotices written puts a (Ok tt) b →
+    TellsNotices written puts b answer c → TellsNotices written puts a answer c
+notices_then written puts a b c answer h k = (
+  h.0 ++ k.0,
+  subst (λ told. WritesTold written puts a told answer c) (sym (map-append (λ n. notice n) h.0 k.0))
+      (told_then written puts a b c (map (λ n. notice n) h.0) (map (λ n. notice n) k.0) answer h.1 k.1),
+)

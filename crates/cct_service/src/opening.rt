@@ -1,9 +1,13 @@
 //! The host over the journal of a disk: one that is there is gone on with, and a blank one is made new.
-ghost use Rattle.std.specs.Prelude.{◌≡◌, false, IfErr, IfOk};
+ghost use Rattle.std.specs.Prelude.{◌≡◌, [], List, false, IfErr, IfOk};
 ghost use Rattle.cct_host.specs.Host as hosts;
 ghost use Rattle.cct_journal.specs.Journal as journals;
+ghost use Rattle.cct_lives.specs.Live.{started};
+ghost use Rattle.cct_model.specs.lines.record.Record.{Record};
 ghost use Rattle.cct_model.specs.Setup.{IsSoundSetup};
+ghost use Rattle.cct_model.specs.terms.device.Setup.{Setup};
 ghost use Rattle.cct_service.specs.Ending.{IsOfDisk};
+ghost use Rattle.cct_service.specs.Found.{FoundOn, Opens};
 
 use crate::served::{Served, unmade, unstarted};
 use cct_disk::{Disk, MADE_LEN};
@@ -20,6 +24,8 @@ pub(crate) fn open_host<'s, D: Disk>(
     ensures unbegun { IfErr result (λ e. IsOfDisk e.0) }
     ensures whole { IfOk result (λ opened. hosts.has_failed opened.0 ≡ false) }
     ensures setup { IfOk result (λ opened. hosts.setup_of opened.0 ≡ setup.now) }
+    ensures stands { IfOk result (λ opened. (found : List Record)
+        → FoundOn D.honest D.seen D.may_leave disk setup.now opened.1 found → hosts.StandsFor opened.0 (started found)) }
 {
     let (journal, was_there) = match open_journal(disk) {
         Ok(opened) => opened,
@@ -35,6 +41,8 @@ pub(crate) fn open_host<'s, D: Disk>(
 fn open_journal<D: Disk>(disk: D) -> Result<(Journal<D>, bool), (Served, D)>
     ensures unbegun { IfErr result (λ e. IsOfDisk e.0) }
     ensures whole { IfOk result (λ opened. journals.has_failed opened.0 ≡ false) }
+    ensures opens { IfOk result (λ opened. (setup : Setup) (found : List Record) → IsSoundSetup setup
+        → FoundOn D.honest D.seen D.may_leave disk setup opened.1 found → Opens opened.0 setup opened.1 found) }
 {
     let len = disk.len();
     if len != MADE_LEN {
@@ -57,6 +65,8 @@ fn open_journal<D: Disk>(disk: D) -> Result<(Journal<D>, bool), (Served, D)>
 fn make_journal<D: Disk>(disk: D) -> Result<Journal<D>, (Served, D)>
     ensures unbegun { IfErr result (λ e. IsOfDisk e.0) }
     ensures whole { IfOk result (λ journal. journals.has_failed journal ≡ false) }
+    ensures opens { IfOk result (λ journal. (setup : Setup) (found : List Record) → found ≡ []
+        → Opens journal setup false found) }
 {
     match Journal::create(disk) {
         Ok(journal) => Ok(journal),

@@ -4,7 +4,7 @@ ghost use Rattle.cct_host.specs.Host.{StandsFor, has_failed, setup_of};
 ghost use Rattle.cct_lives.specs.LiveStep as live;
 ghost use Rattle.cct_model.specs.Script.{IsCommand};
 ghost use Rattle.cct_script.specs.Live.{IsTold};
-ghost use Rattle.cct_service.specs.Parts.{LifeGoes, LivesOn};
+ghost use Rattle.cct_service.specs.Parts.{LifeGoes, LivesOn, LivesTo};
 ghost use Rattle.cct_service.specs.Turn.{OfTurn};
 ghost use Rattle.cct_service.specs.Told.{as_told};
 
@@ -46,6 +46,7 @@ pub(crate) fn play<S: Source, K: Sink, D: Disk, L: CountedLink>(
 ) -> Served
     requires whole { has_failed host.old ≡ false }
     ensures setup { setup_of host.new ≡ setup_of host.old }
+    ensures lives { LivesTo K.written K.puts result out.old out.new host.old host.new }
 {
     let mut lines = EndlessLines::new();
     for number in 1..u32::MAX {
@@ -62,6 +63,7 @@ pub(crate) fn play<S: Source, K: Sink, D: Disk, L: CountedLink>(
 }
 
 /// Does what comes next of an input, whose line has this number.
+#[tactic(auto, using(crate::proofs::Parts::lives_ended))]
 fn take_turn<K: Sink, D: Disk, L: CountedLink>(
     host: &mut Host<'_, D>,
     withheld: &DeviceSet,
@@ -75,6 +77,7 @@ fn take_turn<K: Sink, D: Disk, L: CountedLink>(
     requires turn { OfTurn turn.now }
     ensures whole { OnOk result (has_failed host.new ≡ false) }
     ensures setup { setup_of host.new ≡ setup_of host.old }
+    ensures lives { LivesOn K.written K.puts result out.old out.new host.old host.new }
 {
     match turn {
         Turn::Said(said) => obey(host, withheld, said, out, link, page),
@@ -126,6 +129,7 @@ fn refuse<K: Sink, D: Disk>(
 }
 
 /// Does what one line says.
+#[tactic(auto, using(crate::proofs::Parts::part_none))]
 fn obey<K: Sink, D: Disk, L: CountedLink>(
     host: &mut Host<'_, D>,
     withheld: &DeviceSet,
@@ -138,6 +142,7 @@ fn obey<K: Sink, D: Disk, L: CountedLink>(
     requires told { IsTold said.now }
     ensures whole { OnOk result (has_failed host.new ≡ false) }
     ensures setup { setup_of host.new ≡ setup_of host.old }
+    ensures lives { LivesOn K.written K.puts result out.old out.new host.old host.new }
 {
     match said {
         LiveLine::Command(command) => answer_or_withhold(host, withheld, command, out, page),
@@ -157,6 +162,7 @@ fn status<K: Sink, D: Disk>(
     page: &mut Page,
 ) -> Result<(), Served>
     ensures same { host.new ≡ host.old }
+    ensures lives { LivesOn K.written K.puts result out.old out.new host.old host.new }
 {
     by_writing(tell_status(host, out, &mut page.line))
 }

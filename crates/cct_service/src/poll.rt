@@ -24,6 +24,7 @@ pub(crate) fn poll<K: Sink, D: Disk, L: CountedLink>(
     requires whole { has_failed host.old ≡ false }
     ensures whole { OnOk result (has_failed host.new ≡ false) }
     ensures setup { setup_of host.new ≡ setup_of host.old }
+    ensures lives { LivesOn K.written K.puts result out.old out.new host.old host.new }
 {
     match read_all_out(host, link, out, page) {
         Ok(()) => attempt_all(host, link, out, page),
@@ -41,6 +42,7 @@ fn read_all_out<K: Sink, D: Disk, L: CountedLink>(
     requires whole { has_failed host.old ≡ false }
     ensures whole { OnOk result (has_failed host.new ≡ false) }
     ensures setup { setup_of host.new ≡ setup_of host.old }
+    ensures lives { LivesOn K.written K.puts result out.old out.new host.old host.new }
 {
     for addr in 0..=u8::MAX {
         match read_out(host, addr, link, out, page) {
@@ -61,6 +63,7 @@ fn attempt_all<K: Sink, D: Disk, L: CountedLink>(
     requires whole { has_failed host.old ≡ false }
     ensures whole { OnOk result (has_failed host.new ≡ false) }
     ensures setup { setup_of host.new ≡ setup_of host.old }
+    ensures lives { LivesOn K.written K.puts result out.old out.new host.old host.new }
 {
     for addr in 0..=u8::MAX {
         match attempt_there(host, addr, link, out, page) {

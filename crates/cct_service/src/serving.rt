@@ -2,6 +2,8 @@
 ghost use Rattle.std.specs.Prelude.{◌≡◌, false};
 ghost use Rattle.cct_host.specs.Host.{has_failed, setup_of};
 ghost use Rattle.cct_model.specs.Setup.{IsSoundSetup};
+ghost use Rattle.cct_service.specs.Lived.{Closed, LivedOrNot};
+ghost use Rattle.cct_service.specs.Parts.{LivesTo};
 
 use crate::opening::open_host;
 use crate::page::Page;
@@ -30,6 +32,8 @@ pub fn serve<S: Source, K: Sink, D: Disk, L: CountedLink>(
     page: &mut Page,
 ) -> (Served, D)
     requires sound { IsSoundSetup setup.now }
+    // What was told is the life of a host over the records that the disk had, whatever is heard, and how it ended.
+    ensures lived { Closed K.written K.puts D.honest D.seen D.may_leave disk result.1 setup.now result.0 out.old out.new }
 {
     let (how, disk) = live(setup, withheld, input, out, disk, link, page);
     (close(how, out, &mut page.line), disk)
@@ -46,6 +50,8 @@ fn live<S: Source, K: Sink, D: Disk, L: CountedLink>(
     page: &mut Page,
 ) -> (Served, D)
     requires sound { IsSoundSetup setup.now }
+    ensures lived { LivedOrNot K.written K.puts D.honest D.seen D.may_leave disk result.1 setup.now result.0 out.old
+        out.new }
 {
     let (host, was_there) = match open_host(setup, disk) {
         Ok(opened) => opened,
@@ -68,6 +74,7 @@ fn live_on<S: Source, K: Sink, D: Disk, L: CountedLink>(
 ) -> Served
     requires whole { has_failed host.old ≡ false }
     ensures setup { setup_of host.new ≡ setup_of host.old }
+    ensures lives { LivesTo K.written K.puts result out.old out.new host.old host.new }
 {
     match tell_found(host, was_there, out, &mut page.line) {
         Ok(()) => play(host, withheld, input, out, link, page),

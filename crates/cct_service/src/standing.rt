@@ -1,4 +1,6 @@
 //! How a host stands, told in notices.
+ghost use Rattle.cct_service.specs.Told.{TellsNotices};
+
 use crate::notice::{Notice, tell};
 use cct_disk::Disk;
 use cct_edge::{Failed, Sink};
@@ -12,7 +14,9 @@ pub(crate) fn tell_found<K: Sink, D: Disk>(
     was_there: bool,
     out: &mut K,
     line: &mut TextLine,
-) -> Result<(), Failed> {
+) -> Result<(), Failed>
+    ensures tells { TellsNotices K.written K.puts out.old result out.new }
+{
     let notice = if was_there {
         Notice::Found {
             records: host.records(),
@@ -60,22 +64,46 @@ pub(crate) fn tell_status<K: Sink, D: Disk>(
     host: &Host<'_, D>,
     out: &mut K,
     line: &mut TextLine,
-) -> Result<(), Failed> {
+) -> Result<(), Failed>
+    ensures tells { TellsNotices K.written K.puts out.old result out.new }
+{
     for device in host.setup().devices.as_slice() {
-        let addr = device.addr;
-        let notice = Notice::Device {
-            addr,
-            job: host.command_at(addr),
-            epoch: host.epoch_at(addr),
-            order: host.order_at(addr),
-        };
-        tell(out, line, &notice)?;
+        match tell_device(host, device.addr, out, line) {
+            Ok(()) => {}
+            Err(failed) => return Err(failed),
+        }
     }
-    tell(
-        out,
-        line,
-        &Notice::Room {
-            records: host.room(),
-        },
-    )
+    tell_room(host, out, line)
+}
+
+/// Tells how the device at an address stands.
+fn tell_device<K: Sink, D: Disk>(
+    host: &Host<'_, D>,
+    addr: u8,
+    out: &mut K,
+    line: &mut TextLine,
+) -> Result<(), Failed>
+    ensures tells { TellsNotices K.written K.puts out.old result out.new }
+{
+    let notice = Notice::Device {
+        addr,
+        job: host.command_at(addr),
+        epoch: host.epoch_at(addr),
+        order: host.order_at(addr),
+    };
+    tell(out, line, &notice)
+}
+
+/// Tells how much room the journal has.
+fn tell_room<K: Sink, D: Disk>(
+    host: &Host<'_, D>,
+    out: &mut K,
+    line: &mut TextLine,
+) -> Result<(), Failed>
+    ensures tells { TellsNotices K.written K.puts out.old result out.new }
+{
+    let notice = Notice::Room {
+        records: host.room(),
+    };
+    tell(out, line, &notice)
 }

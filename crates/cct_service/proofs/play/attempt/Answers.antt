@@ -1,4 +1,4 @@
-use Rattle.std.proofs.Common.{◌++◌, ◌∷◌, [], ap, sym, subst}
+use Rattle.std.proofs.Common.{◌++◌, sym, subst}
 use Rattle.cct_host.specs.Host.{Nexts}
 use Rattle.cct_lives.specs.LiveStep as live
 use Rattle.cct_service.specs.Parts.{LivesOn}

@@ -1,4 +1,4 @@
-use Rattle.std.proofs.Common.{Ok, None, Some, refl, sym, ◌∙◌, subst, Result, Err}
+use Rattle.std.proofs.Common.{Ok, refl, sym, ◌∙◌, subst, Err}
 use Rattle.cct_service.specs.Ending.{lines_of}
 use Rattle.cct_service.specs.Told.{WritesTold, last}
 use Rattle.cct_service.proofs.Telling.{told_none, told_one}

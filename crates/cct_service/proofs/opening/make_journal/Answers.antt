@@ -1,0 +1,14 @@
+use Rattle.std.proofs.Common.{sym, ◌∙◌}
+use Rattle.cct_model.specs.Carry.{carry_of}
+use Rattle.cct_carry.proofs.Resumed.{carry_of_none}
+use Rattle.cct_service.proofs.opening.make_journal.Goals as goal
+
+pub returns-in-Ok-clause-opens : goal.returns-in-Ok-clause-opens
+returns-in-Ok-clause-opens g c setup found none =
+    let made = c.in-Ok.ensures.created in
+    let on = c.in-Ok.ensures.goes_on in (
+      none,
+      made.none,
+      λ trusted. made.stands (sym on.same_honest ∙ trusted.0) (sym on.same_telling ∙ trusted.1) (carry_of setup)
+          (carry_of_none setup),
+    )
