@@ -328,6 +328,61 @@ fn is_open(start: u64, choice: u64) -> bool {
     }
 }
 
+// A disk on which a turn failed at one of its calls, by its number among all, and the power was then cut.
+fn cut_in_a_turn(
+    rt: &impl Abort,
+    alloc: Global,
+    image: &[u8; LEN],
+    fails: u64,
+    choice: u64,
+) -> Result<MemDisk, Fail> {
+    let mut old = opened(disk_with(alloc, image, &[fails])?)?;
+    let carry = carried(rt, &mut old)?;
+    match old.turn(&carry) {
+        Ok(_) => Err(Fail::from("a turn that fails")),
+        Err((disk, _)) => {
+            let mut disk = disk;
+            disk.power_cut(choice)?;
+            Ok(disk)
+        }
+    }
+}
+
+// A disk on which a turn was made, and the power was then cut.
+fn cut_after_a_turn(
+    rt: &impl Abort,
+    alloc: Global,
+    image: &[u8; LEN],
+    choice: u64,
+) -> Result<MemDisk, Fail> {
+    let mut old = opened(disk_with(alloc, image, &[])?)?;
+    let carry = carried(rt, &mut old)?;
+    let journal = old.turn(&carry).map_err(|(_, failed)| failed)?;
+    assert_eq!(rt; (journal.base(), journal.used()), (3, 3));
+    let mut disk = journal.into_disk();
+    disk.power_cut(choice)?;
+    Ok(disk)
+}
+
+// A turn whose other half begins at a place fails after so many of its calls, and the power is cut.
+fn fails_at(
+    rt: &impl Abort,
+    alloc: Global,
+    image: &[u8; LEN],
+    start: u64,
+    (before, calls): ((u32, u32), u64),
+    made: u64,
+) -> Result<(), Fail> {
+    let fails = calls.saturating_add(made).saturating_add(1);
+    for choice in [0, 1, 2, 3, 197, 165] {
+        let disk = cut_in_a_turn(rt, alloc, image, fails, choice)?;
+        let wanted = made == 5 && is_open(start, choice);
+        let left = is_turned(rt, alloc, disk, before)?;
+        assert_eq!(rt; left, wanted, "{made} calls, choice {choice}");
+    }
+    Ok(())
+}
+
 // A turn whose other half begins at a place fails at each of its calls, and the power is cut; and one that doesn't fail.
 fn turns(
     rt: &impl Abort,
@@ -337,27 +392,10 @@ fn turns(
     (before, calls): ((u32, u32), u64),
 ) -> Result<(), Fail> {
     for made in 0..6u64 {
-        for choice in [0, 1, 2, 3, 197, 165] {
-            let fails = calls.saturating_add(made).saturating_add(1);
-            let mut old = opened(disk_with(alloc, image, &[fails])?)?;
-            let carry = carried(rt, &mut old)?;
-            let Err((disk, _)) = old.turn(&carry) else {
-                panic!(rt; "a turn that fails at its call {made}");
-            };
-            let mut disk = disk;
-            disk.power_cut(choice)?;
-            let wanted = made == 5 && is_open(start, choice);
-            let left = is_turned(rt, alloc, disk, before)?;
-            assert_eq!(rt; left, wanted, "{made} calls, choice {choice}");
-        }
+        fails_at(rt, alloc, image, start, (before, calls), made)?;
     }
     for choice in 0..4u64 {
-        let mut old = opened(disk_with(alloc, image, &[])?)?;
-        let carry = carried(rt, &mut old)?;
-        let journal = old.turn(&carry).map_err(|(_, failed)| failed)?;
-        assert_eq!(rt; (journal.base(), journal.used()), (3, 3));
-        let mut disk = journal.into_disk();
-        disk.power_cut(choice)?;
+        let disk = cut_after_a_turn(rt, alloc, image, choice)?;
         assert!(rt; is_turned(rt, alloc, disk, before)?, "choice {choice}");
     }
     Ok(())

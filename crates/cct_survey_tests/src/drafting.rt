@@ -1,6 +1,6 @@
 //! The setup that is drafted of a line.
 
-use crate::line::setup_of;
+use crate::line::{read_of, setup_of};
 use cct_bus::Bus;
 use cct_edge::MemSink;
 use cct_model::LineKind;
@@ -42,7 +42,7 @@ begin
 
 #[test]
 fn a_setup_is_drafted(rt: HostRuntime) -> Result<(), Fail> {
-    let there = setup_of(rt.alloc(), THERE)?.unwrap();
+    let there = setup_of(rt.alloc(), THERE)?;
     let mut bus = Bus::new(rt.alloc(), &there)?;
     let mut out = MemSink::new(rt.alloc(), 1000, Vec::new(rt.alloc()))?;
     let mut notes = MemSink::new(rt.alloc(), 1000, Vec::new(rt.alloc()))?;
@@ -61,8 +61,8 @@ fn a_draft_is_read_back_once_it_is_filled_in(rt: HostRuntime) -> Result<(), Fail
         number: 4,
         kind: LineKind::Form,
     };
-    assert_eq!(rt; setup_of(rt.alloc(), DRAFT)?.err(), Some(no_value));
-    let read = setup_of(rt.alloc(), FILLED_IN)?.unwrap();
+    assert_eq!(rt; read_of(rt.alloc(), DRAFT)?.err(), Some(no_value));
+    let read = setup_of(rt.alloc(), FILLED_IN)?;
     let mut bus = Bus::new(rt.alloc(), &read)?;
     let mut out = MemSink::new(rt.alloc(), 1000, Vec::new(rt.alloc()))?;
     let mut notes = MemSink::new(rt.alloc(), 1000, Vec::new(rt.alloc()))?;

@@ -9,6 +9,7 @@ use cct_model::{MOST_HEARD, Setup};
 use cct_script::{SetupNo, read_setup};
 use cct_wire::Link;
 use std::alloc::{AllocError, Global};
+use std::test::Fail;
 
 /// A bus on which nothing is heard in some exchanges.
 #[derive(Drop)]
@@ -34,12 +35,22 @@ impl Link for Lossy<'_> {
     }
 }
 
-/// The setup that a text says.
-pub(crate) fn setup_of(alloc: Global, text: &[u8]) -> Result<Result<Setup, SetupNo>, AllocError>
+/// What a text says of a setup.
+pub(crate) fn read_of(alloc: Global, text: &[u8]) -> Result<Result<Setup, SetupNo>, AllocError>
     ensures { IfOk result (λ read. IfOk read IsSoundSetup) }
 {
     let mut bytes = Vec::new(alloc);
     bytes.extend_from_slice(text)?;
     let mut source = MemSource::new(bytes, 100, Vec::new(alloc));
     Ok(read_setup(&mut source))
+}
+
+/// The setup that a text says.
+pub(crate) fn setup_of(alloc: Global, text: &[u8]) -> Result<Setup, Fail>
+    ensures { IfOk result IsSoundSetup }
+{
+    match read_of(alloc, text)? {
+        Ok(setup) => Ok(setup),
+        Err(_) => Err(Fail::from("the setup is refused")),
+    }
 }

@@ -18,8 +18,8 @@ const WANTED: &[u8] =
 
 #[test]
 fn what_differs_is_told(rt: HostRuntime) -> Result<(), Fail> {
-    let there = setup_of(rt.alloc(), THERE)?.unwrap();
-    let wanted = setup_of(rt.alloc(), WANTED)?.unwrap();
+    let there = setup_of(rt.alloc(), THERE)?;
+    let wanted = setup_of(rt.alloc(), WANTED)?;
     let mut bus = Bus::new(rt.alloc(), &there)?;
     let mut told = ArrayVec::new();
     survey(&wanted, &mut bus, &mut told);
@@ -37,7 +37,7 @@ fn what_differs_is_told(rt: HostRuntime) -> Result<(), Fail> {
 
 #[test]
 fn a_question_is_asked_three_times(rt: HostRuntime) -> Result<(), Fail> {
-    let there = setup_of(rt.alloc(), b"hopper 3 simple 9 0 10\n")?.unwrap();
+    let there = setup_of(rt.alloc(), b"hopper 3 simple 9 0 10\n")?;
     let bus = Bus::new(rt.alloc(), &there)?;
     let mut told = ArrayVec::new();
     let mut line = Lossy {
@@ -61,10 +61,7 @@ fn a_question_is_asked_three_times(rt: HostRuntime) -> Result<(), Fail> {
 
 #[test]
 fn two_of_a_kind_under_the_crc_are_found(rt: HostRuntime) -> Result<(), Fail> {
-    assert_eq!(rt;
-        crc_twins(&setup_of(rt.alloc(), THERE)?.unwrap()),
-        Some((5, 6))
-    );
-    assert_eq!(rt; crc_twins(&setup_of(rt.alloc(), WANTED)?.unwrap()), None);
+    assert_eq!(rt; crc_twins(&setup_of(rt.alloc(), THERE)?), Some((5, 6)));
+    assert_eq!(rt; crc_twins(&setup_of(rt.alloc(), WANTED)?), None);
     Ok(())
 }
