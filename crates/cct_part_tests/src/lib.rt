@@ -1,6 +1,5 @@
 //! Tests of the parts by themselves: a framer, devices that hear byte by byte, a port, a life count, a hopper, the bodies
-//! of records and of a carry, a journal, how it is opened, how it turns and how an old one is brought forward, and a
-//! ledger.
+//! of records and of a carry, those of older versions too, a journal, how it is opened and how it turns, and a ledger.
 #![tactic(auto)]
 
 #[cfg(test)]
@@ -21,8 +20,6 @@ mod life;
 mod machine;
 #[cfg(test)]
 mod old;
-#[cfg(test)]
-mod older;
 #[cfg(test)]
 mod opening;
 #[cfg(test)]
