@@ -2,7 +2,6 @@ pub mod Status
 pub mod Source
 pub mod Lines
 pub mod Setup
-pub mod UpgradeScript
 pub mod SetupLines
 pub mod Disks
 pub mod Money
@@ -12,4 +11,3 @@ pub mod Run
 pub mod Load
 pub mod CommandLine
 pub mod Report
-pub mod Upgrade

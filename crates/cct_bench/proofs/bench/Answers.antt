@@ -1,10 +1,6 @@
-use Rattle.std.proofs.Common.{◌≡◌, ◌⊎◌, ℕ, List, None, Result, Some, ap, inr, map, refl, true, ◌∙◌}
+use Rattle.std.proofs.Common.{◌≡◌, ◌⊎◌, Some, ap, map, refl, true, ◌∙◌}
 use Rattle.std.specs.Prelude.{IfSome, string_bytes}
 use Rattle.cct_edge.specs.Faults.{Rose}
-use Rattle.cct_edge.specs.declared.fault.Failed as put
-use Rattle.cct_model.specs.lines.carry.Carry.{Carry}
-use Rattle.cct_model.specs.lines.record.Record.{Record}
-use Rattle.cct_model.specs.lines.entry.Entry.{Entry}
 use Rattle.cct_model.specs.Script.{script}
 use Rattle.cct_journal.specs.Image.{IsBlank}
 use Rattle.cct_bench.specs.declared.play.TheConstants.{JOURNAL_BYTES}
@@ -15,15 +11,11 @@ use Rattle.cct_bench.specs.Disks.{disks}
 use Rattle.cct_bench.specs.Load.{Loaded}
 use Rattle.cct_bench.specs.Report.{IsOrMemory}
 use Rattle.cct_bench.specs.CommandLine.{said_in}
-use Rattle.cct_host.specs.Upgrading.{CanUpgrade}
-use Rattle.cct_text.specs.Writing.{Writes, Wrote, Broke}
-use Rattle.cct_bench.specs.Upgrade.{Upgraded, old_disk}
-use Rattle.cct_bench.specs.UpgradeScript.{upgrade_script}
+use Rattle.cct_text.specs.Writing.{Wrote, Broke}
 use Rattle.cct_bench.specs.Run.{Completes, Ran}
 use Rattle.cct_bench.proofs.Closing.{memory_completes, no_memory, bytes_weaker, told_completes}
 use Rattle.cct_bench.proofs.LoadEnds.{load_at_once, load_completes}
 use Rattle.cct_bench.proofs.CommandLine.{load_said, words_most}
-use Rattle.cct_bench.proofs.UpgradeEnds.{no_memory_upgraded, some_bytes, untouched_moments, upgrade_completes}
 use Rattle.cct_text.proofs.Writing.{wrote_none}
 use Rattle.cct_bench.proofs.bench.Goals as goal
 
@@ -145,46 +137,3 @@ returns-in-Err-Memory-clause-loaded g c seed rounds is =
     load_at_once seed rounds (Wrote sink.written sink.puts out out) (Broke sink.written sink.puts out out)
     (disks disk.size disk.honest disk.seen disk.may_leave disk.cuts disk.cut_to c.args.disk c.args.disk) refl
     (Rose (disk.faults c.args.disk) (disk.faults c.args.disk)) (wrote_none sink.written sink.puts out)
-
-pub returns-in-Ok-Upgrade-clause-upgrade_complete : goal.returns-in-Ok-Upgrade-clause-upgrade_complete
-returns-in-Ok-Upgrade-clause-upgrade_complete g c is_upgrade =
-    let source = g.S.Source in
-    let sink = g.K.Sink in
-    let disk = g.D.Disk in
-    let script0 = c.args.script.now in
-    let script1 = c.run_upgrade.new.script in
-    let out0 = c.args.out.now in
-    let out1 = c.run_upgrade.new.out in
-    let s = c.run_upgrade.result.0 in
-    let last = c.run_upgrade.result.1 in
-    let old = old_disk disk.size disk.honest disk.seen disk.may_leave disk.moment disk.left_since disk.faults c.args.disk last in
-    let Read = Rose (source.faults script0) (source.faults script1) in
-    let Write = Rose (sink.faults out0) (sink.faults out1) in
-    let Failed = Rose (disk.faults c.args.disk) (disk.faults last) in
-    let W = λ (lines : List Entry) (answer : Result (Unit {0}) put.Failed). Writes sink.written sink.puts out0 lines answer out1 in
-    bytes_weaker (λ bytes. Upgraded old Read bytes s (source.left script1) W)
-    (λ bytes. (image : List ℕ) (base : ℕ) (carry : Carry) (rest : List Record) → disk.seen c.args.disk ≡ Some image
-    → disk.size c.args.disk ≡ JOURNAL_BYTES → (upgrade_script bytes).refused ≡ None
-    → CanUpgrade (upgrade_script bytes).setup image base carry rest → (Read → ⊥) → (Write → ⊥) → (Failed → ⊥)
-    → IsOrMemory status.Done s) (source.left script0)
-    (λ bytes up image base carry rest told sized none can no_read no_write no_disk.
-    upgrade_completes old Read Write bytes s (source.left script1) W up sized none
-    (λ answer answers. (answers image told).never base carry rest can) c.run_upgrade.ensures.sink.rose no_read no_write
-    no_disk) c.run_upgrade.ensures.upgraded
-
-pub returns-in-Err-Memory-clause-upgraded : goal.returns-in-Err-Memory-clause-upgraded
-returns-in-Err-Memory-clause-upgraded g c is_upgrade =
-    let sink = g.K.Sink in
-    let disk = g.D.Disk in
-    let left = g.S.Source.left c.args.script.now in
-    let out = c.args.out.now in
-    no_memory_upgraded
-    (old_disk disk.size disk.honest disk.seen disk.may_leave disk.moment disk.left_since disk.faults c.args.disk c.args.disk)
-    (Rose (g.S.Source.faults c.args.script.now) (g.S.Source.faults c.args.script.now)) left left status.OutOfMemory
-    (λ lines answer. Writes sink.written sink.puts out lines answer out) refl refl
-    (untouched_moments g.met.D.Disk.only_now c.args.disk) (wrote_none sink.written sink.puts out)
-
-pub returns-in-Err-Memory-clause-upgrade_complete : goal.returns-in-Err-Memory-clause-upgrade_complete
-returns-in-Err-Memory-clause-upgrade_complete g c is_upgrade =
-    some_bytes (g.S.Source.left c.args.script.now)
-    (λ bytes image base carry rest told sized none can no_read no_write no_disk. inr refl)
