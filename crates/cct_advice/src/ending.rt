@@ -4,7 +4,7 @@ use crate::fields::first_field;
 
 /// What is said where words are refused, and by the word `--help`.
 pub const USAGE: &str =
-    "usage: cct_main run < SCRIPT, cct_main report, cct_main load SEED N, with SEED 0 to 18446744073709551615 and N 1 to 10000 (docs/OPERATING.md, \"Exit statuses\")";
+    "usage: cct_main run < SCRIPT, cct_main report, cct_main upgrade < SCRIPT, cct_main load SEED N, with SEED 0 to 18446744073709551615 and N 1 to 10000 (docs/OPERATING.md, \"Exit statuses\")";
 
 /// What is said where there was no memory.
 pub const MEMORY: &str =
@@ -14,7 +14,7 @@ pub const MEMORY: &str =
 pub const UNWRITTEN: &str =
     "standard output couldn't be written; a report tells what was put (docs/OPERATING.md, \"Exit statuses\")";
 
-/// What is said by a report where there is no file.
+/// What is said by a report or an upgrade where there is no file.
 pub const NO_JOURNAL: &str =
     "this folder has no cctalk.jnl, and none was made (docs/OPERATING.md, \"A journal that isn't right\")";
 
@@ -57,6 +57,21 @@ const LOST: Meaning = Meaning::OfJournal {
     after: " has another number of records than were put; keep the file as it is (docs/OPERATING.md, \"A journal that isn't right\")",
 };
 
+const CURRENT: Meaning = Meaning::OfJournal {
+    before: "",
+    after: " is a journal of this version, so there is nothing to do (docs/OPERATING.md, \"An older journal\")",
+};
+
+const NO_ROOM: Meaning = Meaning::OfJournal {
+    before: "",
+    after: " has too many records to be brought forward, and is as it was; begin a new journal (docs/OPERATING.md, \"An older journal\")",
+};
+
+const EPOCH_RUNS: Meaning = Meaning::OfJournal {
+    before: "the acceptor named is started in ",
+    after: ", which is as it was; stop it with the older program first (docs/OPERATING.md, \"An older journal\")",
+};
+
 /// What a last line means.
 #[derive(Clone, Copy)]
 pub(crate) enum Meaning {
@@ -81,6 +96,7 @@ pub(crate) fn meaning_of(word: &[u8], rest: &[u8]) -> Option<Meaning> {
             _ => OTHER_SIZE,
         }),
         b"journal" => journal_meaning(rest),
+        b"upgrade" => upgrade_meaning(rest),
         _ => None,
     }
 }
@@ -91,6 +107,16 @@ fn journal_meaning(rest: &[u8]) -> Option<Meaning> {
         b"alien" => Some(ALIEN),
         b"bad" => Some(BAD),
         b"lost" => Some(LOST),
+        _ => None,
+    }
+}
+
+/// Why a journal isn't brought forward, by what stands after the word `upgrade`.
+fn upgrade_meaning(rest: &[u8]) -> Option<Meaning> {
+    match first_field(rest).0 {
+        b"current" => Some(CURRENT),
+        b"room" => Some(NO_ROOM),
+        b"epoch" => Some(EPOCH_RUNS),
         _ => None,
     }
 }

@@ -45,6 +45,7 @@ impl Front {
 fn may_be_last(line: &[u8]) -> bool {
     match line.first() {
         Some(b'w') => line.get(1) == Some(&b'o'),
+        Some(b'u') => line.get(1) == Some(&b'p'),
         Some(first) => matches!(*first, b'd' | b'j' | b'n' | b'r'),
         None => false,
     }

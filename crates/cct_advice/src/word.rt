@@ -36,7 +36,7 @@ fn form_named(word: &[u8]) -> Option<&'static Form> {
         .find(|form| form.word().as_bytes().eq_ignore_ascii_case(word))
 }
 
-/// Writes that a word is of the other part, or isn't in lower case.
+/// Writes that a word is of the other part, isn't in lower case, or is one that only a run takes.
 fn write_known<W: fmt::Write>(
     part: Part,
     form: &Form,
@@ -44,6 +44,9 @@ fn write_known<W: fmt::Write>(
     f: &mut fmt::Formatter<W>,
 ) -> fmt::Result {
     let name = form.word();
+    if form.part() == part && word == name.as_bytes() {
+        return f.write_str("an upgrade plays no step; after the line begin stands end");
+    }
     if form.part() == part {
         let shown = Shown(word);
         return write!(f, "words are in lower case; write {name}, not \"{shown}\"");

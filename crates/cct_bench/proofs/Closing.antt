@@ -458,6 +458,8 @@ ran_completes bytes status.DiskSize left Written Breaks disks image source_faile
     absurd (h.ends.0.0 sized)
 ran_completes bytes status.OutOfMemory left Written Breaks disks image source_failed disk_failed told sized blank kept r w d h =
     completes_memory (script bytes).refused
+ran_completes bytes status.NotUpgraded left Written Breaks disks image source_failed disk_failed told sized blank kept r w d h =
+    absurd h.ends.0
 ran_completes bytes status.JournalLost left Written Breaks disks image source_failed disk_failed told sized blank (inl trusted) r w d h =
     absurd (h.keeps trusted (tells_loss (EndsLost disks (script bytes).setup (onto [] h.transcript) h.unplayed) h.tail
     h.ends.0.0))
@@ -465,6 +467,13 @@ ran_completes bytes status.JournalLost left Written Breaks disks image source_fa
     absurd (none_next h.played h.unplayed (ap losses_in (sym h.steps_are) ∙ none)
     (lost_next (IsReliable disks.trusted (onto [] h.transcript)) disks.cut_at (script bytes).setup (onto [] h.transcript) disks.seen_after
     h.unplayed h.tail h.ends.0.0))
+
+-- a run ends by no status of an upgrade
+pub ran_other : (bytes : List ℕ) (s : Status) (left : Option (List ℕ)) (Written : List Entry → Type 0)
+    (Breaks : List Entry → List Entry → Type 0) (disks : Disks) (source_failed disk_failed : Type 0)
+    → Ran bytes s left Written Breaks disks source_failed disk_failed → s ≡ status.NotUpgraded → ⊥
+ran_other bytes s left Written Breaks disks source_failed disk_failed h is =
+    (subst (λ x. Ran bytes x left Written Breaks disks source_failed disk_failed) is h).ends.0
 
 -- an honest disk that tells is trusted
 pub kept_by : (honest trusted none : Type 0) → (honest → trusted) → honest ⊎ none → trusted ⊎ none

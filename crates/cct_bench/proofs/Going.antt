@@ -37,7 +37,7 @@ use Rattle.cct_bench.specs.Source.{AreTold, OfBytes, to_come}
 use Rattle.cct_text.specs.Writing.{IsNothing}
 use Rattle.cct_bench.specs.declared.ending.Ending.{Ending}
 use Rattle.cct_bench.specs.Run.{BeforeSteps, IsOfScript, IsUnopened, Played, Stops, ending_at}
-use Rattle.cct_bench.proofs.Continuing.{ended}
+use Rattle.cct_bench.proofs.Continuing.{ended, of_run}
 use Rattle.cct_bench.proofs.Staying.{IsDone, setup_stays}
 
 pub going_begin : (left : Option (List ℕ)) → Going Always left left [] 1 (at_setup no_devices) IsUnbegun IsNothing
@@ -243,7 +243,7 @@ going_plays Relies left0 left left1 held rest number stage next setup Before Aft
     }
 
 -- what was taken and what is still to come are the bytes that a source told, where it tells any
-told_by : (left0 left : Option (List ℕ)) (taken : List ℕ) → Consumes left0 left taken
+pub told_by : (left0 left : Option (List ℕ)) (taken : List ℕ) → Consumes left0 left taken
     → AreTold left0 (taken ++ to_come left)
 told_by None left taken h = tt
 told_by (Some bytes) None taken h = absurd h
@@ -333,7 +333,7 @@ unread_steps : (taken came held : List ℕ) (number : ℕ) (stage : Stage) (play
 unread_steps taken came held number stage played h none =
     let next = closed_script number (setup_at stage) (unfinished number stage (held ++ came)) in
     let e : said_from number stage ((held ++ came) ++ []) ≡ next =
-    ap (said_from number stage) (append-nil (held ++ came)) ∙ ended number stage (held ++ came) none in
+    ap (said_from number stage) (append-nil (held ++ came)) ∙ ended of_run number stage (held ++ came) none in
     let says = also_goes taken came held [] number stage played next h e in
     ap (λ bytes. (script bytes).steps) (sym (append-nil (taken ++ came))) ∙ (says.steps ∙ append-nil played)
 

@@ -2,9 +2,13 @@ pub mod Continuing
 pub mod Reading
 pub mod Staying
 pub mod SetupLines
+pub mod UpgradeLines
 pub mod Keeping
 pub mod Going
 pub mod Closing
 pub mod LoadEnds
 pub mod CommandLine
 pub mod ReportEnds
+pub mod UpgradeForms
+pub mod UpgradeVectors
+pub mod UpgradeEnds

@@ -21,7 +21,6 @@ use Rattle.cct_journal.specs.declared.refusal.CreateNo.TheVariants as create_no
 use Rattle.cct_host.specs.declared.refusal.CrashNo.{CrashNo}
 use Rattle.cct_host.specs.declared.refusal.CrashNo.TheVariants as crash_no
 use Rattle.cct_world.specs.declared.world.World.{World}
-use Rattle.cct_world.specs.Early.{LegalBeforeLoss}
 use Rattle.cct_world.specs.Restarts.{CutAt, LosesAt, no_step}
 use Rattle.cct_world.specs.Step.{RoseBy, count_after, crashes}
 use Rattle.cct_world.specs.Relying.{First, MayFail, IsReliable, losses_in}
@@ -363,6 +362,13 @@ module _ {D : Type 0} {g : Ghosts D} (given left : D) (world : World D g)
 
 -- ---- with no fault
 
+-- a load ends by no status of an upgrade
+pub load_other : (seed rounds : ℕ) (s : Status) (Written : List Entry → Type 0) (Breaks : List Entry → List Entry → Type 0)
+    (disks : Disks) (disk_failed : Type 0) → Loaded seed rounds s Written Breaks disks disk_failed → s ≡ status.NotUpgraded
+    → ⊥
+load_other seed rounds s Written Breaks disks disk_failed h is =
+    (subst (λ x. Loaded seed rounds x Written Breaks disks disk_failed) is h).ends.0
+
 load_done : (seed rounds : ℕ) (s : Status) (Written : List Entry → Type 0) (Breaks : List Entry → List Entry → Type 0)
     (disks : Disks) (image : List ℕ) (disk_failed : Type 0) → disks.seen ≡ Some image → disks.size ≡ JOURNAL_BYTES
     → IsBlank image → disks.trusted ⊎ (losses_in (load_steps seed rounds) ≡ 0) → (s ≡ status.WriteFault → ⊥)
@@ -378,6 +384,7 @@ load_done seed rounds status.NotBlank Written Breaks disks image disk_failed tol
 load_done seed rounds status.DiskSize Written Breaks disks image disk_failed told sized blank kept w d h =
     absurd (h.ends.0.0 sized)
 load_done seed rounds status.OutOfMemory Written Breaks disks image disk_failed told sized blank kept w d h = inr refl
+load_done seed rounds status.NotUpgraded Written Breaks disks image disk_failed told sized blank kept w d h = absurd h.ends.0
 load_done seed rounds status.JournalLost Written Breaks disks image disk_failed told sized blank (inl trusted) w d h =
     absurd (h.keeps trusted (tells_loss (EndsLost disks load_setup (onto [] h.transcript) h.unplayed) h.tail h.ends.0.0))
 load_done seed rounds status.JournalLost Written Breaks disks image disk_failed told sized blank (inr none) w d h =

@@ -79,7 +79,7 @@ step_form setup line read e = e
 known_plays : (setup : Setup) (s : Step) → is_known setup s ≡ true → read_known setup s ≡ plays s (at_steps setup)
 known_plays setup s known = rw known refl
 
-known_reads : (setup : Setup) (s : Step) → is_known setup s ≡ true → read_step_line setup (Ok s) ≡ read_as setup s
+pub known_reads : (setup : Setup) (s : Step) → is_known setup s ≡ true → read_step_line setup (Ok s) ≡ read_as setup s
 known_reads setup step.End known = refl
 known_reads setup s known = known_plays setup s known
 
@@ -87,7 +87,7 @@ known_reads setup s known = known_plays setup s known
 known_refuses : (setup : Setup) (s : Step) → is_known setup s ≡ false → read_known setup s ≡ refuses kind.Device
 known_refuses setup s unknown = rw unknown refl
 
-unknown_reads : (setup : Setup) (s : Step) → is_known setup s ≡ false
+pub unknown_reads : (setup : Setup) (s : Step) → is_known setup s ≡ false
     → read_step_line setup (Ok s) ≡ refuses kind.Device
 unknown_reads setup step.End unknown = cc unknown
 unknown_reads setup s unknown = known_refuses setup s unknown

@@ -102,6 +102,11 @@ reported disk status.DiskSize lines (Ok done) writes is wrote = (lines, is, wrot
 reported disk status.JournalLost lines (Ok done) writes is wrote = (lines, is, wrote)
 reported disk s lines (Ok done) writes is wrote = absurd is
 
+-- a report ends by no status of an upgrade
+pub report_other : (disk : Known) (s : Status) (writes : List Entry → Result (Unit {0}) Failed → Type 0)
+    → Reported disk s writes → s ≡ status.NotUpgraded → ⊥
+report_other disk s writes is ends = (subst (λ x. Reported disk x writes) ends is).1
+
 -- a disk of another size is told by that alone
 pub other_reported : (disk : Known) (len : ℕ) (s : Status) (answer : Result (Unit {0}) Failed)
     (writes : List Entry → Result (Unit {0}) Failed → Type 0) → len ≡ disk.size → disk.size ≢ JOURNAL_BYTES

@@ -5,9 +5,14 @@ use Rattle.std.specs.List.{position}
 use Rattle.std.specs.Io.KnownBytes.{Consumes}
 use Rattle.cct_edge.specs.declared.fault.Failed.{Failed}
 use Rattle.cct_edge.proofs.Chains.{Consumes-nil, Consumes-trans}
+use Rattle.cct_model.specs.terms.device.Setup.{Setup}
 use Rattle.cct_model.specs.Script.{is_line_feed, Stage, at_setup, no_devices, opens, read_line}
 use Rattle.cct_script.specs.Taking.{TakesOn}
-use Rattle.cct_bench.specs.SetupLines.{whole_lines, OpenedBy, OpensLine, TakesForLines, TookOpening}
+use Rattle.cct_bench.specs.Lines.{StopsAt, WithMoreTaken}
+use Rattle.cct_bench.specs.Run.{ending_at}
+use Rattle.cct_bench.specs.declared.ending.Ending.{Ending}
+use Rattle.cct_bench.specs.declared.lines.ScriptStop.{ScriptStop}
+use Rattle.cct_bench.specs.SetupLines.{whole_lines, OpenedBy, OpensLine, SetupStops, TakesForLines, TookOpening}
 
 opened_more : (number : ℕ) (stage : Stage) (lines : List (List ℕ)) (last : ℕ) (behind next : Stage) (line : List ℕ)
     → OpenedBy number stage lines last behind → position is_line_feed line ≡ None
@@ -66,4 +71,24 @@ module _ {S : Type 0} (takes : S → ℕ → Result ℕ Failed → S → Type 0)
             (Consumes-trans (left source0) (left source) (left source1) (before ++ held) l.fills.0 o.took l.fills.2);
         opened = opened_more 1 (at_setup no_devices) o.lines number stage next l.line o.opened l.alone l.reads;
         needed = taken_more [] source0 o.lines held source l.line rest source1 o.needed l.needed;
+      }
+
+  -- no line more
+  pub opening_stops : (source0 source source1 : S) (held : List ℕ) (number : ℕ) (setup : Setup) (why : ScriptStop)
+      (how : Ending) → TookOpening takes left source0 source held number (at_setup setup)
+      → WithMoreTaken held (left source) (left source1) (StopsAt number (at_setup setup) why (left source1))
+      → how ≡ ending_at number why → SetupStops (left source0) (left source1) how
+  opening_stops source0 source source1 held number setup why how o r told =
+      let before = whole_lines o.lines in
+      record {
+        lines = o.lines;
+        held = held ++ r.0;
+        number = number;
+        setup = setup;
+        why = why;
+        took = subst (Consumes (left source0) (left source1)) (append_assoc before held r.0)
+            (Consumes-trans (left source0) (left source) (left source1) (before ++ held) r.0 o.took r.1);
+        opened = o.opened;
+        stops = r.2;
+        told = told;
       }

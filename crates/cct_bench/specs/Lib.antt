@@ -2,6 +2,7 @@ pub mod Status
 pub mod Source
 pub mod Lines
 pub mod Setup
+pub mod UpgradeScript
 pub mod SetupLines
 pub mod Disks
 pub mod Money
@@ -11,3 +12,4 @@ pub mod Run
 pub mod Load
 pub mod CommandLine
 pub mod Report
+pub mod Upgrade

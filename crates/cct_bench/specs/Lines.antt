@@ -46,21 +46,35 @@ abbrev pub read_of : Result (Bor (List ℕ)) ScriptStop → Result (List ℕ) Sc
 read_of (Ok line) = Ok line.now
 read_of (Err why) = Err why
 
--- The first line of these bytes is this to the script, and the bytes after it are the rest, whatever follows.
+-- of scripts whose lines from a number on, at a stage, say this
+module _ (says : ℕ → Stage → List (List ℕ) → Script) where
+  -- The first line of these bytes is this to the script, and the bytes after it are the rest, whatever follows.
+  abbrev pub GoesOnIn : ℕ → Stage → List ℕ → Read → List ℕ → Type 0
+  GoesOnIn number stage held read rest =
+      (more : List ℕ) → says number stage (slice_split is_line_feed (held ++ more)) ≡ goes_on number stage read
+      (says (number + 1) (stage_after stage read) (slice_split is_line_feed (rest ++ more)))
+
+  -- The script says no more from here on, with these bytes and those to come: it has ended, or a line is refused.
+  abbrev pub IsClosedIn : ℕ → Stage → Option LineKind → Option (List ℕ) → List ℕ → Type 0
+  IsClosedIn number stage why left held =
+      says number stage (slice_split is_line_feed (held ++ to_come left)) ≡ closed_script number (setup_at stage) why
+
+  -- Why these bytes are read no further: no line is whole yet, or the first line is refused.
+  abbrev pub StopsIn : ℕ → Stage → ScriptStop → Option (List ℕ) → List ℕ → Type 0
+  StopsIn number stage stop.Unread left held = position is_line_feed held ≡ None
+  StopsIn number stage (stop.Refused why) left held = IsClosedIn number stage (Some why) left held
+
+-- The first line is this to the script of a run.
 abbrev pub ScriptGoesOn : ℕ → Stage → List ℕ → Read → List ℕ → Type 0
-ScriptGoesOn number stage held read rest =
-    (more : List ℕ) → said_from number stage (held ++ more) ≡ goes_on number stage read
-    (said_from (number + 1) (stage_after stage read) (rest ++ more))
+ScriptGoesOn = GoesOnIn script_from
 
--- The script says no more from here on, with these bytes and those to come: it has ended, or a line is refused.
+-- The script of a run says no more from here on.
 abbrev pub IsClosed : ℕ → Stage → Option LineKind → Option (List ℕ) → List ℕ → Type 0
-IsClosed number stage why left held =
-    said_from number stage (held ++ to_come left) ≡ closed_script number (setup_at stage) why
+IsClosed = IsClosedIn script_from
 
--- Why these bytes are read no further: no line is whole yet, or the first line is refused.
+-- Why the bytes of the script of a run are read no further.
 abbrev pub StopsAt : ℕ → Stage → ScriptStop → Option (List ℕ) → List ℕ → Type 0
-StopsAt number stage stop.Unread left held = position is_line_feed held ≡ None
-StopsAt number stage (stop.Refused why) left held = IsClosed number stage (Some why) left held
+StopsAt = StopsIn script_from
 
 -- How the steps of a script end after its line `end`, where the next line has this number: nothing follows, or it is
 -- read no further.

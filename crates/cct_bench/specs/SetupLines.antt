@@ -7,6 +7,10 @@ use Rattle.cct_edge.specs.declared.fault.Failed.{Failed}
 use Rattle.cct_script.specs.Taking.{TakesOn}
 use Rattle.cct_script.specs.Window.{Fills}
 use Rattle.cct_model.specs.Script.{is_line_feed, Stage, at_setup, at_steps, no_devices, opens, read_line}
+use Rattle.cct_bench.specs.Lines.{StopsAt}
+use Rattle.cct_bench.specs.Run.{ending_at}
+use Rattle.cct_bench.specs.declared.ending.Ending.{Ending}
+use Rattle.cct_bench.specs.declared.lines.ScriptStop.{ScriptStop}
 
 -- The bytes of whole lines, each with its line feed.
 abbrev pub whole_lines : List (List ℕ) → List ℕ
@@ -19,6 +23,19 @@ OpenedBy number stage [] last behind = (number ≡ last) × (stage ≡ behind)
 OpenedBy number stage (line ∷ lines) last behind =
     (next : Stage) × (position is_line_feed line ≡ None) × (read_line number stage line ≡ opens next)
     × OpenedBy (number + 1) next lines last behind
+
+-- What was taken of a script are whole lines of its setup, none of them refused, and bytes after them, where it is read no
+-- further: no line more is whole, or the next line is refused; and so the run ends.
+pub record SetupStops (left0 left : Option (List ℕ)) (how : Ending) : Type 0 where
+  pub lines : List (List ℕ)
+  pub held : List ℕ
+  pub number : ℕ
+  pub setup : Setup
+  pub why : ScriptStop
+  pub took : Consumes left0 left (whole_lines lines ++ held)
+  pub opened : OpenedBy 1 (at_setup no_devices) lines number (at_setup setup)
+  pub stops : StopsAt number (at_setup setup) why left held
+  pub told : how ≡ ending_at number why
 
 -- of a source of which is known what a take does, and which bytes it tells as left
 module _ {S : Type 0} (takes : S → ℕ → Result ℕ Failed → S → Type 0) (left : S → Option (List ℕ)) where

@@ -3,7 +3,7 @@ use Rattle.std.specs.Prelude.{ℕ}
 use Rattle.cct_bench.specs.declared.outcome.Status.{Status}
 use Rattle.cct_bench.specs.declared.outcome.Status.TheVariants.{Done, ScriptRefused, WordsRefused, ReadFault}
 use Rattle.cct_bench.specs.declared.outcome.Status.TheVariants.{WriteFault, DiskFault, NotBlank, DiskSize}
-use Rattle.cct_bench.specs.declared.outcome.Status.TheVariants.{OutOfMemory, JournalLost}
+use Rattle.cct_bench.specs.declared.outcome.Status.TheVariants.{OutOfMemory, JournalLost, NotUpgraded}
 
 -- The exit status of the program, by how it ended.
 abbrev pub code_of : Status → ℕ
@@ -17,3 +17,4 @@ code_of NotBlank = 6
 code_of DiskSize = 7
 code_of OutOfMemory = 8
 code_of JournalLost = 9
+code_of NotUpgraded = 10

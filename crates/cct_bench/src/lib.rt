@@ -1,8 +1,8 @@
-//! The bench: plays a script over the machine and writes the transcript, lists a journal, or plays a load and writes
-//! its sums.
+//! The bench: plays a script over the machine and writes the transcript, lists a journal, brings one of an earlier version
+//! forward, or plays a load and writes its sums.
 #![tactic(auto)]
 
-ghost use Rattle.std.specs.Prelude.{◌≡◌, ◌≢◌, ◌⊎◌, [], ◌∷◌, IfSome, List, Result, Some, true, ℕ};
+ghost use Rattle.std.specs.Prelude.{◌≡◌, ◌≢◌, ◌⊎◌, [], ◌∷◌, IfSome, List, None, Result, Some, true, ℕ};
 ghost use Rattle.cct_edge.specs.Bytes.{Serves};
 ghost use Rattle.cct_edge.specs.declared.fault.Failed.{Failed};
 ghost use Rattle.cct_edge.specs.Faults.{Rose};
@@ -22,6 +22,8 @@ ghost use Rattle.cct_gen.specs.Load.{load_steps};
 ghost use Rattle.cct_bench.specs.Load.{Loaded};
 ghost use Rattle.cct_bench.specs.Report.{IsDecided, IsOrMemory, Reported, image_known, records_known, size_known};
 ghost use Rattle.cct_bench.specs.Run.{Ran, status_by, Completes};
+ghost use Rattle.cct_bench.specs.Upgrade.{MayGoForward, Upgraded, old_disk};
+ghost use Rattle.cct_bench.specs.UpgradeScript.{upgrade_script};
 ghost use Rattle.cct_bench.specs.CommandLine.{AreRefused, said_in};
 
 use cct_disk::Disk;
@@ -34,6 +36,7 @@ use loading::run_load;
 use play::Bench;
 use reporting::report;
 use std::alloc::Global;
+use upgrading::run_upgrade;
 
 mod ending;
 mod lines;
@@ -43,19 +46,22 @@ mod outcome;
 mod play;
 mod reporting;
 mod steps;
+mod upgrade_script;
+mod upgrading;
 
 pub use cct_words::{Words, WordsNo, read_words};
 pub use outcome::Status;
 
 /// Runs the program: by the words of the command line, without its name, plays a script and writes the transcript
-/// (`docs/SCRIPT.md`, `docs/TRANSCRIPT.md`), lists the records of the journal and their sums, or plays a load and
-/// writes the sums over its transcript. The words are `run`, `report`, or `load` with a seed and a number of rounds, 1
-/// to 10,000; any other list is refused.
+/// (`docs/SCRIPT.md`, `docs/TRANSCRIPT.md`), lists the records of the journal and their sums, brings a journal of an
+/// earlier version forward for the devices of a script, or plays a load and writes the sums over its transcript. The words
+/// are `run`, `report`, `upgrade`, or `load` with a seed and a number of rounds, 1 to 10,000; any other list is refused.
 ///
 /// The script is taken from its source a line at a time, and each step's entries are written before the next line is
 /// read. All buffers are of fixed size, and are taken at once before the first byte of the script; the machine is built
 /// after the line `begin`, before anything is written. A report only reads the disk. A load builds its machine before
-/// anything is written, and writes no entry of a step. Both take nothing of the script.
+/// anything is written, and writes no entry of a step. Both take nothing of the script. An upgrade reads the script to its
+/// end before it makes a call of the disk but for its length, and writes one line.
 pub fn bench<S: Source, K: Sink, D: Disk>(
     alloc: Global,
     words: &[String],
@@ -89,6 +95,13 @@ pub fn bench<S: Source, K: Sink, D: Disk>(
         OnlyReads D.size D.honest D.seen D.may_leave D.moment D.left_since D.cuts disk result.1 }
     ensures report_script { said_in words.now ≡ Some Words.Report → script.new ≡ script.old }
 
+    // With the word `upgrade`: what was taken of the script, the one line that was written and its cause, and what a power
+    // cut may leave on the disk at each moment, and at the end where the journal was brought forward.
+    ensures upgraded { said_in words.now ≡ Some Words.Upgrade → OfBytes (S.left script.old) (λ bytes. Upgraded
+        (old_disk D.size D.honest D.seen D.may_leave D.moment D.left_since D.cuts D.faults disk result.1)
+        (Rose (S.faults script.old) (S.faults script.new)) bytes result.0 (S.left script.new)
+        (λ lines answer. Writes K.written K.puts out.old lines answer out.new)) }
+
     // With the word `load`: what was played and written, the laws as with `run`, and what is left on the disk; and no
     // byte of the script was taken.
     ensures loaded { (seed rounds : ℕ) → said_in words.now ≡ Some (Words.Load seed rounds)
@@ -111,8 +124,9 @@ pub fn bench<S: Source, K: Sink, D: Disk>(
     ensures read_cause { result.0 ≡ Status.ReadFault → Rose (S.faults script.old) (S.faults script.new) }
     ensures write_cause { result.0 ≡ Status.WriteFault → Rose (K.faults out.old) (K.faults out.new) }
     ensures disk_cause { result.0 ≡ Status.DiskFault → Rose (D.faults disk) (D.faults result.1) }
-    ensures lost_cause { said_in words.now ≢ Some Words.Report → result.0 ≡ Status.JournalLost
-        → Rose (D.cuts disk) (D.cuts result.1) }
+    ensures lost_cause { said_in words.now ≢ Some Words.Report → said_in words.now ≢ Some Words.Upgrade
+        → result.0 ≡ Status.JournalLost → Rose (D.cuts disk) (D.cuts result.1) }
+    ensures upgrade_cause { result.0 ≡ Status.NotUpgraded → said_in words.now ≡ Some Words.Upgrade }
     ensures words_cause { result.0 ≡ Status.WordsRefused → AreRefused (said_in words.now) }
     ensures memory_cause { result.0 ≡ Status.OutOfMemory → out.new ≡ out.old }
 
@@ -139,6 +153,13 @@ pub fn bench<S: Source, K: Sink, D: Disk>(
         → (Rose (K.faults out.old) (K.faults out.new) → ⊥) → (Rose (D.faults disk) (D.faults result.1) → ⊥)
         → IsDecided (D.size disk) image result.0 }
 
+    // With no fault, and a script of which no line is refused, an upgrade brings forward what can be, but for want of memory.
+    ensures upgrade_complete { said_in words.now ≡ Some Words.Upgrade → OfBytes (S.left script.old) (λ bytes.
+        (image : List ℕ) → D.seen disk ≡ Some image → D.size disk ≡ JOURNAL_BYTES
+        → (upgrade_script bytes).refused ≡ None → MayGoForward (upgrade_script bytes).setup image
+        → (Rose (S.faults script.old) (S.faults script.new) → ⊥) → (Rose (K.faults out.old) (K.faults out.new) → ⊥)
+        → (Rose (D.faults disk) (D.faults result.1) → ⊥) → IsOrMemory Status.Done result.0) }
+
     // On a blank disk, which is honest or where no step is a power cut, and with no fault, a load is done, but for
     // want of memory.
     ensures load_complete { (seed rounds : ℕ) → said_in words.now ≡ Some (Words.Load seed rounds)
@@ -153,6 +174,7 @@ pub fn bench<S: Source, K: Sink, D: Disk>(
             Err(_) => (Status::OutOfMemory, disk),
         },
         Ok(Words::Report) => report(out, &mut TextLine::new(), disk),
+        Ok(Words::Upgrade) => run_upgrade(script, out, disk),
         Ok(Words::Load { seed, rounds }) => run_load(alloc, Load { seed, rounds }, out, disk),
         Err(WordsNo::Refused) => (refuse_words(out), disk),
         Err(WordsNo::Memory) => (Status::OutOfMemory, disk),

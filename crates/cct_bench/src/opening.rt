@@ -5,7 +5,7 @@ ghost use Rattle.cct_edge.specs.Bytes.{Serves};
 ghost use Rattle.cct_model.specs.Script.{at_setup, at_steps, no_devices, opens, refuses, read_form};
 ghost use Rattle.cct_script.specs.Giving.{none_given, standing_of};
 ghost use Rattle.cct_bench.specs.Lines.{IsNext, ScriptGoesOn, StopsAt, WithMoreTaken};
-ghost use Rattle.cct_bench.specs.SetupLines.{OpensLine, TookOpening};
+ghost use Rattle.cct_bench.specs.SetupLines.{OpensLine, SetupStops, TookOpening};
 ghost use Rattle.cct_bench.specs.Setup.{stage_of, opened_by};
 ghost use Rattle.cct_text.specs.Writing.{IsNothing, NeverBroke};
 ghost use Rattle.cct_bench.specs.Disks.{Always};
@@ -91,6 +91,7 @@ pub fn read_setup<S: Source>(
     ensures ended { IfErr result (λ how.
         OfBytes (S.left script.old) (λ bytes.
         Played Always bytes how (S.left script.new) IsNothing NeverBroke BeforeSteps)) }
+    ensures stopped { IfErr result (λ how. SetupStops (S.left script.old) (S.left script.new) how) }
     ensures of_script { IfErr result IsOfScript }
     ensures source { Serves S.left S.faults script.old script.new (result ≡ Err Ending.Unread) }
 {

@@ -28,6 +28,9 @@ pub enum Status {
     /// record that can't be read or doesn't follow those before it (`journal bad INDEX`), or other records than those
     /// that were put (`journal lost FOUND PUT`).
     JournalLost,
+    /// 10: the journal wasn't brought forward, and nothing was written on it: it is one of today (`upgrade current`), it
+    /// leaves no half free (`upgrade room USED`), or an epoch runs (`upgrade epoch A`).
+    NotUpgraded,
 }
 
 impl Status {
@@ -46,6 +49,7 @@ impl Status {
             Status::DiskSize => 7,
             Status::OutOfMemory => 8,
             Status::JournalLost => 9,
+            Status::NotUpgraded => 10,
         }
     }
 }

@@ -7,9 +7,10 @@ use std::alloc::Global;
 use std::test::Fail;
 
 /// Lists of words that say what to do.
-const TAKEN: [(&[&str], Words); 8] = [
+const TAKEN: [(&[&str], Words); 9] = [
     (&["run"], Words::Run),
     (&["report"], Words::Report),
+    (&["upgrade"], Words::Upgrade),
     (&["load", "0", "1"], Words::Load { seed: 0, rounds: 1 }),
     (&["load", "1", "9"], Words::Load { seed: 1, rounds: 9 }),
     (
@@ -43,7 +44,7 @@ const TAKEN: [(&[&str], Words); 8] = [
 ];
 
 /// Lists of words that are in no grammar.
-const REFUSED: [&[&str]; 58] = [
+const REFUSED: [&[&str]; 61] = [
     &[],
     &[""],
     &["", "run"],
@@ -53,6 +54,9 @@ const REFUSED: [&[&str]; 58] = [
     &["run", "report"],
     &["report", "now"],
     &["report", "report"],
+    &["upgrade", "now"],
+    &["upgrade", "run"],
+    &["upgrades"],
     &["now"],
     &["r"],
     &["ru"],

@@ -1,5 +1,5 @@
 //! Tests of the bench: runs, as many devices as there may be, coins that are lost, power cuts in the midst of a script, disks
-//! that fail, bytes that are damaged or forged, the words of the command line, reports and loads.
+//! that fail, bytes that are damaged or forged, the words of the command line, reports, upgrades and loads.
 #![tactic(auto)]
 
 #[cfg(test)]
@@ -18,3 +18,5 @@ mod loads;
 mod losses;
 #[cfg(test)]
 mod runs;
+#[cfg(test)]
+mod upgrades;

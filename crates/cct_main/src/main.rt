@@ -1,6 +1,6 @@
-//! The program: plays the script on standard input by the words of the command line, writes the transcript to standard
-//! output, and ends with the status as exit status. What a last line means, or what is wrong with a refused line, it says
-//! on standard error (`cct_advice`).
+//! The program: does what the words of the command line say, with the script on standard input where they want one, writes
+//! to standard output, and ends with the status as exit status. What a last line means, or what is wrong with a refused
+//! line, it says on standard error (`cct_advice`).
 #![tactic(auto)]
 
 use cct_advice::{KeptSink, KeptSource, MEMORY, NO_JOURNAL, UNWRITTEN, USAGE, advise, words_of};
@@ -31,8 +31,8 @@ fn main(rt: HostRuntime) -> ExitCode {
 
 /// Does what the words say, and tells on standard error what there is to say of the end.
 fn play(rt: &HostRuntime, words: &[String]) -> Status {
-    if is_report(words) && is_missing(rt) {
-        return report_nothing(rt);
+    if wants_journal(words) && is_missing(rt) {
+        return tell_missing(rt);
     }
     let mut script = KeptSource::new(StdSource::new(rt.reader()));
     let mut out = KeptSink::new(StdSink::new(io::writer(rt)));
@@ -58,8 +58,9 @@ fn is_missing(rt: &impl Files) -> bool {
     }
 }
 
-/// A report where there is no file: it says what one of a blank file does. None is made.
-fn report_nothing(rt: &HostRuntime) -> Status {
+/// A report or an upgrade where there is no file: it says what one of a blank file does. None is made, and no script is
+/// read.
+fn tell_missing(rt: &HostRuntime) -> Status {
     let mut out = StdSink::new(io::writer(rt));
     match put_entry(&mut out, &Entry::JournalAlien) {
         Ok(()) => {
@@ -73,9 +74,9 @@ fn report_nothing(rt: &HostRuntime) -> Status {
     }
 }
 
-/// Whether the words are those of a report.
-fn is_report(words: &[String]) -> bool {
-    matches!(words, [word] if word.as_str() == "report")
+/// Whether the words want a journal that is there: those of a report or of an upgrade.
+fn wants_journal(words: &[String]) -> bool {
+    matches!(words, [word] if word.as_str() == "report" || word.as_str() == "upgrade")
 }
 
 /// Whether the words ask how the program is called.

@@ -226,6 +226,97 @@ fn a_damaged_header_is_alien(rt: HostRuntime) -> Result<(), Fail> {
     Ok(())
 }
 
+// The image without the bytes from a place up to another one.
+fn lost(image: [u8; LEN], from: usize, to: usize) -> [u8; LEN] {
+    let mut image = image;
+    if let Some(part) = image.get_mut(from..to) {
+        for byte in part {
+            *byte = 0;
+        }
+    }
+    image
+}
+
+// So many bytes of a header at a place were written, and the others weren't; and the other way round.
+fn torn(image: [u8; LEN], start: usize, many: usize) -> ([u8; LEN], [u8; LEN]) {
+    let middle = start.saturating_add(many);
+    let end = start.saturating_add(32);
+    (lost(image, middle, end), lost(image, start, middle))
+}
+
+// A header of version 1 is torn at each of its bytes. From byte 16 on it has only bytes 0.
+#[test]
+fn a_torn_header_of_version_1_is_alien(rt: HostRuntime) -> Result<(), Fail> {
+    let alloc = rt.alloc();
+    for many in 0..32usize {
+        let (front, back) = torn(first_journal(), 0, many);
+        if many < 16 {
+            assert!(rt; is_alien(alloc, &front)?, "{many} bytes");
+        } else {
+            assert!(rt; matches!(found(alloc, &front)?, Ok((0, 3))), "{many} bytes");
+        }
+        if many > 0 {
+            assert!(rt; is_alien(alloc, &back)?, "all but {many} bytes");
+        }
+    }
+    Ok(())
+}
+
+// A header of version 2 is torn at each of its bytes. From byte 25 on it has only bytes 0.
+#[test]
+fn a_torn_header_of_version_2_is_alien(rt: HostRuntime) -> Result<(), Fail> {
+    let alloc = rt.alloc();
+    let whole = half([0; LEN], 0, &OLD_FIRST);
+    for many in 0..32usize {
+        let (front, back) = torn(whole, 0, many);
+        if many < 25 {
+            assert!(rt; is_alien(alloc, &front)?, "{many} bytes");
+        } else {
+            assert!(rt; matches!(found(alloc, &front)?, Ok((0, 0))), "{many} bytes");
+        }
+        if many > 0 {
+            assert!(rt; is_alien(alloc, &back)?, "all but {many} bytes");
+        }
+    }
+    Ok(())
+}
+
+// What a second header of version 2 says of which so many bytes were written. Without its version or its generation the first
+// half counts, as it stood before the turn; with them it counts itself, and is right only if it is whole.
+fn check_second(
+    rt: &impl Abort,
+    alloc: Global,
+    image: &[u8; LEN],
+    many: usize,
+) -> Result<(), Fail> {
+    let told = found(alloc, image)?;
+    if many < 17 {
+        assert!(rt; matches!(told, Ok((0, 0))), "{many} bytes");
+    } else if many < 25 {
+        assert!(rt; matches!(told, Err(OldNo::Alien)), "{many} bytes");
+    } else {
+        assert!(rt; matches!(told, Ok((2, 3))), "{many} bytes");
+    }
+    Ok(())
+}
+
+// The header of a second half is torn at each of its bytes.
+#[test]
+fn a_torn_second_header_has_no_records_of_its_own(rt: HostRuntime) -> Result<(), Fail> {
+    let alloc = rt.alloc();
+    for many in 0..32usize {
+        let (front, back) = torn(second_journal(), SECOND, many);
+        check_second(&rt, alloc, &front, many)?;
+        if many > 0 {
+            assert!(rt;
+                matches!(found(alloc, &back)?, Ok((0, 0))),
+                "all but {many} bytes"
+            );
+        }
+    }
+    Ok(())
+}
+
 // What version 2 didn't allow: a generation above the base, a base of 4,294,967,295, and an accept counter.
 #[test]
 fn version_2_is_stricter(rt: HostRuntime) -> Result<(), Fail> {

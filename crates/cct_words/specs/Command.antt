@@ -24,8 +24,9 @@ bare_app = record {
   subs = [];
 }
 
--- The program with its three subcommands.
+-- The program with its four subcommands.
 unfoldable pub words_app : App
 words_app = with_subcommand
+    (with_subcommand
     (with_subcommand (with_subcommand bare_app (new_shape (codes "run"))) (new_shape (codes "report")))
-    load_app.top
+    (new_shape (codes "upgrade"))) load_app.top

@@ -7,13 +7,14 @@ ghost use Rattle.cct_words.specs.Command.{bare_app, load_app, one_word, words_ap
 use clap::{Arg, ArgAction, Command};
 use std::alloc::{AllocError, Global};
 
-/// The command: three subcommands, of which one has two words after it.
+/// The command: four subcommands, of which one has two words after it.
 pub(crate) fn words_command<'w>(alloc: Global) -> Result<Command<'w>, AllocError>
     ensures { IfOk result (λ command. app_of command ≡ words_app) }
 {
     bare_command(alloc)
         .subcommand(Command::new(alloc, "run"))?
         .subcommand(Command::new(alloc, "report"))?
+        .subcommand(Command::new(alloc, "upgrade"))?
         .subcommand(load_command(alloc)?)
 }
 

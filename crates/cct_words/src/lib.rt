@@ -1,4 +1,4 @@
-//! The words of the command line, read as a command with three subcommands.
+//! The words of the command line, read as a command with four subcommands.
 #![tactic(auto)]
 
 mod command;

@@ -26,6 +26,7 @@ fn said_by(name: &str, found: &ArgMatches<'_>) -> Option<Words>
     match name {
         "run" => Some(Words::Run),
         "report" => Some(Words::Report),
+        "upgrade" => Some(Words::Upgrade),
         "load" => load_in(found),
         _ => None,
     }

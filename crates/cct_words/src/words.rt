@@ -19,6 +19,8 @@ pub enum Words {
     Run,
     /// List the records of the journal.
     Report,
+    /// Bring a journal of an earlier version forward, for the devices of the script on standard input.
+    Upgrade,
     /// Play a load that a number makes, of so many rounds: 1 to 10,000.
     Load { seed: u64, rounds: u32 },
 }
@@ -34,8 +36,8 @@ pub enum WordsNo {
     Memory,
 }
 
-/// Reads the words of the command line, without the program's name: `run`, `report`, or `load SEED N`, with SEED a number
-/// below 2^64 and N one from 1 to 10,000, both in decimal, without sign and without leading zeros.
+/// Reads the words of the command line, without the program's name: `run`, `report`, `upgrade`, or `load SEED N`, with
+/// SEED a number below 2^64 and N one from 1 to 10,000, both in decimal, without sign and without leading zeros.
 ///
 /// # Errors
 ///

@@ -1,6 +1,8 @@
-use Rattle.std.proofs.Common.{◌≡◌, ◌⊎◌, Some, ap, map, refl, true, ◌∙◌}
+use Rattle.std.proofs.Common.{◌≡◌, ◌⊎◌, ℕ, List, None, Result, Some, ap, inr, map, refl, true, ◌∙◌}
 use Rattle.std.specs.Prelude.{IfSome, string_bytes}
 use Rattle.cct_edge.specs.Faults.{Rose}
+use Rattle.cct_edge.specs.declared.fault.Failed as put
+use Rattle.cct_model.specs.lines.entry.Entry.{Entry}
 use Rattle.cct_model.specs.Script.{script}
 use Rattle.cct_journal.specs.Image.{IsBlank}
 use Rattle.cct_bench.specs.declared.play.TheConstants.{JOURNAL_BYTES}
@@ -9,13 +11,17 @@ use Rattle.cct_gen.specs.Load.{load_steps}
 use Rattle.cct_bench.specs.declared.outcome.Status.TheVariants as status
 use Rattle.cct_bench.specs.Disks.{disks}
 use Rattle.cct_bench.specs.Load.{Loaded}
-use Rattle.cct_bench.specs.Report.{IsOrMemory}
+use Rattle.cct_bench.specs.Report.{IsOrMemory, size_known}
 use Rattle.cct_bench.specs.CommandLine.{said_in}
-use Rattle.cct_text.specs.Writing.{Wrote, Broke}
+use Rattle.cct_text.specs.Writing.{Writes, Wrote, Broke}
+use Rattle.cct_bench.specs.Upgrade.{MayGoForward, Upgraded, old_disk}
+use Rattle.cct_bench.specs.UpgradeScript.{upgrade_script}
 use Rattle.cct_bench.specs.Run.{Completes, Ran}
-use Rattle.cct_bench.proofs.Closing.{memory_completes, no_memory, bytes_weaker, told_completes}
-use Rattle.cct_bench.proofs.LoadEnds.{load_at_once, load_completes}
+use Rattle.cct_bench.proofs.Closing.{memory_completes, no_memory, bytes_weaker, ran_other, told_completes}
+use Rattle.cct_bench.proofs.LoadEnds.{load_at_once, load_completes, load_other}
+use Rattle.cct_bench.proofs.ReportEnds.{report_other}
 use Rattle.cct_bench.proofs.CommandLine.{load_said, words_most}
+use Rattle.cct_bench.proofs.UpgradeEnds.{goes_forward, no_memory_upgraded, some_bytes, untouched_moments, upgrade_completes}
 use Rattle.cct_text.proofs.Writing.{wrote_none}
 use Rattle.cct_bench.proofs.bench.Goals as goal
 
@@ -137,3 +143,81 @@ returns-in-Err-Memory-clause-loaded g c seed rounds is =
     load_at_once seed rounds (Wrote sink.written sink.puts out out) (Broke sink.written sink.puts out out)
     (disks disk.size disk.honest disk.seen disk.may_leave disk.cuts disk.cut_to c.args.disk c.args.disk) refl
     (Rose (disk.faults c.args.disk) (disk.faults c.args.disk)) (wrote_none sink.written sink.puts out)
+
+pub returns-in-Ok-Upgrade-clause-upgrade_complete : goal.returns-in-Ok-Upgrade-clause-upgrade_complete
+returns-in-Ok-Upgrade-clause-upgrade_complete g c is_upgrade =
+    let source = g.S.Source in
+    let sink = g.K.Sink in
+    let disk = g.D.Disk in
+    let script0 = c.args.script.now in
+    let script1 = c.run_upgrade.new.script in
+    let out0 = c.args.out.now in
+    let out1 = c.run_upgrade.new.out in
+    let s = c.run_upgrade.result.0 in
+    let last = c.run_upgrade.result.1 in
+    let old = old_disk disk.size disk.honest disk.seen disk.may_leave disk.moment disk.left_since disk.cuts disk.faults c.args.disk last in
+    let Read = Rose (source.faults script0) (source.faults script1) in
+    let Write = Rose (sink.faults out0) (sink.faults out1) in
+    let Failed = Rose (disk.faults c.args.disk) (disk.faults last) in
+    let W = λ (lines : List Entry) (answer : Result (Unit {0}) put.Failed). Writes sink.written sink.puts out0 lines answer out1 in
+    bytes_weaker (λ bytes. Upgraded old Read bytes s (source.left script1) W)
+    (λ bytes. (image : List ℕ) → disk.seen c.args.disk ≡ Some image → disk.size c.args.disk ≡ JOURNAL_BYTES
+    → (upgrade_script bytes).refused ≡ None → MayGoForward (upgrade_script bytes).setup image → (Read → ⊥) → (Write → ⊥)
+    → (Failed → ⊥) → IsOrMemory status.Done s) (source.left script0)
+    (λ bytes up image told sized none may no_read no_write no_disk.
+    upgrade_completes old Read Write bytes s (source.left script1) W up sized none
+    (λ answer answers. goes_forward (upgrade_script bytes).setup image answer (answers image told) may) c.run_upgrade.ensures.sink.rose no_read no_write
+    no_disk) c.run_upgrade.ensures.upgraded
+
+pub returns-in-Err-Memory-clause-upgraded : goal.returns-in-Err-Memory-clause-upgraded
+returns-in-Err-Memory-clause-upgraded g c is_upgrade =
+    let sink = g.K.Sink in
+    let disk = g.D.Disk in
+    let left = g.S.Source.left c.args.script.now in
+    let out = c.args.out.now in
+    no_memory_upgraded
+    (old_disk disk.size disk.honest disk.seen disk.may_leave disk.moment disk.left_since disk.cuts disk.faults c.args.disk c.args.disk)
+    (Rose (g.S.Source.faults c.args.script.now) (g.S.Source.faults c.args.script.now)) left left status.OutOfMemory
+    (λ lines answer. Writes sink.written sink.puts out lines answer out) refl refl
+    (untouched_moments g.met.D.Disk.only_now c.args.disk) (wrote_none sink.written sink.puts out)
+
+pub returns-in-Err-Memory-clause-upgrade_complete : goal.returns-in-Err-Memory-clause-upgrade_complete
+returns-in-Err-Memory-clause-upgrade_complete g c is_upgrade =
+    some_bytes (g.S.Source.left c.args.script.now)
+    (λ bytes image told sized none may no_read no_write no_disk. inr refl)
+
+pub returns-in-Ok-clause-upgrade_cause : goal.returns-in-Ok-clause-upgrade_cause
+returns-in-Ok-clause-upgrade_cause g c is =
+    let sink = g.K.Sink in
+    let disk = g.D.Disk in
+    let source = g.S.Source in
+    let out0 = c.args.out.now in
+    let out1 = c.run.new.out in
+    let last = c.run.result.1 in
+    let ran = c.run.ensures.ran in
+    absurd (ran_other ran.0 c.run.result.0 (source.left c.run.new.script) (Wrote sink.written sink.puts out0 out1)
+    (Broke sink.written sink.puts out0 out1)
+    (disks disk.size disk.honest disk.seen disk.may_leave disk.cuts disk.cut_to c.args.disk last)
+    (Rose (source.faults c.args.script.now) (source.faults c.run.new.script))
+    (Rose (disk.faults c.args.disk) (disk.faults last)) ran.2 is)
+
+pub returns-in-Ok-Load-clause-upgrade_cause : goal.returns-in-Ok-Load-clause-upgrade_cause
+returns-in-Ok-Load-clause-upgrade_cause g c is =
+    let sink = g.K.Sink in
+    let disk = g.D.Disk in
+    let out0 = c.args.out.now in
+    let out1 = c.run_load.new.out in
+    let last = c.run_load.result.1 in
+    absurd (load_other c.in-Ok-Load.seed c.in-Ok-Load.rounds c.run_load.result.0 (Wrote sink.written sink.puts out0 out1)
+    (Broke sink.written sink.puts out0 out1)
+    (disks disk.size disk.honest disk.seen disk.may_leave disk.cuts disk.cut_to c.args.disk last)
+    (Rose (disk.faults c.args.disk) (disk.faults last)) c.run_load.ensures.loaded is)
+
+pub returns-in-Ok-Report-clause-upgrade_cause : goal.returns-in-Ok-Report-clause-upgrade_cause
+returns-in-Ok-Report-clause-upgrade_cause g c is =
+    let sink = g.K.Sink in
+    let disk = g.D.Disk in
+    absurd (report_other
+    (size_known (disk.size c.args.disk) (Rose (disk.faults c.args.disk) (disk.faults c.report.result.1)))
+    c.report.result.0 (λ lines answer. Writes sink.written sink.puts c.args.out.now lines answer c.report.new.out)
+    c.report.ensures.lines is)

@@ -8,7 +8,7 @@ use Rattle.cct_text.specs.Writing.{IsNothing, NeverBroke}
 use Rattle.cct_bench.specs.Disks.{Always}
 use Rattle.cct_bench.specs.Going.{Going, IsUnbegun}
 use Rattle.cct_bench.specs.Run.{BeforeSteps}
-use Rattle.cct_bench.proofs.SetupLines.{opening_begin, opening_more}
+use Rattle.cct_bench.proofs.SetupLines.{opening_begin, opening_more, opening_stops}
 use Rattle.cct_bench.proofs.Going.{going_begin, going_opens, played_stopped, serves_on}
 use Rattle.cct_bench.proofs.opening.read_setup.Goals as goal
 
@@ -72,6 +72,13 @@ returns-in-Err-clause-ended g c =
     c.loop-number.number stage c.in-Err.why c.ending_at.result IsUnbegun IsNothing NeverBroke BeforeSteps
     c.ending_at.ensures (λ how setup taken played unplayed past is there nothing. (is, nothing))
     c.loop-number.invariant.going c.in-Err.ensures.stops
+
+pub returns-in-Err-clause-stopped : goal.returns-in-Err-clause-stopped
+returns-in-Err-clause-stopped g c =
+    let source = g.S.Source in
+    opening_stops source.takes source.left c.args.script.now c.loop-number.script c.read_opening.new.script
+    (standing_of c.loop-number.lines).held c.loop-number.number c.loop-number.setup c.in-Err.why c.ending_at.result
+    c.loop-number.invariant.opening c.in-Err.ensures.stops c.ending_at.ensures
 
 pub loop-number-preserved : goal.loop-number-preserved
 loop-number-preserved g c =
