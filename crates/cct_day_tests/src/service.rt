@@ -142,9 +142,9 @@ fn a_fault_of_the_line_is_told_once(rt: HostRuntime) -> Result<(), Fail> {
     Ok(())
 }
 
-/// A disk of another length isn't touched, and one that is no journal is refused.
+/// A disk of another length is refused.
 #[test]
-fn other_disks_are_refused(rt: HostRuntime) -> Result<(), Fail> {
+fn a_disk_of_another_length_is_refused(rt: HostRuntime) -> Result<(), Fail> {
     let alloc = rt.alloc();
     let short = MemDisk::new(alloc, 16, Vec::new(alloc))?;
     let (told, how, _) = served(alloc, b"end\n", short, &[], 0, &[])?;

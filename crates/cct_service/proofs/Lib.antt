@@ -1,6 +1,9 @@
 pub mod Suiting
 pub mod Telling
 pub mod Parts
+pub mod Doings
+pub mod Saying
+pub mod Causing
 pub mod Begins
 pub mod Lawful
 pub mod Living

@@ -1,6 +1,7 @@
 -- A service whose host lived to an end.
 use Rattle.std.proofs.Common.{◌≡◌, ℕ, Bool, true, false, List, [], ◌++◌, reverse, sym, ap, subst, Option, Some, None, Result, Ok, Err}
 use Rattle.cct_edge.specs.declared.fault.Failed.{Failed}
+use Rattle.cct_model.specs.lines.device_set.DeviceSet.{DeviceSet}
 use Rattle.cct_model.specs.terms.device.Setup.{Setup}
 use Rattle.cct_model.specs.lines.record.Record.{Record}
 use Rattle.cct_model.specs.lines.entry.Entry.{Entry}
@@ -16,14 +17,17 @@ use Rattle.cct_host.specs.Host.{StandsFor, disk_of, setup_of}
 use Rattle.cct_host.specs.OnDisk.{LeavesRecords}
 use Rattle.cct_lives.specs.Life.{IsLife}
 use Rattle.cct_lives.specs.Live.{started}
+use Rattle.cct_lives.specs.LiveStep.{LiveStep}
 use Rattle.cct_lives.proofs.Life.{life_begins}
 use Rattle.cct_service.specs.declared.served.Served.{Served}
 use Rattle.cct_service.specs.declared.served.Served.TheVariants as served
 use Rattle.cct_service.specs.Found.{FoundOn}
 use Rattle.cct_service.specs.Laws.{IsLawful}
 use Rattle.cct_service.specs.Lived.{LeftBy, Lived}
-use Rattle.cct_service.specs.Parts.{FailedToPut, LivesTo, Part}
-use Rattle.cct_service.specs.Told.{news_of}
+use Rattle.cct_service.specs.Doing.{FrontOf, ServesLines}
+use Rattle.cct_service.specs.Causes.{SuitsDisk}
+use Rattle.cct_service.specs.Parts.{FailedToPut, LivesTo, Part, Plays}
+use Rattle.cct_service.specs.Told.{Told, news_of}
 use Rattle.cct_service.proofs.Lawful.{lawful}
 
 -- the records that are found follow one another
@@ -35,16 +39,18 @@ found_follow honest seen may_leave disk setup false found on = ap (all_follow se
 
 module _ {K : Type 0} (written : K → Option (List ℕ)) (puts : K → List ℕ → Result (Unit {0}) Failed → K → Type 0)
     {D : Type 0} {g : Ghosts D} (given back : D) (host last : Host D g) (was_there : Bool)
+    (withheld : DeviceSet) (left : Option (List ℕ))
     (same : setup_of host ≡ setup_of last) (sound : IsSoundSetup (setup_of last)) (back_is : back ≡ disk_of last)
     (opens : (found : List Record) → FoundOn g.honest g.seen g.may_leave given (setup_of last) was_there found
     → StandsFor host (started found)) where
   part_lived : (a b : K) (answer : Result (Unit {0}) Failed) (After : List Entry → Type 0)
-      (part : Part written puts a b answer (setup_of host) (StandsFor host) After) (found : List Record) →
+      (Doing : List LiveStep → List Told → Type 0)
+      (part : Part written puts a b answer (setup_of host) (StandsFor host) After Doing) (found : List Record) →
       FoundOn g.honest g.seen g.may_leave given (setup_of last) was_there found →
       IsLife MOST_RECORDS (setup_of last) found part.steps (news_of part.told ++ started found)
       × IsLawful (setup_of last) found (news_of part.told ++ started found)
       × After (news_of part.told ++ started found)
-  part_lived a b answer After part found on =
+  part_lived a b answer After Doing part found on =
       let follow = found_follow g.honest g.seen g.may_leave given (setup_of last) was_there found on in
       let begun = life_begins MOST_RECORDS (setup_of last) found follow in
       let goes = part.goes found [] (started found)
@@ -70,77 +76,83 @@ module _ {K : Type 0} (written : K → Option (List ℕ)) (puts : K → List ℕ
         (sym back_is) (failed.left (subst (λ d. IsTrusted g.honest g.seen d) back_is trusted)),
   )
 
-  pub lived_by : (how : Served) (a b : K) → LivesTo written puts how a b host last →
-      Lived written puts g.honest g.seen g.may_leave given back (setup_of last) how a b
-  lived_by served.Unwritten a b lives = record {
+  pub lived_by : (how : Served) (a b : K) →
+      Plays written puts (ServesLines was_there withheld) left how a b host last →
+      Lived written puts g.honest g.seen g.may_leave given back (setup_of last) withheld left how a b
+  lived_by served.Done a b plays = record {
     was_there = was_there;
-    steps = lives.1.steps;
-    told = lives.1.told;
-    wrote = (lives.0, lives.1.wrote);
+    lines = plays.lines;
+    steps = plays.lives.steps;
+    told = plays.lives.told;
+    says = plays.says;
+    does = plays.lives.does;
+    wrote = plays.lives.wrote;
     lived = λ found on.
-        let l = part_lived a b (Err lives.0) (StandsFor last) lives.1 found on in
-        (l.0, l.1, left_standing (news_of lives.1.told ++ started found) l.2);
+        let l = part_lived a b (Ok tt) (StandsFor last) (ServesLines was_there withheld plays.lines) plays.lives found on in
+        (l.0, l.1, left_standing (news_of plays.lives.told ++ started found) l.2);
   }
-  lived_by served.Disk a b lives = record {
+  lived_by (served.Refused number kind) a b plays = record {
     was_there = was_there;
-    steps = lives.steps;
-    told = lives.told;
-    wrote = lives.wrote;
+    lines = plays.lines;
+    steps = plays.lives.steps;
+    told = plays.lives.told;
+    says = plays.says;
+    does = plays.lives.does;
+    wrote = plays.lives.wrote;
     lived = λ found on.
-        let l = part_lived a b (Ok tt) (FailedToPut last) lives found on in
-        (l.0, l.1, left_failed (news_of lives.told ++ started found) l.2);
+        let l = part_lived a b (Ok tt) (StandsFor last) (ServesLines was_there withheld plays.lines) plays.lives found on in
+        (l.0, l.1, left_standing (news_of plays.lives.told ++ started found) l.2);
   }
-  lived_by served.Done a b lives = record {
+  lived_by served.Unread a b plays = record {
     was_there = was_there;
-    steps = lives.steps;
-    told = lives.told;
-    wrote = lives.wrote;
+    lines = plays.lines;
+    steps = plays.lives.steps;
+    told = plays.lives.told;
+    says = plays.says;
+    does = plays.lives.does;
+    wrote = plays.lives.wrote;
     lived = λ found on.
-        let l = part_lived a b (Ok tt) (StandsFor last) lives found on in
-        (l.0, l.1, left_standing (news_of lives.told ++ started found) l.2);
+        let l = part_lived a b (Ok tt) (StandsFor last) (ServesLines was_there withheld plays.lines) plays.lives found on in
+        (l.0, l.1, left_standing (news_of plays.lives.told ++ started found) l.2);
   }
-  lived_by (served.Refused number kind) a b lives = record {
+  lived_by served.Unwritten a b plays = record {
     was_there = was_there;
-    steps = lives.steps;
-    told = lives.told;
-    wrote = lives.wrote;
+    lines = plays.lines;
+    steps = plays.lives.1.steps;
+    told = plays.lives.1.told;
+    says = plays.says;
+    does = plays.lives.1.does;
+    wrote = (plays.lives.0, plays.lives.1.wrote);
     lived = λ found on.
-        let l = part_lived a b (Ok tt) (StandsFor last) lives found on in
-        (l.0, l.1, left_standing (news_of lives.told ++ started found) l.2);
+        let l = part_lived a b (Err plays.lives.0) (StandsFor last) (FrontOf (ServesLines was_there withheld plays.lines)) plays.lives.1 found on in
+        (l.0, l.1, left_standing (news_of plays.lives.1.told ++ started found) l.2);
   }
-  lived_by served.Unread a b lives = record {
+  lived_by served.Disk a b plays = record {
     was_there = was_there;
-    steps = lives.steps;
-    told = lives.told;
-    wrote = lives.wrote;
+    lines = plays.lines;
+    steps = plays.lives.steps;
+    told = plays.lives.told;
+    says = plays.says;
+    does = plays.lives.does;
+    wrote = plays.lives.wrote;
     lived = λ found on.
-        let l = part_lived a b (Ok tt) (StandsFor last) lives found on in
-        (l.0, l.1, left_standing (news_of lives.told ++ started found) l.2);
+        let l = part_lived a b (Ok tt) (FailedToPut last) (FrontOf (ServesLines was_there withheld plays.lines)) plays.lives found on in
+        (l.0, l.1, left_failed (news_of plays.lives.told ++ started found) l.2);
   }
-  lived_by (served.OtherSize len) a b lives = record {
-    was_there = was_there;
-    steps = lives.steps;
-    told = lives.told;
-    wrote = lives.wrote;
-    lived = λ found on.
-        let l = part_lived a b (Ok tt) (StandsFor last) lives found on in
-        (l.0, l.1, left_standing (news_of lives.told ++ started found) l.2);
-  }
-  lived_by served.Alien a b lives = record {
-    was_there = was_there;
-    steps = lives.steps;
-    told = lives.told;
-    wrote = lives.wrote;
-    lived = λ found on.
-        let l = part_lived a b (Ok tt) (StandsFor last) lives found on in
-        (l.0, l.1, left_standing (news_of lives.told ++ started found) l.2);
-  }
-  lived_by (served.BadRecord index) a b lives = record {
-    was_there = was_there;
-    steps = lives.steps;
-    told = lives.told;
-    wrote = lives.wrote;
-    lived = λ found on.
-        let l = part_lived a b (Ok tt) (StandsFor last) lives found on in
-        (l.0, l.1, left_standing (news_of lives.told ++ started found) l.2);
-  }
+  lived_by (served.OtherSize len) a b plays = absurd plays.lives
+  lived_by served.Alien a b plays = absurd plays.lives
+  lived_by (served.BadRecord index) a b plays = absurd plays.lives
+
+-- a host that lived had a disk that it could be started over
+pub lived_suits : {K D : Type 0} (written : K → Option (List ℕ)) (puts : K → List ℕ → Result (Unit {0}) Failed → K → Type 0)
+    {g : Ghosts D} (given back : D) (setup : Setup) (P : List LiveStep → List Told → Type 0) (how : Served) (a b : K)
+    (old new : Host D g) → LivesTo written puts P how a b old new →
+    SuitsDisk g.size g.honest g.seen g.may_leave g.moment g.left_since g.cuts given back setup how
+lived_suits written puts given back setup P served.Done a b old new lives = tt
+lived_suits written puts given back setup P (served.Refused number kind) a b old new lives = tt
+lived_suits written puts given back setup P served.Unread a b old new lives = tt
+lived_suits written puts given back setup P served.Unwritten a b old new lives = tt
+lived_suits written puts given back setup P served.Disk a b old new lives = tt
+lived_suits written puts given back setup P (served.OtherSize len) a b old new lives = absurd lives
+lived_suits written puts given back setup P served.Alien a b old new lives = absurd lives
+lived_suits written puts given back setup P (served.BadRecord index) a b old new lives = absurd lives

@@ -1,7 +1,10 @@
 -- One part of a life after another.
-use Rattle.std.proofs.Common.{◌≡◌, ◌≤◌, ℕ, List, [], ◌∷◌, ◌++◌, Bool, false, length, map, Option, Result}
-use Rattle.std.proofs.Common.{Ok, Err, refl, ap, sym, ◌∙◌, subst, append_assoc, arith}
-use Rattle.std.proofs.lemmas.List.{append-nil, map-append}
+use Rattle.std.proofs.Common.{◌≡◌, ◌≤◌, ◌⊎◌, ℕ, List, [], ◌∷◌, ◌++◌, Bool, false, length, Option, Result, OnOk, IsErr}
+use Rattle.std.specs.Prelude.{⊤}
+use Rattle.std.proofs.Common.{Ok, Err, refl, ap, sym, ◌∙◌, subst, append_assoc, arith, inr, ⊎_elim}
+use Rattle.std.proofs.lemmas.List.{append-nil}
+use Rattle.cct_edge.specs.Bytes.{Serves}
+use Rattle.cct_edge.proofs.Chains.{Rose-earlier, Rose-later}
 use Rattle.cct_edge.specs.declared.fault.Failed.{Failed}
 use Rattle.cct_model.specs.terms.wire.TheConstants.{MOST_HEARD}
 use Rattle.cct_model.specs.terms.device.Setup.{Setup}
@@ -28,15 +31,13 @@ use Rattle.cct_lives.specs.LiveStep as live
 use Rattle.cct_lives.proofs.Life.{life_balance, life_command, life_next}
 use Rattle.cct_service.specs.declared.served.Served.{Served}
 use Rattle.cct_service.specs.declared.served.Served.TheVariants as served
-use Rattle.cct_service.specs.Parts.{FailedToPut, LifeGoes, LivesOn, LivesTo, Part, StillLives}
+use Rattle.cct_service.specs.Causes.{DiskServes, EndsBy, IsDiskFault, IsUnwritten}
+use Rattle.cct_service.specs.Doing.{FrontOf, Tells}
 use Rattle.cct_service.specs.Ending.{by_writing}
-use Rattle.cct_service.specs.Turn.{IsOfInput}
-use Rattle.cct_service.specs.declared.notice.Notice.{Notice}
-use Rattle.cct_service.specs.Told.{TellsNotices, Told, WritesTold, as_told, fault_told, news_of, notice, refused}
+use Rattle.cct_service.specs.Parts.{Acts, FailedToPut, LifeGoes, LivesOn, LivesTo, Part}
+use Rattle.cct_service.specs.Said.{IsOfInput}
+use Rattle.cct_service.specs.Told.{Told, WritesTold, as_told, fault_told, news_of, told_line}
 use Rattle.cct_text.specs.Writing.{PutsLine}
-use Rattle.cct_model.specs.Text.{line_of}
-use Rattle.cct_service.specs.Notice.{notice_line}
-use Rattle.cct_model.specs.lines.entry.LineKind.{LineKind}
 use Rattle.cct_service.proofs.Suiting.{life_suits}
 use Rattle.cct_service.proofs.Telling.{news_next, news_then, told_none, told_one, told_then}
 
@@ -65,35 +66,37 @@ goes_none setup A B told none keeps found before past life is = (
 )
 
 module _ {K : Type 0} (written : K → Option (List ℕ)) (puts : K → List ℕ → Result (Unit {0}) Failed → K → Type 0) where
-  pub part_then : (a b c : K) (answer : Result (Unit {0}) Failed) (setup : Setup) (A B C : List Entry → Type 0) →
-      Part written puts a b (Ok tt) setup A B → Part written puts b c answer setup B C →
-      Part written puts a c answer setup A C
-  part_then a b c answer setup A B C h k = record {
+  -- the same part is also this
+  pub part_weaker : (a b : K) (answer : Result (Unit {0}) Failed) (setup : Setup) (A B : List Entry → Type 0)
+      (P Q : List LiveStep → List Told → Type 0) → ((steps : List LiveStep) (told : List Told) → P steps told → Q steps told) →
+      Part written puts a b answer setup A B P → Part written puts a b answer setup A B Q
+  part_weaker a b answer setup A B P Q to h =
+      record { steps = h.steps; told = h.told; wrote = h.wrote; goes = h.goes; does = to h.steps h.told h.does }
+
+  -- nothing is done, and one line is told that isn't an entry
+  pub part_line : (a b : K) (answer : Result (Unit {0}) Failed) (setup : Setup) (A : List Entry → Type 0) (what : Told)
+      (P : List LiveStep → List Told → Type 0) → news_of (what ∷ []) ≡ [] → PutsLine written puts a (told_line what) answer b →
+      P [] (what ∷ []) → Part written puts a b answer setup A A P
+  part_line a b answer setup A what P none line is = record {
+    steps = [];
+    told = what ∷ [];
+    wrote = told_one written puts a b what answer line;
+    goes = goes_none setup A A (what ∷ []) none (λ past is. is);
+    does = is;
+  }
+
+  pub part_then : (a b c : K) (answer : Result (Unit {0}) Failed) (setup : Setup) (A B C : List Entry → Type 0)
+      (P Q R : List LiveStep → List Told → Type 0) →
+      ((s1 s2 : List LiveStep) (t1 t2 : List Told) → P s1 t1 → Q s2 t2 → R (s1 ++ s2) (t1 ++ t2)) →
+      Part written puts a b (Ok tt) setup A B P → Part written puts b c answer setup B C Q →
+      Part written puts a c answer setup A C R
+  part_then a b c answer setup A B C P Q R to h k = record {
     steps = h.steps ++ k.steps;
     told = h.told ++ k.told;
     wrote = told_then written puts a b c h.told k.told answer h.wrote k.wrote;
     goes = goes_then setup A B C h.steps k.steps h.told k.told h.goes k.goes;
+    does = to h.steps k.steps h.told k.told h.does k.does;
   }
-
-  -- nothing is done and told
-  pub part_none : (a : K) (setup : Setup) (A : List Entry → Type 0) → Part written puts a a (Ok tt) setup A A
-  part_none a setup A = record {
-    steps = [];
-    told = [];
-    wrote = told_none written puts a;
-    goes = goes_none setup A A [] refl (λ past is. is);
-  }
-
-  -- nothing is done, and something is told that isn't an entry
-  pub part_told : (a b : K) (answer : Result (Unit {0}) Failed) (told : List Told) (setup : Setup)
-      (A : List Entry → Type 0) → news_of told ≡ [] → WritesTold written puts a told answer b →
-      Part written puts a b answer setup A A
-  part_told a b answer told setup A none wrote =
-      record { steps = []; told = told; wrote = wrote; goes = goes_none setup A A told none (λ past is. is) }
-
-pub news_notices : (notices : List Notice) → news_of (map (λ n. notice n) notices) ≡ []
-news_notices [] = refl
-news_notices (n ∷ notices) = news_notices notices
 
 -- what an attempt heard
 heard_of : Attempt → List ℕ
@@ -176,152 +179,342 @@ module _ {D : Type 0} {g : Ghosts D} where
         left = λ trusted. rw same (failed.1.2 (sym on.same_honest ∙ trusted.0, sym on.same_telling ∙ trusted.1));
       }
 
+later_later : (a b c : ℕ) → a ≤ b → b ≤ c → a ≤ c
+later_later a b c h k = omega arith
+
+-- one front is all of it
+pub front_whole : (P : List LiveStep → List Told → Type 0) (steps : List LiveStep) (told : List Told) → P steps told →
+    FrontOf P steps told
+front_whole P steps told h = record {
+  undone = [];
+  untold = [];
+  whole = subst (λ s. P s (told ++ [])) (sym (append-nil steps)) (subst (P steps) (sym (append-nil told)) h);
+}
+
+pub front_weaker : (P Q : List LiveStep → List Told → Type 0) →
+    ((steps : List LiveStep) (told : List Told) → P steps told → Q steps told) → (steps : List LiveStep) (told : List Told) →
+    FrontOf P steps told → FrontOf Q steps told
+front_weaker P Q to steps told h = record {
+  undone = h.undone;
+  untold = h.untold;
+  whole = to (steps ++ h.undone) (told ++ h.untold) h.whole;
+}
+
+-- a whole, and then a front
+pub front_then : (P Q R : List LiveStep → List Told → Type 0) →
+    ((s1 s2 : List LiveStep) (t1 t2 : List Told) → P s1 t1 → Q s2 t2 → R (s1 ++ s2) (t1 ++ t2)) →
+    (s1 s2 : List LiveStep) (t1 t2 : List Told) → P s1 t1 → FrontOf Q s2 t2 → FrontOf R (s1 ++ s2) (t1 ++ t2)
+front_then P Q R to s1 s2 t1 t2 h k = record {
+  undone = k.undone;
+  untold = k.untold;
+  whole = subst (λ s. R s ((t1 ++ t2) ++ k.untold)) (sym (append_assoc s1 s2 k.undone))
+      (subst (R (s1 ++ (s2 ++ k.undone))) (sym (append_assoc t1 t2 k.untold))
+      (to s1 (s2 ++ k.undone) t1 (t2 ++ k.untold) h k.whole));
+}
+
+-- one call of a sink after another
+pub serves_then : {T : Type 0} (told : T → Option (List ℕ)) (faults : T → ℕ) (a b c : T) (E F : Type 0) →
+    Serves told faults a b E → Serves told faults b c F → (G : Type 0) → (G → E ⊎ F) → Serves told faults a c G
+serves_then told faults a b c E F h k G by = record {
+  tells = k.tells ∙ h.tells;
+  later = later_later (faults a) (faults b) (faults c) h.later k.later;
+  rose = λ fails. ⊎_elim (λ e. Rose-later (faults a) (faults b) (faults c) (h.rose e) k.later)
+      (λ f. Rose-earlier (faults a) (faults b) (faults c) h.later (k.rose f)) (by fails);
+}
+
+-- a call that failed by nothing, and one more
+pub serves_on : {T : Type 0} (told : T → Option (List ℕ)) (faults : T → ℕ) (a b c : T) {E : Type 0} →
+    Serves told faults a b ⊥ → Serves told faults b c E → Serves told faults a c ⊥
+serves_on told faults a b c {E} h k = serves_then told faults a b c ⊥ E h k ⊥ (λ fails. absurd fails)
+
+pub serves_weaker : {T : Type 0} (told : T → Option (List ℕ)) (faults : T → ℕ) (a b : T) (E F : Type 0) → (F → E) →
+    Serves told faults a b E → Serves told faults a b F
+serves_weaker told faults a b E F by h = record { tells = h.tells; later = h.later; rose = λ f. h.rose (by f) }
+
+pub serves_none : {T : Type 0} (told : T → Option (List ℕ)) (faults : T → ℕ) (a : T) (E : Type 0) → (E → ⊥) →
+    Serves told faults a a E
+serves_none told faults a E never = record { tells = refl; later = omega arith; rose = λ e. absurd (never e) }
+
+-- the same of a disk
+module _ {D : Type 0} (size : D → ℕ) (honest : D → Bool) (seen : D → Option (List ℕ)) (cuts faults : D → ℕ) where
+  pub disk_then : (a b c : D) (E F : Type 0) → DiskServes size honest seen cuts faults a b E →
+      DiskServes size honest seen cuts faults b c F → (G : Type 0) → (G → E ⊎ F) →
+      DiskServes size honest seen cuts faults a c G
+  disk_then a b c E F h k G by = record {
+    goes_on = record {
+      same_size = k.goes_on.same_size ∙ h.goes_on.same_size;
+      same_honest = k.goes_on.same_honest ∙ h.goes_on.same_honest;
+      same_telling = k.goes_on.same_telling ∙ h.goes_on.same_telling;
+      same_cuts = k.goes_on.same_cuts ∙ h.goes_on.same_cuts;
+    };
+    cause = record {
+      later = later_later (faults a) (faults b) (faults c) h.cause.later k.cause.later;
+      rose = λ fails. ⊎_elim (λ e. Rose-later (faults a) (faults b) (faults c) (h.cause.rose e) k.cause.later)
+          (λ f. Rose-earlier (faults a) (faults b) (faults c) h.cause.later (k.cause.rose f)) (by fails);
+    };
+  }
+
+  pub disk_weaker : (a b : D) (E F : Type 0) → (F → E) → DiskServes size honest seen cuts faults a b E →
+      DiskServes size honest seen cuts faults a b F
+  disk_weaker a b E F by h = record {
+    goes_on = h.goes_on;
+    cause = record { later = h.cause.later; rose = λ f. h.cause.rose (by f) };
+  }
+
+  pub disk_none : (a : D) (E : Type 0) → (E → ⊥) → DiskServes size honest seen cuts faults a a E
+  disk_none a E never = record {
+    goes_on = record { same_size = refl; same_honest = refl; same_telling = refl; same_cuts = refl };
+    cause = record { later = omega arith; rose = λ e. absurd (never e) };
+  }
+
+  pub disk_same : (a b : D) → b ≡ a → DiskServes size honest seen cuts faults a b ⊥
+  disk_same a b same =
+      subst (λ d. DiskServes size honest seen cuts faults a d ⊥) (sym same) (disk_none a ⊥ (λ fails. fails))
+
 module _ {K : Type 0} (written : K → Option (List ℕ)) (puts : K → List ℕ → Result (Unit {0}) Failed → K → Type 0)
     {D : Type 0} {g : Ghosts D} where
-  -- one part, and then how it ends
-  pub lives_to : (how : Served) (a b c : K) (first between last : Host D g) → setup_of between ≡ setup_of first →
-      Part written puts a b (Ok tt) (setup_of first) (StandsFor first) (StandsFor between) →
-      LivesTo written puts how b c between last → LivesTo written puts how a c first last
-  lives_to served.Unwritten a b c first between last same h k =
-      (k.0, part_then written puts a b c (Err k.0) _ _ _ _ h (subst (λ setup. Part written puts b c (Err k.0) setup (StandsFor between) (StandsFor last)) same k.1))
-  lives_to served.Disk a b c first between last same h k =
-      part_then written puts a b c (Ok tt) _ _ _ _ h (subst (λ setup. Part written puts b c (Ok tt) setup (StandsFor between) (FailedToPut last)) same k)
-  lives_to served.Done a b c first between last same h k =
-      part_then written puts a b c (Ok tt) _ _ _ _ h (subst (λ setup. Part written puts b c (Ok tt) setup (StandsFor between) (StandsFor last)) same k)
-  lives_to (served.Refused number kind) a b c first between last same h k =
-      part_then written puts a b c (Ok tt) _ _ _ _ h (subst (λ setup. Part written puts b c (Ok tt) setup (StandsFor between) (StandsFor last)) same k)
-  lives_to served.Unread a b c first between last same h k =
-      part_then written puts a b c (Ok tt) _ _ _ _ h (subst (λ setup. Part written puts b c (Ok tt) setup (StandsFor between) (StandsFor last)) same k)
-  lives_to (served.OtherSize len) a b c first between last same h k =
-      part_then written puts a b c (Ok tt) _ _ _ _ h (subst (λ setup. Part written puts b c (Ok tt) setup (StandsFor between) (StandsFor last)) same k)
-  lives_to served.Alien a b c first between last same h k =
-      part_then written puts a b c (Ok tt) _ _ _ _ h (subst (λ setup. Part written puts b c (Ok tt) setup (StandsFor between) (StandsFor last)) same k)
-  lives_to (served.BadRecord index) a b c first between last same h k =
-      part_then written puts a b c (Ok tt) _ _ _ _ h (subst (λ setup. Part written puts b c (Ok tt) setup (StandsFor between) (StandsFor last)) same k)
+  -- the same life is also this
+  pub lives_weaker : (result : Result (Unit {0}) Served) (a b : K) (old new : Host D g)
+      (P Q : List LiveStep → List Told → Type 0) → ((steps : List LiveStep) (told : List Told) → P steps told → Q steps told) →
+      LivesOn written puts P result a b old new → LivesOn written puts Q result a b old new
+  lives_weaker (Ok done) a b old new P Q to h =
+      part_weaker written puts a b (Ok tt) (setup_of old) (StandsFor old) (StandsFor new) P Q to h
+  lives_weaker (Err served.Unwritten) a b old new P Q to h = (
+    h.0,
+    part_weaker written puts a b (Err h.0) (setup_of old) (StandsFor old) (StandsFor new) (FrontOf P) (FrontOf Q)
+        (front_weaker P Q to) h.1,
+  )
+  lives_weaker (Err served.Disk) a b old new P Q to h =
+      part_weaker written puts a b (Ok tt) (setup_of old) (StandsFor old) (FailedToPut new) (FrontOf P) (FrontOf Q)
+      (front_weaker P Q to) h
+  lives_weaker (Err served.Done) a b old new P Q to h = absurd h
+  lives_weaker (Err (served.Refused number kind)) a b old new P Q to h = absurd h
+  lives_weaker (Err served.Unread) a b old new P Q to h = absurd h
+  lives_weaker (Err (served.OtherSize len)) a b old new P Q to h = absurd h
+  lives_weaker (Err served.Alien) a b old new P Q to h = absurd h
+  lives_weaker (Err (served.BadRecord index)) a b old new P Q to h = absurd h
 
-  pub lives_on : (result : Result (Unit {0}) Served) (a b c : K) (first between last : Host D g) →
+  -- one part, and then more
+  pub lives_then : (result : Result (Unit {0}) Served) (a b c : K) (first between last : Host D g)
+      (P Q R : List LiveStep → List Told → Type 0) →
+      ((s1 s2 : List LiveStep) (t1 t2 : List Told) → P s1 t1 → Q s2 t2 → R (s1 ++ s2) (t1 ++ t2)) →
       setup_of between ≡ setup_of first →
-      Part written puts a b (Ok tt) (setup_of first) (StandsFor first) (StandsFor between) →
-      LivesOn written puts result b c between last → LivesOn written puts result a c first last
-  lives_on (Ok done) a b c first between last same h k =
-      part_then written puts a b c (Ok tt) _ _ _ _ h (subst (λ setup. Part written puts b c (Ok tt) setup (StandsFor between) (StandsFor last)) same k)
-  lives_on (Err how) a b c first between last same h k = lives_to how a b c first between last same h k
+      Part written puts a b (Ok tt) (setup_of first) (StandsFor first) (StandsFor between) P →
+      LivesOn written puts Q result b c between last → LivesOn written puts R result a c first last
+  lives_then (Ok done) a b c first between last P Q R to same h k =
+      part_then written puts a b c (Ok tt) (setup_of first) (StandsFor first) (StandsFor between) (StandsFor last) P Q R to h
+      (subst (λ setup. Part written puts b c (Ok tt) setup (StandsFor between) (StandsFor last) Q) same k)
+  lives_then (Err served.Unwritten) a b c first between last P Q R to same h k = (
+    k.0,
+    part_then written puts a b c (Err k.0) (setup_of first) (StandsFor first) (StandsFor between) (StandsFor last) P
+        (FrontOf Q) (FrontOf R) (front_then P Q R to) h
+        (subst (λ setup. Part written puts b c (Err k.0) setup (StandsFor between) (StandsFor last) (FrontOf Q)) same k.1),
+  )
+  lives_then (Err served.Disk) a b c first between last P Q R to same h k =
+      part_then written puts a b c (Ok tt) (setup_of first) (StandsFor first) (StandsFor between) (FailedToPut last) P
+      (FrontOf Q) (FrontOf R) (front_then P Q R to) h
+      (subst (λ setup. Part written puts b c (Ok tt) setup (StandsFor between) (FailedToPut last) (FrontOf Q)) same k)
+  lives_then (Err served.Done) a b c first between last P Q R to same h k = absurd k
+  lives_then (Err (served.Refused number kind)) a b c first between last P Q R to same h k = absurd k
+  lives_then (Err served.Unread) a b c first between last P Q R to same h k = absurd k
+  lives_then (Err (served.OtherSize len)) a b c first between last P Q R to same h k = absurd k
+  lives_then (Err served.Alien) a b c first between last P Q R to same h k = absurd k
+  lives_then (Err (served.BadRecord index)) a b c first between last P Q R to same h k = absurd k
 
-  -- a part, by how it was written
-  pub lives_written : (answer : Result (Unit {0}) Failed) (a b : K) (old new : Host D g) →
-      Part written puts a b answer (setup_of old) (StandsFor old) (StandsFor new) →
-      LivesOn written puts (by_writing answer) a b old new
-  lives_written (Ok done) a b old new h = h
-  lives_written (Err failed) a b old new h = (failed, h)
+  -- a life to an end is one by the answer of that
+  pub lives_to : (how : Served) (a b c : K) (first between last : Host D g) (P Q R : List LiveStep → List Told → Type 0) →
+      ((s1 s2 : List LiveStep) (t1 t2 : List Told) → P s1 t1 → Q s2 t2 → R (s1 ++ s2) (t1 ++ t2)) →
+      setup_of between ≡ setup_of first →
+      Part written puts a b (Ok tt) (setup_of first) (StandsFor first) (StandsFor between) P →
+      LivesTo written puts Q how b c between last → LivesTo written puts R how a c first last
+  lives_to served.Done = lives_then (Ok tt)
+  lives_to (served.Refused number kind) = lives_then (Ok tt)
+  lives_to served.Unread = lives_then (Ok tt)
+  lives_to served.Unwritten = lives_then (Err served.Unwritten)
+  lives_to served.Disk = lives_then (Err served.Disk)
+  lives_to (served.OtherSize len) = lives_then (Err (served.OtherSize len))
+  lives_to served.Alien = lives_then (Err served.Alien)
+  lives_to (served.BadRecord index) = lives_then (Err (served.BadRecord index))
 
-  -- a step, and its entries
-  pub lives_step : (answer : Result (Unit {0}) Failed) (a b : K) (old new : Host D g) (s : LiveStep) (told : List Told) →
-      WritesTold written puts a told answer b →
-      LifeGoes (setup_of old) (StandsFor old) (s ∷ []) told (StandsFor new) →
-      LivesOn written puts (by_writing answer) a b old new
-  lives_step answer a b old new s told wrote goes =
-      lives_written answer a b old new (record { steps = s ∷ []; told = told; wrote = wrote; goes = goes })
+  -- an end that a step brings
+  pub ends_to : (how : Served) (P : List LiveStep → List Told → Type 0) (a b : K) (old new : Host D g) →
+      LivesOn written puts P (Err how) a b old new → LivesTo written puts P how a b old new
+  ends_to served.Unwritten P a b old new h = h
+  ends_to served.Disk P a b old new h = h
+  ends_to served.Done P a b old new h = absurd h
+  ends_to (served.Refused number kind) P a b old new h = absurd h
+  ends_to served.Unread P a b old new h = absurd h
+  ends_to (served.OtherSize len) P a b old new h = absurd h
+  ends_to served.Alien P a b old new h = absurd h
+  ends_to (served.BadRecord index) P a b old new h = absurd h
 
-  -- lines that tell no entry
-  pub lives_told : (answer : Result (Unit {0}) Failed) (a b : K) (old new : Host D g) (told : List Told) → new ≡ old →
-      news_of told ≡ [] → WritesTold written puts a told answer b → LivesOn written puts (by_writing answer) a b old new
-  lives_told answer a b old new told same none wrote =
-      lives_written answer a b old new
-      (subst (λ host. Part written puts a b answer (setup_of old) (StandsFor old) (StandsFor host)) (sym same)
-      (part_told written puts a b answer told (setup_of old) (StandsFor old) none wrote))
-
-  pub lives_notices : (answer : Result (Unit {0}) Failed) (a b : K) (old new : Host D g) → new ≡ old →
-      TellsNotices written puts a answer b → LivesOn written puts (by_writing answer) a b old new
-  lives_notices answer a b old new same tells =
-      lives_told answer a b old new (map (λ n. notice n) tells.0) same (news_notices tells.0) tells.1
-
-  pub lives_notice : (answer : Result (Unit {0}) Failed) (a b : K) (old new : Host D g) (n : Notice) → new ≡ old →
-      PutsLine written puts a (notice_line n) answer b → LivesOn written puts (by_writing answer) a b old new
-  lives_notice answer a b old new n same line =
-      lives_told answer a b old new (notice n ∷ []) same refl (told_one written puts a b (notice n) answer line)
-
-  -- a put that failed
-  pub lives_broke : (a : K) (before after : Host D g) (addr : ℕ) → setup_of after ≡ setup_of before →
-      Fails before after addr → GoesOn g.size g.honest g.seen g.cuts (disk_of before) (disk_of after) →
-      LivesOn written puts (Err served.Disk) a a before after
-  lives_broke a before after addr same fails on = record {
-    steps = [];
-    told = [];
-    wrote = told_none written puts a;
-    goes = goes_none (setup_of before) (StandsFor before) (FailedToPut after) [] refl
-        (put_failed before after addr same fails on);
-  }
-
-  -- nothing
-  pub lives_still : (a : K) (old new : Host D g) → new ≡ old → LivesOn written puts (Ok tt) a a old new
-  lives_still a old new same =
-      subst (λ host. Part written puts a a (Ok tt) (setup_of old) (StandsFor old) (StandsFor host)) (sym same)
-      (part_none written puts a (setup_of old) (StandsFor old))
+  -- no end that the input brings
+  pub breaks : (how : Served) (P : List LiveStep → List Told → Type 0) (a b : K) (old new : Host D g) →
+      LivesOn written puts P (Err how) a b old new → IsOfInput how → ⊥
+  breaks served.Done P a b old new h is = h
+  breaks (served.Refused number kind) P a b old new h is = h
+  breaks served.Unread P a b old new h is = h
+  breaks served.Unwritten P a b old new h is = is
+  breaks served.Disk P a b old new h is = is
+  breaks (served.OtherSize len) P a b old new h is = is
+  breaks served.Alien P a b old new h is = is
+  breaks (served.BadRecord index) P a b old new h is = is
 
   -- an end that the input brings
-  pub lives_ended : (how : Served) (a : K) (host : Host D g) → IsOfInput how → LivesOn written puts (Err how) a a host host
-  lives_ended served.Done a host is = part_none written puts a (setup_of host) (StandsFor host)
-  lives_ended (served.Refused number kind) a host is = part_none written puts a (setup_of host) (StandsFor host)
-  lives_ended served.Unread a host is = part_none written puts a (setup_of host) (StandsFor host)
-  lives_ended served.Unwritten a host is = absurd is
-  lives_ended served.Disk a host is = absurd is
-  lives_ended (served.OtherSize len) a host is = absurd is
-  lives_ended served.Alien a host is = absurd is
-  lives_ended (served.BadRecord index) a host is = absurd is
+  pub stops_to : (how : Served) (P : List LiveStep → List Told → Type 0) (a b : K) (old new : Host D g) → IsOfInput how →
+      LivesOn written puts P (Ok tt) a b old new → LivesTo written puts P how a b old new
+  stops_to served.Done P a b old new is h = h
+  stops_to (served.Refused number kind) P a b old new is h = h
+  stops_to served.Unread P a b old new is h = h
+  stops_to served.Unwritten P a b old new is h = absurd is
+  stops_to served.Disk P a b old new is h = absurd is
+  stops_to (served.OtherSize len) P a b old new is h = absurd is
+  stops_to served.Alien P a b old new is h = absurd is
+  stops_to (served.BadRecord index) P a b old new is h = absurd is
 
-  -- a line that is refused
-  pub lives_refused : (answer : Result (Unit {0}) Failed) (a b : K) (host : Host D g) (number : ℕ) (why : LineKind) →
-      PutsLine written puts a (line_of (entry_of.Line number why)) answer b →
-      LivesOn written puts (by_writing answer) a b host host
-  lives_refused answer a b host number why line =
-      lives_told answer a b host host (refused number why ∷ []) refl refl
-      (told_one written puts a b (refused number why) answer line)
+-- no error
+pub no_error : (done : Unit {0}) → IsErr {T = Unit {0}} {E = Failed} (Ok done) → ⊥
+no_error done e = cc e
 
-  -- a host begins to live on
-  pub still_begin : (a : K) (host : Host D g) → has_failed host ≡ false → StillLives written puts a a host host
-  still_begin a host whole =
-      record { whole = whole; same = refl; lives = part_none written puts a (setup_of host) (StandsFor host) }
+-- what is known by how lines were written
+whole_written : (answer : Result (Unit {0}) Failed) (P : Type 0) → P → OnOk (by_writing answer) P
+whole_written (Ok done) P is = is
+whole_written (Err failed) P is = tt
 
-  pub still_on : (a b c : K) (first between last : Host D g) → StillLives written puts a b first between →
-      LivesOn written puts (Ok tt) b c between last → has_failed last ≡ false → setup_of last ≡ setup_of between →
-      StillLives written puts a c first last
-  still_on a b c first between last h k whole same = record {
-    whole = whole;
-    same = same ∙ h.same;
-    lives = lives_on (Ok tt) a b c first between last h.same h.lives k;
+unwritten : (answer : Result (Unit {0}) Failed) → EndsBy IsUnwritten (by_writing answer) → IsErr answer
+unwritten (Ok done) ends = absurd ends
+unwritten (Err failed) ends = refl
+
+no_disk_fault : (answer : Result (Unit {0}) Failed) → EndsBy IsDiskFault (by_writing answer) → ⊥
+no_disk_fault (Ok done) ends = ends
+no_disk_fault (Err failed) ends = ends
+
+-- of a sink with a count of faults
+module _ {K : Type 0} (written : K → Option (List ℕ)) (puts : K → List ℕ → Result (Unit {0}) Failed → K → Type 0)
+    (faults : K → ℕ) {D : Type 0} {g : Ghosts D} where
+  pub acts_weaker : (result : Result (Unit {0}) Served) (a b : K) (old new : Host D g)
+      (P Q : List LiveStep → List Told → Type 0) → ((steps : List LiveStep) (told : List Told) → P steps told → Q steps told) →
+      Acts written puts faults P result a b old new → Acts written puts faults Q result a b old new
+  acts_weaker result a b old new P Q to h = record {
+    whole = h.whole;
+    setup = h.setup;
+    lives = lives_weaker written puts result a b old new P Q to h.lives;
+    sink = h.sink;
+    disk = h.disk;
   }
 
-  pub still_ends : (result : Result (Unit {0}) Served) (a b c : K) (first between last : Host D g) →
-      StillLives written puts a b first between → LivesOn written puts result b c between last →
-      LivesOn written puts result a c first last
-  still_ends result a b c first between last h k = lives_on result a b c first between last h.same h.lives k
+  pub acts_then : (result : Result (Unit {0}) Served) (a b c : K) (first between last : Host D g)
+      (P Q R : List LiveStep → List Told → Type 0) →
+      ((s1 s2 : List LiveStep) (t1 t2 : List Told) → P s1 t1 → Q s2 t2 → R (s1 ++ s2) (t1 ++ t2)) →
+      Acts written puts faults P (Ok tt) a b first between → Acts written puts faults Q result b c between last →
+      Acts written puts faults R result a c first last
+  acts_then result a b c first between last P Q R to h k = record {
+    whole = k.whole;
+    setup = k.setup ∙ h.setup;
+    lives = lives_then written puts result a b c first between last P Q R to h.setup h.lives k.lives;
+    sink = serves_then written faults a b c ⊥ (EndsBy IsUnwritten result) h.sink k.sink
+        (EndsBy IsUnwritten result) (λ fails. inr fails);
+    disk = disk_then g.size g.honest g.seen g.cuts g.faults (disk_of first) (disk_of between) (disk_of last)
+        ⊥ (EndsBy IsDiskFault result) h.disk k.disk (EndsBy IsDiskFault result)
+        (λ fails. inr fails);
+  }
 
--- notices, and one more
-pub notices_more : {K : Type 0} (written : K → Option (List ℕ)) (puts : K → List ℕ → Result (Unit {0}) Failed → K → Type 0)
-    (a b c : K) (n : Notice) (answer : Result (Unit {0}) Failed) → TellsNotices written puts a (Ok tt) b →
-    PutsLine written puts b (notice_line n) answer c → TellsNotices written puts a answer c
-notices_more written puts a b c n answer h line = (
-  h.0 ++ n ∷ [],
-  subst (λ told. WritesTold written puts a told answer c) (sym (map-append (λ m. notice m) h.0 (n ∷ [])))
-      (told_then written puts a b c (map (λ m. notice m) h.0) (notice n ∷ []) answer h.1
-      (told_one written puts b c (notice n) answer line)),
-)
+  -- nothing is done and told
+  pub acts_none : (a : K) (host : Host D g) (P : List LiveStep → List Told → Type 0) → has_failed host ≡ false → P [] [] →
+      Acts written puts faults P (Ok tt) a a host host
+  acts_none a host P whole is = record {
+    whole = whole;
+    setup = refl;
+    lives = record {
+      steps = [];
+      told = [];
+      wrote = told_none written puts a;
+      goes = goes_none (setup_of host) (StandsFor host) (StandsFor host) [] refl (λ past is. is);
+      does = is;
+    };
+    sink = serves_none written faults a ⊥ (λ fails. fails);
+    disk = disk_none g.size g.honest g.seen g.cuts g.faults (disk_of host) ⊥ (λ fails. fails);
+  }
 
-pub notices_one : {K : Type 0} (written : K → Option (List ℕ)) (puts : K → List ℕ → Result (Unit {0}) Failed → K → Type 0)
-    (a b : K) (n : Notice) (answer : Result (Unit {0}) Failed) → PutsLine written puts a (notice_line n) answer b →
-    TellsNotices written puts a answer b
-notices_one written puts a b n answer line = (n ∷ [], told_one written puts a b (notice n) answer line)
+  lives_written : (answer : Result (Unit {0}) Failed) (a b : K) (old new : Host D g)
+      (P : List LiveStep → List Told → Type 0) →
+      Part written puts a b answer (setup_of old) (StandsFor old) (StandsFor new) P →
+      LivesOn written puts P (by_writing answer) a b old new
+  lives_written (Ok done) a b old new P h = h
+  lives_written (Err failed) a b old new P h = (
+    failed,
+    part_weaker written puts a b (Err failed) (setup_of old) (StandsFor old) (StandsFor new) P (FrontOf P)
+        (front_whole P) h,
+  )
 
-pub notices_none : {K : Type 0} (written : K → Option (List ℕ)) (puts : K → List ℕ → Result (Unit {0}) Failed → K → Type 0)
-    (a : K) → TellsNotices written puts a (Ok tt) a
-notices_none written puts a = ([], told_none written puts a)
+  -- a part of a life, by how it was written
+  pub acts_written : (answer : Result (Unit {0}) Failed) (a b : K) (old new : Host D g)
+      (P : List LiveStep → List Told → Type 0) →
+      Part written puts a b answer (setup_of old) (StandsFor old) (StandsFor new) P → has_failed new ≡ false →
+      setup_of new ≡ setup_of old → Serves written faults a b (IsErr answer) →
+      DiskServes g.size g.honest g.seen g.cuts g.faults (disk_of old) (disk_of new) ⊥ →
+      Acts written puts faults P (by_writing answer) a b old new
+  acts_written answer a b old new P part whole same sink disk = record {
+    whole = whole_written answer (has_failed new ≡ false) whole;
+    setup = same;
+    lives = lives_written answer a b old new P part;
+    sink = serves_weaker written faults a b (IsErr answer) (EndsBy IsUnwritten (by_writing answer)) (unwritten answer) sink;
+    disk = disk_weaker g.size g.honest g.seen g.cuts g.faults (disk_of old) (disk_of new) ⊥
+        (EndsBy IsDiskFault (by_writing answer)) (no_disk_fault answer) disk;
+  }
 
--- notices, and then more
-pub notices_then : {K : Type 0} (written : K → Option (List ℕ)) (puts : K → List ℕ → Result (Unit {0}) Failed → K → Type 0)
-    (a b c : K) (answer : Result (Unit {0}) Failed) → TellsNotices written puts a (Ok tt) b →
-    TellsNotices written puts b answer c → TellsNotices written puts a answer c
-notices_then written puts a b c answer h k = (
-  h.0 ++ k.0,
-  subst (λ told. WritesTold written puts a told answer c) (sym (map-append (λ n. notice n) h.0 k.0))
-      (told_then written puts a b c (map (λ n. notice n) h.0) (map (λ n. notice n) k.0) answer h.1 k.1),
-)
+  -- lines that tell no entry
+  pub acts_told : (answer : Result (Unit {0}) Failed) (a b : K) (host : Host D g) (told : List Told)
+      (P : List LiveStep → List Told → Type 0) → news_of told ≡ [] → WritesTold written puts a told answer b →
+      has_failed host ≡ false → Serves written faults a b (IsErr answer) → P [] told →
+      Acts written puts faults P (by_writing answer) a b host host
+  acts_told answer a b host told P none wrote whole sink is =
+      acts_written answer a b host host P
+      (record {
+        steps = [];
+        told = told;
+        wrote = wrote;
+        goes = goes_none (setup_of host) (StandsFor host) (StandsFor host) told none (λ past is. is);
+        does = is;
+      })
+      whole refl sink
+      (disk_none g.size g.honest g.seen g.cuts g.faults (disk_of host) ⊥ (λ fails. fails))
+
+  -- one line that tells no entry
+  pub acts_line : (answer : Result (Unit {0}) Failed) (a b : K) (host : Host D g) (what : Told) → news_of (what ∷ []) ≡ [] →
+      PutsLine written puts a (told_line what) answer b → has_failed host ≡ false →
+      Serves written faults a b (IsErr answer) → Acts written puts faults (Tells what) (by_writing answer) a b host host
+  acts_line answer a b host what none line whole sink =
+      acts_told answer a b host (what ∷ []) (Tells what) none (told_one written puts a b what answer line) whole sink
+      (refl, refl)
+
+  -- a step, and its entries
+  pub acts_step : (answer : Result (Unit {0}) Failed) (a b : K) (old new : Host D g) (s : LiveStep) (told : List Told)
+      (P : List LiveStep → List Told → Type 0) → WritesTold written puts a told answer b →
+      LifeGoes (setup_of old) (StandsFor old) (s ∷ []) told (StandsFor new) → P (s ∷ []) told → has_failed new ≡ false →
+      setup_of new ≡ setup_of old → Serves written faults a b (IsErr answer) →
+      DiskServes g.size g.honest g.seen g.cuts g.faults (disk_of old) (disk_of new) ⊥ →
+      Acts written puts faults P (by_writing answer) a b old new
+  acts_step answer a b old new s told P wrote goes is whole same sink disk =
+      acts_written answer a b old new P
+      (record { steps = s ∷ []; told = told; wrote = wrote; goes = goes; does = is }) whole same sink disk
+
+  -- a put that failed
+  pub acts_broke : (a : K) (before after : Host D g) (addr : ℕ) (P : List LiveStep → List Told → Type 0) →
+      setup_of after ≡ setup_of before → Fails before after addr →
+      DiskServes g.size g.honest g.seen g.cuts g.faults (disk_of before) (disk_of after) ⊤ → FrontOf P [] [] →
+      Acts written puts faults P (Err served.Disk) a a before after
+  acts_broke a before after addr P same fails disk is = record {
+    whole = tt;
+    setup = same;
+    lives = record {
+      steps = [];
+      told = [];
+      wrote = told_none written puts a;
+      goes = goes_none (setup_of before) (StandsFor before) (FailedToPut after) [] refl
+          (put_failed before after addr same fails disk.goes_on);
+      does = is;
+    };
+    sink = serves_none written faults a ⊥ (λ fails. fails);
+    disk = disk;
+  }

@@ -5,13 +5,15 @@ use Rattle.std.specs.Prelude.{OnOk, OnErr, MatchResult}
 use Rattle.std.specs.Io.KnownBytes.{Appends}
 use Rattle.std.proofs.lemmas.List.{append-nil, map-append, reverse-append, reverse-reverse}
 use Rattle.std.proofs.lemmas.List.Concat.{flat_map-append}
+use Rattle.std.proofs.lemmas.List.Elements.{All-nil, All-push}
 use Rattle.cct_edge.specs.Bytes.{AppendsFront}
 use Rattle.cct_edge.specs.declared.fault.Failed.{Failed}
 use Rattle.cct_edge.proofs.Chains.{Appends-nil, Appends-trans, Appends-then_front}
 use Rattle.cct_model.specs.lines.entry.Entry.{Entry}
 use Rattle.cct_model.specs.Text.{line_of, text}
 use Rattle.cct_text.specs.Writing.{Puts, PutsLine, Writes}
-use Rattle.cct_service.specs.Told.{Told, WritesTold, as_told, entry, fault_told, last, news_of, notice, refused, told_line, told_text}
+use Rattle.cct_service.specs.declared.notice.Notice.{Notice}
+use Rattle.cct_service.specs.Told.{IsOfStatus, TellsNotice, TellsStatus, Told, WritesTold, as_told, entry, fault_told, last, news_of, notice, refused, told_line, told_text}
 
 -- the news of what is told first and then
 pub news_then : (first then : List Told) → news_of (first ++ then) ≡ news_of then ++ news_of first
@@ -42,6 +44,11 @@ news_next news false =
     ap news_of (append-nil (as_told (reverse news))) ∙ news_as (reverse news) ∙ reverse-reverse news
 news_next news true =
     news_then (as_told (reverse news)) (fault_told true) ∙ news_as (reverse news) ∙ reverse-reverse news
+
+-- notices aren't news
+pub news_notices : (notices : List Notice) → news_of (map (λ n. notice n) notices) ≡ []
+news_notices [] = refl
+news_notices (n ∷ notices) = news_notices notices
 
 module _ {K : Type 0} (written : K → Option (List ℕ)) (puts : K → List ℕ → Result (Unit {0}) Failed → K → Type 0) where
   -- some puts, and then more
@@ -107,3 +114,20 @@ module _ {K : Type 0} (written : K → Option (List ℕ)) (puts : K → List ℕ
   told_alone a b entries result h =
       subst (λ told. WritesTold written puts a told result b) (sym (append-nil (as_told entries)))
       (told_entries a b entries result h)
+
+-- how a host stands is told, of nothing yet
+pub status_none : {K : Type 0} (written : K → Option (List ℕ)) (puts : K → List ℕ → Result (Unit {0}) Failed → K → Type 0)
+    (a : K) → TellsStatus written puts a (Ok tt) a
+status_none written puts a = ([], All-nil IsOfStatus, told_none written puts a)
+
+-- and of one thing more
+pub status_more : {K : Type 0} (written : K → Option (List ℕ)) (puts : K → List ℕ → Result (Unit {0}) Failed → K → Type 0)
+    (a b c : K) (answer : Result (Unit {0}) Failed) → TellsStatus written puts a (Ok tt) b →
+    TellsNotice IsOfStatus written puts b answer c → TellsStatus written puts a answer c
+status_more written puts a b c answer h k = (
+  h.0 ++ k.0 ∷ [],
+  All-push IsOfStatus h.0 k.0 h.1 k.1,
+  subst (λ told. WritesTold written puts a told answer c) (sym (map-append (λ n. notice n) h.0 (k.0 ∷ [])))
+      (told_then written puts a b c (map (λ n. notice n) h.0) (notice k.0 ∷ []) answer h.2
+      (told_one written puts b c (notice k.0) answer k.2)),
+)

@@ -3,6 +3,10 @@ use Rattle.std.specs.Prelude.{List, [], ◌∷◌, Option, Some, None, Result, O
 use Rattle.cct_edge.specs.declared.fault.Failed.{Failed}
 use Rattle.cct_model.specs.lines.entry.Entry.{Entry}
 use Rattle.cct_model.specs.lines.entry.Entry.TheVariants as entry_of
+use Rattle.cct_journal.specs.declared.refusal.CreateNo.{CreateNo}
+use Rattle.cct_journal.specs.declared.refusal.CreateNo.TheVariants as making
+use Rattle.cct_journal.specs.declared.refusal.ReadNo.{ReadNo}
+use Rattle.cct_journal.specs.declared.refusal.ReadNo.TheVariants as reading
 use Rattle.cct_service.specs.declared.served.Served.{Served}
 use Rattle.cct_service.specs.declared.served.Served.TheVariants as served
 use Rattle.cct_service.specs.Told.{Told, last}
@@ -36,6 +40,17 @@ last_told how = lines_of (last_entry how)
 abbrev pub closed_by : Result (Unit {0}) Failed → Served → Served
 closed_by (Ok done) how = how
 closed_by (Err failed) how = served.Unwritten
+
+-- Why no journal is made.
+abbrev pub unmade_by : CreateNo → Served
+unmade_by (making.Small len) = served.OtherSize len
+unmade_by making.Disk = served.Disk
+unmade_by (making.NotBlank at) = served.Alien
+
+-- Why no host is started.
+abbrev pub unstarted_by : ReadNo → Served
+unstarted_by reading.Disk = served.Disk
+unstarted_by (reading.BadRecord index) = served.BadRecord index
 
 -- An end that the disk brings.
 abbrev pub IsOfDisk : Served → Type 0

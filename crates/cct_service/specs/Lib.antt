@@ -1,7 +1,9 @@
 pub mod Notice
 pub mod Told
+pub mod Said
+pub mod Doing
+pub mod Causes
 pub mod Parts
-pub mod Turn
 pub mod Ending
 pub mod Found
 pub mod Laws

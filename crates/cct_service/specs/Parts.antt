@@ -1,5 +1,6 @@
 -- The parts of a life: what a host does, and what is told of it.
-use Rattle.std.specs.Prelude.{◌≡◌, ℕ, List, ◌++◌, Option, Some, Result, Ok, Err, reverse, false}
+use Rattle.std.specs.Prelude.{◌≡◌, ℕ, List, ◌++◌, Option, Some, Result, Ok, Err, OnOk, reverse, false}
+use Rattle.cct_edge.specs.Bytes.{Serves}
 use Rattle.cct_edge.specs.declared.fault.Failed.{Failed}
 use Rattle.cct_model.specs.terms.device.Setup.{Setup}
 use Rattle.cct_model.specs.lines.record.Record.{Record}
@@ -16,6 +17,9 @@ use Rattle.cct_lives.specs.Life.{IsLife}
 use Rattle.cct_lives.specs.LiveStep.{LiveStep}
 use Rattle.cct_service.specs.declared.served.Served.{Served}
 use Rattle.cct_service.specs.declared.served.Served.TheVariants as served
+use Rattle.cct_service.specs.Causes.{DiskServes, EndsBy, IsDiskFault, IsUnwritten}
+use Rattle.cct_service.specs.Doing.{FrontOf}
+use Rattle.cct_service.specs.Said.{Said, Says}
 use Rattle.cct_service.specs.Told.{Told, WritesTold, news_of}
 
 -- By these steps a life goes on, from a past of which one thing holds to a past of which the other does, and the entries
@@ -28,13 +32,14 @@ LifeGoes setup Before steps told After =
 
 -- of a sink, before and after
 module _ {K : Type 0} (written : K → Option (List ℕ)) (puts : K → List ℕ → Result (Unit {0}) Failed → K → Type 0) where
-  -- A life went on by some steps, and they were told so.
+  -- A life went on by some steps, they were told so, and this is what they are.
   pub record Part (old new : K) (answer : Result (Unit {0}) Failed) (setup : Setup) (Before After : List Entry → Type 0)
-      : Type 0 where
+      (Doing : List LiveStep → List Told → Type 0) : Type 0 where
     pub steps : List LiveStep
     pub told : List Told
     pub wrote : WritesTold written puts old told answer new
     pub goes : LifeGoes setup Before steps told After
+    pub does : Doing steps told
 
 -- A put failed: the host has all of the past, a record was due at an address, and whatever a power cut leaves on a trusted
 -- disk stands for the records of the past, or for these and that one.
@@ -48,22 +53,42 @@ pub record FailedToPut {D : Type 0} {g : Ghosts D} (host : Host D g) (past : Lis
 
 module _ {K : Type 0} (written : K → Option (List ℕ)) (puts : K → List ℕ → Result (Unit {0}) Failed → K → Type 0)
     {D : Type 0} {g : Ghosts D} where
-  -- A host lived on up to this end: where a line couldn't be written, its lines are told up to that, and where a put
-  -- failed, up to before it.
-  abbrev pub LivesTo : Served → K → K → Host D g → Host D g → Type 0
-  LivesTo served.Unwritten out out1 old new =
-      (failed : Failed) × Part written puts out out1 (Err failed) (setup_of old) (StandsFor old) (StandsFor new)
-  LivesTo served.Disk out out1 old new = Part written puts out out1 (Ok tt) (setup_of old) (StandsFor old) (FailedToPut new)
-  LivesTo how out out1 old new = Part written puts out out1 (Ok tt) (setup_of old) (StandsFor old) (StandsFor new)
+  -- A host did this and lives on; or it lived up to an end: where a line couldn't be written, its lines are told up to that,
+  -- and where a put failed, up to before it.
+  abbrev pub LivesOn : (List LiveStep → List Told → Type 0) → Result (Unit {0}) Served → K → K → Host D g → Host D g
+      → Type 0
+  LivesOn Doing (Ok done) out out1 old new =
+      Part written puts out out1 (Ok tt) (setup_of old) (StandsFor old) (StandsFor new) Doing
+  LivesOn Doing (Err served.Unwritten) out out1 old new =
+      (failed : Failed)
+      × Part written puts out out1 (Err failed) (setup_of old) (StandsFor old) (StandsFor new) (FrontOf Doing)
+  LivesOn Doing (Err served.Disk) out out1 old new =
+      Part written puts out out1 (Ok tt) (setup_of old) (StandsFor old) (FailedToPut new) (FrontOf Doing)
+  LivesOn Doing (Err how) out out1 old new = ⊥
 
-  -- A host lives on, or lived up to an end.
-  abbrev pub LivesOn : Result (Unit {0}) Served → K → K → Host D g → Host D g → Type 0
-  LivesOn (Ok done) out out1 old new =
-      Part written puts out out1 (Ok tt) (setup_of old) (StandsFor old) (StandsFor new)
-  LivesOn (Err how) out out1 old new = LivesTo how out out1 old new
+  -- The answer of a host that lived to this end. The disk brings no other one.
+  abbrev pub LivesTo : (List LiveStep → List Told → Type 0) → Served → K → K → Host D g → Host D g → Type 0
+  LivesTo Doing served.Done = LivesOn Doing (Ok tt)
+  LivesTo Doing (served.Refused number why) = LivesOn Doing (Ok tt)
+  LivesTo Doing served.Unread = LivesOn Doing (Ok tt)
+  LivesTo Doing how = LivesOn Doing (Err how)
 
-  -- A host lives on, and no put of its journal failed.
-  pub record StillLives (out out1 : K) (old new : Host D g) : Type 0 where
-    pub whole : has_failed new ≡ false
-    pub same : setup_of new ≡ setup_of old
-    pub lives : Part written puts out out1 (Ok tt) (setup_of old) (StandsFor old) (StandsFor new)
+  -- A host lived to this end for what its input said.
+  pub record Plays (Doing : List Said → List LiveStep → List Told → Type 0) (left : Option (List ℕ)) (how : Served)
+      (out out1 : K) (old new : Host D g) : Type 0 where
+    pub lines : List Said
+    pub lives : LivesTo (Doing lines) how out out1 old new
+    pub says : Says left lines how
+
+-- of a sink with a count of faults
+module _ {K : Type 0} (written : K → Option (List ℕ)) (puts : K → List ℕ → Result (Unit {0}) Failed → K → Type 0)
+    (faults : K → ℕ) {D : Type 0} {g : Ghosts D} where
+  -- A host does this, and no put of its journal failed where it lives on. Sink and disk go on, and it ends only by their
+  -- faults.
+  pub record Acts (Doing : List LiveStep → List Told → Type 0) (result : Result (Unit {0}) Served) (out out1 : K)
+      (old new : Host D g) : Type 0 where
+    pub whole : OnOk result (has_failed new ≡ false)
+    pub setup : setup_of new ≡ setup_of old
+    pub lives : LivesOn written puts Doing result out out1 old new
+    pub sink : Serves written faults out out1 (EndsBy IsUnwritten result)
+    pub disk : DiskServes g.size g.honest g.seen g.cuts g.faults (disk_of old) (disk_of new) (EndsBy IsDiskFault result)

@@ -1,13 +1,14 @@
 -- What a host on a real line tells, and what writing it does to a sink.
-use Rattle.std.specs.Prelude.{ℕ, List, [], ◌∷◌, ◌++◌, flat_map, map, Bool, true, false, Option, Result, MatchResult}
+use Rattle.std.specs.Prelude.{◌≡◌, ℕ, List, [], ◌∷◌, ◌++◌, flat_map, map, Bool, true, false, Option, Result, MatchResult, ⊤}
 use Rattle.std.specs.Io.KnownBytes.{Appends}
+use Rattle.std.specs.List.{All}
 use Rattle.cct_edge.specs.Bytes.{AppendsFront}
 use Rattle.cct_edge.specs.declared.fault.Failed.{Failed}
 use Rattle.cct_model.specs.lines.entry.Entry.{Entry}
 use Rattle.cct_model.specs.lines.entry.Entry.TheVariants as entry_of
 use Rattle.cct_model.specs.lines.entry.LineKind.{LineKind}
 use Rattle.cct_model.specs.Text.{line_of}
-use Rattle.cct_text.specs.Writing.{Puts}
+use Rattle.cct_text.specs.Writing.{Puts, PutsLine}
 use Rattle.cct_service.specs.declared.notice.Notice.{Notice}
 use Rattle.cct_service.specs.declared.notice.Notice.TheVariants as notice_of
 use Rattle.cct_service.specs.Notice.{notice_line}
@@ -56,8 +57,37 @@ pub record WritesTold {K : Type 0} (written : K → Option (List ℕ))
   pub bytes : MatchResult result (λ _. Appends (written before) (written now) (told_text told))
       (λ _. AppendsFront (written before) (written now) (told_text told))
 
--- Notices were written.
-abbrev pub TellsNotices : {K : Type 0} → (K → Option (List ℕ)) → (K → List ℕ → Result (Unit {0}) Failed → K → Type 0) → K
+-- A notice of this kind was written.
+abbrev pub TellsNotice : {K : Type 0} → (Notice → Type 0) → (K → Option (List ℕ))
+    → (K → List ℕ → Result (Unit {0}) Failed → K → Type 0) → K → Result (Unit {0}) Failed → K → Type 0
+TellsNotice Is written puts before result now =
+    (n : Notice) × Is n × PutsLine written puts before (notice_line n) result now
+
+-- What a host that has just started tells: that its journal was made, or what was found in it.
+abbrev pub IsOpening : Bool → Notice → Type 0
+IsOpening false notice_of.Made = ⊤
+IsOpening true (notice_of.Found records orders epochs) = ⊤
+IsOpening was_there n = ⊥
+
+-- How a host stands is told by its devices, and the room of its journal.
+abbrev pub IsOfStatus : Notice → Type 0
+IsOfStatus (notice_of.Device addr job epoch order) = ⊤
+IsOfStatus (notice_of.Room records) = ⊤
+IsOfStatus n = ⊥
+
+-- Such notices are told.
+abbrev pub AreOfStatus : List Told → Type 0
+AreOfStatus told = (notices : List Notice) × All IsOfStatus notices × (told ≡ map (λ n. notice n) notices)
+
+-- It was written how a host stands.
+abbrev pub TellsStatus : {K : Type 0} → (K → Option (List ℕ)) → (K → List ℕ → Result (Unit {0}) Failed → K → Type 0) → K
     → Result (Unit {0}) Failed → K → Type 0
-TellsNotices written puts before result now =
-    (notices : List Notice) × WritesTold written puts before (map (λ n. notice n) notices) result now
+TellsStatus written puts before result now =
+    (notices : List Notice) × All IsOfStatus notices
+    × WritesTold written puts before (map (λ n. notice n) notices) result now
+
+-- An attempt is told by its entries, and perhaps by a failure of the port.
+abbrev pub IsOfAttempt : Told → Type 0
+IsOfAttempt (entry e) = ⊤
+IsOfAttempt (notice notice_of.LineFault) = ⊤
+IsOfAttempt told = ⊥

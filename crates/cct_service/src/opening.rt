@@ -1,12 +1,15 @@
 //! The host over the journal of a disk: one that is there is gone on with, and a blank one is made new.
 ghost use Rattle.std.specs.Prelude.{◌≡◌, [], List, false, IfErr, IfOk};
+ghost use Rattle.cct_disk.specs.declared.file.TheConstants as files;
 ghost use Rattle.cct_host.specs.Host as hosts;
 ghost use Rattle.cct_journal.specs.Journal as journals;
 ghost use Rattle.cct_lives.specs.Live.{started};
 ghost use Rattle.cct_model.specs.lines.record.Record.{Record};
 ghost use Rattle.cct_model.specs.Setup.{IsSoundSetup};
 ghost use Rattle.cct_model.specs.terms.device.Setup.{Setup};
-ghost use Rattle.cct_service.specs.Ending.{IsOfDisk};
+ghost use Rattle.cct_journal.specs.declared.refusal.CreateNo.{CreateNo};
+ghost use Rattle.cct_service.specs.Causes.{DiskServes, Refuses, RefusesMaking, WasOpened};
+ghost use Rattle.cct_service.specs.Ending.{unmade_by};
 ghost use Rattle.cct_service.specs.Found.{FoundOn, Opens};
 
 use crate::served::{Served, unmade, unstarted};
@@ -21,11 +24,15 @@ pub(crate) fn open_host<'s, D: Disk>(
     disk: D,
 ) -> Result<(Host<'s, D>, bool), (Served, D)>
     requires sound { IsSoundSetup setup.now }
-    ensures unbegun { IfErr result (λ e. IsOfDisk e.0) }
     ensures whole { IfOk result (λ opened. hosts.has_failed opened.0 ≡ false) }
     ensures setup { IfOk result (λ opened. hosts.setup_of opened.0 ≡ setup.now) }
     ensures stands { IfOk result (λ opened. (found : List Record)
         → FoundOn D.honest D.seen D.may_leave disk setup.now opened.1 found → hosts.StandsFor opened.0 (started found)) }
+    ensures sized { IfOk result (λ opened. D.size disk ≡ files.MADE_LEN) }
+    ensures serves { IfOk result (λ opened. DiskServes D.size D.honest D.seen D.cuts D.faults disk
+        (hosts.disk_of opened.0) ⊥) }
+    ensures refuses { IfErr result (λ e. Refuses D.size D.honest D.seen D.may_leave D.moment D.left_since D.cuts D.faults
+        disk e.1 setup.now e.0) }
 {
     let (journal, was_there) = match open_journal(disk) {
         Ok(opened) => opened,
@@ -39,10 +46,15 @@ pub(crate) fn open_host<'s, D: Disk>(
 
 /// The journal of a disk, and whether it was there.
 fn open_journal<D: Disk>(disk: D) -> Result<(Journal<D>, bool), (Served, D)>
-    ensures unbegun { IfErr result (λ e. IsOfDisk e.0) }
     ensures whole { IfOk result (λ opened. journals.has_failed opened.0 ≡ false) }
     ensures opens { IfOk result (λ opened. (setup : Setup) (found : List Record) → IsSoundSetup setup
         → FoundOn D.honest D.seen D.may_leave disk setup opened.1 found → Opens opened.0 setup opened.1 found) }
+    ensures opened { IfOk result (λ opened. WasOpened disk opened.0 opened.1) }
+    ensures sized { IfOk result (λ opened. D.size disk ≡ files.MADE_LEN) }
+    ensures serves { IfOk result (λ opened. DiskServes D.size D.honest D.seen D.cuts D.faults disk
+        (journals.disk_of opened.0) ⊥) }
+    ensures refuses { IfErr result (λ e. (setup : Setup) → Refuses D.size D.honest D.seen D.may_leave D.moment D.left_since
+        D.cuts D.faults disk e.1 setup e.0) }
 {
     let len = disk.len();
     if len != MADE_LEN {
@@ -63,10 +75,14 @@ fn open_journal<D: Disk>(disk: D) -> Result<(Journal<D>, bool), (Served, D)>
 
 /// A new journal on a blank disk.
 fn make_journal<D: Disk>(disk: D) -> Result<Journal<D>, (Served, D)>
-    ensures unbegun { IfErr result (λ e. IsOfDisk e.0) }
     ensures whole { IfOk result (λ journal. journals.has_failed journal ≡ false) }
     ensures opens { IfOk result (λ journal. (setup : Setup) (found : List Record) → found ≡ []
         → Opens journal setup false found) }
+    ensures none { IfOk result (λ journal. journals.used_of journal ≡ 0) }
+    ensures serves { IfOk result (λ journal. DiskServes D.size D.honest D.seen D.cuts D.faults disk
+        (journals.disk_of journal) ⊥) }
+    ensures refuses { IfErr result (λ e. (why : CreateNo) × (e.0 ≡ unmade_by why) × RefusesMaking D.size D.honest D.seen
+        D.may_leave D.moment D.left_since D.cuts D.faults disk e.1 why) }
 {
     match Journal::create(disk) {
         Ok(journal) => Ok(journal),

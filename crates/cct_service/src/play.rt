@@ -1,12 +1,15 @@
 //! What the input says is done, line by line, and each entry is written before the next line is read.
-ghost use Rattle.std.specs.Prelude.{◌≡◌, ◌∷◌, [], false, OnOk};
-ghost use Rattle.cct_host.specs.Host.{StandsFor, has_failed, setup_of};
+ghost use Rattle.std.specs.Prelude.{◌≡◌, ◌∷◌, [], false, Ok, IfErr, IfOk, IsErr};
+ghost use Rattle.cct_edge.specs.Bytes.{Serves};
+ghost use Rattle.cct_host.specs.Host.{StandsFor, disk_of, has_failed, setup_of};
 ghost use Rattle.cct_lives.specs.LiveStep as live;
 ghost use Rattle.cct_model.specs.Script.{IsCommand};
-ghost use Rattle.cct_script.specs.Live.{IsTold};
-ghost use Rattle.cct_service.specs.Parts.{LifeGoes, LivesOn, LivesTo};
-ghost use Rattle.cct_service.specs.Turn.{OfTurn};
-ghost use Rattle.cct_service.specs.Told.{as_told};
+ghost use Rattle.cct_script.specs.Endless.{held_of};
+ghost use Rattle.cct_service.specs.Causes.{DiskServes, EndsBy, IsDiskFault, IsUnread, IsUnwritten};
+ghost use Rattle.cct_service.specs.Doing.{AreAttempts, Does, DoesCommand, DoesLine, DoesLines, IsAttempt, IsStatus, Tells, TellsOne, withheld_by};
+ghost use Rattle.cct_service.specs.Parts.{Acts, LifeGoes, Plays};
+ghost use Rattle.cct_service.specs.Said.{ComesNext, IsOfInput, IsSayable, stopped_by, unless_end};
+ghost use Rattle.cct_service.specs.Told.{as_told, notice as told_notice, refused};
 
 use crate::notice::{Notice, tell};
 use crate::page::Page;
@@ -22,18 +25,7 @@ use cct_script::{EndlessLines, LinesNo, LiveLine, NextLine, read_live_line};
 use cct_text::write_entry;
 
 /// How many attempts a job makes at most for one line.
-const MOST_ATTEMPTS: u32 = 1024;
-
-/// What comes next of an input.
-#[derive(Drop)]
-enum Turn {
-    /// A line says this.
-    Said(LiveLine),
-    /// A line says nothing.
-    Refused(LineKind),
-    /// No line is read any more.
-    Ended(Served),
-}
+pub(crate) const MOST_ATTEMPTS: u32 = 1024;
 
 /// Does what each line says, up to `end` or the end of the input. A line that says nothing is told, and changes nothing.
 pub(crate) fn play<S: Source, K: Sink, D: Disk, L: CountedLink>(
@@ -46,12 +38,20 @@ pub(crate) fn play<S: Source, K: Sink, D: Disk, L: CountedLink>(
 ) -> Served
     requires whole { has_failed host.old ≡ false }
     ensures setup { setup_of host.new ≡ setup_of host.old }
-    ensures lives { LivesTo K.written K.puts result out.old out.new host.old host.new }
+    ensures plays { Plays K.written K.puts (DoesLines withheld.now) (S.left input.old) result out.old out.new host.old
+        host.new }
+    ensures input { Serves S.left S.faults input.old input.new (IsUnread result) }
+    ensures sink { Serves K.written K.faults out.old out.new (IsUnwritten result) }
+    ensures disk { DiskServes D.size D.honest D.seen D.cuts D.faults (disk_of host.old) (disk_of host.new)
+        (IsDiskFault result) }
 {
     let mut lines = EndlessLines::new();
     for number in 1..u32::MAX {
-        let turn = next_turn(&mut lines, number, input);
-        match take_turn(host, withheld, number, &turn, out, link, page) {
+        let line = match next_line(&mut lines, number, input) {
+            Ok(line) => line,
+            Err(how) => return how,
+        };
+        match take_line(host, withheld, number, &line, out, link, page) {
             Ok(()) => {}
             Err(how) => return how,
         }
@@ -62,55 +62,67 @@ pub(crate) fn play<S: Source, K: Sink, D: Disk, L: CountedLink>(
     }
 }
 
-/// Does what comes next of an input, whose line has this number.
-#[tactic(auto, using(crate::proofs::Parts::lives_ended))]
-fn take_turn<K: Sink, D: Disk, L: CountedLink>(
+/// What the next line of an input says, or why it says nothing; or how the input ends. The line has this number.
+fn next_line<S: Source>(
+    lines: &mut EndlessLines,
+    number: u32,
+    input: &mut S,
+) -> Result<Result<LiveLine, LineKind>, Served>
+    ensures comes { ComesNext number result (held_of lines.old) (S.left input.old) (held_of lines.new) (S.left input.new) }
+    ensures sayable { IfOk result IsSayable }
+    ensures ends { IfErr result IsOfInput }
+    ensures serves { Serves S.left S.faults input.old input.new (EndsBy IsUnread result) }
+{
+    match lines.line(input) {
+        Ok(NextLine::Text(line)) => unless_end(read_live_line(line)),
+        Ok(NextLine::Long) => Ok(Err(LineKind::Long)),
+        Ok(NextLine::Cut) => Ok(Err(LineKind::Cut)),
+        Ok(NextLine::End) => Err(Served::Done),
+        Err(why) => Err(stopped(number, why)),
+    }
+}
+
+/// What a line says, unless it ends the service.
+fn unless_end(said: Result<LiveLine, LineKind>) -> Result<Result<LiveLine, LineKind>, Served>
+    ensures { result ≡ unless_end said }
+{
+    match said {
+        Ok(LiveLine::End) => Err(Served::Done),
+        said => Ok(said),
+    }
+}
+
+/// How the service ends where no line is read any more, the next of which has this number.
+fn stopped(number: u32, why: LinesNo) -> Served
+    ensures { result ≡ stopped_by number why }
+{
+    match why {
+        LinesNo::Read => Served::Unread,
+        _ => Served::Refused {
+            number,
+            kind: LineKind::Long,
+        },
+    }
+}
+
+/// Does what the line of this number says, or tells that it says nothing.
+fn take_line<K: Sink, D: Disk, L: CountedLink>(
     host: &mut Host<'_, D>,
     withheld: &DeviceSet,
     number: u32,
-    turn: &Turn,
+    line: &Result<LiveLine, LineKind>,
     out: &mut K,
     link: &mut L,
     page: &mut Page,
 ) -> Result<(), Served>
     requires whole { has_failed host.old ≡ false }
-    requires turn { OfTurn turn.now }
-    ensures whole { OnOk result (has_failed host.new ≡ false) }
-    ensures setup { setup_of host.new ≡ setup_of host.old }
-    ensures lives { LivesOn K.written K.puts result out.old out.new host.old host.new }
+    requires sayable { IsSayable line.now }
+    ensures acts { Acts K.written K.puts K.faults (DoesLine withheld.now number line.now) result out.old out.new host.old
+        host.new }
 {
-    match turn {
-        Turn::Said(said) => obey(host, withheld, said, out, link, page),
-        Turn::Refused(kind) => refuse(host, number, *kind, out, page),
-        Turn::Ended(how) => Err(*how),
-    }
-}
-
-/// What comes next of an input, whose next line has this number.
-fn next_turn<S: Source>(lines: &mut EndlessLines, number: u32, input: &mut S) -> Turn
-    ensures turn { OfTurn result }
-{
-    match lines.line(input) {
-        Ok(NextLine::Text(line)) => turn_of(line),
-        Ok(NextLine::Long) => Turn::Refused(LineKind::Long),
-        Ok(NextLine::Cut) => Turn::Refused(LineKind::Cut),
-        Ok(NextLine::End) => Turn::Ended(Served::Done),
-        Err(LinesNo::Read) => Turn::Ended(Served::Unread),
-        Err(_) => Turn::Ended(Served::Refused {
-            number,
-            kind: LineKind::Long,
-        }),
-    }
-}
-
-/// What a whole line says.
-fn turn_of(line: &[u8]) -> Turn
-    ensures turn { OfTurn result }
-{
-    match read_live_line(line) {
-        Ok(LiveLine::End) => Turn::Ended(Served::Done),
-        Ok(said) => Turn::Said(said),
-        Err(kind) => Turn::Refused(kind),
+    match line {
+        Ok(said) => obey(host, withheld, said, out, link, page),
+        Err(kind) => refuse(host, number, *kind, out, page),
     }
 }
 
@@ -122,14 +134,13 @@ fn refuse<K: Sink, D: Disk>(
     out: &mut K,
     page: &mut Page,
 ) -> Result<(), Served>
-    ensures same { host.new ≡ host.old }
-    ensures lives { LivesOn K.written K.puts result out.old out.new host.old host.new }
+    requires whole { has_failed host.old ≡ false }
+    ensures acts { Acts K.written K.puts K.faults (Tells (refused number kind)) result out.old out.new host.old host.new }
 {
     by_writing(write_entry(out, &mut page.line, &Entry::Line { number, kind }))
 }
 
-/// Does what one line says.
-#[tactic(auto, using(crate::proofs::Parts::part_none))]
+/// Does what one line says. A line `end` isn't given to it.
 fn obey<K: Sink, D: Disk, L: CountedLink>(
     host: &mut Host<'_, D>,
     withheld: &DeviceSet,
@@ -139,15 +150,13 @@ fn obey<K: Sink, D: Disk, L: CountedLink>(
     page: &mut Page,
 ) -> Result<(), Served>
     requires whole { has_failed host.old ≡ false }
-    requires told { IsTold said.now }
-    ensures whole { OnOk result (has_failed host.new ≡ false) }
-    ensures setup { setup_of host.new ≡ setup_of host.old }
-    ensures lives { LivesOn K.written K.puts result out.old out.new host.old host.new }
+    requires sayable { IsSayable (Ok said.now) }
+    ensures acts { Acts K.written K.puts K.faults (Does withheld.now said.now) result out.old out.new host.old host.new }
 {
     match said {
         LiveLine::Command(command) => answer_or_withhold(host, withheld, command, out, page),
         LiveLine::Next { addr } => attempt(host, *addr, link, out, page),
-        LiveLine::Do { addr } => attempts(host, *addr, link, out, page),
+        LiveLine::Do { addr } => attempts(host, *addr, MOST_ATTEMPTS, link, out, page),
         LiveLine::Poll => poll(host, link, out, page),
         LiveLine::Balance => balance(host, out, page),
         LiveLine::Status => status(host, out, page),
@@ -161,8 +170,8 @@ fn status<K: Sink, D: Disk>(
     out: &mut K,
     page: &mut Page,
 ) -> Result<(), Served>
-    ensures same { host.new ≡ host.old }
-    ensures lives { LivesOn K.written K.puts result out.old out.new host.old host.new }
+    requires whole { has_failed host.old ≡ false }
+    ensures acts { Acts K.written K.puts K.faults IsStatus result out.old out.new host.old host.new }
 {
     by_writing(tell_status(host, out, &mut page.line))
 }
@@ -177,9 +186,8 @@ fn answer_or_withhold<K: Sink, D: Disk>(
 ) -> Result<(), Served>
     requires whole { has_failed host.old ≡ false }
     requires told { IsCommand command.now }
-    ensures whole { has_failed host.new ≡ false }
-    ensures setup { setup_of host.new ≡ setup_of host.old }
-    ensures lives { LivesOn K.written K.puts result out.old out.new host.old host.new }
+    ensures acts { Acts K.written K.puts K.faults (DoesCommand command.now (withheld_by withheld.now command.now)) result
+        out.old out.new host.old host.new }
 {
     match withheld_by(withheld, command) {
         None => answer(host, command, out, page),
@@ -194,14 +202,16 @@ fn withhold<K: Sink, D: Disk>(
     out: &mut K,
     page: &mut Page,
 ) -> Result<(), Served>
-    ensures same { host.new ≡ host.old }
-    ensures lives { LivesOn K.written K.puts result out.old out.new host.old host.new }
+    requires whole { has_failed host.old ≡ false }
+    ensures acts { Acts K.written K.puts K.faults (Tells (told_notice notice.now)) result out.old out.new host.old host.new }
 {
     by_writing(tell(out, &mut page.line, notice))
 }
 
 /// The notice that a command isn't given to the host: a payment of a hopper that is withheld.
-fn withheld_by(withheld: &DeviceSet, command: &Command) -> Option<Notice> {
+fn withheld_by(withheld: &DeviceSet, command: &Command) -> Option<Notice>
+    ensures { result ≡ withheld_by withheld.now command.now }
+{
     match *command {
         Command::Pay { addr, id, count } => {
             if withheld.has(addr) {
@@ -223,9 +233,8 @@ pub(crate) fn answer<K: Sink, D: Disk>(
 ) -> Result<(), Served>
     requires whole { has_failed host.old ≡ false }
     requires told { IsCommand command.now }
-    ensures whole { has_failed host.new ≡ false }
-    ensures setup { setup_of host.new ≡ setup_of host.old }
-    ensures lives { LivesOn K.written K.puts result out.old out.new host.old host.new }
+    ensures acts { Acts K.written K.puts K.faults (TellsOne (live.command command.now)) result out.old out.new host.old
+        host.new }
 {
     page.report.clear();
     page.report.push(answer_of(host, command));
@@ -237,6 +246,7 @@ fn answer_of<D: Disk>(host: &mut Host<'_, D>, command: &Command) -> Entry
     requires told { IsCommand command.now }
     ensures whole { has_failed host.new ≡ has_failed host.old }
     ensures setup { setup_of host.new ≡ setup_of host.old }
+    ensures disk { disk_of host.new ≡ disk_of host.old }
     ensures lives { LifeGoes (setup_of host.old) (StandsFor host.old) (live.command command.now ∷ [])
         (as_told (result ∷ [])) (StandsFor host.new) }
 {
@@ -255,8 +265,8 @@ fn balance<K: Sink, D: Disk>(
     out: &mut K,
     page: &mut Page,
 ) -> Result<(), Served>
-    ensures same { host.new ≡ host.old }
-    ensures lives { LivesOn K.written K.puts result out.old out.new host.old host.new }
+    requires whole { has_failed host.old ≡ false }
+    ensures acts { Acts K.written K.puts K.faults (TellsOne live.balance) result out.old out.new host.old host.new }
 {
     page.report.clear();
     page.report.push(Entry::Balance(host.totals()));
@@ -273,9 +283,7 @@ pub(crate) fn attempt<K: Sink, D: Disk, L: CountedLink>(
     page: &mut Page,
 ) -> Result<(), Served>
     requires whole { has_failed host.old ≡ false }
-    ensures whole { OnOk result (has_failed host.new ≡ false) }
-    ensures setup { setup_of host.new ≡ setup_of host.old }
-    ensures lives { LivesOn K.written K.puts result out.old out.new host.old host.new }
+    ensures acts { Acts K.written K.puts K.faults (IsAttempt addr) result out.old out.new host.old host.new }
 {
     page.report.clear();
     let faults = link.faults();
@@ -289,16 +297,15 @@ pub(crate) fn attempt<K: Sink, D: Disk, L: CountedLink>(
 pub(crate) fn attempts<K: Sink, D: Disk, L: CountedLink>(
     host: &mut Host<'_, D>,
     addr: u8,
+    most: u32,
     link: &mut L,
     out: &mut K,
     page: &mut Page,
 ) -> Result<(), Served>
     requires whole { has_failed host.old ≡ false }
-    ensures whole { OnOk result (has_failed host.new ≡ false) }
-    ensures setup { setup_of host.new ≡ setup_of host.old }
-    ensures lives { LivesOn K.written K.puts result out.old out.new host.old host.new }
+    ensures acts { Acts K.written K.puts K.faults (AreAttempts addr most) result out.old out.new host.old host.new }
 {
-    for _ in 0..MOST_ATTEMPTS {
+    for _made in 0..most {
         match attempt(host, addr, link, out, page) {
             Ok(()) => {}
             Err(how) => return Err(how),

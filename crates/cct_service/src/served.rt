@@ -1,7 +1,8 @@
 //! How a service ends.
-ghost use Rattle.std.specs.Prelude.{◌≡◌, Result};
+ghost use Rattle.std.specs.Prelude.{◌≡◌, IsErr, Result};
+ghost use Rattle.cct_edge.specs.Bytes.{Serves};
 ghost use Rattle.cct_edge.specs.declared.fault.Failed.{Failed};
-ghost use Rattle.cct_service.specs.Ending.{IsOfDisk, by_writing, closed_by, last_entry, last_told};
+ghost use Rattle.cct_service.specs.Ending.{by_writing, closed_by, last_entry, last_told, unmade_by, unstarted_by};
 ghost use Rattle.cct_service.specs.Told.{WritesTold};
 
 use cct_edge::{Failed, Sink};
@@ -55,7 +56,8 @@ impl Served {
 /// Writes the last line of a service that ends so, where it has one.
 pub(crate) fn close<K: Sink>(how: Served, out: &mut K, line: &mut TextLine) -> Served
     ensures writes { (answer : Result (Unit {0}) Failed)
-        × WritesTold K.written K.puts out.old (last_told how) answer out.new × (result ≡ closed_by answer how) }
+        × WritesTold K.written K.puts out.old (last_told how) answer out.new
+        × Serves K.written K.faults out.old out.new (IsErr answer) × (result ≡ closed_by answer how) }
 {
     match how.last_entry() {
         None => how,
@@ -68,7 +70,7 @@ pub(crate) fn close<K: Sink>(how: Served, out: &mut K, line: &mut TextLine) -> S
 
 /// Why no journal is made on a disk that has the length of one.
 pub(crate) fn unmade(why: CreateNo) -> Served
-    ensures { IsOfDisk result }
+    ensures { result ≡ unmade_by why }
 {
     match why {
         CreateNo::Small { len } => Served::OtherSize { len },
@@ -79,7 +81,7 @@ pub(crate) fn unmade(why: CreateNo) -> Served
 
 /// Why no host starts over a journal.
 pub(crate) fn unstarted(why: StartNo) -> Served
-    ensures { IsOfDisk result }
+    ensures { result ≡ unstarted_by why }
 {
     match why {
         StartNo::Disk => Served::Disk,

@@ -1,5 +1,7 @@
 //! How a host stands, told in notices.
-ghost use Rattle.cct_service.specs.Told.{TellsNotices};
+ghost use Rattle.std.specs.Prelude.{IsErr};
+ghost use Rattle.cct_edge.specs.Bytes.{Serves};
+ghost use Rattle.cct_service.specs.Told.{IsOfStatus, IsOpening, TellsNotice, TellsStatus};
 
 use crate::notice::{Notice, tell};
 use cct_disk::Disk;
@@ -15,9 +17,17 @@ pub(crate) fn tell_found<K: Sink, D: Disk>(
     out: &mut K,
     line: &mut TextLine,
 ) -> Result<(), Failed>
-    ensures tells { TellsNotices K.written K.puts out.old result out.new }
+    ensures tells { TellsNotice (IsOpening was_there) K.written K.puts out.old result out.new }
+    ensures serves { Serves K.written K.faults out.old out.new (IsErr result) }
 {
-    let notice = if was_there {
+    tell(out, line, &opening_notice(host, was_there))
+}
+
+/// What a host that has just started found.
+fn opening_notice<D: Disk>(host: &Host<'_, D>, was_there: bool) -> Notice
+    ensures { IsOpening was_there result }
+{
+    if was_there {
         Notice::Found {
             records: host.records(),
             orders: open_orders(host),
@@ -25,8 +35,7 @@ pub(crate) fn tell_found<K: Sink, D: Disk>(
         }
     } else {
         Notice::Made
-    };
-    tell(out, line, &notice)
+    }
 }
 
 /// How many orders are open.
@@ -65,7 +74,8 @@ pub(crate) fn tell_status<K: Sink, D: Disk>(
     out: &mut K,
     line: &mut TextLine,
 ) -> Result<(), Failed>
-    ensures tells { TellsNotices K.written K.puts out.old result out.new }
+    ensures tells { TellsStatus K.written K.puts out.old result out.new }
+    ensures serves { Serves K.written K.faults out.old out.new (IsErr result) }
 {
     for device in host.setup().devices.as_slice() {
         match tell_device(host, device.addr, out, line) {
@@ -83,7 +93,8 @@ fn tell_device<K: Sink, D: Disk>(
     out: &mut K,
     line: &mut TextLine,
 ) -> Result<(), Failed>
-    ensures tells { TellsNotices K.written K.puts out.old result out.new }
+    ensures tells { TellsNotice IsOfStatus K.written K.puts out.old result out.new }
+    ensures serves { Serves K.written K.faults out.old out.new (IsErr result) }
 {
     let notice = Notice::Device {
         addr,
@@ -100,7 +111,8 @@ fn tell_room<K: Sink, D: Disk>(
     out: &mut K,
     line: &mut TextLine,
 ) -> Result<(), Failed>
-    ensures tells { TellsNotices K.written K.puts out.old result out.new }
+    ensures tells { TellsNotice IsOfStatus K.written K.puts out.old result out.new }
+    ensures serves { Serves K.written K.faults out.old out.new (IsErr result) }
 {
     let notice = Notice::Room {
         records: host.room(),

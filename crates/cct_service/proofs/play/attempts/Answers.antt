@@ -1,22 +1,59 @@
-use Rattle.std.proofs.Common.{Err}
-use Rattle.cct_service.proofs.Parts.{still_begin, still_ends, still_on}
+use Rattle.std.proofs.Common.{◌+◌, Ok, Err, arith}
+use Rattle.cct_service.specs.Doing.{AreAttempts, IsAttempt}
+use Rattle.cct_service.proofs.Doings.{attempts_less, attempts_more, no_attempts}
+use Rattle.cct_service.proofs.Parts.{acts_none, acts_then, acts_weaker}
 use Rattle.cct_service.proofs.play.attempts.Goals as goal
 
-pub loop-init : goal.loop-init
-loop-init g c = still_begin g.K.Sink.written g.K.Sink.puts c.args.out.now c.args.host.now c.requires.whole
+pub loop-made-init : goal.loop-made-init
+loop-made-init g c =
+    let sink = g.K.Sink in
+    acts_none sink.written sink.puts sink.faults c.args.out.now c.args.host.now (AreAttempts c.args.addr 0) c.requires.whole
+    (no_attempts c.args.addr)
 
-pub returns-in-Err-clause-lives : goal.returns-in-Err-clause-lives
-returns-in-Err-clause-lives g c =
-    still_ends g.K.Sink.written g.K.Sink.puts (Err c.in-Err.how) c.args.out.now c.loop.out c.attempt.new.out
-    c.args.host.now c.loop.host c.attempt.new.host c.loop.invariant c.in-Err.ensures.lives
+pub returns-in-Err : goal.returns-in-Err
+returns-in-Err g c =
+    let sink = g.K.Sink in
+    let addr = c.args.addr in
+    let made = c.loop-made._made in
+    record {
+      acts = acts_weaker sink.written sink.puts sink.faults (Err c.in-Err.how) c.args.out.now c.attempt.new.out
+          c.args.host.now c.attempt.new.host (AreAttempts addr (made + 1)) (AreAttempts addr c.args.most)
+          (attempts_less addr (made + 1) c.args.most (omega (arith, c.loop-made-test.true)))
+          (acts_then sink.written sink.puts sink.faults (Err c.in-Err.how) c.args.out.now c.loop-made.out c.attempt.new.out
+          c.args.host.now c.loop-made.host c.attempt.new.host (AreAttempts addr made) (IsAttempt addr)
+          (AreAttempts addr (made + 1)) (attempts_more addr made) c.loop-made.invariant c.in-Err.ensures.acts);
+    }
 
-pub loop-preserved : goal.loop-preserved
-loop-preserved g c =
-    still_on g.K.Sink.written g.K.Sink.puts c.args.out.now c.loop.out c.attempt.new.out c.args.host.now c.loop.host
-    c.attempt.new.host c.loop.invariant c.in-Ok.ensures.lives c.in-Ok.ensures.whole c.in-Ok.ensures.setup
+pub loop-made-preserved : goal.loop-made-preserved
+loop-made-preserved g c =
+    let sink = g.K.Sink in
+    let addr = c.args.addr in
+    let made = c.loop-made._made in
+    acts_then sink.written sink.puts sink.faults (Ok tt) c.args.out.now c.loop-made.out c.attempt.new.out c.args.host.now
+    c.loop-made.host c.attempt.new.host (AreAttempts addr made) (IsAttempt addr) (AreAttempts addr (made + 1))
+    (attempts_more addr made) c.loop-made.invariant c.in-Ok.ensures.acts
 
-pub returns-then-has_ended-clause-lives : goal.returns-then-has_ended-clause-lives
-returns-then-has_ended-clause-lives g c =
-    let still = still_on g.K.Sink.written g.K.Sink.puts c.args.out.now c.loop.out c.attempt.new.out c.args.host.now
-    c.loop.host c.attempt.new.host c.loop.invariant c.in-Ok.ensures.lives c.in-Ok.ensures.whole c.in-Ok.ensures.setup in
-    still.lives
+pub returns-then-has_ended : goal.returns-then-has_ended
+returns-then-has_ended g c =
+    let sink = g.K.Sink in
+    let addr = c.args.addr in
+    let made = c.loop-made._made in
+    record {
+      acts = acts_weaker sink.written sink.puts sink.faults (Ok tt) c.args.out.now c.attempt.new.out c.args.host.now
+          c.attempt.new.host (AreAttempts addr (made + 1)) (AreAttempts addr c.args.most)
+          (attempts_less addr (made + 1) c.args.most (omega (arith, c.loop-made-test.true)))
+          (acts_then sink.written sink.puts sink.faults (Ok tt) c.args.out.now c.loop-made.out c.attempt.new.out
+          c.args.host.now c.loop-made.host c.attempt.new.host (AreAttempts addr made) (IsAttempt addr)
+          (AreAttempts addr (made + 1)) (attempts_more addr made) c.loop-made.invariant c.in-Ok.ensures.acts);
+    }
+
+pub returns-after-loop-made : goal.returns-after-loop-made
+returns-after-loop-made g c =
+    let sink = g.K.Sink in
+    let addr = c.args.addr in
+    record {
+      acts = acts_weaker sink.written sink.puts sink.faults (Ok tt) c.args.out.now c.loop-made.out c.args.host.now
+          c.loop-made.host (AreAttempts addr c.loop-made._made) (AreAttempts addr c.args.most)
+          (attempts_less addr c.loop-made._made c.args.most (omega (arith, c.loop-made.auto._made-end)))
+          c.loop-made.invariant;
+    }

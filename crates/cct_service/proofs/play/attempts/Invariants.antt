@@ -1,6 +1,10 @@
-use Rattle.cct_service.specs.Parts.{StillLives}
+use Rattle.std.proofs.Common.{Ok}
+use Rattle.cct_service.specs.Doing.{AreAttempts}
+use Rattle.cct_service.specs.Parts.{Acts}
 use Rattle.cct_service.proofs.play.attempts.Given as goal
 
--- The host lives on.
-abbrev pub invariant-loop : goal.invariant-loop
-invariant-loop g l = StillLives g.K.Sink.written g.K.Sink.puts l.fn.out l.out l.fn.host l.host
+-- The host lives on, and made so many attempts at most.
+abbrev pub invariant-loop-made : goal.invariant-loop-made
+invariant-loop-made g l =
+    let sink = g.K.Sink in
+    Acts sink.written sink.puts sink.faults (AreAttempts l.addr l._made) (Ok tt) l.fn.out l.out l.fn.host l.host

@@ -1,17 +1,127 @@
-use Rattle.std.proofs.Common.{Err}
-use Rattle.cct_service.proofs.Parts.{still_begin, still_ends, still_on}
+use Rattle.std.proofs.Common.{◌≡◌, ◌∷◌, [], Ok, Err, refl, inr, sym, subst, arith, length}
+use Rattle.cct_host.specs.Host.{disk_of}
+use Rattle.cct_script.specs.Endless.{held_of}
+use Rattle.cct_service.specs.Causes.{IsDiskFault, IsUnread, IsUnwritten}
+use Rattle.cct_service.specs.Doing.{DoesLine, DoesLines}
+use Rattle.cct_service.specs.Said.{HasSaid}
+use Rattle.cct_service.proofs.Causing.{input_no_fault, input_not_unwritten, unread_of_input}
+use Rattle.cct_service.proofs.Doings.{line_then, next_number}
+use Rattle.cct_service.proofs.Parts.{acts_none, acts_then, breaks, disk_weaker, ends_to, serves_none, serves_then, serves_weaker, stops_to}
+use Rattle.cct_service.proofs.Saying.{said_all, said_broken, said_many, said_more, said_none}
 use Rattle.cct_service.proofs.play.play.Goals as goal
 
 pub loop-number-init : goal.loop-number-init
-loop-number-init g c = still_begin g.K.Sink.written g.K.Sink.puts c.args.out.now c.args.host.now c.requires.whole
+loop-number-init g c =
+    let source = g.S.Source in
+    let sink = g.K.Sink in
+    let left = source.left c.args.input.now in
+    record {
+      said = [];
+      count = refl;
+      acts = acts_none sink.written sink.puts sink.faults c.args.out.now c.args.host.now (DoesLines c.args.withheld.now [])
+          c.requires.whole (refl, refl);
+      says = subst (λ held. HasSaid left [] held left) (sym c.new-lines.ensures) (said_none left);
+      serves = serves_none source.left source.faults c.args.input.now ⊥ (λ fails. fails);
+    }
 
-pub returns-in-Err-clause-lives : goal.returns-in-Err-clause-lives
-returns-in-Err-clause-lives g c =
-    still_ends g.K.Sink.written g.K.Sink.puts (Err c.in-Err.how) c.args.out.now c.loop-number.out c.take_turn.new.out
-    c.args.host.now c.loop-number.host c.take_turn.new.host c.loop-number.invariant c.in-Err.ensures.lives
+pub returns-in-Err : goal.returns-in-Err
+returns-in-Err g c =
+    let source = g.S.Source in
+    let sink = g.K.Sink in
+    let disk = g.D.Disk in
+    let before = c.loop-number.invariant in
+    let how = c.in-Err.how in
+    let ends = c.in-Err.ensures.ends in
+    let does = DoesLines c.args.withheld.now before.said in
+    record {
+      setup = before.acts.setup;
+      plays = record {
+        lines = before.said;
+        lives = stops_to sink.written sink.puts how does c.args.out.now c.loop-number.out c.args.host.now c.loop-number.host
+            ends before.acts.lives;
+        says = said_all c.loop-number.number how (source.left c.args.input.now) (source.left c.loop-number.input)
+            (source.left c.next_line.new.input) (held_of c.loop-number.lines) (held_of c.next_line.new.lines) before.said
+            before.count before.says c.in-Err.ensures.comes;
+      };
+      input = serves_then source.left source.faults c.args.input.now c.loop-number.input c.next_line.new.input ⊥
+          (IsUnread how) before.serves c.in-Err.ensures.serves (IsUnread how) (λ fails. inr fails);
+      sink = serves_weaker sink.written sink.faults c.args.out.now c.loop-number.out ⊥ (IsUnwritten how)
+          (input_not_unwritten how ends) before.acts.sink;
+      disk = disk_weaker disk.size disk.honest disk.seen disk.cuts disk.faults (disk_of c.args.host.now)
+          (disk_of c.loop-number.host) ⊥ (IsDiskFault how) (input_no_fault how ends) before.acts.disk;
+    }
+
+pub returns-in-Err-take_line : goal.returns-in-Err-take_line
+returns-in-Err-take_line g c =
+    let source = g.S.Source in
+    let sink = g.K.Sink in
+    let before = c.loop-number.invariant in
+    let how = c.in-Err-take_line.how in
+    let line = c.in-Ok.line in
+    let withheld = c.args.withheld.now in
+    let number = c.loop-number.number in
+    let left = source.left c.args.input.now in
+    let out = c.args.out.now in
+    let host = c.args.host.now in
+    let does = DoesLines withheld (line ∷ before.said) in
+    let acts = acts_then sink.written sink.puts sink.faults (Err how) out c.loop-number.out c.take_line.new.out host
+    c.loop-number.host c.take_line.new.host (DoesLines withheld before.said) (DoesLine withheld number line) does
+    (line_then withheld before.said number line before.count) before.acts c.in-Err-take_line.ensures.acts in
+    let other = breaks sink.written sink.puts how does out c.take_line.new.out host c.take_line.new.host acts.lives in
+    record {
+      setup = acts.setup;
+      plays = record {
+        lines = line ∷ before.said;
+        lives = ends_to sink.written sink.puts how does out c.take_line.new.out host c.take_line.new.host acts.lives;
+        says = said_broken how left (source.left c.next_line.new.input) (held_of c.next_line.new.lines)
+            (line ∷ before.said) other
+            (said_more number left (source.left c.loop-number.input) (source.left c.next_line.new.input)
+            (held_of c.loop-number.lines) (held_of c.next_line.new.lines) before.said line before.says c.in-Ok.ensures.comes);
+      };
+      input = serves_then source.left source.faults c.args.input.now c.loop-number.input c.next_line.new.input ⊥ ⊥
+          before.serves c.in-Ok.ensures.serves (IsUnread how) (λ fails. inr (other (unread_of_input how fails)));
+      sink = acts.sink;
+      disk = acts.disk;
+    }
 
 pub loop-number-preserved : goal.loop-number-preserved
 loop-number-preserved g c =
-    still_on g.K.Sink.written g.K.Sink.puts c.args.out.now c.loop-number.out c.take_turn.new.out c.args.host.now
-    c.loop-number.host c.take_turn.new.host c.loop-number.invariant c.in-Ok.ensures.lives c.in-Ok.ensures.whole
-    c.in-Ok.ensures.setup
+    let source = g.S.Source in
+    let sink = g.K.Sink in
+    let before = c.loop-number.invariant in
+    let line = c.in-Ok.line in
+    let withheld = c.args.withheld.now in
+    let number = c.loop-number.number in
+    let left = source.left c.args.input.now in
+    record {
+      said = line ∷ before.said;
+      count = next_number (length before.said) number before.count;
+      acts = acts_then sink.written sink.puts sink.faults (Ok tt) c.args.out.now c.loop-number.out c.take_line.new.out
+          c.args.host.now c.loop-number.host c.take_line.new.host (DoesLines withheld before.said)
+          (DoesLine withheld number line) (DoesLines withheld (line ∷ before.said))
+          (line_then withheld before.said number line before.count) before.acts c.in-Ok-take_line.ensures.acts;
+      says = said_more number left (source.left c.loop-number.input) (source.left c.next_line.new.input)
+          (held_of c.loop-number.lines) (held_of c.next_line.new.lines) before.said line before.says c.in-Ok.ensures.comes;
+      serves = serves_then source.left source.faults c.args.input.now c.loop-number.input c.next_line.new.input ⊥ ⊥
+          before.serves c.in-Ok.ensures.serves ⊥ (λ fails. inr fails);
+    }
+
+pub returns : goal.returns
+returns g c =
+    let source = g.S.Source in
+    let sink = g.K.Sink in
+    let disk = g.D.Disk in
+    let before = c.loop-number.invariant in
+    let last : c.loop-number.number ≡ 4294967295 = omega (arith, c.loop-number-test.false, c.loop-number.auto.number-end) in
+    record {
+      setup = before.acts.setup;
+      plays = record {
+        lines = before.said;
+        lives = before.acts.lives;
+        says = said_many (source.left c.args.input.now) (source.left c.loop-number.input) (held_of c.loop-number.lines)
+            before.said (omega (arith, before.count, last)) before.says;
+      };
+      input = before.serves;
+      sink = before.acts.sink;
+      disk = before.acts.disk;
+    }

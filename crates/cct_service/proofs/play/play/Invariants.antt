@@ -1,6 +1,20 @@
-use Rattle.cct_service.specs.Parts.{StillLives}
+use Rattle.std.proofs.Common.{◌≡◌, suc, List, length, Ok}
+use Rattle.cct_edge.specs.Bytes.{Serves}
+use Rattle.cct_script.specs.Endless.{held_of}
+use Rattle.cct_service.specs.Doing.{DoesLines}
+use Rattle.cct_service.specs.Parts.{Acts}
+use Rattle.cct_service.specs.Said.{HasSaid, Said}
 use Rattle.cct_service.proofs.play.play.Given as goal
 
--- The host lives on.
+-- The host lives on, and did what the lines before this number said.
 abbrev pub invariant-loop-number : goal.invariant-loop-number
-invariant-loop-number g l = StillLives g.K.Sink.written g.K.Sink.puts l.fn.out l.out l.fn.host l.host
+invariant-loop-number g l =
+    let source = g.S.Source in
+    let sink = g.K.Sink in
+    record {
+      said : List Said;
+      count : suc (length said) ≡ l.number;
+      acts : Acts sink.written sink.puts sink.faults (DoesLines l.withheld said) (Ok tt) l.fn.out l.out l.fn.host l.host;
+      says : HasSaid (source.left l.fn.input) said (held_of l.lines) (source.left l.input);
+      serves : Serves source.left source.faults l.fn.input l.input ⊥;
+    }

@@ -1,12 +1,18 @@
-use Rattle.std.proofs.Common.{sym, subst}
-use Rattle.cct_service.specs.Parts.{LivesOn}
-use Rattle.cct_service.proofs.Parts.{lives_refused}
+use Rattle.std.proofs.Common.{refl, sym, subst}
+use Rattle.cct_service.specs.Doing.{Tells}
+use Rattle.cct_service.specs.Parts.{Acts}
+use Rattle.cct_service.specs.Told.{refused}
+use Rattle.cct_service.proofs.Parts.{acts_line}
 use Rattle.cct_service.proofs.play.refuse.Goals as goal
 
-pub returns-clause-lives : goal.returns-clause-lives
-returns-clause-lives g c =
+pub returns : goal.returns
+returns g c =
     let sink = g.K.Sink in
     let host = c.args.host.now in
-    subst (λ r. LivesOn sink.written sink.puts r c.args.out.now c.write_entry.new.out host host) (sym c.by_writing.ensures)
-    (lives_refused sink.written sink.puts c.write_entry.result c.args.out.now c.write_entry.new.out host c.args.number
-    c.args.kind c.write_entry.ensures.puts)
+    let what = refused c.args.number c.args.kind in
+    record {
+      acts = subst (λ r. Acts sink.written sink.puts sink.faults (Tells what) r c.args.out.now c.write_entry.new.out host
+          host) (sym c.by_writing.ensures)
+          (acts_line sink.written sink.puts sink.faults c.write_entry.result c.args.out.now c.write_entry.new.out host what
+          refl c.write_entry.ensures.puts c.requires.whole c.write_entry.ensures.serves);
+    }

@@ -1,7 +1,13 @@
-use Rattle.cct_service.proofs.Parts.{lives_on}
+use Rattle.cct_service.specs.Doing.{IsPoll}
+use Rattle.cct_service.proofs.Doings.{poll_then}
+use Rattle.cct_service.proofs.Parts.{acts_then}
 use Rattle.cct_service.proofs.poll.poll.Goals as goal
 
-pub returns-in-Ok-clause-lives : goal.returns-in-Ok-clause-lives
-returns-in-Ok-clause-lives g c =
-    lives_on g.K.Sink.written g.K.Sink.puts c.attempt_all.result c.args.out.now c.read_all_out.new.out c.attempt_all.new.out c.args.host.now
-    c.read_all_out.new.host c.attempt_all.new.host c.read_all_out.ensures.setup c.in-Ok.ensures.lives c.attempt_all.ensures.lives
+pub returns-in-Ok : goal.returns-in-Ok
+returns-in-Ok g c =
+    let sink = g.K.Sink in
+    record {
+      acts = acts_then sink.written sink.puts sink.faults c.visit_all-in-Ok.result c.args.out.now c.visit_all.new.out
+          c.visit_all-in-Ok.new.out c.args.host.now c.visit_all.new.host c.visit_all-in-Ok.new.host IsPoll IsPoll IsPoll poll_then
+          c.in-Ok.ensures.acts c.visit_all-in-Ok.ensures.acts;
+    }

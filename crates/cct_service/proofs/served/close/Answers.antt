@@ -1,6 +1,8 @@
-use Rattle.std.proofs.Common.{Ok, refl, sym, ◌∙◌, subst, Err}
+use Rattle.std.proofs.Common.{IsErr, Result, Ok, refl, sym, ◌∙◌, subst, Err}
+use Rattle.cct_edge.specs.declared.fault.Failed.{Failed}
 use Rattle.cct_service.specs.Ending.{lines_of}
 use Rattle.cct_service.specs.Told.{WritesTold, last}
+use Rattle.cct_service.proofs.Parts.{no_error, serves_none}
 use Rattle.cct_service.proofs.Telling.{told_none, told_one}
 use Rattle.cct_service.proofs.served.close.Goals as goal
 
@@ -9,11 +11,13 @@ returns-in-None g c =
     let sink = g.K.Sink in
     let out = c.args.out.now in
     let none = sym c.in-None.is ∙ c.last_entry.ensures in
+    let answer : Result (Unit {0}) Failed = Ok tt in
     record {
       writes = (
-        Ok tt,
+        answer,
         subst (λ e. WritesTold sink.written sink.puts out (lines_of e) (Ok tt) out) none
             (told_none sink.written sink.puts out),
+        serves_none sink.written sink.faults out (IsErr answer) (no_error tt),
         refl,
       );
     }
@@ -28,6 +32,7 @@ returns-in-Ok g c =
         Ok tt,
         subst (λ e. WritesTold sink.written sink.puts out (lines_of e) (Ok tt) c.write_entry.new.out) some
             (told_one sink.written sink.puts out c.write_entry.new.out (last c.in-Some.entry) (Ok tt) c.in-Ok.ensures.puts),
+        c.in-Ok.ensures.serves,
         refl,
       );
     }
@@ -43,6 +48,7 @@ returns-in-Err g c =
         Err why,
         subst (λ e. WritesTold sink.written sink.puts out (lines_of e) (Err why) c.write_entry.new.out) some
             (told_one sink.written sink.puts out c.write_entry.new.out (last c.in-Some.entry) (Err why) c.in-Err.ensures.puts),
+        c.in-Err.ensures.serves,
         refl,
       );
     }

@@ -1,7 +1,4 @@
-use Rattle.cct_service.proofs.Parts.{notices_one}
 use Rattle.cct_service.proofs.standing.tell_found.Goals as goal
 
-pub returns : goal.returns
-returns g c = record {
-  tells = notices_one g.K.Sink.written g.K.Sink.puts c.args.out.now c.tell.new.out _ c.tell.result c.tell.ensures.puts;
-}
+pub returns-clause-tells : goal.returns-clause-tells
+returns-clause-tells g c = (_, c.opening_notice.ensures, c.tell.ensures.puts)

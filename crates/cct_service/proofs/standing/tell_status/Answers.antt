@@ -1,23 +1,48 @@
-use Rattle.std.proofs.Common.{Ok, Err}
-use Rattle.cct_service.proofs.Parts.{notices_none, notices_then}
+use Rattle.std.proofs.Common.{IsErr, Ok, Err, Result, inr}
+use Rattle.cct_edge.specs.declared.fault.Failed.{Failed}
+use Rattle.cct_service.proofs.Parts.{serves_none, serves_on, serves_then}
+use Rattle.cct_service.proofs.Telling.{status_more, status_none}
 use Rattle.cct_service.proofs.standing.tell_status.Goals as goal
 
 pub loop-device-init : goal.loop-device-init
-loop-device-init g c = notices_none g.K.Sink.written g.K.Sink.puts c.args.out.now
+loop-device-init g c =
+    let sink = g.K.Sink in
+    record {
+      tells = status_none sink.written sink.puts c.args.out.now;
+      serves = serves_none sink.written sink.faults c.args.out.now ⊥ (λ fails. fails);
+    }
 
 pub loop-device-preserved : goal.loop-device-preserved
 loop-device-preserved g c =
-    notices_then g.K.Sink.written g.K.Sink.puts c.args.out.now c.loop-device.out c.tell_device.new.out (Ok tt)
-    c.loop-device.invariant c.in-Ok.ensures.tells
+    let sink = g.K.Sink in
+    let before = c.loop-device.invariant in
+    record {
+      tells = status_more sink.written sink.puts c.args.out.now c.loop-device.out c.tell_device.new.out (Ok tt) before.tells
+          c.in-Ok.ensures.tells;
+      serves = serves_on sink.written sink.faults c.args.out.now c.loop-device.out c.tell_device.new.out before.serves
+          c.in-Ok.ensures.serves;
+    }
 
 pub returns-in-Err : goal.returns-in-Err
-returns-in-Err g c = record {
-  tells = notices_then g.K.Sink.written g.K.Sink.puts c.args.out.now c.loop-device.out c.tell_device.new.out
-      (Err c.in-Err.failed) c.loop-device.invariant c.in-Err.ensures.tells;
-}
+returns-in-Err g c =
+    let sink = g.K.Sink in
+    let before = c.loop-device.invariant in
+    let answer : Result (Unit {0}) Failed = Err c.in-Err.failed in
+    record {
+      tells = status_more sink.written sink.puts c.args.out.now c.loop-device.out c.tell_device.new.out answer before.tells
+          c.in-Err.ensures.tells;
+      serves = serves_then sink.written sink.faults c.args.out.now c.loop-device.out c.tell_device.new.out ⊥ (IsErr answer)
+          before.serves c.in-Err.ensures.serves (IsErr answer) (λ fails. inr fails);
+    }
 
 pub returns : goal.returns
-returns g c = record {
-  tells = notices_then g.K.Sink.written g.K.Sink.puts c.args.out.now c.loop-device.out c.tell_room.new.out
-      c.tell_room.result c.loop-device.invariant c.tell_room.ensures.tells;
-}
+returns g c =
+    let sink = g.K.Sink in
+    let before = c.loop-device.invariant in
+    let answer = c.tell_room.result in
+    record {
+      tells = status_more sink.written sink.puts c.args.out.now c.loop-device.out c.tell_room.new.out answer before.tells
+          c.tell_room.ensures.tells;
+      serves = serves_then sink.written sink.faults c.args.out.now c.loop-device.out c.tell_room.new.out ⊥ (IsErr answer)
+          before.serves c.tell_room.ensures.serves (IsErr answer) (λ fails. inr fails);
+    }
