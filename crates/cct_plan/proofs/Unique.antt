@@ -1,0 +1,19 @@
+-- At most one plan is chosen.
+use Rattle.std.proofs.Common.{◌≡◌, ℕ, inl, inr, sym, ap, ◌∙◌, arith, List, [], ◌∷◌, refl}
+use Rattle.cct_plan.specs.declared.tray.Tray.{Tray}
+use Rattle.cct_plan.specs.Plan.{ComesFirst, IsChosen}
+
+-- Of two lists each comes first only where they are the same.
+both_first : (cs os : List ℕ) → ComesFirst cs os → ComesFirst os cs → cs ≡ os
+both_first [] [] first back = refl
+both_first [] (o ∷ os) first back = absurd first
+both_first (c ∷ cs) [] first back = absurd first
+both_first (c ∷ cs) (o ∷ os) (inl less) (inl more) = absurd (omega arith)
+both_first (c ∷ cs) (o ∷ os) (inl less) (inr same) = absurd (omega (arith, same.0))
+both_first (c ∷ cs) (o ∷ os) (inr same) (inl less) = absurd (omega (arith, same.0))
+both_first (c ∷ cs) (o ∷ os) (inr same) (inr back) = ap (λ n. n ∷ cs) (sym same.0) ∙ ap (λ ns. o ∷ ns) (both_first cs os same.1 back.1)
+
+pub one_chosen : (trays : List Tray) (amount : ℕ) (counts others : List ℕ) → IsChosen trays amount counts
+    → IsChosen trays amount others → counts ≡ others
+one_chosen trays amount counts others chosen other =
+    both_first counts others (chosen.first others other.fewest) (other.first counts chosen.fewest)
