@@ -1,0 +1,91 @@
+-- A monitor stands for one thing more that came to it.
+use Rattle.std.proofs.Common.{◌≡◌, ℕ, zero, suc, ◌+◌, ◌==◌, ◌||◌, Bool, true, false, cond, List, [], ◌∷◌, map, flat_map, length, replicate, refl, sym, ap, ap₂, ◌∙◌, None, arith}
+use Rattle.std.specs.List.{list_any}
+use Rattle.cct_monitor.specs.declared.monitor.Monitor.{Monitor}
+use Rattle.cct_monitor.specs.declared.said.Said.{Said}
+use Rattle.cct_monitor.specs.declared.shown.Shown.TheVariants.{Nothing}
+use Rattle.cct_monitor.specs.declared.watched.Kept.{Kept}
+use Rattle.cct_monitor.specs.declared.watched.Kept.TheVariants.{Acceptor, Hopper}
+use Rattle.cct_monitor.specs.declared.watched.Watched.{Watched}
+use Rattle.cct_monitor.specs.Taps.{Tap}
+use Rattle.cct_monitor.specs.Lives.{last_life}
+use Rattle.cct_monitor.specs.Machine.{acceptor_after, ends_on, new_watched, no_tap, says_on, watched_on}
+use Rattle.cct_monitor.specs.Places.{are_apart, has_addr, put_watched}
+use Rattle.cct_monitor.specs.Monitor.{StandsFor, tap_count, watched_as}
+use Rattle.cct_monitor.specs.Watches.{Account, Came, Watch, accounts, finally_of_all, made_tap, made_watch, said_of_all, taps_in}
+use Rattle.cct_monitor.proofs.Accounts.{all_end, put_kept, tap_kept, tap_says}
+use Rattle.cct_monitor.proofs.Insertions.{any_put, put_apart, put_more}
+
+-- a device of which no tap told
+no_look : (n : ℕ) → acceptor_after (replicate n Nothing) ≡ no_tap
+no_look zero = refl
+no_look (suc n) = no_look n
+
+no_life : (n : ℕ) → last_life (replicate n None) ≡ None
+no_life zero = refl
+no_life (suc n) = no_life n
+
+abbrev unseen : Watch → ℕ → Account
+unseen w n = record { watch = w; before = n; taps = [] }
+
+new_is : (w : Watch) (n : ℕ) → new_watched w.addr w.kind w.acceptor ≡ watched_as (unseen w n)
+new_is w n = ap (λ (kept : Kept). record { addr = w.addr; kind = w.kind; kept = kept }) (by_kind w.acceptor)
+  where
+    by_kind : (acceptor : Bool) → cond acceptor (Acceptor no_tap) (Hopper None)
+        ≡ cond acceptor (Acceptor (acceptor_after (replicate n Nothing))) (Hopper (last_life (replicate n None)))
+    by_kind true = ap Acceptor (sym (no_look n))
+    by_kind false = ap Hopper (sym (no_life n))
+
+pub watch_stands : (w : Watch) (past : List Came) (old new : Monitor) → StandsFor old past →
+    tap_count new ≡ tap_count old →
+    new.devices.items ≡ put_watched (new_watched w.addr w.kind w.acceptor) old.devices.items →
+    StandsFor new (made_watch w ∷ past)
+watch_stands w past old new stands same is = record {
+  counted = same ∙ stands.counted;
+  devices = is
+      ∙ ap₂ put_watched (new_is w (taps_in past)) stands.devices
+      ∙ put_kept (unseen w (taps_in past)) (accounts past);
+}
+
+pub watch_apart : (w : Watched) (addr : ℕ) (before after : List Watched) → w.addr ≡ addr →
+    after ≡ put_watched w before → list_any (has_addr addr) before ≡ false → are_apart before ≡ true →
+    are_apart after ≡ true
+watch_apart w addr before after own is new apart =
+    ap are_apart is ∙ put_apart w before (ap (λ a. list_any (has_addr a) before) own ∙ new) apart
+
+pub watch_more : (w : Watched) (before after : List Watched) → after ≡ put_watched w before →
+    length after ≡ length before + 1
+watch_more w before after is = ap length is ∙ put_more w before
+
+pub watch_addresses : (w : Watched) (addr other : ℕ) (before after : List Watched) → w.addr ≡ addr →
+    after ≡ put_watched w before →
+    list_any (has_addr other) after ≡ ((addr == other) || list_any (has_addr other) before)
+watch_addresses w addr other before after own is =
+    ap (list_any (has_addr other)) is
+    ∙ any_put (has_addr other) w before
+    ∙ ap (λ a. (a == other) || list_any (has_addr other) before) own
+
+pub tap_stands : (t : Tap) (past : List Came) (old new : Monitor) → StandsFor old past →
+    tap_count new ≡ tap_count old + 1 →
+    new.devices.items ≡ map (watched_on t (tap_count new)) old.devices.items →
+    StandsFor new (made_tap t ∷ past)
+tap_stands t past old new stands more is =
+    let counted : tap_count old ≡ taps_in past = stands.counted in
+    let number : tap_count new ≡ suc (taps_in past) = omega arith in
+    record {
+      counted = number;
+      devices = is ∙ ap₂ (λ n ws. map (watched_on t n) ws) number stands.devices ∙ tap_kept t past;
+    }
+
+pub tap_told : (t : Tap) (past : List Came) (old : Monitor) (number : ℕ) (report : List Said) → StandsFor old past →
+    number ≡ tap_count old + 1 →
+    report ≡ flat_map (says_on t number) old.devices.items →
+    report ≡ said_of_all t past
+tap_told t past old number report stands more is =
+    let counted : tap_count old ≡ taps_in past = stands.counted in
+    let number_is : number ≡ suc (taps_in past) = omega arith in
+    is ∙ ap₂ (λ n ws. flat_map (says_on t n) ws) number_is stands.devices ∙ tap_says t past
+
+pub finish_told : (past : List Came) (old : Monitor) (report : List Said) → StandsFor old past →
+    report ≡ flat_map ends_on old.devices.items → report ≡ finally_of_all past
+finish_told past old report stands is = is ∙ ap (flat_map ends_on) stands.devices ∙ all_end (accounts past)

@@ -1,0 +1,37 @@
+-- A monitor that stands for all that came to it.
+use Rattle.std.specs.Prelude.{◌≡◌, ℕ, Bool, List, map, length, if◌then◌else◌}
+use Rattle.std.specs.List.{list_any}
+use Rattle.cct_monitor.specs.declared.watched.Kept.{Kept}
+use Rattle.cct_monitor.specs.declared.watched.Kept.TheVariants.{Acceptor, Hopper}
+use Rattle.cct_monitor.specs.declared.watched.Watched.{Watched}
+use Rattle.cct_monitor.specs.declared.monitor.Monitor.{Monitor}
+use Rattle.cct_monitor.specs.Lives.{last_life}
+use Rattle.cct_monitor.specs.Machine.{acceptor_after}
+use Rattle.cct_monitor.specs.Places.{has_addr}
+use Rattle.cct_monitor.specs.Watches.{Account, Came, accounts, lives_of, looks_of, taps_in}
+
+-- How many taps came to a monitor.
+abbrev pub tap_count : Monitor → ℕ
+tap_count monitor = monitor.taps
+
+-- How many devices it watches.
+abbrev pub watch_count : Monitor → ℕ
+watch_count monitor = length monitor.devices.items
+
+-- Whether it watches a device at an address.
+abbrev pub is_watched : Monitor → ℕ → Bool
+is_watched monitor addr = list_any (has_addr addr) monitor.devices.items
+
+-- What is kept of a watched device, by its kind.
+abbrev pub kept_of : Account → Kept
+kept_of a = if a.watch.acceptor then Acceptor (acceptor_after (looks_of a)) else Hopper (last_life (lives_of a))
+
+-- A watched device with what is kept of it.
+abbrev pub watched_as : Account → Watched
+watched_as a = record { addr = a.watch.addr; kind = a.watch.kind; kept = kept_of a }
+
+-- A monitor stands for all that came to it, newest first: it counted the taps, and keeps what it has to of each watched
+-- device, in rising order of address.
+pub record StandsFor (monitor : Monitor) (past : List Came) : Type 0 where
+  pub counted : tap_count monitor ≡ taps_in past
+  pub devices : monitor.devices.items ≡ map watched_as (accounts past)

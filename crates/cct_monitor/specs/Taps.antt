@@ -1,0 +1,63 @@
+-- An exchange as a logger of the wire sees it, and what it shows of a device.
+use Rattle.std.specs.Prelude.{ℕ, List, Option, Some, None, option_and_then}
+use Rattle.cct_model.specs.terms.wire.CheckKind.{CheckKind}
+use Rattle.cct_model.specs.terms.request.Request.{Request}
+use Rattle.cct_model.specs.terms.request.Request.TheVariants.{ReadCredits, GetMask, SetMask, ResetDevice, GetLife}
+use Rattle.cct_model.specs.terms.request.ReplyForm.{ReplyForm}
+use Rattle.cct_model.specs.terms.request.ReplyForm.TheVariants as form
+use Rattle.cct_model.specs.Message.{message}
+use Rattle.cct_model.specs.Reply.{Reply}
+use Rattle.cct_model.specs.Reply as reply
+use Rattle.cct_model.specs.Exchange.{asked_of, got}
+use Rattle.cct_monitor.specs.declared.shown.Shown.{Shown}
+use Rattle.cct_monitor.specs.declared.shown.Shown.TheVariants.{Read, Masked, Set, Nothing}
+
+-- A tap: what was sent, and what was then heard, the echo first.
+pub record Tap : Type 0 where
+  pub sent : List ℕ
+  pub heard : List ℕ
+
+-- A tap of what was sent and heard.
+abbrev pub tap_of : List ℕ → List ℕ → Tap
+tap_of sent heard = record { sent = sent; heard = heard }
+
+-- What a piece asks of the device at an address under a check, whoever sent it.
+abbrev pub asks_at : CheckKind → ℕ → List ℕ → Option Request
+asks_at kind addr piece = option_and_then (asked_of addr) (message kind piece)
+
+-- A reading of the credits, where a reply is one.
+abbrev pub read_in : Option Reply → Shown
+read_in (Some (reply.credits c)) = Read c
+read_in y = Nothing
+
+-- An inhibit mask, where a reply is one.
+abbrev pub mask_in : Option Reply → Shown
+mask_in (Some (reply.mask bits)) = Masked bits
+mask_in y = Nothing
+
+-- What an exchange shows of an acceptor that was asked something, by what was replied in a form. What asks for another
+-- mask or a reset is a setting, heard or not.
+abbrev pub shown_by : Option Request → (ReplyForm → Option Reply) → Shown
+shown_by (Some ReadCredits) replied = read_in (replied form.Credits)
+shown_by (Some GetMask) replied = mask_in (replied form.Mask)
+shown_by (Some (SetMask mask)) replied = Set
+shown_by (Some ResetDevice) replied = Set
+shown_by asked replied = Nothing
+
+-- What a tap shows of the acceptor at an address under a check.
+abbrev pub shown : CheckKind → ℕ → Tap → Shown
+shown kind addr tap = shown_by (asks_at kind addr tap.sent) (λ form. got kind addr form tap.sent tap.heard)
+
+-- A life count, where a reply is one.
+abbrev pub life_in : Option Reply → Option ℕ
+life_in (Some (reply.life count)) = Some count
+life_in y = None
+
+-- The life count that an exchange shows of a hopper that was asked something, or none.
+abbrev pub life_by : Option Request → (ReplyForm → Option Reply) → Option ℕ
+life_by (Some GetLife) replied = life_in (replied form.Life)
+life_by asked replied = None
+
+-- The life count that a tap shows of the hopper at an address under a check, or none.
+abbrev pub life_shown : CheckKind → ℕ → Tap → Option ℕ
+life_shown kind addr tap = life_by (asks_at kind addr tap.sent) (λ form. got kind addr form tap.sent tap.heard)

@@ -1,0 +1,88 @@
+-- The watched devices of a monitor, and what is said of them.
+use Rattle.std.specs.Prelude.{ℕ, suc, nat_le, Bool, List, [], ◌∷◌, ◌++◌, map, replicate, if◌then◌else◌, Option, None}
+use Rattle.std.specs.List.{flat_map}
+use Rattle.cct_model.specs.terms.wire.CheckKind.{CheckKind}
+use Rattle.cct_monitor.specs.declared.shown.Shown.{Shown}
+use Rattle.cct_monitor.specs.declared.shown.Shown.TheVariants.{Nothing}
+use Rattle.cct_monitor.specs.declared.said.Said.{Said}
+use Rattle.cct_monitor.specs.Taps.{Tap, shown, life_shown}
+use Rattle.cct_monitor.specs.Spans.{said_at, said_last}
+use Rattle.cct_monitor.specs.Lives.{fell_at}
+
+-- A device that is watched: its address and its check, and whether it is an acceptor, else a hopper.
+pub record Watch : Type 0 where
+  pub addr : ℕ
+  pub kind : CheckKind
+  pub acceptor : Bool
+
+-- What comes to a monitor: a device that is watched from then on, and a tap.
+pub data Came : Type 0 where
+  made_watch : (w : Watch) → Came
+  made_tap : (t : Tap) → Came
+
+-- How many taps came.
+abbrev pub taps_in : List Came → ℕ
+taps_in [] = 0
+taps_in (made_watch w ∷ past) = taps_in past
+taps_in (made_tap t ∷ past) = suc (taps_in past)
+
+-- A watched device with how many taps came before it was watched, and those that came since, newest first.
+pub record Account : Type 0 where
+  pub watch : Watch
+  pub before : ℕ
+  pub taps : List Tap
+
+-- A watched device after one more tap.
+abbrev pub with_tap : Tap → Account → Account
+with_tap t a = record { watch = a.watch; before = a.before; taps = t ∷ a.taps }
+
+-- What all taps show of a watched acceptor, newest first: those before it was watched, nothing.
+abbrev pub looks_of : Account → List Shown
+looks_of a = map (shown a.watch.kind a.watch.addr) a.taps ++ replicate a.before Nothing
+
+-- The life counts that all taps show of a watched hopper, newest first: those before it was watched, none.
+abbrev pub lives_of : Account → List (Option ℕ)
+lives_of a = map (life_shown a.watch.kind a.watch.addr) a.taps ++ replicate a.before None
+
+-- A watched device put among others in rising order of address.
+abbrev pub put_by_address : Account → List Account → List Account
+put_by_address a [] = a ∷ []
+put_by_address a (b ∷ bs) = if nat_le a.watch.addr b.watch.addr then a ∷ b ∷ bs else b ∷ put_by_address a bs
+
+-- The watched devices after all that came, newest first.
+abbrev pub accounts : List Came → List Account
+accounts [] = []
+accounts (made_watch w ∷ past) = put_by_address (record { watch = w; before = taps_in past; taps = [] }) (accounts past)
+accounts (made_tap t ∷ past) = map (with_tap t) (accounts past)
+
+-- What a tap makes said of a watched device.
+abbrev pub said_of : Tap → Account → List Said
+said_of t a =
+    if a.watch.acceptor then said_at a.watch.addr (shown a.watch.kind a.watch.addr t) (looks_of a)
+    else fell_at a.watch.addr (life_shown a.watch.kind a.watch.addr t) (lives_of a)
+
+-- What a tap makes said of all watched devices.
+abbrev pub said_of_all : Tap → List Came → List Said
+said_of_all t past = flat_map (said_of t) (accounts past)
+
+-- What is said of a watched device at the end.
+abbrev pub finally_of : Account → List Said
+finally_of a = if a.watch.acceptor then said_last a.watch.addr (looks_of a) else []
+
+-- What is said of all at the end, in rising order of address.
+abbrev pub finally_of_all : List Came → List Said
+finally_of_all past = flat_map finally_of (accounts past)
+
+-- A device that was watched before the first tap, after these taps.
+abbrev pub from_begin : List Tap → Watch → Account
+from_begin taps w = record { watch = w; before = 0; taps = taps }
+
+-- A device to be watched put among others in rising order of address.
+abbrev pub put_watch : Watch → List Watch → List Watch
+put_watch w [] = w ∷ []
+put_watch w (v ∷ vs) = if nat_le w.addr v.addr then w ∷ v ∷ vs else v ∷ put_watch w vs
+
+-- Devices to be watched in rising order of address.
+abbrev pub by_address : List Watch → List Watch
+by_address [] = []
+by_address (w ∷ ws) = put_watch w (by_address ws)

@@ -1,0 +1,47 @@
+//! What is kept of a watched hopper: its last life count (ccTalk Generic Specification 4, part 3, header 168).
+ghost use Rattle.std.specs.Prelude.{◌≡◌, []};
+ghost use Rattle.cct_model.specs.Order.{life_between};
+ghost use Rattle.cct_monitor.specs.Lives.{fell_by};
+
+use crate::said::Said;
+use arrayvec::ArrayVec;
+
+/// How many values the life count has, which is three bytes long.
+const COUNTS: u64 = 1 << 24;
+
+/// The last life count of a hopper.
+#[derive(Clone, Copy, Debug, PartialEq, Eq)]
+pub(crate) struct LastLife {
+    /// The number of the tap that showed it.
+    pub number: u32,
+    pub count: u32,
+}
+
+/// Reports how many coins fell since the last life count, where a tap of a number shows one.
+pub(crate) fn fell(
+    addr: u8,
+    number: u32,
+    count: Option<u32>,
+    last: Option<LastLife>,
+    report: &mut ArrayVec<Said, 4>,
+)
+    requires { report.old.items ≡ [] }
+    ensures { report.new.items ≡ fell_by addr number count last }
+{
+    if let (Some(now), Some(life)) = (count, last) {
+        report.push(Said::Fell {
+            addr,
+            first: life.number,
+            last: number,
+            count: fallen_between(life.count, now),
+        });
+    }
+}
+
+/// How many coins fell between two life counts, which go from 2^24 - 1 to 0.
+#[tactic(auto, unfolding(cct_model::specs::Order::life_between))]
+fn fallen_between(before: u32, now: u32) -> u32
+    ensures { result ≡ life_between before now }
+{
+    ((u64::from(now) + COUNTS).saturating_sub(u64::from(before)) % COUNTS) as u32
+}
