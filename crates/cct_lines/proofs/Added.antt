@@ -24,6 +24,7 @@ pub record AreAll (P : DeviceSetup → Type 0) (setup : Setup) : Type 0 where
 abbrev pub KeepsEach : (DeviceSetup → Type 0) → SetupLine → Type 0
 KeepsEach P (says.Acceptor d) = P d
 KeepsEach P (says.Hopper d) = P d
+KeepsEach P (says.Bills d) = P d
 KeepsEach P (says.Value addr place value id) = (d e : DeviceSetup) → P d → valued d place value id d.body ≡ Ok e → P e
 KeepsEach P (says.Named addr texts) = (d e : DeviceSetup) → P d → named d texts ≡ Ok e → P e
 KeepsEach P says.Begin = ⊤
@@ -117,6 +118,7 @@ pub added_keeps : (P : DeviceSetup → Type 0) (setup new : Setup) (line : Setup
 unfolding added
 added_keeps P setup new (says.Acceptor d) keeps all was = one_more P setup new d (device_at setup.devices d.addr) (nat_le DEVICES (length setup.devices)) keeps all refl was
 added_keeps P setup new (says.Hopper d) keeps all was = one_more P setup new d (device_at setup.devices d.addr) (nat_le DEVICES (length setup.devices)) keeps all refl was
+added_keeps P setup new (says.Bills d) keeps all was = one_more P setup new d (device_at setup.devices d.addr) (nat_le DEVICES (length setup.devices)) keeps all refl was
 added_keeps P setup new (says.Value addr place value id) keeps all was =
     changed P setup new (device_at setup.devices addr) (λ d. valued d place value id d.body) all
     (λ d e at done. keeps d e (each_at P setup.devices addr d all.each at) done) was

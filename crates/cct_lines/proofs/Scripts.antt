@@ -9,7 +9,7 @@ use Rattle.cct_lines.specs.declared.command.Command.TheVariants as command
 use Rattle.cct_lines.specs.declared.command.WireFault.TheVariants as fault
 use Rattle.cct_lines.specs.declared.entry.LineKind.TheVariants as kind
 use Rattle.hex.specs.Hex.{decode_pairs}
-use Rattle.cct_lines.specs.Grammar.{setup_line, step_line, ranged, word_in, id_in, piece_in, mask_in, plain_device, plain_acceptor, added}
+use Rattle.cct_lines.specs.Grammar.{setup_line, step_line, ranged, word_in, id_in, piece_in, mask_in, plain_device, plain_acceptor, plain_bills, added}
 use Rattle.cct_lines.specs.Script.{script, most_lines, read_form}
 
 acceptor_said : setup_line (codes "acceptor 2 simple 1 0") ≡ Ok (says.Acceptor (plain_device 2 Simple 1 (plain_acceptor 0)))
@@ -49,6 +49,10 @@ texts_of_the_host_refused : setup_line (codes "texts 1 A B C D") ≡ Err kind.Fo
 unfolding setup_line ranged
 texts_of_the_host_refused = refl
 
+bills_said : setup_line (codes "bills 4 simple 9 0") ≡ Ok (says.Bills (plain_device 4 Simple 9 (plain_bills 0)))
+unfolding setup_line ranged
+bills_said = refl
+
 setup_begun : setup_line (codes "begin") ≡ Ok says.Begin
 unfolding setup_line
 setup_begun = refl
@@ -60,6 +64,15 @@ step_in_setup_refused = refl
 coin_said : step_line (codes "coin 2 16") ≡ Ok (step.Coin 2 16)
 unfolding step_line ranged
 coin_said = refl
+
+bill_said : step_line (codes "bill 4 16") ≡ Ok (step.Bill 4 16)
+unfolding step_line ranged
+bill_said = refl
+
+ways_said : map step_line (codes "route 4 0" ∷ codes "route 4 1" ∷ []) ≡
+    Ok (step.Command (command.Route 4 0)) ∷ Ok (step.Command (command.Route 4 1)) ∷ []
+unfolding step_line ranged
+ways_said = refl
 
 leading_zero_refused : step_line (codes "coin 02 5") ≡ Err kind.Form
 unfolding step_line ranged
@@ -115,8 +128,10 @@ other_forms_refused :
     ∷ codes "next 256"
     ∷ codes "fault host 0"
     ∷ codes "start 2 10"
+    ∷ codes "route 4 2"
+    ∷ codes "bill 4 17"
     ∷ [])
-    ≡ replicate 5 (Err kind.Form)
+    ≡ replicate 7 (Err kind.Form)
 unfolding step_line ranged mask_in piece_in decode_pairs
 other_forms_refused = refl
 
@@ -135,6 +150,14 @@ trailing_refused = refl
 no_acceptor_refused : (script (codes "begin" ++ 10 ∷ codes "coin 2 5" ++ 10 ∷ [])).refused ≡ Some (record { number = 2; why = kind.Device })
 unfolding script read_form setup_line step_line ranged most_lines
 no_acceptor_refused = refl
+
+coin_at_bills_refused : (script (codes "bills 4 simple 9 0" ++ 10 ∷ codes "begin" ++ 10 ∷ codes "coin 4 5" ++ 10 ∷ [])).refused ≡ Some (record { number = 3; why = kind.Device })
+unfolding script read_form setup_line step_line ranged most_lines added
+coin_at_bills_refused = refl
+
+bill_at_a_hopper_refused : (script (codes "hopper 4 simple 9 0 1" ++ 10 ∷ codes "begin" ++ 10 ∷ codes "bill 4 5" ++ 10 ∷ [])).refused ≡ Some (record { number = 3; why = kind.Device })
+unfolding script read_form setup_line step_line ranged most_lines added
+bill_at_a_hopper_refused = refl
 
 given_twice_refused : (script (codes "acceptor 2 simple 1 0" ++ 10 ∷ codes "value 2 1 5 XX005A" ++ 10 ∷ codes "value 2 1 5 XX005A" ++ 10 ∷ [])).refused ≡ Some (record { number = 3; why = kind.Again })
 unfolding script read_form setup_line step_line ranged id_in added most_lines

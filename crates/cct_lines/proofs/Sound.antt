@@ -8,12 +8,12 @@ use Rattle.std.proofs.lemmas.List.Elements.{All-replicate, All-set}
 use Rattle.std.proofs.lemmas.List.Sums.{AllPass-from_list_all}
 use Rattle.cct_lines.specs.terms.wire.CheckKind.{CheckKind}
 use Rattle.cct_lines.specs.terms.device.DeviceBody.{DeviceBody}
-use Rattle.cct_lines.specs.terms.device.DeviceBody.TheVariants.{Acceptor, Hopper}
+use Rattle.cct_lines.specs.terms.device.DeviceBody.TheVariants.{Acceptor, Bill, Hopper}
 use Rattle.cct_lines.specs.terms.device.DeviceSetup.{DeviceSetup}
 use Rattle.cct_lines.specs.terms.device.Texts.{Texts}
 use Rattle.cct_lines.specs.declared.entry.LineKind.TheVariants as kind
-use Rattle.cct_lines.specs.Device.{IsPrinting, IsId, IsWord, IsSound, IsSoundBody}
-use Rattle.cct_lines.specs.Grammar.{is_printing, named, plain_acceptor, plain_device, valued}
+use Rattle.cct_lines.specs.Device.{AreSoundPlaces, IsPrinting, IsId, IsWord, IsSound, IsSoundBody}
+use Rattle.cct_lines.specs.Grammar.{is_printing, named, placed, plain_acceptor, plain_bills, plain_device, valued}
 
 printing_one : (byte : ℕ) → is_printing byte ≡ true → IsPrinting byte
 printing_one byte e = grind (arith, nat_tests)
@@ -35,6 +35,10 @@ plain_acceptor_sound accepts few = (
   refl,
   refl,
 )
+
+-- and a bill acceptor
+pub plain_bills_sound : (accepts : ℕ) → accepts < 2 ^ 24 → IsSoundBody (plain_bills accepts)
+plain_bills_sound accepts few = plain_acceptor_sound accepts few
 
 -- a device with the texts of all is sound where its numbers are
 pub plain_device_sound : (addr : ℕ) (check : CheckKind) (serial : ℕ) (body : DeviceBody) → 2 ≤ addr → addr ≤ 255
@@ -67,18 +71,27 @@ valued_by true d e body sound fits was =
     subst IsSound is made
 valued_by false d e body sound fits was = cc was
 
--- a coin's value keeps a device sound
+placed_sound : (d e : DeviceSetup) (make : List ℕ → List (List ℕ) → DeviceBody) (place value accepts : ℕ) (id values : List ℕ)
+    (ids : List (List ℕ)) → ((vs : List ℕ) (is : List (List ℕ)) → AreSoundPlaces accepts vs is → IsSoundBody (make vs is)) →
+    value ≤ 1000000 → IsId id → IsSound d → AreSoundPlaces accepts values ids →
+    placed d make place value id values ids ≡ Ok e → IsSound e
+placed_sound d e make place value accepts id values ids makes few is_id sound all was =
+    valued_by (slice_index values (place - 1) == 0) d e _ sound (makes _ _ (
+      all.0,
+      All-set (λ worth. worth ≤ 1000000) values (place - 1) value few all.1,
+      All-set IsId ids (place - 1) id is_id all.2,
+      length-set values (place - 1) value ∙ all.3,
+      length-set ids (place - 1) id ∙ all.4,
+    )) was
+
+-- the value of a place keeps a device sound
 pub valued_sound : (d e : DeviceSetup) (place value : ℕ) (id : List ℕ) (body : DeviceBody) → value ≤ 1000000
     → IsId id → IsSound d → IsSoundBody body → valued d place value id body ≡ Ok e → IsSound e
 valued_sound d e place value id (Acceptor accepts values ids) few is_id sound body was =
-    valued_by (slice_index values (place - 1) == 0) d e _ sound (
-      body.0,
-      All-set (λ worth. worth ≤ 1000000) values (place - 1) value few body.1,
-      All-set IsId ids (place - 1) id is_id body.2,
-      length-set values (place - 1) value ∙ body.3,
-      length-set ids (place - 1) id ∙ body.4,
-    ) was
+    placed_sound d e (λ vs is. Acceptor accepts vs is) place value accepts id values ids (λ vs is all. all) few is_id sound body was
 valued_sound d e place value id (Hopper life worth) few is_id sound body was = cc was
+valued_sound d e place value id (Bill accepts values ids) few is_id sound body was =
+    placed_sound d e (λ vs is. Bill accepts vs is) place value accepts id values ids (λ vs is all. all) few is_id sound body was
 
 named_by : (b : Bool) (d e : DeviceSetup) (texts : Texts) → IsWord texts.maker → IsWord texts.product →
     IsWord texts.software → IsWord texts.build → IsSound d →

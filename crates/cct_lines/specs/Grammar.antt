@@ -7,11 +7,12 @@ use Rattle.std.specs.Result.{result_ok}
 use Rattle.hex.specs.Hex.{decode_of}
 use Rattle.cct_lines.specs.terms.coin.TheConstants.{COIN_PLACES, PATHS}
 use Rattle.cct_lines.specs.terms.device.TheConstants.{DEVICES}
+use Rattle.cct_lines.specs.terms.request.TheConstants.{RETURN_CODE, STACK_CODE}
 use Rattle.cct_lines.specs.terms.wire.TheConstants.{MOST_HEARD, MOST_NAME, MOST_SENT}
 use Rattle.cct_lines.specs.terms.wire.CheckKind.{CheckKind}
 use Rattle.cct_lines.specs.terms.wire.CheckKind.TheVariants.{Simple, Crc}
 use Rattle.cct_lines.specs.terms.device.DeviceBody.{DeviceBody}
-use Rattle.cct_lines.specs.terms.device.DeviceBody.TheVariants.{Acceptor, Hopper}
+use Rattle.cct_lines.specs.terms.device.DeviceBody.TheVariants.{Acceptor, Bill, Hopper}
 use Rattle.cct_lines.specs.terms.device.Texts.{Texts}
 use Rattle.cct_lines.specs.terms.device.DeviceSetup.{DeviceSetup}
 use Rattle.cct_lines.specs.terms.device.Setup.{Setup}
@@ -111,20 +112,32 @@ plain_texts = record { maker = codes "BENCH"; product = codes "CCT"; software = 
 abbrev pub plain_acceptor : ℕ → DeviceBody
 plain_acceptor accepts = Acceptor accepts (replicate COIN_PLACES 0) (replicate COIN_PLACES (codes "......"))
 
+-- A bill acceptor of which a script says no more.
+abbrev pub plain_bills : ℕ → DeviceBody
+plain_bills accepts = Bill accepts (replicate COIN_PLACES 0) (replicate COIN_PLACES (codes "......"))
+
 -- A device of which a script says no more.
 abbrev pub plain_device : ℕ → CheckKind → ℕ → DeviceBody → DeviceSetup
 plain_device addr check serial body =
     record { addr = addr; kind = check; serial = serial; texts = plain_texts; named = false; body = body }
 
--- `acceptor A CHECK SERIAL ACCEPTS`
-abbrev pub acceptor_line : List (List ℕ) → Option SetupLine
-acceptor_line (a ∷ c ∷ s ∷ n ∷ []) = do
+-- `WORD A CHECK SERIAL ACCEPTS`: a device with an accept counter.
+abbrev pub counting_line : (DeviceSetup → SetupLine) → (ℕ → DeviceBody) → List (List ℕ) → Option SetupLine
+counting_line make plain (a ∷ c ∷ s ∷ n ∷ []) = do
   addr ← ranged 2 255 a
   check ← check_in c
   serial ← three_byte_in s
   accepts ← three_byte_in n
-  Some (says.Acceptor (plain_device addr check serial (plain_acceptor accepts)))
-acceptor_line fields = None
+  Some (make (plain_device addr check serial (plain accepts)))
+counting_line make plain fields = None
+
+-- `acceptor A CHECK SERIAL ACCEPTS`
+abbrev pub acceptor_line : List (List ℕ) → Option SetupLine
+acceptor_line fields = counting_line says.Acceptor plain_acceptor fields
+
+-- `bills A CHECK SERIAL ACCEPTS`
+abbrev pub bills_line : List (List ℕ) → Option SetupLine
+bills_line fields = counting_line says.Bills plain_bills fields
 
 -- `hopper A CHECK SERIAL LIFE VALUE`
 abbrev pub hopper_line : List (List ℕ) → Option SetupLine
@@ -169,6 +182,7 @@ setup_fields [] = Err kind.Word
 setup_fields (word ∷ fields) =
     if bytes_eq word (codes "acceptor") then ok_or (acceptor_line fields) kind.Form
     else if bytes_eq word (codes "hopper") then ok_or (hopper_line fields) kind.Form
+    else if bytes_eq word (codes "bills") then ok_or (bills_line fields) kind.Form
     else if bytes_eq word (codes "value") then ok_or (value_line fields) kind.Form
     else if bytes_eq word (codes "texts") then ok_or (texts_line fields) kind.Form
     else if bytes_eq word (codes "begin") then ok_or (alone says.Begin fields) kind.Form
@@ -187,13 +201,13 @@ abbrev pub step_at : (ℕ → Step) → List (List ℕ) → Option Step
 step_at make (a ∷ []) = option_map make (address_in a)
 step_at make fields = None
 
--- `coin A PLACE`
-abbrev pub coin_step : List (List ℕ) → Option Step
-coin_step (a ∷ p ∷ []) = do
+-- `WORD A PLACE`: a step of a place at an address.
+abbrev pub place_step : (ℕ → ℕ → Step) → List (List ℕ) → Option Step
+place_step make (a ∷ p ∷ []) = do
   addr ← address_in a
   place ← ranged 1 COIN_PLACES p
-  Some (step.Coin addr place)
-coin_step fields = None
+  Some (make addr place)
+place_step make fields = None
 
 -- `fault devices PIECE`, `fault host PIECE`, `fault whole PIECE`
 abbrev pub fault_step : List (List ℕ) → Option Step
@@ -230,6 +244,14 @@ path_step (a ∷ p ∷ q ∷ []) = do
   Some (step.Command (command.Path addr place path))
 path_step fields = None
 
+-- `route A WAY`
+abbrev pub route_step : List (List ℕ) → Option Step
+route_step (a ∷ w ∷ []) = do
+  addr ← address_in a
+  way ← ranged RETURN_CODE STACK_CODE w
+  Some (step.Command (command.Route addr way))
+route_step fields = None
+
 -- `vend ID PRICE`
 abbrev pub vend_step : List (List ℕ) → Option Step
 vend_step (i ∷ p ∷ []) = do
@@ -256,8 +278,9 @@ crash_step fields = None
 abbrev pub step_fields : List (List ℕ) → Result Step LineKind
 step_fields [] = Err kind.Word
 step_fields (word ∷ fields) =
-    if bytes_eq word (codes "coin") then ok_or (coin_step fields) kind.Form
+    if bytes_eq word (codes "coin") then ok_or (place_step step.Coin fields) kind.Form
     else if bytes_eq word (codes "alien") then ok_or (step_at step.Alien fields) kind.Form
+    else if bytes_eq word (codes "bill") then ok_or (place_step step.Bill fields) kind.Form
     else if bytes_eq word (codes "fall") then ok_or (step_at step.Fall fields) kind.Form
     else if bytes_eq word (codes "jam") then ok_or (step_at step.Jam fields) kind.Form
     else if bytes_eq word (codes "reset") then ok_or (step_at step.Reset fields) kind.Form
@@ -272,6 +295,7 @@ step_fields (word ∷ fields) =
     else if bytes_eq word (codes "pay") then ok_or (pay_step fields) kind.Form
     else if bytes_eq word (codes "scan") then ok_or (alone (step.Command command.Scan) fields) kind.Form
     else if bytes_eq word (codes "path") then ok_or (path_step fields) kind.Form
+    else if bytes_eq word (codes "route") then ok_or (route_step fields) kind.Form
     else if bytes_eq word (codes "vend") then ok_or (vend_step fields) kind.Form
     else if bytes_eq word (codes "crash") then ok_or (crash_step fields) kind.Form
     else if bytes_eq word (codes "balance") then ok_or (alone step.Balance fields) kind.Form
@@ -293,14 +317,21 @@ add_device setup d =
 abbrev pub with_device : Setup → DeviceSetup → Setup
 with_device setup d = record { devices = map (λ e. if e.addr == d.addr then d else e) setup.devices }
 
--- An acceptor whose coin of a place has a value and an identification, or why it can't have them: it is no acceptor, or
--- the coin has a value already.
+-- A device whose place has a value and an identification, as a body made of all its values and identifications; or why it
+-- can't have them: the place has a value already.
+abbrev pub placed : DeviceSetup → (List ℕ → List (List ℕ) → DeviceBody) → ℕ → ℕ → List ℕ → List ℕ → List (List ℕ) → Result DeviceSetup LineKind
+placed d make place value id values ids =
+    if slice_index values (place - 1) == 0
+    then Ok (record d { body = make (slice_set values (place - 1) value) (slice_set ids (place - 1) id) })
+    else Err kind.Again
+
+-- An acceptor, of coins or of bills, whose place has a value and an identification, or why it can't have them: it is no
+-- acceptor, or the place has a value already.
 abbrev pub valued : DeviceSetup → ℕ → ℕ → List ℕ → DeviceBody → Result DeviceSetup LineKind
 valued d place value id (Acceptor accepts values ids) =
-    if slice_index values (place - 1) == 0
-    then Ok (record d { body = Acceptor accepts (slice_set values (place - 1) value) (slice_set ids (place - 1) id) })
-    else Err kind.Again
+    placed d (λ vs is. Acceptor accepts vs is) place value id values ids
 valued d place value id (Hopper life worth) = Err kind.Device
+valued d place value id (Bill accepts values ids) = placed d (λ vs is. Bill accepts vs is) place value id values ids
 
 -- A device that has these texts, or why it can't have them: it was given texts already.
 abbrev pub named : DeviceSetup → Texts → Result DeviceSetup LineKind
@@ -319,6 +350,7 @@ change_device setup (Some d) change = changed_by setup (change d)
 unfoldable pub added : Setup → SetupLine → Result Setup LineKind
 added setup (says.Acceptor d) = add_device setup d
 added setup (says.Hopper d) = add_device setup d
+added setup (says.Bills d) = add_device setup d
 added setup (says.Value addr place value id) = change_device setup (device_at setup.devices addr) (λ d. valued d place value id d.body)
 added setup (says.Named addr texts) = change_device setup (device_at setup.devices addr) (λ d. named d texts)
 added setup says.Begin = Ok setup

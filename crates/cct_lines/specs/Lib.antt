@@ -5,6 +5,7 @@ pub use Rattle.cct_terms.specs.Reply
 pub use Rattle.cct_terms.specs.History
 pub use Rattle.cct_terms.specs.Setting
 pub use Rattle.cct_terms.specs.Acceptor
+pub use Rattle.cct_terms.specs.Bill
 pub use Rattle.cct_terms.specs.Hopper
 pub use Rattle.cct_terms.specs.Family
 pub use Rattle.cct_terms.specs.Device

@@ -2,6 +2,7 @@
 use Rattle.std.specs.Prelude.{◌≤◌, ℕ, ◌+◌, ◌==◌, ◌&&◌, nat_lt, Bool, true, false, List, [], ◌∷◌, length, if◌then◌else◌, Option, Some, None, Result, Ok, Err, ⊤}
 use Rattle.std.specs.List.{slice_split, before_first}
 use Rattle.cct_lines.specs.terms.coin.TheConstants.{COIN_PLACES, PATHS}
+use Rattle.cct_lines.specs.terms.request.TheConstants.{STACK_CODE}
 use Rattle.cct_lines.specs.terms.wire.TheConstants.{MOST_HEARD, MOST_SENT}
 use Rattle.cct_lines.specs.terms.device.Setup.{Setup}
 use Rattle.cct_lines.specs.terms.family.Happening.TheVariants as happening
@@ -61,6 +62,7 @@ read_setup_line setup (Ok line) = opened (added setup line)
 abbrev pub is_known : Setup → Step → Bool
 is_known setup (step.Coin addr place) = known_there (happening.Coin place) (device_at setup.devices addr)
 is_known setup (step.Alien addr) = known_there happening.Alien (device_at setup.devices addr)
+is_known setup (step.Bill addr place) = known_there (happening.Bill place) (device_at setup.devices addr)
 is_known setup (step.Fall addr) = known_there happening.Fall (device_at setup.devices addr)
 is_known setup (step.Jam addr) = known_there happening.Jam (device_at setup.devices addr)
 is_known setup (step.Reset addr) = known_there happening.Reset (device_at setup.devices addr)
@@ -170,6 +172,7 @@ abbrev pub IsCommand : Command → Type 0
 IsCommand (command.Start addr mask) = 1 ≤ mask
 IsCommand (command.Pay addr id count) = (1 ≤ id) × (1 ≤ count) × (count ≤ 255)
 IsCommand (command.Path addr place path) = (place ≤ COIN_PLACES) × (1 ≤ path) × (path ≤ PATHS)
+IsCommand (command.Route addr way) = way ≤ STACK_CODE
 IsCommand (command.Vend id price) = (1 ≤ id) × (1 ≤ price) × (price ≤ 1000000000)
 IsCommand c = ⊤
 
@@ -188,6 +191,7 @@ IsCrash (Some at) = at.calls ≤ 4
 -- A step that a line can spell: its numbers are in their ranges.
 abbrev pub IsInRange : Step → Type 0
 IsInRange (step.Coin addr place) = (1 ≤ place) × (place ≤ COIN_PLACES)
+IsInRange (step.Bill addr place) = (1 ≤ place) × (place ≤ COIN_PLACES)
 IsInRange (step.Fault f) = IsFault f
 IsInRange (step.Command c) = IsCommand c
 IsInRange (step.Crash at choice) = IsCrash at

@@ -100,6 +100,7 @@ command_fields command.Scan = codes "scan" ∷ []
 command_fields (command.Ident addr) = codes "ident" ∷ number_text addr ∷ []
 command_fields (command.Path addr place path) =
     codes "path" ∷ number_text addr ∷ number_text place ∷ number_text path ∷ []
+command_fields (command.Route addr way) = codes "route" ∷ number_text addr ∷ number_text way ∷ []
 command_fields (command.Vend id price) = codes "vend" ∷ number_text id ∷ number_text price ∷ []
 
 -- The fields of the reason why a command is refused.
@@ -142,6 +143,8 @@ end_fields addr (end_of.Listed listed) = codes "listed" ∷ listed_field listed 
 end_fields addr end_of.Told = codes "told" ∷ number_text addr ∷ []
 end_fields addr (end_of.PathSet place path) =
     codes "pathset" ∷ number_text addr ∷ number_text place ∷ number_text path ∷ []
+end_fields addr end_of.Routed = codes "routed" ∷ number_text addr ∷ []
+end_fields addr end_of.RouteUnsure = codes "routeunsure" ∷ number_text addr ∷ []
 end_fields addr end_of.Sold = codes "sold" ∷ []
 
 -- The field of a refused line's kind.
@@ -168,6 +171,7 @@ sum_field sum_of.Closed = codes "closed"
 abbrev pub fields_of : Entry → List (List ℕ)
 fields_of (entry.Accepted addr coin) =
     codes "accepted" ∷ number_text addr ∷ number_text coin.place ∷ number_text coin.path ∷ []
+fields_of (entry.Held addr place) = codes "held" ∷ number_text addr ∷ number_text place ∷ []
 fields_of (entry.Inhibited addr place) = codes "inhibited" ∷ number_text addr ∷ number_text place ∷ []
 fields_of (entry.Alien addr) = codes "alien" ∷ number_text addr ∷ []
 fields_of (entry.Fell addr) = codes "fell" ∷ number_text addr ∷ []

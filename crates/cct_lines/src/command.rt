@@ -9,11 +9,11 @@ use thiserror::Error;
 /// A command of the operator to the host.
 #[derive(Clone, Copy, Debug, PartialEq, Eq)]
 pub enum Command {
-    /// Let acceptor `addr` accept the coin places whose bit in the inhibit mask is 1. Bit 0 is place 1.
+    /// Let acceptor `addr`, of coins or of bills, accept the places whose bit in the inhibit mask is 1. Bit 0 is place 1.
     Start { addr: u8, mask: u16 },
     /// Read acceptor `addr`, and post what was accepted since the last reading.
     Round { addr: u8 },
-    /// Inhibit every coin of acceptor `addr`, and post what was accepted until then.
+    /// Inhibit every coin or bill of acceptor `addr`, and post what was accepted until then.
     Stop { addr: u8 },
     /// Pay `count` coins, 1 to 255, by hopper `addr`. The order has this id, which is not 0.
     Pay { addr: u8, id: u32, count: u8 },
@@ -27,6 +27,8 @@ pub enum Command {
     Ident { addr: u8 },
     /// Let coins of a place, 1 to 16, of acceptor `addr` fall by a sorter path, 1 to 8; place 0 sets the default path.
     Path { addr: u8, place: u8, path: u8 },
+    /// Send the bill that bill acceptor `addr` holds to the stacker, with way 1, or give it back, with way 0.
+    Route { addr: u8, way: u8 },
     /// Sell something at a price, 1 to 1,000,000,000. The sale has this id, which is not 0.
     Vend { id: u32, price: u32 },
 }
@@ -37,8 +39,8 @@ pub enum CommandNo {
     /// The setup has no device at the address.
     #[error("no device is at the address")]
     NoDevice,
-    /// The device is of the other kind.
-    #[error("the device is of the other kind")]
+    /// The device is of another kind.
+    #[error("the device is of another kind")]
     WrongKind,
     /// A job is at the address.
     #[error("a job is at the address")]
@@ -49,8 +51,8 @@ pub enum CommandNo {
     /// No epoch runs at the acceptor.
     #[error("no epoch runs")]
     NoEpoch,
-    /// A coin place of the mask has no value; this is the least.
-    #[error("coin place {place} has no value")]
+    /// A place of the mask has no value; this is the least.
+    #[error("place {place} has no value")]
     NoValue { place: u8 },
     /// An order is open at the hopper.
     #[error("order {id} is open")]
@@ -111,6 +113,8 @@ pub enum Step {
     Coin { addr: u8, place: u8 },
     /// An object that is no coin falls into acceptor `addr`.
     Alien { addr: u8 },
+    /// A bill of this place, 1 to 16, is put into bill acceptor `addr`.
+    Bill { addr: u8, place: u8 },
     /// A coin falls out of hopper `addr`, where it pays.
     Fall { addr: u8 },
     /// Hopper `addr` jams, where it pays.

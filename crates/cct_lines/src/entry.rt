@@ -51,6 +51,10 @@ pub enum End {
     Told,
     /// The sorter path of a coin place, or with place 0 the default path, was set, and was read back.
     PathSet { place: u8, path: u8 },
+    /// The bill acceptor stacked the bill that it held, or gave it back.
+    Routed,
+    /// It isn't known whether the bill acceptor did so; or it held none.
+    RouteUnsure,
     /// The sale was recorded.
     Sold,
 }
@@ -118,7 +122,13 @@ pub enum Entry {
         addr: u8,
         coin: Coin,
     },
-    /// An acceptor gave a coin of this place back, since it is inhibited.
+    /// A bill acceptor holds a bill of this place.
+    Held {
+        addr: u8,
+        place: u8,
+    },
+    /// An acceptor gave a coin of this place back, since it is inhibited; or a bill acceptor a bill, since it is inhibited or
+    /// another bill is held.
     Inhibited {
         addr: u8,
         place: u8,

@@ -14,7 +14,8 @@ pub use carry::{Carry, CarryEpoch, CarryEpochs, CarryOrder, CarryOrders};
 pub use cct_terms::{
     BROADCAST, Bytes, COIN_PLACES, CheckKind, Coin, Coins, Credits, DEVICES, DeviceBody,
     DeviceSetup, Devices, ENABLE_CODE, EVENTS, Family, HOST, Happening, MOST_HEARD, MOST_NAME,
-    MOST_SENT, Name, PATHS, Pair, Piece, Reply, ReplyForm, Request, Sent, Setup, Texts, has_place,
+    MOST_SENT, Name, PATHS, Pair, Piece, RETURN_CODE, Reply, ReplyForm, Request, STACK_CODE, Sent,
+    Setup, Texts, has_place,
 };
 pub use command::{Command, CommandNo, CrashAt, Step, WireFault};
 pub use device_set::DeviceSet;

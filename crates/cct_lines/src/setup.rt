@@ -9,7 +9,9 @@ pub enum SetupLine {
     Acceptor(DeviceSetup),
     /// There is this hopper.
     Hopper(DeviceSetup),
-    /// The coin of a place, 1 to 16, of acceptor `addr` has this value, 1 to 1,000,000, and this identification.
+    /// There is this bill acceptor.
+    Bills(DeviceSetup),
+    /// The coin or the bill of a place, 1 to 16, of acceptor `addr` has this value, 1 to 1,000,000, and this identification.
     Value {
         addr: u8,
         place: u8,

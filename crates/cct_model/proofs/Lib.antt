@@ -20,6 +20,7 @@ mod Restarts
 mod Refusals
 mod Ledger
 mod Forged
+mod Bills
 mod ForgedWires
 mod Moving
 mod Day

@@ -2,7 +2,7 @@
 use Rattle.std.proofs.Common.{◌≡◌, ℕ, suc, ◌==◌, Bool, true, false, cond, List, [], ◌∷◌, ◌⊎◌, inl, inr, refl, sym, ◌∙◌, true≢false, subst, Option, Some, None, rules, eq-eqb}
 use Rattle.std.specs.Prelude.{⊤}
 use Rattle.cct_model.specs.terms.device.DeviceBody.{DeviceBody}
-use Rattle.cct_model.specs.terms.device.DeviceBody.TheVariants.{Acceptor, Hopper}
+use Rattle.cct_model.specs.terms.device.DeviceBody.TheVariants.{Acceptor, Bill, Hopper}
 use Rattle.cct_model.specs.terms.device.DeviceSetup.{DeviceSetup}
 use Rattle.cct_model.specs.terms.request.Request.{Request}
 use Rattle.cct_model.specs.terms.request.Request.TheVariants.{SetDefault, SetPath, GetDefault, GetPath, StopNow, GetStatus}
@@ -16,7 +16,7 @@ use Rattle.cct_model.specs.lines.entry.End.{End}
 use Rattle.cct_model.specs.lines.entry.End.TheVariants.{NoAnswer}
 use Rattle.cct_model.specs.Request.{header_of}
 use Rattle.cct_model.specs.Line.{Line, exchange}
-use Rattle.cct_model.specs.Job.{sends, Noted, noted_in, judged_in, address_of, ident_requests, state_row, end_of_tries, tries}
+use Rattle.cct_model.specs.Job.{sends, Noted, noted_in, judged_in, address_of, credits_request, ident_requests, state_row, end_of_tries, tries}
 use Rattle.cct_model.specs.Rows.{Due, reading, TableRow, asks_for, asks_once, waits_for_coins, puts_due, telling, rows_of, from, done, rest, left, first, due_row, row, sent_once, end_failed}
 use Rattle.cct_model.proofs.Requests.{is_asked_again, IsAgain, Each}
 use Rattle.cct_model.proofs.Rows.{IfEnd, RowHolds, EachRow, fact_after, EachBefore, before_on, told_fact, told_each, AnswerEnds, PutEnds, Behind, each_left, each_told, due_holds, any_due, behind_bare}
@@ -37,6 +37,12 @@ tried q since = rw (eq-eqb (header_of q) (header_of q) refl) refl
 pub ident_again : (body : DeviceBody) → Each IsAgain (ident_requests body)
 ident_again (Acceptor accepts values ids) = search rules
 ident_again (Hopper life value) = search rules
+ident_again (Bill accepts values ids) = search rules
+
+pub credits_again : (body : DeviceBody) → IsAgain (credits_request body)
+credits_again (Acceptor accepts values ids) = refl
+credits_again (Hopper life value) = refl
+credits_again (Bill accepts values ids) = refl
 
 pub path_set_again : (first : Bool) (place path : ℕ) → IsAgain (cond first (SetDefault path) (SetPath place path))
 path_set_again true place path = refl
@@ -68,6 +74,9 @@ pub asks_well : (d : DeviceSetup) (c : Command) → EachRow AsksWell (rows_of d 
 asks_well d (command.Ident addr) = told_well (ident_requests d.body) (ident_again d.body)
 asks_well d (command.Path addr place path) =
     (path_set_again (place == 0) place path, (path_read_again (place == 0) place, tt))
+asks_well d (command.Start addr mask) = (refl, (credits_again d.body, (refl, (tt, ((refl, tt), tt)))))
+asks_well d (command.Round addr) = (refl, (credits_again d.body, (refl, (refl, (tt, tt)))))
+asks_well d (command.Stop addr) = (refl, (refl, (credits_again d.body, (refl, (refl, (tt, (tt, tt)))))))
 asks_well d c = search rules
 
 pub same_request : (q r : Request) → sends q ≡ sends r → q ≡ r

@@ -13,8 +13,8 @@ use Rattle.cct_model.specs.declared.judging.EpochState.{EpochState}
 use Rattle.cct_model.specs.declared.judging.EpochState.TheVariants.{Idle, Running}
 use Rattle.cct_model.specs.declared.judging.OpenOrder.{OpenOrder}
 use Rattle.cct_model.specs.Carried.{IsRightly, addr_of_epoch, addr_of_order, first_with, id_of_order, set_with, with_some}
-use Rattle.cct_model.specs.Device.{is_acceptor}
-use Rattle.cct_model.specs.Exchange.{acceptor_there, by_address, device_at, hopper_there}
+use Rattle.cct_model.specs.Device.{is_taker}
+use Rattle.cct_model.specs.Exchange.{by_address, device_at, hopper_there, taker_there}
 use Rattle.cct_model.specs.Following.{Known, follows_known}
 use Rattle.cct_model.specs.Job.{epoch_by}
 use Rattle.cct_model.specs.Order.{order_by}
@@ -37,17 +37,17 @@ epoch_entry addr (Running mask counter accepts) =
 abbrev pub order_entry : OpenOrder → CarryOrder
 order_entry o = record { id = o.id; addr = o.addr; count = o.count; life = o.life }
 
--- What a carry has of the epoch of a device, which is an acceptor.
+-- What a carry has of the epoch of a device, which takes money.
 abbrev pub epoch_at : List Record → DeviceSetup → Option CarryEpoch
-epoch_at before d = if is_acceptor d.body then epoch_entry d.addr (epoch_in d.addr before) else None
+epoch_at before d = if is_taker d.body then epoch_entry d.addr (epoch_in d.addr before) else None
 
 -- What a carry has of the open order of a device, which is a hopper.
 abbrev pub order_at : List Record → DeviceSetup → Option CarryOrder
-order_at before d = if is_acceptor d.body then None else option_map order_entry (order_in d.addr before)
+order_at before d = if is_taker d.body then None else option_map order_entry (order_in d.addr before)
 
 -- The carry of records, newest first: the greatest id; the value of all coins posted, that of all coins paid and that of
 -- the orders whose counts of life don't fit; how many coins were posted, lost, paid and not paid, and the sum of all prices;
--- and in rising order of address the running epochs of the acceptors and the open orders of the hoppers.
+-- and in rising order of address the running epochs of the devices that take money and the open orders of the hoppers.
 abbrev pub carry : Setup → List Record → Carry
 carry setup before = record {
   last_id = greatest_id before;
@@ -174,10 +174,10 @@ abbrev pub AreApart : List CarryOrder → Type 0
 AreApart [] = ⊤
 AreApart (o ∷ orders) = All (IsOther o.id) orders × AreApart orders
 
--- A carry fits a setup: its epochs are of acceptors and its orders of hoppers, no id is above the last one and none stands
+-- A carry fits a setup: its epochs are of devices that take money and its orders of hoppers, no id is above the last one and none stands
 -- twice, and the value posted covers what was paid and sold and what is reserved.
 pub record Fits (setup : Setup) (c : Carry) : Type 0 where
-  pub epochs : All (λ e. acceptor_there (device_at setup.devices e.addr) ≡ true) c.epochs
+  pub epochs : All (λ e. taker_there (device_at setup.devices e.addr) ≡ true) c.epochs
   pub orders : All (λ o. hopper_there (device_at setup.devices o.addr) ≡ true) c.orders
   pub ids : All (λ o. o.id ≤ c.last_id) c.orders
   pub apart : AreApart c.orders

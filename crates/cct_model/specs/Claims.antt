@@ -20,7 +20,7 @@ abbrev pub behind : {A : Type 0} → Option A → List Line → List Line → Li
 behind None past earlier = earlier
 behind (Some read) past earlier = past
 
--- All that came before the last reading of the credits, which is the last answered header 229.
+-- All that came before the last reading of the credits, which is the last answered header 229 or 159.
 abbrev pub reading : List Line → List Line
 reading [] = []
 reading (line ∷ past) = behind (credits_line line) past (reading past)

@@ -7,7 +7,7 @@ use Rattle.cct_model.specs.lines.record.Record.TheVariants as record_of
 use Rattle.cct_model.specs.declared.judging.EpochState.{EpochState}
 use Rattle.cct_model.specs.declared.judging.EpochState.TheVariants.{Idle, Running}
 use Rattle.cct_model.specs.declared.judging.OpenOrder.{OpenOrder}
-use Rattle.cct_model.specs.Exchange.{device_at, acceptor_there, hopper_there}
+use Rattle.cct_model.specs.Exchange.{device_at, hopper_there, taker_there}
 use Rattle.cct_model.specs.Records.{order_named, is_open, epoch_in, order_in}
 use Rattle.cct_model.specs.Refusal.{valueless}
 use Rattle.cct_model.specs.Money.{coins_of, available_in, available_beside}
@@ -36,14 +36,14 @@ pub record Known : Type 0 where
   pub named : ℕ → Option OpenOrder
   pub available : ℕ
 
--- A record may follow what is known. An epoch begins at an acceptor with no running epoch, and each place of its mask,
+-- A record may follow what is known. An epoch begins at a device that takes money, with no running epoch, and each place of its mask,
 -- which isn't 0, has a value. A reading, a break and an epoch's end follow where an epoch runs. An order is opened at a
 -- hopper with no open order, with an id that isn't 0 and with which none is open; its coins, at least one, are available.
 -- It is closed where it is open, and its coins are then paid or unpaid. A sale has an id and a price that aren't 0, and its
 -- price is available.
 abbrev pub follows_known : Setup → Known → Record → Bool
 follows_known setup k (record_of.Epoch addr mask accepts) =
-    acceptor_there (device_at setup.devices addr) && not (is_running (k.epoch_at addr)) && not (mask == 0)
+    taker_there (device_at setup.devices addr) && not (is_running (k.epoch_at addr)) && not (mask == 0)
     && has_values (device_at setup.devices addr) mask
 follows_known setup k (record_of.Reading addr counter lost accepts posted) = is_running (k.epoch_at addr)
 follows_known setup k (record_of.Broken addr seen counter lost accepts posted) = is_running (k.epoch_at addr)

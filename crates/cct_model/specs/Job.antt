@@ -1,13 +1,14 @@
 -- The job at an address, read off its lines: which command began it, what it has read, and how often a row failed. And the
 -- epoch of an acceptor, read off its records.
 use Rattle.std.specs.Prelude.{ℕ, suc, ◌==◌, Bool, List, [], ◌∷◌, map, if◌then◌else◌, Option, Some, None}
-use Rattle.std.specs.Option.{option_or}
+use Rattle.std.specs.Option.{option_map, option_or}
 use Rattle.cct_model.specs.terms.wire.TheConstants.{BROADCAST, HOST}
 use Rattle.cct_model.specs.terms.coin.Credits.{Credits}
+use Rattle.cct_model.specs.terms.coin.Pair.{Pair}
 use Rattle.cct_model.specs.terms.device.DeviceBody.{DeviceBody}
-use Rattle.cct_model.specs.terms.device.DeviceBody.TheVariants.{Acceptor, Hopper}
+use Rattle.cct_model.specs.terms.device.DeviceBody.TheVariants.{Acceptor, Bill, Hopper}
 use Rattle.cct_model.specs.terms.request.Request.{Request}
-use Rattle.cct_model.specs.terms.request.Request.TheVariants.{MakerId, Category, ProductCode, SerialNumber, SoftwareRevision, BuildCode, CommsRevision, GetMask, GetMaster, ReadCredits, SetPath, GetPath, SetDefault, GetDefault, CoinId, AcceptCount, TestHopper, GetStatus, StopNow}
+use Rattle.cct_model.specs.terms.request.Request.TheVariants.{MakerId, Category, ProductCode, SerialNumber, SoftwareRevision, BuildCode, CommsRevision, GetMask, GetMaster, ReadCredits, SetPath, GetPath, SetDefault, GetDefault, CoinId, AcceptCount, ReadBills, TestHopper, GetStatus, StopNow}
 use Rattle.cct_model.specs.lines.record.Record.{Record}
 use Rattle.cct_model.specs.lines.record.Record.TheVariants as record_of
 use Rattle.cct_model.specs.declared.judging.Judged.{Judged}
@@ -77,9 +78,19 @@ abbrev pub credits_reply : Option Reply → Option Credits
 credits_reply (Some (reply.credits c)) = Some c
 credits_reply got = None
 
--- The credits that a line read, or none where it is no answered header 229.
+-- An event of a bill acceptor as it is judged: that of a held bill, which isn't accepted yet, stands for error 1, as that of
+-- a bill which is given back does.
+abbrev pub settled : Pair → Pair
+settled pair = if pair.b == 1 then record { a = 0; b = 1 } else pair
+
+-- The events that a bill acceptor told, as they are judged.
+abbrev pub settled_events : Credits → Credits
+settled_events c = record { counter = c.counter; pairs = map settled c.pairs }
+
+-- The credits that a line read, or none where it is no answered header 229 or 159.
 abbrev pub credits_line : Line → Option Credits
 credits_line (exchange (Some ReadCredits) got) = credits_reply got
+credits_line (exchange (Some ReadBills) got) = option_map settled_events (credits_reply got)
 credits_line line = None
 
 -- The credits that were last read.
@@ -175,6 +186,13 @@ coin_places = 1 ∷ 2 ∷ 3 ∷ 4 ∷ 5 ∷ 6 ∷ 7 ∷ 8 ∷ 9 ∷ 10 ∷ 11 �
 abbrev pub own_requests : DeviceBody → List Request
 own_requests (Acceptor accepts values ids) = GetMaster ∷ GetDefault ∷ AcceptCount ∷ map CoinId coin_places
 own_requests (Hopper life value) = TestHopper ∷ []
+own_requests (Bill accepts values ids) = GetMaster ∷ AcceptCount ∷ []
+
+-- The request that reads the event counter and the last events of a kind of device.
+abbrev pub credits_request : DeviceBody → Request
+credits_request (Acceptor accepts values ids) = ReadCredits
+credits_request (Hopper life value) = ReadCredits
+credits_request (Bill accepts values ids) = ReadBills
 
 -- All that a device is asked of itself, in this order.
 abbrev pub ident_requests : DeviceBody → List Request
@@ -227,6 +245,7 @@ address_of (command.Halt addr) = addr
 address_of command.Scan = BROADCAST
 address_of (command.Ident addr) = addr
 address_of (command.Path addr place path) = addr
+address_of (command.Route addr way) = addr
 address_of (command.Vend id price) = HOST
 
 -- What the lines of a job mean, beside the epoch.

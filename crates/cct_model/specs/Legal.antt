@@ -16,6 +16,7 @@ use Rattle.cct_model.specs.lines.entry.End.{End}
 use Rattle.cct_model.specs.lines.entry.Entry.{Entry}
 use Rattle.cct_model.specs.lines.entry.Entry.TheVariants as entry
 use Rattle.cct_model.specs.Acceptor.{accepts, path_of}
+use Rattle.cct_model.specs.Bill.{holds}
 use Rattle.cct_model.specs.Family.{family_of, known_to}
 use Rattle.cct_model.specs.Hopper.{remaining}
 use Rattle.cct_model.specs.Exchange.{ask, asked, device_at}
@@ -37,6 +38,11 @@ coin_entry d past place =
     then entry.Accepted d.addr (record { place = place; path = path_of (met d past) place })
     else entry.Inhibited d.addr place
 
+-- The entry of a bill: held where the bill acceptor holds it, else inhibited.
+abbrev pub bill_entry : DeviceSetup → List Entry → ℕ → Entry
+bill_entry d past place =
+    if holds (met d past) place then entry.Held d.addr place else entry.Inhibited d.addr place
+
 -- The entry of a coin that may fall out of a hopper: it does where the hopper has some left to pay.
 abbrev pub fall_entry : DeviceSetup → List Entry → Entry
 fall_entry d past = if remaining d.serial (met d past) == 0 then entry.NoFall d.addr else entry.Fell d.addr
@@ -49,6 +55,7 @@ jam_entry d past = if remaining d.serial (met d past) == 0 then entry.NoJam d.ad
 abbrev pub step_of : ℕ → Happening → Step
 step_of addr (happening.Coin place) = step.Coin addr place
 step_of addr happening.Alien = step.Alien addr
+step_of addr (happening.Bill place) = step.Bill addr place
 step_of addr happening.Fall = step.Fall addr
 step_of addr happening.Jam = step.Jam addr
 step_of addr happening.Reset = step.Reset addr
@@ -57,6 +64,7 @@ step_of addr happening.Reset = step.Reset addr
 abbrev pub happening_entry : ℕ → DeviceSetup → List Entry → Happening → Entry
 happening_entry addr d past (happening.Coin place) = coin_entry d past place
 happening_entry addr d past happening.Alien = entry.Alien addr
+happening_entry addr d past (happening.Bill place) = bill_entry d past place
 happening_entry addr d past happening.Fall = fall_entry d past
 happening_entry addr d past happening.Jam = jam_entry d past
 happening_entry addr d past happening.Reset = entry.Reset addr
@@ -198,6 +206,7 @@ EntriesOfHappening setup past addr what news =
 abbrev pub Entries : ℕ → Setup → List Entry → Step → List Entry → Type 0
 Entries capacity setup past (step.Coin addr place) news = EntriesOfHappening setup past addr (happening.Coin place) news
 Entries capacity setup past (step.Alien addr) news = EntriesOfHappening setup past addr happening.Alien news
+Entries capacity setup past (step.Bill addr place) news = EntriesOfHappening setup past addr (happening.Bill place) news
 Entries capacity setup past (step.Fall addr) news = EntriesOfHappening setup past addr happening.Fall news
 Entries capacity setup past (step.Jam addr) news = EntriesOfHappening setup past addr happening.Jam news
 Entries capacity setup past (step.Reset addr) news = EntriesOfHappening setup past addr happening.Reset news

@@ -6,6 +6,7 @@ pub use Rattle.cct_lines.specs.Reply
 pub use Rattle.cct_lines.specs.History
 pub use Rattle.cct_lines.specs.Setting
 pub use Rattle.cct_lines.specs.Acceptor
+pub use Rattle.cct_lines.specs.Bill
 pub use Rattle.cct_lines.specs.Hopper
 pub use Rattle.cct_lines.specs.Family
 pub use Rattle.cct_lines.specs.Device

@@ -2,7 +2,7 @@
 use Rattle.std.specs.Prelude.{ℕ, ◌+◌, ◌-◌, ◌*◌, ◌==◌, List, [], ◌∷◌, if◌then◌else◌, Option, Some, None}
 use Rattle.cct_model.specs.terms.coin.Coin.{Coin}
 use Rattle.cct_model.specs.terms.device.DeviceBody.{DeviceBody}
-use Rattle.cct_model.specs.terms.device.DeviceBody.TheVariants.{Acceptor, Hopper}
+use Rattle.cct_model.specs.terms.device.DeviceBody.TheVariants.{Acceptor, Bill, Hopper}
 use Rattle.cct_model.specs.terms.device.DeviceSetup.{DeviceSetup}
 use Rattle.cct_model.specs.terms.device.Setup.{Setup}
 use Rattle.cct_model.specs.lines.record.Record.{Record}
@@ -28,10 +28,11 @@ abbrev pub coins_value : Option DeviceSetup → List Coin → ℕ
 coins_value found [] = 0
 coins_value found (coin ∷ coins) = place_value found coin.place + coins_value found coins
 
--- The value of the coins that a hopper pays, 0 of an acceptor.
+-- The value of the coins that a hopper pays, 0 of another device.
 abbrev pub paid_value : DeviceBody → ℕ
 paid_value (Acceptor accepts values ids) = 0
 paid_value (Hopper life value) = value
+paid_value (Bill accepts values ids) = 0
 
 -- The value of one coin of the hopper at an address, 0 where there is no device.
 abbrev pub hopper_value : Option DeviceSetup → ℕ

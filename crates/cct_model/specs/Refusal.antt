@@ -14,7 +14,7 @@ use Rattle.cct_model.specs.declared.judging.EpochState.TheVariants.{Idle, Runnin
 use Rattle.cct_model.specs.declared.judging.OpenOrder.{OpenOrder}
 use Rattle.cct_model.specs.Setting.{has_place}
 use Rattle.cct_model.specs.Device.{value_at}
-use Rattle.cct_model.specs.Exchange.{acceptor_there, device_at, hopper_there}
+use Rattle.cct_model.specs.Exchange.{acceptor_there, bill_there, device_at, hopper_there, taker_there}
 use Rattle.cct_model.specs.Line.{Line}
 use Rattle.cct_model.specs.Order.{order}
 use Rattle.cct_model.specs.Job.{Job, free, works, job, coin_places, epoch, address_of}
@@ -23,13 +23,16 @@ use Rattle.cct_model.specs.Records.{records, greatest_id}
 use Rattle.cct_model.specs.Money.{sum_over, coins_of, available}
 use Rattle.cct_model.specs.Transcript.{lines_of, scan_lines, sale_lines}
 
--- A test of a command. Of the device: one is at the address, an acceptor, a hopper. Of its state: no job is there; no epoch
+-- A test of a command. Of the device: one is at the address, one that takes money, a coin acceptor, a bill acceptor, a
+-- hopper. Of its state: no job is there; no epoch
 -- runs, or one does; each place of a mask has a value; no order is open, or one is; there is a payout that could be
 -- stopped; an id is new. Of the money: the value of so many coins of the hopper at an address is available, or a price is.
 -- Of the room: there is some for its records.
 pub data Test : Type 0 where
   at_a_device : Test
+  at_a_taker : Test
   at_an_acceptor : Test
+  at_a_bill_acceptor : Test
   at_a_hopper : Test
   with_no_job : Test
   with_no_epoch : Test
@@ -46,9 +49,9 @@ pub data Test : Type 0 where
 -- The tests of a command in their order: those of the state stand before those of the money and of the room.
 abbrev pub tests_of : Command → List Test
 tests_of (command.Start addr mask) =
-    at_a_device ∷ at_an_acceptor ∷ with_no_job ∷ with_no_epoch ∷ with_values mask ∷ with_room ∷ []
-tests_of (command.Round addr) = at_a_device ∷ at_an_acceptor ∷ with_no_job ∷ with_an_epoch ∷ with_room ∷ []
-tests_of (command.Stop addr) = at_a_device ∷ at_an_acceptor ∷ with_no_job ∷ with_an_epoch ∷ with_room ∷ []
+    at_a_device ∷ at_a_taker ∷ with_no_job ∷ with_no_epoch ∷ with_values mask ∷ with_room ∷ []
+tests_of (command.Round addr) = at_a_device ∷ at_a_taker ∷ with_no_job ∷ with_an_epoch ∷ with_room ∷ []
+tests_of (command.Stop addr) = at_a_device ∷ at_a_taker ∷ with_no_job ∷ with_an_epoch ∷ with_room ∷ []
 tests_of (command.Pay addr id count) =
     at_a_device ∷ at_a_hopper ∷ with_no_job ∷ with_no_order ∷ with_new_id id ∷ with_coins addr count ∷ with_room ∷ []
 tests_of (command.Settle addr) = at_a_device ∷ at_a_hopper ∷ with_no_job ∷ with_an_order ∷ with_room ∷ []
@@ -56,6 +59,7 @@ tests_of (command.Halt addr) = at_a_device ∷ at_a_hopper ∷ with_a_payout ∷
 tests_of command.Scan = with_no_job ∷ []
 tests_of (command.Ident addr) = at_a_device ∷ with_no_job ∷ []
 tests_of (command.Path addr place path) = at_a_device ∷ at_an_acceptor ∷ with_no_job ∷ []
+tests_of (command.Route addr way) = at_a_device ∷ at_a_bill_acceptor ∷ with_no_job ∷ with_an_epoch ∷ []
 tests_of (command.Vend id price) = with_no_job ∷ with_new_id id ∷ with_price price ∷ with_room ∷ []
 
 -- The tests of the state among these: they stand before those of the money and of the room.
@@ -137,7 +141,9 @@ id_refusal id last = if nat_le id last then Some (OldId last) else None
 -- The reason why a test of the state fails, if it does.
 abbrev pub state_fails : View → Test → Option CommandNo
 state_fails v at_a_device = unless (is_some v.found) NoDevice
+state_fails v at_a_taker = unless (taker_there v.found) WrongKind
 state_fails v at_an_acceptor = unless (acceptor_there v.found) WrongKind
+state_fails v at_a_bill_acceptor = unless (bill_there v.found) WrongKind
 state_fails v at_a_hopper = unless (hopper_there v.found) WrongKind
 state_fails v with_no_job = unless (not v.is_busy) Busy
 state_fails v with_no_epoch = epoch_refusal v.state

@@ -4,7 +4,7 @@ use Rattle.std.specs.Prelude.{ℕ, suc, zero, ◌==◌, Bool, true, false, List,
 use Rattle.cct_model.specs.terms.request.TheConstants.{ENABLE_CODE}
 use Rattle.cct_model.specs.terms.device.DeviceSetup.{DeviceSetup}
 use Rattle.cct_model.specs.terms.request.Request.{Request}
-use Rattle.cct_model.specs.terms.request.Request.TheVariants.{ResetDevice, SetMask, GetMask, SetMaster, ReadCredits, AcceptCount, Enable, Dispense, GetLife}
+use Rattle.cct_model.specs.terms.request.Request.TheVariants.{ResetDevice, SetMask, GetMask, SetMaster, AcceptCount, RouteBill, Enable, Dispense, GetLife}
 use Rattle.cct_model.specs.lines.record.Record.{Record}
 use Rattle.cct_model.specs.lines.record.Record.TheVariants as record_of
 use Rattle.cct_model.specs.declared.judging.Judged.{Judged}
@@ -14,12 +14,12 @@ use Rattle.cct_model.specs.declared.judging.OpenOrder.{OpenOrder}
 use Rattle.cct_model.specs.lines.command.Command.{Command}
 use Rattle.cct_model.specs.lines.command.Command.TheVariants as command
 use Rattle.cct_model.specs.lines.entry.End.{End}
-use Rattle.cct_model.specs.lines.entry.End.TheVariants.{Started, StartUnsure, Posted, Broke, Stopped, Told, PathSet, Sold}
+use Rattle.cct_model.specs.lines.entry.End.TheVariants.{Started, StartUnsure, Posted, Broke, Stopped, Told, PathSet, Routed, RouteUnsure, Sold}
 use Rattle.cct_model.specs.Request.{header_of}
 use Rattle.cct_model.specs.Reply.{Reply}
 use Rattle.cct_model.specs.Reply as reply
 use Rattle.cct_model.specs.Line.{Line, exchange, put}
-use Rattle.cct_model.specs.Job.{Job, free, works, tries, Row, sends, puts, no_row, put_or, begin_row, ident_requests, path_set, path_read, Noted, state_row, open_row, close_row, address_of, judged_in, noted_in, end_of_close, end_of_credits, end_of_moving, end_of_reading, end_of_tries}
+use Rattle.cct_model.specs.Job.{Job, free, works, tries, Row, sends, puts, no_row, put_or, begin_row, credits_request, ident_requests, path_set, path_read, Noted, state_row, open_row, close_row, address_of, judged_in, noted_in, end_of_close, end_of_credits, end_of_moving, end_of_reading, end_of_tries}
 
 -- How a job goes on after a row: by its next row; it ends so; by the next row if the acceptor's counter is 0; by the next
 -- row if the reading gives a record, else it ends by what the reading means; by the next row unless the reading has to be
@@ -67,14 +67,14 @@ telling (q ∷ r ∷ qs) = asks_for q goes_on ∷ telling (r ∷ qs)
 abbrev pub rows_of : DeviceSetup → Command → List TableRow
 rows_of d (command.Start addr mask) =
     asks_for ResetDevice goes_on
-    ∷ asks_for ReadCredits if_quiet
+    ∷ asks_for (credits_request d.body) if_quiet
     ∷ asks_for AcceptCount goes_on
     ∷ puts_due (new_epoch mask) goes_on
     ∷ asks_once (SetMask mask) (ends_as Started) (ends_as StartUnsure)
     ∷ []
 rows_of d (command.Round addr) =
     asks_for AcceptCount goes_on
-    ∷ asks_for ReadCredits goes_on
+    ∷ asks_for (credits_request d.body) goes_on
     ∷ asks_for GetMask goes_on
     ∷ asks_for AcceptCount if_judged
     ∷ puts_due reading (if_posted (Some Posted))
@@ -82,7 +82,7 @@ rows_of d (command.Round addr) =
 rows_of d (command.Stop addr) =
     asks_for (SetMaster 0) goes_on
     ∷ asks_for AcceptCount goes_on
-    ∷ asks_for ReadCredits goes_on
+    ∷ asks_for (credits_request d.body) goes_on
     ∷ asks_for GetMask goes_on
     ∷ asks_for AcceptCount if_unmoved
     ∷ puts_due reading (if_posted None)
@@ -98,6 +98,7 @@ rows_of d (command.Settle addr) = settling
 rows_of d (command.Ident addr) = telling (ident_requests d.body)
 rows_of d (command.Path addr place path) =
     asks_for (path_set place path) goes_on ∷ asks_for (path_read place) (path_told place) ∷ []
+rows_of d (command.Route addr way) = asks_once (RouteBill way) (ends_as Routed) (ends_as RouteUnsure) ∷ []
 rows_of d c = []
 
 -- The rows of a command at no device: those of a sale.

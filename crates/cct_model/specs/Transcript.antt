@@ -3,7 +3,7 @@ use Rattle.std.specs.Prelude.{ℕ, ◌==◌, List, [], ◌∷◌, ◌++◌, flat
 use Rattle.cct_model.specs.terms.wire.TheConstants.{BROADCAST, HOST}
 use Rattle.cct_model.specs.terms.wire.CheckKind.TheVariants.{Simple, Crc}
 use Rattle.cct_model.specs.terms.device.DeviceBody.{DeviceBody}
-use Rattle.cct_model.specs.terms.device.DeviceBody.TheVariants.{Acceptor, Hopper}
+use Rattle.cct_model.specs.terms.device.DeviceBody.TheVariants.{Acceptor, Bill, Hopper}
 use Rattle.cct_model.specs.terms.device.DeviceSetup.{DeviceSetup}
 use Rattle.cct_model.specs.terms.request.Request.{Request}
 use Rattle.cct_model.specs.terms.device.Setup.{Setup}
@@ -19,6 +19,7 @@ use Rattle.cct_model.specs.History.{Met, coin, alien, fall, jam, reset, heard}
 use Rattle.cct_model.specs.Exchange.{ask, asked, asks_of, answer, after_echo, got, by_address}
 use Rattle.cct_model.specs.Line.{Line}
 use Rattle.cct_model.specs.Line as line
+use Rattle.cct_model.specs.Bill.{bill_held, stacked_by}
 use Rattle.cct_model.specs.Hopper.{taken_of}
 use Rattle.cct_model.specs.Job.{address_of}
 use Rattle.cct_model.specs.Records.{records, opened_in, owner_in}
@@ -50,6 +51,7 @@ heard_by_host f sent answered = sent ++ answered
 -- heard, whoever it was for.
 abbrev pub meets : DeviceSetup → List Entry → Entry → List Met
 meets d past (entry.Accepted addr c) = at addr d (coin c.place)
+meets d past (entry.Held addr place) = at addr d (coin place)
 meets d past (entry.Inhibited addr place) = at addr d (coin place)
 meets d past (entry.Alien addr) = at addr d alien
 meets d past (entry.Fell addr) = at addr d fall
@@ -91,17 +93,24 @@ abbrev pub dispensed_by : Option ℕ → List Line
 dispensed_by None = []
 dispensed_by (Some count) = line.dispensed count ∷ []
 
--- The dispense that a device took of what it heard, whoever's job the exchange is.
+-- That a bill of a place was stacked, as a line of its address: it is accepted then, by path 0.
+abbrev pub stacked_line : Option ℕ → List Line
+stacked_line None = []
+stacked_line (Some place) = line.accepted (record { place = place; path = 0 }) ∷ []
+
+-- What a device did of what it heard, whoever's job the exchange is: a hopper took a dispense, and a bill acceptor stacked
+-- the bill that it held.
 abbrev pub doses : DeviceBody → ℕ → List Met → Option Request → List Line
 doses (Acceptor accepts values ids) own past asked = []
 doses (Hopper life value) own past asked = dispensed_by (taken_of own past asked)
+doses (Bill accepts values ids) own past asked = stacked_line (stacked_by asked (bill_held past))
 
--- What a device takes in an exchange in which the host sends bytes.
+-- What a device does in an exchange in which the host sends bytes.
 abbrev pub doses_of : DeviceSetup → List Entry → List ℕ → List Line
 doses_of d past sent = doses d.body d.serial (met d past) (asks_of d (heard_by_devices (pending past) sent))
 
 -- The lines of a device's address that an entry is, newest first: an exchange may be two, of which the one that says what
--- was got is the newer one.
+-- was got is the newer one. A bill that is held is none: it isn't accepted yet.
 abbrev pub own : DeviceSetup → List Entry → Entry → List Line
 own d past (entry.Accepted addr c) = at addr d (line.accepted c)
 own d past (entry.Inhibited addr place) = at addr d (line.inhibited place)

@@ -10,7 +10,7 @@ pub use cct_lines::{
     CheckKind, Coin, Coins, Command, CommandNo, CrashAt, Credits, DEVICES, DeviceBody, DeviceSet,
     DeviceSetup, Devices, ENABLE_CODE, EVENTS, End, Entry, Family, HOST, Happening, LineKind,
     Listed, MOST_HEARD, MOST_LINE, MOST_LINES, MOST_NAME, MOST_SENT, MOST_TEXT, Name, PATHS, Pair,
-    Piece, Record, Reply, ReplyForm, Request, Sent, Setup, SetupLine, Step, SumOf, Texts, Totals,
-    WireFault, has_place,
+    Piece, RETURN_CODE, Record, Reply, ReplyForm, Request, STACK_CODE, Sent, Setup, SetupLine,
+    Step, SumOf, Texts, Totals, WireFault, has_place,
 };
 pub use judging::{EpochState, Judged, OpenOrder};

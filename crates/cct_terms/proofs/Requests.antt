@@ -194,7 +194,7 @@ coin_id_back (a ∷ b ∷ c ∷ d ∷ e ∷ f ∷ g ∷ rest) six = absurd (omeg
 
 -- a header under which a job asks once
 abbrev pub is_once_header : ℕ → Bool
-is_once_header header = (header == 231) || (header == 167)
+is_once_header header = (header == 231) || (header == 167) || (header == 154)
 
 -- a request that a job asks again: it has another header than those that are sent once
 abbrev pub is_asked_again : Request → Bool

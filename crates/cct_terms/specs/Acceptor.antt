@@ -70,9 +70,13 @@ no_event = record { a = 0; b = 0 }
 abbrev pub last_five : List Pair → List Pair
 last_five newest = take EVENTS (newest ++ replicate EVENTS no_event)
 
--- What header 229 reads: the event counter and the credit buffer.
+-- What is read of events, newest first: the event counter and the credit buffer.
+abbrev pub credits_in : List Pair → Credits
+credits_in newest = record { counter = counter (length newest); pairs = last_five newest }
+
+-- What header 229 reads.
 abbrev pub credits_of : List Met → Credits
-credits_of past = record { counter = counter (length (events past)); pairs = last_five (events past) }
+credits_of past = credits_in (events past)
 
 -- How many coins were ever accepted, before resets too.
 abbrev pub accepted_coins : List Met → ℕ
@@ -84,11 +88,15 @@ accepted_coins (jam ∷ past) = accepted_coins past
 accepted_coins (reset ∷ past) = accepted_coins past
 accepted_coins (heard asked ∷ past) = accepted_coins past
 
--- The accept counter: the number at which it started, and one for each coin ever accepted, modulo 2 ^ 24.
-abbrev pub accept_count : ℕ → List Met → ℕ
-accept_count start past = (start + accepted_coins past) % 2 ^ 24
+-- An accept counter: the number at which it started, and one for each coin or bill ever accepted, modulo 2 ^ 24.
+abbrev pub counted : ℕ → ℕ → ℕ
+counted start accepted = (start + accepted) % 2 ^ 24
 
--- What header 227 reads: 1 in normal operation, and 0 where every coin is inhibited.
+-- The accept counter of an acceptor.
+abbrev pub accept_count : ℕ → List Met → ℕ
+accept_count start past = counted start (accepted_coins past)
+
+-- What header 227 reads: 1 in normal operation, and 0 where all is inhibited.
 abbrev pub master_of : List Met → ℕ
 master_of past = if is_normal_in (settings past) then 1 else 0
 
@@ -96,18 +104,23 @@ master_of past = if is_normal_in (settings past) then 1 else 0
 abbrev pub id_at : List (List ℕ) → ℕ → List ℕ
 id_at ids place = unwrap_or (slice_get ids (place - 1)) []
 
+-- The reply of a device that takes money, and met all this, to a request for its inhibits or for its accept counter, which
+-- stands at a number; or none.
+abbrev pub inhibit_reply : ℕ → List Met → Request → Option Reply
+inhibit_reply count past (SetMask mask) = Some reply.ack
+inhibit_reply count past GetMask = Some (reply.mask (mask_of past))
+inhibit_reply count past (SetMaster value) = Some reply.ack
+inhibit_reply count past GetMaster = Some (reply.master (master_of past))
+inhibit_reply count past AcceptCount = Some (reply.accepts count)
+inhibit_reply count past q = None
+
 -- The reply of an acceptor that met all this to a request of those that only acceptors answer, or none. Its accept
 -- counter started at a number, and its coins have these identifications.
 unfoldable pub acceptor_reply : ℕ → List (List ℕ) → List Met → Request → Option Reply
-acceptor_reply start ids past (SetMask mask) = Some reply.ack
-acceptor_reply start ids past GetMask = Some (reply.mask (mask_of past))
-acceptor_reply start ids past (SetMaster value) = Some reply.ack
-acceptor_reply start ids past GetMaster = Some (reply.master (master_of past))
 acceptor_reply start ids past ReadCredits = Some (reply.credits (credits_of past))
 acceptor_reply start ids past (SetPath place path) = Some (if is_place place && is_path path then reply.ack else reply.nak)
 acceptor_reply start ids past (GetPath place) = Some (if is_place place then reply.path (path_of past place) else reply.nak)
 acceptor_reply start ids past (SetDefault path) = Some (if is_path path then reply.ack else reply.nak)
 acceptor_reply start ids past GetDefault = Some (reply.path (default_in (settings past)))
 acceptor_reply start ids past (CoinId place) = Some (if is_place place then reply.coin_id (id_at ids place) else reply.nak)
-acceptor_reply start ids past AcceptCount = Some (reply.accepts (accept_count start past))
-acceptor_reply start ids past q = None
+acceptor_reply start ids past q = inhibit_reply (accept_count start past) past q

@@ -13,7 +13,7 @@ use Rattle.cct_terms.specs.Request.{header_of, data_of, request_of}
 use Rattle.cct_terms.specs.Reply.{Reply, reply_header, reply_data, reply_in}
 use Rattle.cct_terms.specs.Family.{family_of, known_to}
 use Rattle.cct_terms.specs.History.{Met}
-use Rattle.cct_terms.specs.Device.{is_acceptor, is_hopper, reply_of}
+use Rattle.cct_terms.specs.Device.{is_acceptor, is_bill, is_hopper, is_taker, reply_of}
 
 -- The message by which the host asks a request of an address.
 abbrev pub asking : ℕ → Request → Message
@@ -129,3 +129,13 @@ acceptor_there None = false
 abbrev pub hopper_there : Option DeviceSetup → Bool
 hopper_there (Some d) = is_hopper d.body
 hopper_there None = false
+
+-- Whether the device at an address is a bill acceptor.
+abbrev pub bill_there : Option DeviceSetup → Bool
+bill_there (Some d) = is_bill d.body
+bill_there None = false
+
+-- Whether the device at an address takes money in.
+abbrev pub taker_there : Option DeviceSetup → Bool
+taker_there (Some d) = is_taker d.body
+taker_there None = false

@@ -4,6 +4,7 @@ pub mod Reply
 pub mod History
 pub mod Setting
 pub mod Acceptor
+pub mod Bill
 pub mod Hopper
 pub mod Family
 pub mod Device

@@ -1,7 +1,7 @@
 -- Requests as header and data bytes (ccTalk Generic Specification 4, parts 2 and 3).
 use Rattle.std.specs.Prelude.{ℕ, ◌+◌, ◌*◌, ◌/◌, ◌%◌, ◌==◌, List, [], ◌∷◌, ◌++◌, replicate, if◌then◌else◌, Option, Some, None}
 use Rattle.cct_terms.specs.declared.request.Request.{Request}
-use Rattle.cct_terms.specs.declared.request.Request.TheVariants.{SimplePoll, AddressPoll, MakerId, Category, ProductCode, SerialNumber, SoftwareRevision, BuildCode, CommsRevision, ResetDevice, SetMask, GetMask, SetMaster, GetMaster, ReadCredits, SetPath, GetPath, SetDefault, GetDefault, CoinId, AcceptCount, Enable, Dispense, CipherDispense, GetStatus, GetLife, StopNow, TestHopper, PumpRng, CipherKey}
+use Rattle.cct_terms.specs.declared.request.Request.TheVariants.{SimplePoll, AddressPoll, MakerId, Category, ProductCode, SerialNumber, SoftwareRevision, BuildCode, CommsRevision, ResetDevice, SetMask, GetMask, SetMaster, GetMaster, ReadCredits, SetPath, GetPath, SetDefault, GetDefault, CoinId, AcceptCount, ReadBills, RouteBill, Enable, Dispense, CipherDispense, GetStatus, GetLife, StopNow, TestHopper, PumpRng, CipherKey}
 use Rattle.cct_terms.specs.declared.request.ReplyForm.{ReplyForm}
 use Rattle.cct_terms.specs.declared.request.ReplyForm.TheVariants as form
 
@@ -40,6 +40,8 @@ header_of (SetDefault path) = 189
 header_of GetDefault = 188
 header_of (CoinId place) = 184
 header_of AcceptCount = 225
+header_of ReadBills = 159
+header_of (RouteBill way) = 154
 header_of (Enable code) = 164
 header_of (Dispense serial count) = 167
 header_of CipherDispense = 167
@@ -59,6 +61,7 @@ data_of (SetPath place path) = place ∷ path ∷ []
 data_of (GetPath place) = place ∷ []
 data_of (SetDefault path) = path ∷ []
 data_of (CoinId place) = place ∷ []
+data_of (RouteBill way) = way ∷ []
 data_of (Enable code) = code ∷ []
 data_of (Dispense serial count) = three_bytes serial ++ count ∷ []
 data_of CipherDispense = replicate 9 0
@@ -67,8 +70,8 @@ data_of _ = []
 -- The requests that have just these data bytes.
 unfoldable pub requests_with : List ℕ → List Request
 requests_with [] =
-    SimplePoll ∷ AddressPoll ∷ MakerId ∷ Category ∷ ProductCode ∷ SerialNumber ∷ SoftwareRevision ∷ BuildCode ∷ CommsRevision ∷ ResetDevice ∷ GetMask ∷ GetMaster ∷ ReadCredits ∷ GetDefault ∷ AcceptCount ∷ GetStatus ∷ GetLife ∷ StopNow ∷ TestHopper ∷ []
-requests_with (byte ∷ []) = SetMaster byte ∷ GetPath byte ∷ SetDefault byte ∷ CoinId byte ∷ Enable byte ∷ []
+    SimplePoll ∷ AddressPoll ∷ MakerId ∷ Category ∷ ProductCode ∷ SerialNumber ∷ SoftwareRevision ∷ BuildCode ∷ CommsRevision ∷ ResetDevice ∷ GetMask ∷ GetMaster ∷ ReadCredits ∷ GetDefault ∷ AcceptCount ∷ ReadBills ∷ GetStatus ∷ GetLife ∷ StopNow ∷ TestHopper ∷ []
+requests_with (byte ∷ []) = SetMaster byte ∷ GetPath byte ∷ SetDefault byte ∷ CoinId byte ∷ RouteBill byte ∷ Enable byte ∷ []
 requests_with (first ∷ second ∷ []) = SetMask (from_two first second) ∷ SetPath first second ∷ []
 requests_with (low ∷ middle ∷ high ∷ count ∷ []) = Dispense (from_three low middle high) count ∷ []
 requests_with (c1 ∷ c2 ∷ c3 ∷ c4 ∷ c5 ∷ c6 ∷ c7 ∷ c8 ∷ c9 ∷ []) = CipherDispense ∷ []
@@ -111,6 +114,8 @@ form_of (SetDefault path) = Some form.Ack
 form_of GetDefault = Some form.Path
 form_of (CoinId place) = Some form.CoinId
 form_of AcceptCount = Some form.Accepts
+form_of ReadBills = Some form.Credits
+form_of (RouteBill way) = Some form.Ack
 form_of (Enable code) = Some form.Ack
 form_of (Dispense serial count) = Some form.Ack
 form_of CipherDispense = None

@@ -1,7 +1,7 @@
 //! The devices of a machine, as the setup lines of a script give them.
 ghost use Rattle.std.specs.Prelude.{◌≡◌, ◌<◌, ◌≤◌, ◌==◌, List, [], ◌∷◌, ◌++◌, length, map, if◌then◌else◌};
 ghost use Rattle.std.specs.Option.{option_map};
-ghost use Rattle.cct_terms.specs.Device.{is_acceptor, is_hopper, value_at};
+ghost use Rattle.cct_terms.specs.Device.{is_acceptor, is_bill, is_hopper, is_taker, value_at};
 ghost use Rattle.cct_terms.specs.Exchange.{device_at};
 ghost use Rattle.cct_terms.specs.Family.{family_of};
 
@@ -34,6 +34,13 @@ pub enum DeviceBody {
         life: u32,
         value: u32,
     },
+    /// A bill acceptor. Its accept counter starts at `accepts`, below 2^24. For each bill place, place 1 first, it has
+    /// the value of its bill, 1 to 1,000,000 or 0 for none, and the six characters that identify it.
+    Bill {
+        accepts: u32,
+        values: [u32; COIN_PLACES],
+        ids: [[u8; 6]; COIN_PLACES],
+    },
 }
 
 impl Default for DeviceBody {
@@ -54,6 +61,7 @@ impl DeviceBody {
         match self {
             DeviceBody::Acceptor { .. } => Family::Acceptor,
             DeviceBody::Hopper { .. } => Family::Hopper,
+            DeviceBody::Bill { .. } => Family::Bill,
         }
     }
 
@@ -61,30 +69,40 @@ impl DeviceBody {
     pub fn is_acceptor(&self) -> bool
         ensures { result ≡ is_acceptor self.now }
     {
-        match self.family() {
-            Family::Acceptor => true,
-            Family::Hopper => false,
-        }
+        self.family().is_acceptor()
     }
 
     /// Whether it is a hopper.
     pub fn is_hopper(&self) -> bool
         ensures { result ≡ is_hopper self.now }
     {
-        match self.family() {
-            Family::Acceptor => false,
-            Family::Hopper => true,
-        }
+        self.family().is_hopper()
     }
 
-    /// The value of the coin of a coin place, 1 to 16, or 0 where it has none; a hopper has no coin place.
+    /// Whether it is a bill acceptor.
+    pub fn is_bill(&self) -> bool
+        ensures { result ≡ is_bill self.now }
+    {
+        self.family().is_bill()
+    }
+
+    /// Whether it takes money in: a coin acceptor or a bill acceptor. Such a device has epochs.
+    pub fn takes_money(&self) -> bool
+        ensures { result ≡ is_taker self.now }
+    {
+        self.family().takes_money()
+    }
+
+    /// The value of the coin or the bill of a place, 1 to 16, or 0 where it has none; a hopper has no place.
     pub fn value_at(&self, place: u8) -> u32
         requires low { 1 ≤ place }
         requires high { place ≤ COIN_PLACES }
         ensures { result ≡ value_at self.now place }
     {
         match self {
-            DeviceBody::Acceptor { values, .. } => values[place as usize - 1],
+            DeviceBody::Acceptor { values, .. } | DeviceBody::Bill { values, .. } => {
+                values[place as usize - 1]
+            }
             DeviceBody::Hopper { .. } => 0,
         }
     }

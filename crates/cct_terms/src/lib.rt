@@ -11,7 +11,7 @@ mod wire;
 pub use coin::{COIN_PLACES, Coin, Coins, Credits, EVENTS, PATHS, Pair, has_place};
 pub use device::{DEVICES, DeviceBody, DeviceSetup, Devices, Setup, Texts};
 pub use family::{Family, Happening};
-pub use request::{ENABLE_CODE, Reply, ReplyForm, Request};
+pub use request::{ENABLE_CODE, RETURN_CODE, Reply, ReplyForm, Request, STACK_CODE};
 pub use wire::{
     BROADCAST, Bytes, CheckKind, HOST, MOST_HEARD, MOST_NAME, MOST_SENT, Name, Piece, Sent,
 };

@@ -7,6 +7,12 @@ use crate::Credits;
 /// (ccTalk Generic Specification 4, part 3).
 pub const ENABLE_CODE: u8 = 165;
 
+/// The data byte with which header 154 gives a held bill back (ccTalk Generic Specification 4, part 3).
+pub const RETURN_CODE: u8 = 0;
+
+/// The data byte with which header 154 sends a held bill to the stacker (ccTalk Generic Specification 4, part 3).
+pub const STACK_CODE: u8 = 1;
+
 /// A request to a device. Where nothing is said, it has no data bytes.
 #[derive(Clone, Copy, Debug, PartialEq, Eq)]
 pub enum Request {
@@ -30,11 +36,11 @@ pub enum Request {
     CommsRevision,
     /// Header 1: start again as after power-up.
     ResetDevice,
-    /// Header 231, two data bytes: accept the coin places whose bit is 1. Bit 0 is place 1.
+    /// Header 231, two data bytes: accept the places whose bit is 1. Bit 0 is place 1.
     SetMask { mask: u16 },
     /// Header 230: the inhibit mask.
     GetMask,
-    /// Header 228, one data byte: normal operation where bit 0 is 1, else every coin is inhibited.
+    /// Header 228, one data byte: normal operation where bit 0 is 1, else every coin or bill is inhibited.
     SetMaster { value: u8 },
     /// Header 227: whether operation is normal.
     GetMaster,
@@ -50,8 +56,12 @@ pub enum Request {
     GetDefault,
     /// Header 184, one data byte: the identification of the coin of a place.
     CoinId { place: u8 },
-    /// Header 225: how many coins were accepted.
+    /// Header 225: how many coins or bills were accepted.
     AcceptCount,
+    /// Header 159: the event counter and the last five events of a bill acceptor.
+    ReadBills,
+    /// Header 154, one data byte: where the held bill goes, [`RETURN_CODE`] or [`STACK_CODE`].
+    RouteBill { way: u8 },
     /// Header 164, one data byte: the hopper may pay where the byte is [`ENABLE_CODE`].
     Enable { code: u8 },
     /// Header 167, four data bytes: pay so many coins, told to the hopper with this serial number, which is below 2^24.
@@ -87,7 +97,7 @@ pub enum Reply<'a> {
     Mask {
         mask: u16,
     },
-    /// One data byte: 1 for normal operation, 0 where every coin is inhibited.
+    /// One data byte: 1 for normal operation, 0 where every coin or bill is inhibited.
     Master {
         value: u8,
     },
@@ -133,7 +143,7 @@ pub enum Reply<'a> {
         major: u8,
         minor: u8,
     },
-    /// Three data bytes: how many coins were accepted, modulo 2^24.
+    /// Three data bytes: how many coins or bills were accepted, modulo 2^24.
     Accepts {
         count: u32,
     },
