@@ -1,1 +1,2 @@
+pub mod Coins
 pub mod Replies

@@ -5,12 +5,11 @@ use Rattle.cct_terms.specs.declared.device.DeviceBody.TheVariants as body
 use Rattle.cct_terms.specs.declared.device.DeviceSetup.{DeviceSetup}
 use Rattle.cct_terms.specs.declared.request.Request.{Request}
 use Rattle.cct_terms.specs.declared.request.Request.TheVariants.{ResetDevice, SetMask, SetMaster, SetPath, SetDefault}
-use Rattle.cct_terms.specs.Acceptor.{accept_count, accepts, events, path_of, settings}
+use Rattle.cct_terms.specs.Acceptor.{accepted_coins, accepts, events, path_of, settings}
 use Rattle.cct_terms.specs.Device.{IsAcceptor}
 use Rattle.cct_terms.specs.History.{Met}
 use Rattle.cct_device.specs.Listening.{HeardSince}
-use Rattle.cct_ring.specs.Ring as ring
-use Rattle.cct_sorter.specs.Table as sorter
+use Rattle.cct_intake.specs.Intake.{Holds}
 use Rattle.cct_acceptor.specs.declared.acceptor.Acceptor.{Acceptor}
 use Rattle.cct_acceptor.specs.declared.acceptor.Inserted.{Inserted}
 use Rattle.cct_acceptor.specs.declared.acceptor.Inserted.TheVariants.{Accepted, Inhibited}
@@ -19,11 +18,13 @@ use Rattle.cct_acceptor.specs.declared.acceptor.Inserted.TheVariants.{Accepted, 
 abbrev pub start_of : DeviceBody → ℕ
 start_of (body.Acceptor start values ids) = start
 start_of (body.Hopper life value) = 0
+start_of (body.Bill start values ids) = 0
 
 -- The identifications of the coins of an acceptor, that of place 1 first.
 abbrev pub ids_of : DeviceBody → List (List ℕ)
 ids_of (body.Acceptor start values ids) = ids
 ids_of (body.Hopper life value) = []
+ids_of (body.Bill start values ids) = []
 
 -- An acceptor stands for one of this setup that met all this, newest first: its settings, its events and its accept
 -- counter are what that made them.
@@ -31,9 +32,7 @@ pub record StandsFor (acceptor : Acceptor) (d : DeviceSetup) (past : List Met) :
   pub kind : IsAcceptor d.body
   pub setup : acceptor.setup.now ≡ d
   pub ids : acceptor.ids.now ≡ ids_of d.body
-  pub table : sorter.Holds acceptor.table (settings past)
-  pub ring : ring.Holds acceptor.ring (events past)
-  pub accepts : acceptor.accepts ≡ accept_count (start_of d.body) past
+  pub intake : Holds acceptor.intake (start_of d.body) (settings past) (events past) (accepted_coins past)
 
 -- An acceptor heard these bytes since the last gap.
 abbrev pub HasHeard : Acceptor → List ℕ → Type 0

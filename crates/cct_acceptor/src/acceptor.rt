@@ -1,24 +1,23 @@
 //! The coin acceptor as a device (ccTalk Generic Specification 4, part 2).
-ghost use Rattle.std.specs.Prelude.{◌≡◌, ◌<◌, ◌≤◌, ◌^◌, ℕ, List, [], ◌∷◌, ◌++◌, false, true, if◌then◌else◌, Some, IfOk, IfSome, MatchOption};
+ghost use Rattle.std.specs.Prelude.{◌≡◌, ◌<◌, ◌≤◌, ◌^◌, ◌&&◌, ℕ, List, [], ◌∷◌, ◌++◌, false, true, if◌then◌else◌, Some, IfOk, IfSome, MatchOption};
 ghost use Rattle.std.specs.Option.{option_map};
+ghost use Rattle.cct_terms.specs.declared.coin.Pair.{Pair};
 ghost use Rattle.cct_terms.specs.declared.device.DeviceSetup.{DeviceSetup};
 ghost use Rattle.cct_terms.specs.Device.{IsAcceptor, IsSound, reply_of};
 ghost use Rattle.cct_terms.specs.Acceptor.{acceptor_reply, id_at, path_of};
 ghost use Rattle.cct_terms.specs.Exchange.{answer, asks_of};
 ghost use Rattle.cct_terms.specs.History.{Met, alien, coin, heard, reset};
 ghost use Rattle.cct_terms.specs.Reply.{IsSayable, ack, coin_id, nak, path, reply_shown};
-ghost use Rattle.cct_terms.specs.Setting.{is_place};
+ghost use Rattle.cct_terms.specs.Setting.{Setting, default_set, is_path, is_place, path_set};
 ghost use Rattle.cct_device.specs.Listening.{kind_of};
+ghost use Rattle.cct_intake.specs.Intake.{Holds};
 
 use arrayvec::ArrayVec;
 use cct_device::{Asked, Listener, common_reply, give};
-use cct_ring::CreditRing;
-use cct_sorter::{CoinTable, is_place};
+use cct_intake::Intake;
+use cct_sorter::is_place;
 use cct_terms::{COIN_PLACES, Coin, DeviceBody, DeviceSetup, MOST_SENT, Pair, Reply, Request};
 use std::alloc::{AllocError, Global};
-
-/// The accept counter has three bytes, and starts again at 0 after its last number.
-const COUNTS: u32 = 1 << 24;
 
 /// The error event of a piece that is no coin.
 const ALIEN: Pair = Pair { a: 0, b: 1 };
@@ -42,12 +41,8 @@ pub struct Acceptor<'s> {
     listener: Listener,
     /// The identifications of its coins, that of place 1 first.
     ids: &'s [[u8; 6]; COIN_PLACES],
-    table: CoinTable,
-    ring: CreditRing,
-    /// How many coins were accepted, modulo [`COUNTS`].
-    accepts: u32,
+    intake: Intake,
     ghost check: { kind_of listener ≡ setup.now.kind },
-    ghost counts: { accepts < 2 ^ 24 },
     ghost serial: { setup.now.serial < 2 ^ 24 },
 }
 
@@ -69,11 +64,10 @@ impl<'s> Acceptor<'s> {
                 setup,
                 listener: Listener::new(setup.kind),
                 ids,
-                table: CoinTable::new(),
-                ring: CreditRing::new(alloc)?,
-                accepts: *accepts,
+                intake: Intake::new(alloc, *accepts)?,
             }),
             DeviceBody::Hopper { .. } => unreachable!(),
+            DeviceBody::Bill { .. } => unreachable!(),
         }
     }
 
@@ -89,13 +83,12 @@ impl<'s> Acceptor<'s> {
             → result ≡ inserted past place }
         ensures heard { (bytes : List ℕ) → HasHeard self.old bytes → HasHeard self.new bytes }
     {
-        if !self.table.accepts(place) {
-            self.ring.push(INHIBITED);
+        if !self.intake.lets_in(place) {
+            self.intake.tell(INHIBITED);
             return Inserted::Inhibited;
         }
-        let path = self.table.path_of(place);
-        self.ring.push(Pair { a: place, b: path });
-        self.accepts = (self.accepts + 1) % COUNTS;
+        let path = self.intake.table.path_of(place);
+        self.intake.accept(Pair { a: place, b: path });
         Inserted::Accepted(Coin { place, path })
     }
 
@@ -105,7 +98,7 @@ impl<'s> Acceptor<'s> {
             → StandsFor self.new d (alien ∷ past) }
         ensures heard { (bytes : List ℕ) → HasHeard self.old bytes → HasHeard self.new bytes }
     {
-        self.ring.push(ALIEN);
+        self.intake.tell(ALIEN);
     }
 
     /// The acceptor starts again as after power-up: it forgets its settings and its events. The accept counter goes on.
@@ -114,8 +107,7 @@ impl<'s> Acceptor<'s> {
             → StandsFor self.new d (reset ∷ past) }
         ensures heard { (bytes : List ℕ) → HasHeard self.old bytes → HasHeard self.new bytes }
     {
-        self.table.reset();
-        self.ring.clear();
+        self.intake.reset();
     }
 
     /// Hears one byte more. It acts on it, and answers, only when a gap comes.
@@ -169,10 +161,17 @@ impl<'s> Acceptor<'s> {
             (λ bytes. (result ≡ true) × (out.new.items ≡ bytes)) }
         ensures gap { IsAtGap self.new }
     {
-        for byte in piece {
-            self.byte(*byte);
-        }
+        self.piece(piece);
         self.gap(out)
+    }
+
+    /// Hears the bytes of a piece.
+    #[inline]
+    fn piece(&mut self, piece: &[u8])
+        ensures stands { (d : DeviceSetup) (past : List Met) → StandsFor self.old d past → StandsFor self.new d past }
+        ensures heard { (bytes : List ℕ) → HasHeard self.old bytes → HasHeard self.new (bytes ++ piece.now) }
+    {
+        self.listener.hear(self.setup.addr, piece);
     }
 
     /// Acts on a request, and gives the reply, or none where no acceptor knows the request.
@@ -190,20 +189,10 @@ impl<'s> Acceptor<'s> {
                 self.reset();
                 Some(Reply::Ack)
             }
-            Request::SetMask { mask } => {
-                self.table.set_mask(mask);
-                Some(Reply::Ack)
-            }
-            Request::SetMaster { value } => {
-                self.table.set_master(value);
-                Some(Reply::Ack)
-            }
-            Request::SetPath { place, path } => {
-                Some(acknowledgement(self.table.set_path(place, path).is_ok()))
-            }
-            Request::SetDefault { path } => {
-                Some(acknowledgement(self.table.set_default(path).is_ok()))
-            }
+            Request::SetMask { mask } => Some(self.intake.set_mask(mask)),
+            Request::SetMaster { value } => Some(self.intake.set_master(value)),
+            Request::SetPath { place, path } => Some(set_path(&mut self.intake, place, path)),
+            Request::SetDefault { path } => Some(set_default(&mut self.intake, path)),
             _ => self.tell(request),
         }
     }
@@ -229,22 +218,13 @@ impl<'s> Acceptor<'s> {
         ensures sayable { IfSome result (λ y. IsSayable (reply_shown y)) }
     {
         match request {
-            Request::GetMask => Some(Reply::Mask {
-                mask: self.table.mask(),
-            }),
-            Request::GetMaster => Some(Reply::Master {
-                value: u8::from(self.table.master()),
-            }),
-            Request::ReadCredits => Some(Reply::Credits(self.ring.reading())),
+            Request::ReadCredits => Some(Reply::Credits(self.intake.reading())),
             Request::GetPath { place } => Some(self.path(place)),
             Request::GetDefault => Some(Reply::Path {
-                path: self.table.default_path(),
+                path: self.intake.table.default_path(),
             }),
             Request::CoinId { place } => Some(self.coin_id(place)),
-            Request::AcceptCount => Some(Reply::Accepts {
-                count: self.accepts,
-            }),
-            _ => None,
+            _ => self.intake.told(request),
         }
     }
 
@@ -256,7 +236,7 @@ impl<'s> Acceptor<'s> {
     {
         if is_place(place) {
             Reply::Path {
-                path: self.table.path_of(place),
+                path: self.intake.table.path_of(place),
             }
         } else {
             Reply::Nak
@@ -278,6 +258,24 @@ impl<'s> Acceptor<'s> {
             Reply::Nak
         }
     }
+}
+
+/// Sets the sorter path of a coin place, and gives the reply.
+fn set_path(intake: &mut Intake, place: u8, path: u8) -> Reply<'static>
+    ensures holds { (start accepted : ℕ) (set : List Setting) (pushed : List Pair)
+        → Holds intake.old start set pushed accepted → Holds intake.new start (path_set place path ∷ set) pushed accepted }
+    ensures reply { reply_shown result ≡ (if is_place place && is_path path then ack else nak) }
+{
+    acknowledgement(intake.table.set_path(place, path).is_ok())
+}
+
+/// Sets the default path, and gives the reply.
+fn set_default(intake: &mut Intake, path: u8) -> Reply<'static>
+    ensures holds { (start accepted : ℕ) (set : List Setting) (pushed : List Pair)
+        → Holds intake.old start set pushed accepted → Holds intake.new start (default_set path ∷ set) pushed accepted }
+    ensures reply { reply_shown result ≡ (if is_path path then ack else nak) }
+{
+    acknowledgement(intake.table.set_default(path).is_ok())
 }
 
 /// The reply to a setting: it was taken, or refused.

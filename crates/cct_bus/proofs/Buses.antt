@@ -12,6 +12,7 @@ use Rattle.cct_model.specs.terms.family.Happening.TheVariants as happening
 use Rattle.cct_model.specs.lines.entry.Entry.{Entry}
 use Rattle.cct_model.specs.lines.entry.Entry.TheVariants as entry
 use Rattle.cct_model.specs.Acceptor.{accepts}
+use Rattle.cct_model.specs.Bill.{holds}
 use Rattle.cct_model.specs.Exchange.{by_address, device_at, put_by_address}
 use Rattle.cct_model.specs.History.{Met, coin, fall, jam}
 use Rattle.cct_model.specs.Legal.{OfKnowing, happening_entry}
@@ -124,6 +125,8 @@ happening_tells d addr what past is =
     tells (happening.Coin place) =
         either (accepts (met d past) place) (Tells past d.addr (coin place)) _ _ ((λ e. refl), refl, refl) ((λ e. refl), refl, refl)
     tells happening.Alien = ((λ e. refl), refl, refl)
+    tells (happening.Bill place) =
+        either (holds (met d past) place) (Tells past d.addr (coin place)) _ _ ((λ e. refl), refl, refl) ((λ e. refl), refl, refl)
     tells happening.Fall =
         either (remaining d.serial (met d past) == 0) (Tells past d.addr fall) _ _ ((λ e. refl), refl, refl) ((λ e. refl), refl, refl)
     tells happening.Jam =
@@ -138,12 +141,12 @@ entry_stands devices addr m e past tells stand =
     (λ device lived. subst (λ ms. Lived device (ms ++ met (setup_in device) past)) (sym (tells.0 (setup_in device))) lived)
     devices stand
 
--- what became of a coin that fell in, out of a hopper, or got stuck there
+-- what became of a coin that fell in, of a bill, and of a coin that fell out of a hopper or got stuck there
 pub inserted_back : (i : Inserted) → inserted_of (of_inserted i) ≡ i
 inserted_back (taken.Accepted c) = refl
 inserted_back taken.Inhibited = refl
 
-pub effect_back : (was_paying : Bool) → is_done (of_effect was_paying) ≡ was_paying
+pub effect_back : (had_effect : Bool) → is_done (of_effect had_effect) ≡ had_effect
 effect_back true = refl
 effect_back false = refl
 

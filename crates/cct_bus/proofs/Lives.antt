@@ -11,10 +11,10 @@ use Rattle.cct_model.specs.terms.device.DeviceBody.{DeviceBody}
 use Rattle.cct_model.specs.terms.device.DeviceBody.TheVariants as body
 use Rattle.cct_model.specs.terms.family.Family.TheVariants as family
 use Rattle.cct_model.specs.terms.family.Happening.{Happening}
-use Rattle.cct_model.specs.Device.{IsAcceptor, IsHopper}
+use Rattle.cct_model.specs.Device.{IsAcceptor, IsBill, IsHopper}
 use Rattle.cct_model.specs.Family.{family_of, known_to}
 use Rattle.cct_bus.specs.declared.body.Body.{Body}
-use Rattle.cct_bus.specs.declared.body.Body.TheVariants.{Acceptor, Hopper}
+use Rattle.cct_bus.specs.declared.body.Body.TheVariants.{Acceptor, Bill, Hopper}
 use Rattle.cct_bus.specs.Body.{IsAtGap, KeepsGap, StandsFor, family_in}
 use Rattle.cct_bus.specs.Room.{most_said}
 use Rattle.cct_bus.proofs.Said.{said_room}
@@ -37,11 +37,19 @@ family_stands (Acceptor a) d past so = accepting d.body so.kind
     accepting : (b : DeviceBody) → IsAcceptor b → family.Acceptor ≡ family_of b
     accepting (body.Acceptor accepts values ids) kind = refl
     accepting (body.Hopper life value) kind = absurd kind
+    accepting (body.Bill accepts values ids) kind = absurd kind
 family_stands (Hopper h) d past so = paying d.body so.kind
   where
     paying : (b : DeviceBody) → IsHopper b → family.Hopper ≡ family_of b
     paying (body.Acceptor accepts values ids) kind = absurd kind
     paying (body.Hopper life value) kind = refl
+    paying (body.Bill accepts values ids) kind = absurd kind
+family_stands (Bill b) d past so = holding d.body so.kind
+  where
+    holding : (b : DeviceBody) → IsBill b → family.Bill ≡ family_of b
+    holding (body.Acceptor accepts values ids) kind = absurd kind
+    holding (body.Hopper life value) kind = absurd kind
+    holding (body.Bill accepts values ids) kind = refl
 
 -- and it knows what the family of its setup does
 pub known_lived : (a : Body) (d : DeviceSetup) (what : Happening) → ∥ ((past : List Met) × StandsFor a d past) ∥₁
@@ -53,7 +61,9 @@ known_lived a d what lived =
 pub at_gap : (a : Body) → KeepsGap a → IsAtGap a
 at_gap (Acceptor a) kept = kept.0 a refl
 at_gap (Hopper h) kept = kept.1 h refl
+at_gap (Bill b) kept = kept.2 b refl
 
 pub keeps_gap : (a : Body) → IsAtGap a → KeepsGap a
-keeps_gap (Acceptor a) gap = (λ b is. subst (λ x. IsAtGap x) is gap, λ h is. absurd cc)
-keeps_gap (Hopper h) gap = (λ a is. absurd cc, λ b is. subst (λ x. IsAtGap x) is gap)
+keeps_gap (Acceptor a) gap = (λ o is. subst (λ x. IsAtGap x) is gap, λ h is. absurd cc, λ b is. absurd cc)
+keeps_gap (Hopper h) gap = (λ a is. absurd cc, λ o is. subst (λ x. IsAtGap x) is gap, λ b is. absurd cc)
+keeps_gap (Bill b) gap = (λ a is. absurd cc, λ h is. absurd cc, λ o is. subst (λ x. IsAtGap x) is gap)

@@ -12,6 +12,7 @@ use Rattle.cct_model.specs.terms.device.DeviceSetup.{DeviceSetup}
 use Rattle.cct_model.specs.terms.request.Request.{Request}
 use Rattle.cct_model.specs.terms.request.Request.TheVariants.{AddressPoll}
 use Rattle.cct_model.specs.Acceptor.{acceptor_reply}
+use Rattle.cct_model.specs.Bill.{bill_reply}
 use Rattle.cct_model.specs.Hopper.{hopper_reply}
 use Rattle.cct_model.specs.Device.{common_reply, own_reply, reply_of}
 use Rattle.cct_model.specs.Exchange.{answer, answer_to, asked_of, asker, asks_of, reply_bytes, to_all, to_one}
@@ -68,9 +69,10 @@ unfolding asks_of
 asked_where d piece q e = asked_of_message d.addr d.kind piece (message d.kind piece) q refl e
 
 poll_own : (serial : ℕ) (b : DeviceBody) (past : List Met) → own_reply serial b past AddressPoll ≡ None
-unfolding acceptor_reply hopper_reply
+unfolding acceptor_reply bill_reply hopper_reply
 poll_own serial (body.Acceptor accepts values ids) past = refl
 poll_own serial (body.Hopper life value) past = refl
+poll_own serial (body.Bill accepts values ids) past = refl
 
 -- an address poll is answered by the address
 poll_answer : (d : DeviceSetup) (past : List Met) (to : ℕ) → answer_to d past to (Some AddressPoll) ≡ Some (d.addr ∷ [])

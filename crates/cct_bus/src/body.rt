@@ -1,5 +1,5 @@
-//! What a device on the wire is: a coin acceptor or a hopper.
-ghost use Rattle.std.specs.Prelude.{◌≡◌, true, ℕ, List, [], ◌∷◌, ◌++◌, IfOk, unwrap_or};
+//! What a device on the wire is: a coin acceptor, a bill acceptor or a hopper.
+ghost use Rattle.std.specs.Prelude.{◌≡◌, true, ℕ, List, [], ◌∷◌, IfOk, unwrap_or};
 ghost use Rattle.cct_model.specs.terms.device.DeviceSetup.{DeviceSetup};
 ghost use Rattle.cct_model.specs.Device.{IsSound};
 ghost use Rattle.cct_model.specs.Exchange.{answer, asks_of};
@@ -7,27 +7,30 @@ ghost use Rattle.cct_model.specs.Family.{IsPlaced, known_to, met_by};
 ghost use Rattle.cct_model.specs.History.{Met, heard};
 ghost use Rattle.cct_model.specs.terms.family.Family.TheVariants as family;
 ghost use Rattle.cct_acceptor.specs.Acceptor as acceptors;
+ghost use Rattle.cct_bill.specs.Bill as bills;
 ghost use Rattle.cct_hopper.specs.Hopper as hoppers;
 ghost use Rattle.cct_bus.specs.Outcome.{becomes};
 
 use crate::outcome::{Outcome, of_effect, of_inserted};
 use arrayvec::ArrayVec;
 use cct_acceptor::Acceptor;
+use cct_bill::BillAcceptor;
 use cct_hopper::Hopper;
 use cct_model::{DeviceBody, DeviceSetup, Happening, MOST_SENT};
 use std::alloc::{AllocError, Global};
 
-/// A coin acceptor or a hopper. Its contracts tell it by all that it met, newest first.
+/// A coin acceptor, a bill acceptor or a hopper. Its contracts tell it by all that it met, newest first.
 #[derive(Drop)]
 pub(crate) enum Body<'s> {
     Acceptor(Acceptor<'s>),
     Hopper(Hopper<'s>),
+    Bill(BillAcceptor<'s>),
 }
 
 impl<'s> Body<'s> {
     ghost use Rattle.cct_bus.specs.Body.{HasHeard, IsAtGap, StandsFor, family_in};
 
-    /// The acceptor or the hopper of a setup as after power-up. This takes all memory that it ever has.
+    /// The device of a setup as after power-up. This takes all memory that it ever has.
     pub(crate) fn new(alloc: Global, setup: &'s DeviceSetup) -> Result<Body<'s>, AllocError>
         requires sound { IsSound setup.now }
         ensures fresh { IfOk result (λ body. StandsFor body setup.now []) }
@@ -36,11 +39,13 @@ impl<'s> Body<'s> {
         match &setup.body {
             DeviceBody::Acceptor { .. } => Ok(Body::Acceptor(Acceptor::new(alloc, setup)?)),
             DeviceBody::Hopper { .. } => Ok(Body::Hopper(Hopper::new(setup))),
+            DeviceBody::Bill { .. } => Ok(Body::Bill(BillAcceptor::new(alloc, setup)?)),
         }
     }
 
     /// It hears the bytes of a piece one by one, and then a gap: it acts on what they ask, and puts its answer in the
     /// place of what `said` holds: nothing where it is silent.
+    #[tactic(auto, using(crate::proofs::Said::said_is))]
     pub(crate) fn hear(&mut self, piece: &[u8], said: &mut ArrayVec<u8, MOST_SENT>)
         requires gap { IsAtGap self.old }
         ensures stands { (d : DeviceSetup) (past : List Met) → StandsFor self.old d past
@@ -49,40 +54,15 @@ impl<'s> Body<'s> {
             → said.new.items ≡ unwrap_or (answer d past piece.now) [] }
         ensures gap { IsAtGap self.new }
     {
-        for byte in piece {
-            self.byte(*byte);
-        }
-        self.gap(said);
-    }
-
-    /// It hears one byte more.
-    #[inline]
-    fn byte(&mut self, byte: u8)
-        ensures stands { (d : DeviceSetup) (past : List Met) → StandsFor self.old d past → StandsFor self.new d past }
-        ensures heard { (bytes : List ℕ) → HasHeard self.old bytes → HasHeard self.new (bytes ++ byte ∷ []) }
-    {
-        match self {
-            Body::Acceptor(acceptor) => acceptor.byte(byte),
-            Body::Hopper(hopper) => hopper.byte(byte),
-        }
-    }
-
-    /// It hears a gap.
-    #[inline]
-    #[tactic(auto, using(crate::proofs::Said::said_is))]
-    fn gap(&mut self, said: &mut ArrayVec<u8, MOST_SENT>)
-        ensures stands { (d : DeviceSetup) (past : List Met) (bytes : List ℕ) → StandsFor self.old d past
-            → HasHeard self.old bytes → StandsFor self.new d (heard (asks_of d bytes) ∷ past) }
-        ensures answer { (d : DeviceSetup) (past : List Met) (bytes : List ℕ) → StandsFor self.old d past
-            → HasHeard self.old bytes → said.new.items ≡ unwrap_or (answer d past bytes) [] }
-        ensures gap { IsAtGap self.new }
-    {
         match self {
             Body::Acceptor(acceptor) => {
-                acceptor.gap(said);
+                acceptor.hear(piece, said);
             }
             Body::Hopper(hopper) => {
-                hopper.gap(said);
+                hopper.hear(piece, said);
+            }
+            Body::Bill(bills) => {
+                bills.hear(piece, said);
             }
         }
     }
@@ -100,11 +80,12 @@ impl<'s> Body<'s> {
         match self {
             Body::Acceptor(acceptor) => befall_acceptor(acceptor, what),
             Body::Hopper(hopper) => befall_hopper(hopper, what),
+            Body::Bill(bills) => befall_bills(bills, what),
         }
     }
 }
 
-/// Something befalls an acceptor.
+/// Something befalls a coin acceptor.
 fn befall_acceptor(acceptor: &mut Acceptor<'_>, what: Happening) -> Outcome
     requires known { known_to what family.Acceptor ≡ true }
     requires placed { IsPlaced what }
@@ -124,6 +105,7 @@ fn befall_acceptor(acceptor: &mut Acceptor<'_>, what: Happening) -> Outcome
             acceptor.reset();
             Outcome::Done
         }
+        Happening::Bill { .. } => unreachable!(),
         Happening::Fall => unreachable!(),
         Happening::Jam => unreachable!(),
     }
@@ -147,5 +129,29 @@ fn befall_hopper(hopper: &mut Hopper<'_>, what: Happening) -> Outcome
         }
         Happening::Coin { .. } => unreachable!(),
         Happening::Alien => unreachable!(),
+        Happening::Bill { .. } => unreachable!(),
+    }
+}
+
+/// Something befalls a bill acceptor.
+fn befall_bills(acceptor: &mut BillAcceptor<'_>, what: Happening) -> Outcome
+    requires known { known_to what family.Bill ≡ true }
+    requires placed { IsPlaced what }
+    ensures stands { (d : DeviceSetup) (past : List Met) → bills.StandsFor acceptor.old d past
+        → bills.StandsFor acceptor.new d (met_by what ∷ past) }
+    ensures answer { (d : DeviceSetup) (past : List Met) → bills.StandsFor acceptor.old d past
+        → result ≡ becomes what d.serial past }
+    ensures heard { (bytes : List ℕ) → bills.HasHeard acceptor.old bytes → bills.HasHeard acceptor.new bytes }
+{
+    match what {
+        Happening::Bill { place } => of_effect(acceptor.present(place)),
+        Happening::Reset => {
+            acceptor.reset();
+            Outcome::Done
+        }
+        Happening::Coin { .. } => unreachable!(),
+        Happening::Alien => unreachable!(),
+        Happening::Fall => unreachable!(),
+        Happening::Jam => unreachable!(),
     }
 }

@@ -6,13 +6,14 @@ ghost use Rattle.cct_model.specs.terms.device.DeviceSetup.{DeviceSetup};
 ghost use Rattle.cct_model.specs.lines.command.WireFault.TheVariants.{HostHears};
 ghost use Rattle.cct_model.specs.lines.entry.Entry.{Entry};
 ghost use Rattle.cct_model.specs.lines.entry.Entry.TheVariants as entry;
+ghost use Rattle.cct_model.specs.Bill.{holds};
 ghost use Rattle.cct_model.specs.Device.{IsSound};
 ghost use Rattle.cct_model.specs.terms.family.Happening.TheVariants as happening;
-ghost use Rattle.cct_model.specs.Exchange.{acceptor_there, by_address, device_at, hopper_there, known_there};
+ghost use Rattle.cct_model.specs.Exchange.{acceptor_there, bill_there, by_address, device_at, hopper_there, known_there};
 ghost use Rattle.cct_model.specs.Family.{IsPlaced};
 ghost use Rattle.cct_model.specs.Honest.{was_forged};
 ghost use Rattle.cct_model.specs.Hopper.{remaining};
-ghost use Rattle.cct_model.specs.Legal.{OfKnowing, coin_entry, fall_entry, jam_entry};
+ghost use Rattle.cct_model.specs.Legal.{OfKnowing, bill_entry, coin_entry, fall_entry, jam_entry};
 ghost use Rattle.cct_model.specs.Setup.{IsSoundSetup};
 ghost use Rattle.cct_model.specs.Transcript.{met};
 ghost use Rattle.cct_acceptor.specs.Acceptor.{inserted};
@@ -31,7 +32,7 @@ use cct_model::{COIN_PLACES, DeviceSetup, Happening, MOST_HEARD, MOST_SENT, Setu
 use cct_wire::Link;
 use std::alloc::{AllocError, Global};
 
-/// Up to `DEVICES` devices on one wire, acceptors and hoppers (ccTalk Generic Specification 4, part 1). Its contracts tell it by
+/// Up to `DEVICES` devices on one wire: coin acceptors, bill acceptors and hoppers (ccTalk Generic Specification 4, part 1). Its contracts tell it by
 /// the transcript of all that happened on it, newest entry first.
 #[derive(Drop)]
 pub struct Bus<'s> {
@@ -91,6 +92,16 @@ impl<'s> Bus<'s> {
         }
     }
 
+    /// Whether a bill acceptor stands at an address.
+    pub fn is_bills(&self, addr: u8) -> bool
+        ensures { result ≡ bill_there (device_at (setup_of self.now).devices addr) }
+    {
+        match self.setup.device_at(addr) {
+            Some(device) => device.body.is_bill(),
+            None => false,
+        }
+    }
+
     /// Whether a device stands at an address.
     pub fn has_device(&self, addr: u8) -> bool
         ensures { result ≡ is_some (device_at (setup_of self.now).devices addr) }
@@ -98,8 +109,8 @@ impl<'s> Bus<'s> {
         self.setup.device_at(addr).is_some()
     }
 
-    /// Whether this can befall the device at an address: there is one, and its family knows it. A coin place is not
-    /// looked at.
+    /// Whether this can befall the device at an address: there is one, and its family knows it. A place is not looked
+    /// at.
     pub fn knows(&self, addr: u8, what: Happening) -> bool
         ensures { result ≡ known_there what (device_at (setup_of self.now).devices addr) }
     {
@@ -144,6 +155,21 @@ impl<'s> Bus<'s> {
         ensures stands { (past : List Entry) → StandsFor self.old past → StandsFor self.new (entry.Alien addr ∷ past) }
     {
         self.befall(addr, Happening::Alien);
+    }
+
+    /// A bill of a place, 1 to 16, is put into the bill acceptor at an address: true where it is held, and false where it is
+    /// given back at once.
+    #[tactic(auto, using(crate::proofs::Buses::told_as, crate::proofs::Buses::effect_back))]
+    pub fn bill(&mut self, addr: u8, place: u8) -> bool
+        requires there { IsTrue (known_there (happening.Bill place) (device_at (setup_of self.old).devices addr)) }
+        requires low { 1 ≤ place }
+        requires high { place ≤ COIN_PLACES }
+        ensures setup { setup_of self.new ≡ setup_of self.old }
+        ensures stands { (past : List Entry) → StandsFor self.old past
+            → OfKnowing (happening.Bill place) (device_at (setup_of self.old).devices addr)
+            (λ d. (result ≡ holds (met d past) place) × StandsFor self.new (bill_entry d past place ∷ past)) }
+    {
+        self.befall(addr, Happening::Bill { place }).is_done()
     }
 
     /// A coin falls out of the hopper at an address, and is paid where that is paying: true then, and false where it is

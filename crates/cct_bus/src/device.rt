@@ -15,7 +15,7 @@ use arrayvec::ArrayVec;
 use cct_model::{DeviceSetup, Happening, MOST_SENT};
 use std::alloc::{AllocError, Global};
 
-/// A coin acceptor or a hopper on the wire, with its setup. Between two calls no byte came to it since the last gap.
+/// A device on the wire, with its setup. Between two calls no byte came to it since the last gap.
 #[derive(Drop)]
 pub(crate) struct Device<'s> {
     pub(crate) setup: &'s DeviceSetup,

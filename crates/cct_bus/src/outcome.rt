@@ -10,9 +10,9 @@ use cct_model::Coin;
 pub enum Outcome {
     /// The coin was taken, by the sorter path of its place.
     Accepted(Coin),
-    /// The coin that fell is paid, the jam ended a payout, or the device started again.
+    /// The bill is held, the coin that fell is paid, the jam ended a payout, or the device started again.
     Done,
-    /// The piece was given back, or the hopper wasn't paying.
+    /// The piece or the bill was given back, or the hopper wasn't paying.
     Nothing,
 }
 
@@ -28,7 +28,7 @@ impl Outcome {
         }
     }
 
-    /// Whether a hopper was paying.
+    /// Whether a bill is held, or a hopper was paying.
     pub(crate) fn is_done(self) -> bool
         ensures { result ≡ is_done self }
     {
@@ -50,11 +50,12 @@ pub(crate) fn of_inserted(inserted: Inserted) -> Outcome
     }
 }
 
-/// What became of a coin that fell out of a hopper or got stuck there, by whether that was paying.
-pub(crate) fn of_effect(was_paying: bool) -> Outcome
-    ensures { result ≡ of_effect was_paying }
+/// What became of a bill that was put in, by whether it is held; or of a coin that fell out of a hopper or got stuck there,
+/// by whether that was paying.
+pub(crate) fn of_effect(had_effect: bool) -> Outcome
+    ensures { result ≡ of_effect had_effect }
 {
-    if was_paying {
+    if had_effect {
         Outcome::Done
     } else {
         Outcome::Nothing

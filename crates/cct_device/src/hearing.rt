@@ -1,13 +1,11 @@
 //! What the bytes that a device hears ask of it.
 ghost use Rattle.std.specs.Prelude.{◌≡◌, true, false, ℕ, List, [], ◌∷◌, ◌++◌, None, Some, MatchOption};
-ghost use Rattle.cct_frame.specs.Frame.{message_of};
 ghost use Rattle.cct_wire.specs.Framer.{Since};
 ghost use Rattle.cct_device.specs.Listening.{is_for};
 ghost use Rattle.cct_terms.specs.declared.device.DeviceSetup.{DeviceSetup};
-ghost use Rattle.cct_terms.specs.Exchange.{asked_of, asker, asks_of, to_all, to_one};
+ghost use Rattle.cct_terms.specs.Exchange.{asker, asks_of};
 
-use cct_frame::FrameView;
-use cct_msg::read_request;
+use cct_msg::asked_of;
 use cct_terms::{BROADCAST, CheckKind, DeviceSetup, HOST, Request};
 use cct_wire::Framer;
 
@@ -56,6 +54,23 @@ impl Listener {
             self.first_byte(address, byte);
         } else {
             self.framer.feed(byte);
+        }
+    }
+
+    /// The device at an address hears the bytes of a piece, one after the other. It stops at a byte that tells it that the
+    /// others pass by.
+    #[inline]
+    #[tactic(auto, using(crate::proofs::Listening::passes_rest))]
+    pub fn hear(&mut self, address: u8, piece: &[u8])
+        ensures kind { kind_of self.new ≡ kind_of self.old }
+        ensures heard { (bytes : List ℕ) → HeardSince self.old address bytes
+            → HeardSince self.new address (bytes ++ piece.now) }
+    {
+        for byte in piece {
+            if self.elsewhere {
+                return;
+            }
+            self.byte(address, *byte);
         }
     }
 
@@ -131,45 +146,12 @@ fn asked_in(setup: &DeviceSetup, framer: &Framer) -> Option<Asked>
 {
     match framer.view() {
         Err(_) => None,
-        Ok(view) => match request_in(setup.addr, &view) {
+        Ok(view) => match asked_of(setup.addr, &view) {
             None => None,
             Some(request) => Some(Asked {
                 request,
                 asker: view.from.unwrap_or(HOST),
             }),
         },
-    }
-}
-
-/// What a message asks of the device at an address.
-fn request_in(address: u8, view: &FrameView<'_>) -> Option<Request>
-    ensures { result ≡ asked_of address (message_of view.now) }
-{
-    if view.to == address {
-        to_one(read_request(view))
-    } else if view.to == BROADCAST {
-        to_all(read_request(view))
-    } else {
-        None
-    }
-}
-
-/// What a request to one device asks of it: an address poll asks nothing there.
-fn to_one(request: Option<Request>) -> Option<Request>
-    ensures { result ≡ to_one request }
-{
-    match request {
-        Some(Request::AddressPoll) => None,
-        other => other,
-    }
-}
-
-/// What a request to all devices asks of each: the address poll alone is known there.
-fn to_all(request: Option<Request>) -> Option<Request>
-    ensures { result ≡ to_all request }
-{
-    match request {
-        Some(Request::AddressPoll) => Some(Request::AddressPoll),
-        _ => None,
     }
 }

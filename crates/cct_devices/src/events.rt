@@ -69,13 +69,14 @@ fn refused(number: u32, kind: LineKind) -> Stop {
     Stop::Line(Text::Events, Refused { number, kind })
 }
 
-/// What an events line says: `coin`, `alien`, `fall`, `jam` or `reset`. No other word is one of an events line.
+/// What an events line says: `coin`, `alien`, `bill`, `fall`, `jam` or `reset`. No other word is one of an events line.
 fn read_event(line: &[u8]) -> Result<Event, LineKind>
     ensures { IfOk result (λ event. IsPlaced event.what) }
 {
     let (addr, what) = match read_step_line(line)? {
         Step::Coin { addr, place } => (addr, Happening::Coin { place }),
         Step::Alien { addr } => (addr, Happening::Alien),
+        Step::Bill { addr, place } => (addr, Happening::Bill { place }),
         Step::Fall { addr } => (addr, Happening::Fall),
         Step::Jam { addr } => (addr, Happening::Jam),
         Step::Reset { addr } => (addr, Happening::Reset),

@@ -23,8 +23,8 @@ use std::process::ExitCode;
 /// How the program is called.
 const HELP: &str = "\
 usage: cct_devices SETUP EVENTS PORT [--echo]
-SETUP   file with lines acceptor, hopper, value, texts (docs/SCRIPT.md); it ends at the line begin, or with the file
-EVENTS  file with lines coin A PLACE, alien A, fall A, jam A, reset A; one is read at each silence
+SETUP   file with lines acceptor, hopper, bills, value, texts (docs/SCRIPT.md); it ends at the line begin, or with the file
+EVENTS  file with lines coin A PLACE, alien A, bill A PLACE, fall A, jam A, reset A; one is read at each silence
 PORT    terminal where a read gives 0 bytes at a silence: stty -F PORT raw -echo min 0 time 1
 --echo  write back all that is heard, as a line does on which everyone hears everyone
 The devices answer a message once it is whole by its length. A silence in a message cuts it off.

@@ -182,6 +182,30 @@ fn a_coin_falls_between_two_polls(rt: HostRuntime) -> Result<(), Fail> {
 }
 
 #[test]
+fn a_bill_is_held_between_two_polls(rt: HostRuntime) -> Result<(), Fail> {
+    let alloc = rt.alloc();
+    // A mask of bill place 1, which is acknowledged; then header 159.
+    let mut line = memory_line(
+        alloc,
+        &[
+            b"\x04\x02\x01\xe7\x01\x00\x11",
+            SILENCE,
+            b"\x04\x00\x01\x9f\x5c",
+        ],
+    );
+    let setup = b"bills 4 simple 9 0\n";
+    assert_eq!(rt;
+        ended(alloc, setup, b"bill 4 1\n", &mut line, false)?,
+        Ok(())
+    );
+    // The event counter 1, the bill of place 1 held, and four times no event.
+    let said =
+        b"\x01\x00\x04\x00\xfb\x01\x0b\x04\x00\x01\x01\x01\x00\x00\x00\x00\x00\x00\x00\x00\xed";
+    assert_eq!(rt; line.said.as_slice(), said.as_slice());
+    Ok(())
+}
+
+#[test]
 fn an_event_comes_at_a_silence_and_not_before(rt: HostRuntime) -> Result<(), Fail> {
     let alloc = rt.alloc();
     let mut line = memory_line(alloc, &[READ, SILENCE]);

@@ -13,3 +13,4 @@ pub own_is : (serial : ℕ) (b : DeviceBody) (past : List Met) (q : Request)
     → IsHopper b → own_reply serial b past q ≡ hopper_reply serial (start_of b) past q
 own_is serial (body.Acceptor start values ids) past q kind = absurd kind
 own_is serial (body.Hopper life value) past q kind = refl
+own_is serial (body.Bill accepts values ids) past q kind = absurd kind

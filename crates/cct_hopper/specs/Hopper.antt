@@ -25,6 +25,7 @@ use Rattle.cct_hopper.specs.declared.states.HopperPaying.{HopperPaying}
 abbrev pub start_of : DeviceBody → ℕ
 start_of (body.Acceptor start values ids) = 0
 start_of (body.Hopper life value) = life
+start_of (body.Bill accepts values ids) = 0
 
 -- What a hopper remembers in whatever state it is: its life count, its event counter, how many coins of its last payout
 -- were paid and stayed unpaid, whether a jam ended that, and whether its test register was read.

@@ -45,6 +45,7 @@ impl<'s> Hopper<'s> {
                 Hopper::Off(HopperOff::new(setup, LifeCount::new(*life)))
             }
             DeviceBody::Acceptor { .. } => unreachable!(),
+            DeviceBody::Bill { .. } => unreachable!(),
         }
     }
 
@@ -154,10 +155,21 @@ impl<'s> Hopper<'s> {
             (λ bytes. (result ≡ true) × (out.new.items ≡ bytes)) }
         ensures gap { IsAtGap self.new }
     {
-        for byte in piece {
-            self.byte(*byte);
-        }
+        self.piece(piece);
         self.gap(out)
+    }
+
+    /// Hears the bytes of a piece.
+    #[inline]
+    fn piece(&mut self, piece: &[u8])
+        ensures stands { (d : DeviceSetup) (past : List Met) → StandsFor self.old d past → StandsFor self.new d past }
+        ensures heard { (bytes : List ℕ) → HasHeard self.old bytes → HasHeard self.new (bytes ++ piece.now) }
+    {
+        match self {
+            Hopper::Off(hopper) => hopper.device.piece(piece),
+            Hopper::Idle(hopper) => hopper.device.piece(piece),
+            Hopper::Paying(hopper) => hopper.device.piece(piece),
+        }
     }
 
     /// No byte came since the last gap any more.

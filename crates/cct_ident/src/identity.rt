@@ -66,5 +66,6 @@ fn category(body: &DeviceBody) -> &'static [u8]
     match body {
         DeviceBody::Acceptor { .. } => b"Coin Acceptor",
         DeviceBody::Hopper { .. } => b"Payout",
+        DeviceBody::Bill { .. } => b"Bill Validator",
     }
 }

@@ -12,6 +12,10 @@ pub(crate) const NAK: u8 = 5;
 
 pub(crate) const BUSY: u8 = 6;
 
+pub(crate) const ROUTE_BILL: u8 = 154;
+
+pub(crate) const READ_BILLS: u8 = 159;
+
 pub(crate) const CIPHER_KEY: u8 = 160;
 
 pub(crate) const PUMP_RNG: u8 = 161;

@@ -3,6 +3,7 @@
 #![tactic(auto)]
 
 mod header;
+mod hearing;
 mod laws;
 mod number;
 mod reply_reading;
@@ -12,6 +13,7 @@ mod request_writing;
 mod wanted_form;
 
 pub use cct_terms::{Reply, ReplyForm, Request};
+pub use hearing::{asked_of, wanted_reply};
 pub use laws::{
     a_reply_is_read_back, a_request_is_read_back, what_is_read_is_the_reply,
     what_is_read_is_the_request,

@@ -48,6 +48,7 @@ fn bare_request(header: u8) -> Option<Request>
         header::READ_CREDITS => Some(Request::ReadCredits),
         header::GET_DEFAULT => Some(Request::GetDefault),
         header::ACCEPT_COUNT => Some(Request::AcceptCount),
+        header::READ_BILLS => Some(Request::ReadBills),
         header::GET_STATUS => Some(Request::GetStatus),
         header::GET_LIFE => Some(Request::GetLife),
         header::STOP_NOW => Some(Request::StopNow),
@@ -66,6 +67,7 @@ fn byte_request(header: u8, byte: u8) -> Option<Request>
         header::GET_PATH => Some(Request::GetPath { place: byte }),
         header::SET_DEFAULT => Some(Request::SetDefault { path: byte }),
         header::COIN_ID => Some(Request::CoinId { place: byte }),
+        header::ROUTE_BILL => Some(Request::RouteBill { way: byte }),
         header::ENABLE => Some(Request::Enable { code: byte }),
         _ => None,
     }

@@ -47,6 +47,8 @@ fn header_of(request: &Request) -> u8
         Request::GetDefault => header::GET_DEFAULT,
         Request::CoinId { .. } => header::COIN_ID,
         Request::AcceptCount => header::ACCEPT_COUNT,
+        Request::ReadBills => header::READ_BILLS,
+        Request::RouteBill { .. } => header::ROUTE_BILL,
         Request::Enable { .. } => header::ENABLE,
         Request::Dispense { .. } | Request::CipherDispense => header::DISPENSE,
         Request::GetStatus => header::GET_STATUS,
@@ -74,6 +76,7 @@ fn put_body(request: &Request, body: &mut ArrayVec<u8, 9>)
         Request::GetPath { place } => body.push(place),
         Request::SetDefault { path } => body.push(path),
         Request::CoinId { place } => body.push(place),
+        Request::RouteBill { way } => body.push(way),
         Request::Enable { code } => body.push(code),
         Request::Dispense { serial, count } => {
             body.try_extend_from_slice(&three_bytes(serial)).unwrap();

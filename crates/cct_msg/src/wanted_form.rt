@@ -17,6 +17,7 @@ pub fn form_of(request: Request) -> Option<ReplyForm>
         | Request::SetMaster { .. }
         | Request::SetPath { .. }
         | Request::SetDefault { .. }
+        | Request::RouteBill { .. }
         | Request::Enable { .. }
         | Request::Dispense { .. } => Some(ReplyForm::Ack),
         Request::MakerId
@@ -28,7 +29,7 @@ pub fn form_of(request: Request) -> Option<ReplyForm>
         Request::CommsRevision => Some(ReplyForm::Revision),
         Request::GetMask => Some(ReplyForm::Mask),
         Request::GetMaster => Some(ReplyForm::Master),
-        Request::ReadCredits => Some(ReplyForm::Credits),
+        Request::ReadCredits | Request::ReadBills => Some(ReplyForm::Credits),
         Request::GetPath { .. } | Request::GetDefault => Some(ReplyForm::Path),
         Request::CoinId { .. } => Some(ReplyForm::CoinId),
         Request::AcceptCount => Some(ReplyForm::Accepts),

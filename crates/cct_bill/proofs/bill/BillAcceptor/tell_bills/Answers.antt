@@ -1,0 +1,14 @@
+use Rattle.std.proofs.Common.{◌∙◌, ◌≡◌, false, sym, rules}
+use Rattle.cct_bill.specs.Bill.{start_of}
+use Rattle.cct_bill.proofs.Bills.{settings_inhibit}
+use Rattle.cct_bill.proofs.Replies.{is_of_bills, other_is, sets_nothing}
+use Rattle.cct_bill.proofs.bill.BillAcceptor.tell_bills.Goals as goal
+
+pub returns-in_default : goal.returns-in_default
+returns-in_default c = record {
+  answer = λ d past so still.
+      let other : is_of_bills c.args.request ≡ false = search rules in
+      c.told.ensures.reply _ _ _ _ past so.intake (settings_inhibit past) (sets_nothing c.args.request still)
+      ∙ sym (other_is (start_of d.body) past c.args.request other);
+  sayable = c.told.ensures.sayable;
+}
