@@ -105,6 +105,8 @@ one_step : (capacity : ℕ) (setup : Setup) (past : List Entry) (s : Step) → N
 one_step capacity setup past (step.Coin addr place) no_put =
     one_known (happening.Coin place) (device_at setup.devices addr) _
 one_step capacity setup past (step.Alien addr) no_put = one_known happening.Alien (device_at setup.devices addr) _
+one_step capacity setup past (step.Bill addr place) no_put =
+    one_known (happening.Bill place) (device_at setup.devices addr) _
 one_step capacity setup past (step.Fall addr) no_put = one_known happening.Fall (device_at setup.devices addr) _
 one_step capacity setup past (step.Jam addr) no_put = one_known happening.Jam (device_at setup.devices addr) _
 one_step capacity setup past (step.Reset addr) no_put = one_known happening.Reset (device_at setup.devices addr) _

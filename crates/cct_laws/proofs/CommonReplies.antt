@@ -1,8 +1,8 @@
 -- What every device replies to each request that a job sends it.
-use Rattle.std.proofs.Common.{◌≡◌, ℕ, ◌≤◌, List, ◌∷◌, length, drop, refl, Some, arith}
+use Rattle.std.proofs.Common.{◌≡◌, ℕ, ◌≤◌, List, [], ◌∷◌, length, drop, refl, Some, inl, arith}
 use Rattle.cct_model.specs.terms.device.DeviceSetup.{DeviceSetup}
 use Rattle.cct_model.specs.terms.device.DeviceBody.{DeviceBody}
-use Rattle.cct_model.specs.terms.device.DeviceBody.TheVariants.{Acceptor, Hopper}
+use Rattle.cct_model.specs.terms.device.DeviceBody.TheVariants.{Acceptor, Bill, Hopper}
 use Rattle.cct_model.specs.terms.request.Request.{Request}
 use Rattle.cct_model.specs.terms.request.Request.TheVariants.{MakerId, Category, ProductCode, SerialNumber, SoftwareRevision, BuildCode, CommsRevision, ResetDevice}
 use Rattle.cct_model.specs.terms.request.ReplyForm.{ReplyForm}
@@ -15,7 +15,7 @@ use Rattle.cct_model.specs.Device.{IsSound, IsWord, common_reply, reply_of, cate
 use Rattle.cct_model.specs.Job.{ident_requests, own_requests}
 use Rattle.cct_model.specs.Exchange.{to_one}
 use Rattle.cct_msg.specs.Forms.{FitsItsBytes, IsWhole, form_shown}
-use Rattle.cct_laws.proofs.Exchanges.{Replied}
+use Rattle.cct_laws.proofs.Exchanges.{Answers, Replied}
 use Rattle.cct_model.proofs.Requests.{Each}
 
 -- a text of 24 characters can be said
@@ -25,6 +25,7 @@ word_short text word = omega (arith, word.1)
 category_short : (body : DeviceBody) → length (category_of body) ≤ 255
 category_short (Acceptor accepts values ids) = omega arith
 category_short (Hopper life value) = omega arith
+category_short (Bill accepts values ids) = omega arith
 
 -- a reply in the form that a request wants
 pub answers_so : (d : DeviceSetup) (past : List Met) (q : Request) (y : Reply) (form : ReplyForm) →
@@ -107,3 +108,9 @@ ident_replied d past body sound owns =
     (also d past SoftwareRevision (drop 5 qs) (software_replied d past sound)
     (also d past BuildCode (drop 6 qs) (build_replied d past sound)
     (also d past CommsRevision (own_requests body) (revision_replied d past) owns))))))
+
+-- what has its reply has it, or is refused
+pub each_answers : (d : DeviceSetup) (past : List Met) (qs : List Request) → Each (Replied d past) qs →
+    Each (Answers d past) qs
+each_answers d past [] each = tt
+each_answers d past (q ∷ qs) each = (inl each.0, each_answers d past qs each.1)

@@ -324,7 +324,7 @@ to_device_of : (d : DeviceSetup) (past : List Met) (q : Request) → Answers d p
 to_device_of d past q (inl is) = is.to_its_device
 to_device_of d past q (inr is) = is.to_its_device
 
-heard_back : (d : DeviceSetup) (past : List Met) (q : Request) → Answers d past q →
+pub heard_back : (d : DeviceSetup) (past : List Met) (q : Request) → Answers d past q →
     asks_of d (ask d.kind d.addr q) ≡ Some q
 heard_back d past q is = asks_back d q (fits_of d past q is) (to_device_of d past q is)
 

@@ -1,11 +1,9 @@
 -- An exchange without the wanted reply, or without the host's own echo, had a fault.
-use Rattle.std.proofs.Common.{◌≡◌, ◌≢◌, ℕ, cond, false, Bool, List, [], ◌∷◌, ◌++◌, refl, ap, sym, ◌∙◌, subst, Option, Some, None, All, eq-eqb}
-use Rattle.std.proofs.lemmas.Bool.{true≢false}
+use Rattle.std.proofs.Common.{◌≡◌, ℕ, cond, false, Bool, List, [], ◌∷◌, ◌++◌, refl, ap, sym, ◌∙◌, subst, Option, Some, None, All, eq-eqb}
 use Rattle.std.specs.Prelude.{⊤}
 use Rattle.cct_model.specs.terms.device.DeviceSetup.{DeviceSetup}
 use Rattle.cct_model.specs.terms.device.Setup.{Setup}
 use Rattle.cct_model.specs.terms.request.Request.{Request}
-use Rattle.cct_model.specs.terms.request.Request.TheVariants.{Dispense}
 use Rattle.cct_model.specs.lines.command.Command.{Command}
 use Rattle.cct_model.specs.lines.command.Step.{Step}
 use Rattle.cct_model.specs.lines.command.WireFault.TheVariants.{Clear}
@@ -22,7 +20,7 @@ use Rattle.cct_model.specs.Scan.{poll_of}
 use Rattle.cct_model.specs.Legal.{Legal}
 use Rattle.cct_model.specs.Script.{IsInRange}
 use Rattle.cct_model.specs.Transcript.{pending, met, own, lines_of, heard_after, answers, doses_of, got_by, onto}
-use Rattle.cct_laws.specs.Faults.{IsFaultSet, FailsByFault, is_dispense, FailsByFaultBut, EchoFailsByFault}
+use Rattle.cct_laws.specs.Faults.{IsFaultSet, FailsByFault, may_be_refused, FailsByFaultBut, EchoFailsByFault}
 use Rattle.cct_laws.specs.Ids.{Ids}
 use Rattle.cct_laws.specs.DeviceJobs.{WorksAt}
 use Rattle.cct_laws.specs.Law.{IsOf, EachEntry, IsAnswered}
@@ -160,7 +158,7 @@ fails_but excused capacity setup steps transcript d sound own heard in_range leg
     (λ past addr fails. record { ranged = fails.ranged; each = (tt, fails.each) }) steps (onto [] transcript) in_range
     legal (record { ranged = tt; each = tt })).each
 
--- one of an acceptor without the wanted reply had a fault
+-- one of a coin acceptor without the wanted reply had a fault
 nothing_excused : (d : DeviceSetup) (past : List Entry) (e : Entry) → FailsByFaultBut (λ asks. false) d past e →
     FailsByFault d past e
 nothing_excused d past (entry.Wire addr sent piece) fails = λ same none. fails same refl none
@@ -182,15 +180,12 @@ legal_fails capacity setup steps transcript d sound own accepting in_range legal
     works.suited works.in_range clear is_row)
     in_range legal)
 
--- and one of a device of either kind, but for a dispense
-is_other : (q : Request) → is_dispense (Some q) ≡ false → (serial count : ℕ) → q ≢ Dispense serial count
-is_other q other serial count is = true≢false (sym (ap (λ x. is_dispense (Some x)) is) ∙ other)
-
+-- and one of a device of any kind, but for what it may refuse
 pub legal_fails_but : (capacity : ℕ) (setup : Setup) (steps : List Step) (transcript : List Entry)
     (d : DeviceSetup) → IsSoundSetup setup → IsOf setup d → All IsInRange steps →
-    Legal capacity setup steps transcript → EachEntry (FailsByFaultBut is_dispense d) (onto [] transcript)
+    Legal capacity setup steps transcript → EachEntry (FailsByFaultBut may_be_refused d) (onto [] transcript)
 legal_fails_but capacity setup steps transcript d sound own in_range legal =
-    fails_but is_dispense capacity setup steps transcript d sound own
+    fails_but may_be_refused capacity setup steps transcript d sound own
     (λ past c since q works is_row clear other.
-    undisturbed_at setup past d c since q sound own works is_row clear (is_other q other))
+    undisturbed_at setup past d c since q sound own works is_row clear other)
     in_range legal

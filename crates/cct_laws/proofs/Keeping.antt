@@ -26,7 +26,7 @@ use Rattle.cct_laws.specs.KeptBoth.{IsKeptBoth}
 use Rattle.cct_laws.specs.Law.{IsOf}
 use Rattle.cct_laws.specs.SinceEpoch.{since_record, since_epoch}
 use Rattle.cct_laws.proofs.jobs.Asked.{asked_at, fate_at}
-use Rattle.cct_laws.proofs.jobs.Brought.{Comes, takes_coin, leaves_coin, leaves_alien, drops_coin, drops_none, jams, jams_none, is_reset, AtDevice, came, took, halted, idled, made_exchange, made_put, AtWork, Brought, wire_of, wire_end, record_end, begun_at_work}
+use Rattle.cct_laws.proofs.jobs.Brought.{Comes, takes_coin, leaves_coin, leaves_alien, takes_bill, leaves_bill, drops_coin, drops_none, jams, jams_none, is_reset, AtDevice, came, took, halted, idled, made_exchange, made_put, AtWork, Brought, wire_of, wire_end, record_end, begun_at_work}
 use Rattle.cct_model.proofs.Doses.{job_undosed}
 use Rattle.cct_laws.proofs.orders.Ids.{put_owned}
 use Rattle.cct_laws.proofs.jobs.Seen.{AreForOthers, Passes, ArePassed, IsLoose, loose, loose_line, loose_met, Lost, bare, kept_here, kept_elsewhere, seen_here, seen_aside, seen_lost, seen_from, since_elsewhere, passed_job, lines_wire, lines_ended, lines_put, lines_taken, lines_kept, lines_kept_elsewhere}
@@ -143,6 +143,10 @@ came_kept d P since past lines _ _ _ _ kept range (takes_coin place accepting te
 came_kept d P since past lines _ _ _ _ kept range (leaves_coin place accepting test) holds =
     kept.inhibits since past lines place accepting test holds
 came_kept d P since past lines _ _ _ _ kept range (leaves_alien accepting) holds = kept.aliens since past lines accepting holds
+came_kept d P since past lines _ _ _ _ kept range (takes_bill place billing test) holds =
+    kept.holds since past lines place billing range.0 range.1 test holds
+came_kept d P since past lines _ _ _ _ kept range (leaves_bill place billing test) holds =
+    kept.rejects since past lines place billing test holds
 came_kept d P since past lines _ _ _ _ kept range (drops_coin paying test) holds = kept.falls since past lines paying test holds
 came_kept d P since past lines _ _ _ _ kept range (drops_none paying test) holds = kept.no_falls since past lines paying test holds
 came_kept d P since past lines _ _ _ _ kept range (jams paying test) holds = kept.jams since past lines paying holds

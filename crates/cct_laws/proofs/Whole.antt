@@ -7,7 +7,7 @@ use Rattle.cct_model.specs.lines.command.Step.{Step}
 use Rattle.cct_model.specs.lines.entry.Entry.{Entry}
 use Rattle.cct_model.specs.lines.entry.Entry.TheVariants as entry
 use Rattle.cct_model.specs.History.{Met}
-use Rattle.cct_model.specs.Device.{IsAcceptor, IsHopper}
+use Rattle.cct_model.specs.Device.{IsHopper, IsTaker}
 use Rattle.cct_model.specs.Job.{job}
 use Rattle.cct_model.specs.Line.{Line}
 use Rattle.cct_model.specs.Setup.{IsSoundSetup}
@@ -22,7 +22,7 @@ use Rattle.cct_laws.specs.Law.{IsOf, lines_in}
 use Rattle.cct_laws.specs.SinceEpoch.{since_epoch_in, IsKeptSince, IsKept}
 use Rattle.cct_laws.proofs.jobs.Brought.{Brought}
 use Rattle.cct_laws.proofs.Keeping.{Fact, HoldsAt, IsRanged, ranged_step, kept_step}
-use Rattle.cct_laws.proofs.EitherKind.{both_acceptor, both_hopper}
+use Rattle.cct_laws.proofs.EitherKind.{both_taker, both_hopper}
 use Rattle.cct_laws.proofs.jobs.Seen.{along}
 use Rattle.cct_laws.proofs.jobs.Telling.{GoesOverForged}
 
@@ -83,27 +83,27 @@ ranged_legal capacity setup steps transcript d sound own in_range legal =
 
 pub kept_since_legal : (capacity : ℕ) (setup : Setup) (steps : List Step) (transcript : List Entry)
     (d : DeviceSetup) (P : List Met → List Met → List Line → Type 0) → IsSoundSetup setup → IsOf setup d →
-    IsAcceptor d.body → All IsInRange steps → Legal capacity setup steps transcript → Honest transcript →
+    IsTaker d.body → All IsInRange steps → Legal capacity setup steps transcript → Honest transcript →
     IsKeptSince d P → P (since_epoch_in d transcript) (met d (onto [] transcript)) (lines_in d transcript)
-kept_since_legal capacity setup steps transcript d P sound own accepting in_range legal honest kept =
+kept_since_legal capacity setup steps transcript d P sound own taking in_range legal honest kept =
     (both_legal capacity setup steps transcript d P (λ past. ⊤) sound own in_range legal honest
-    (both_acceptor d P accepting kept) (λ past news s ranged ids told holds before. tt) (λ past addr before. tt) tt).0
+    (both_taker d P taking kept) (λ past news s ranged ids told holds before. tt) (λ past addr before. tt) tt).0
 
 pub goes_on_legal : (capacity : ℕ) (setup : Setup) (steps : List Step) (transcript : List Entry) (d : DeviceSetup)
     (P : List Met → List Met → List Line → Type 0) (Q : List Entry → Type 0) → IsSoundSetup setup → IsOf setup d →
-    IsAcceptor d.body → All IsInRange steps → Legal capacity setup steps transcript → Honest transcript →
+    IsTaker d.body → All IsInRange steps → Legal capacity setup steps transcript → Honest transcript →
     IsKeptSince d P → GoesAlong capacity setup d P Q → GoesOverForged Q → Q [] → Q (onto [] transcript)
-goes_on_legal capacity setup steps transcript d P Q sound own accepting in_range legal honest kept goes_on over start =
-    (both_legal capacity setup steps transcript d P Q sound own in_range legal honest (both_acceptor d P accepting kept)
+goes_on_legal capacity setup steps transcript d P Q sound own taking in_range legal honest kept goes_on over start =
+    (both_legal capacity setup steps transcript d P Q sound own in_range legal honest (both_taker d P taking kept)
     goes_on over start).1
 
--- and so does what is kept without regard to the epoch, of an acceptor and of a hopper
+-- and so does what is kept without regard to the epoch, of a device that takes money and of a hopper
 pub kept_legal : (capacity : ℕ) (setup : Setup) (steps : List Step) (transcript : List Entry) (d : DeviceSetup)
-    (P : List Met → List Line → Type 0) → IsSoundSetup setup → IsOf setup d → IsAcceptor d.body →
+    (P : List Met → List Line → Type 0) → IsSoundSetup setup → IsOf setup d → IsTaker d.body →
     All IsInRange steps → Legal capacity setup steps transcript → Honest transcript → IsKept d P →
     P (met d (onto [] transcript)) (lines_in d transcript)
-kept_legal capacity setup steps transcript d P sound own accepting in_range legal honest kept =
-    kept_since_legal capacity setup steps transcript d (λ since past lines. P past lines) sound own accepting in_range
+kept_legal capacity setup steps transcript d P sound own taking in_range legal honest kept =
+    kept_since_legal capacity setup steps transcript d (λ since past lines. P past lines) sound own taking in_range
     legal honest kept
 
 pub kept_hopper_legal : (capacity : ℕ) (setup : Setup) (steps : List Step) (transcript : List Entry)

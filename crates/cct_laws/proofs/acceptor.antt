@@ -1,10 +1,11 @@
--- What holds of an acceptor: its coins, credits, masks and posts, and the rows of its epoch.
+-- What holds of a device that takes money: its coins, credits, masks and posts, and the rows of its epoch.
 pub mod AcceptorReplies
 pub mod Acceptors
 pub mod Causes
 pub mod Coinless
 pub mod Fits
 pub mod Items
+mod Kinds
 mod Leads
 pub mod Masks
 pub mod Moves

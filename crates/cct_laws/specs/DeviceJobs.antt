@@ -1,12 +1,12 @@
 -- Jobs at a device: which commands begin one there, and what becomes of what it asks over an honest wire.
-use Rattle.std.specs.Prelude.{◌≡◌, ◌&&◌, not, Bool, true, false, List, ◌∷◌, Option, Some, None, ⊤}
+use Rattle.std.specs.Prelude.{◌≡◌, ◌&&◌, ◌||◌, not, is_some, Bool, true, false, List, ◌∷◌, Option, Some, None, ⊤}
 use Rattle.std.specs.List.{list_any}
 use Rattle.cct_model.specs.terms.device.DeviceBody.{DeviceBody}
 use Rattle.cct_model.specs.terms.device.DeviceSetup.{DeviceSetup}
 use Rattle.cct_model.specs.terms.family.Family.{Family}
 use Rattle.cct_model.specs.terms.family.Family.TheVariants as family
 use Rattle.cct_model.specs.terms.request.Request.{Request}
-use Rattle.cct_model.specs.terms.request.Request.TheVariants.{AddressPoll, SimplePoll, Dispense}
+use Rattle.cct_model.specs.terms.request.Request.TheVariants.{AddressPoll, SimplePoll, RouteBill, Dispense}
 use Rattle.cct_model.specs.declared.judging.EpochState.{EpochState}
 use Rattle.cct_model.specs.lines.command.Command.{Command}
 use Rattle.cct_model.specs.lines.command.Command.TheVariants as command
@@ -14,11 +14,12 @@ use Rattle.cct_model.specs.lines.entry.End.{End}
 use Rattle.cct_model.specs.Reply.{Reply}
 use Rattle.cct_model.specs.History.{Met}
 use Rattle.cct_model.specs.Family.{family_of}
+use Rattle.cct_model.specs.Bill.{bill_held, is_way}
 use Rattle.cct_model.specs.Hopper.{taken_of}
-use Rattle.cct_model.specs.Device.{IsHopper, reply_of}
+use Rattle.cct_model.specs.Device.{IsBill, IsHopper, reply_of}
 use Rattle.cct_model.specs.Line.{Line, ended}
 use Rattle.cct_model.specs.Job.{works, job, address_of}
-use Rattle.cct_model.specs.Refusal.{Test, at_a_device, at_an_acceptor, at_a_hopper, with_no_job, tests_of, start_refusal, running_refusal}
+use Rattle.cct_model.specs.Refusal.{Test, at_a_device, at_a_taker, at_an_acceptor, at_a_bill_acceptor, at_a_hopper, with_no_job, tests_of, start_refusal, running_refusal}
 use Rattle.cct_model.specs.Script.{IsCommand}
 
 -- What becomes of a request to a device over an honest wire, as what the device heard and what the host got. The devices
@@ -28,10 +29,12 @@ pub data Fate (d : DeviceSetup) (past : List Met) (q : Request) : Option Request
   silenced : Fate d past q (Some q) None
   answered : (y : Reply) → reply_of d past q ≡ Some y → Fate d past q (Some q) (Some y)
 
--- A hopper that met all this refuses a request: one to dispense coins, which it doesn't take.
+-- A device that met all this refuses a request: a hopper one to dispense coins, which it doesn't take; a bill acceptor one
+-- to route a bill, where it holds none or the way is none.
 abbrev pub IsRefused : DeviceSetup → List Met → Request → Type 0
 IsRefused d past (Dispense serial count) =
     IsHopper d.body × (taken_of d.serial past (Some (Dispense serial count)) ≡ None)
+IsRefused d past (RouteBill way) = IsBill d.body × ((is_some (bill_held past) && is_way way) ≡ false)
 IsRefused d past q = ⊥
 
 -- What no job at a device sends it asks nothing of it, or is a poll of a scan, which asks all devices or this
@@ -60,7 +63,12 @@ wants_no_job test = false
 -- A test that the device is of another family than this.
 abbrev pub wants_other : Family → Test → Bool
 wants_other family.Acceptor at_a_hopper = true
+wants_other family.Acceptor at_a_bill_acceptor = true
+wants_other family.Hopper at_a_taker = true
 wants_other family.Hopper at_an_acceptor = true
+wants_other family.Hopper at_a_bill_acceptor = true
+wants_other family.Bill at_a_hopper = true
+wants_other family.Bill at_an_acceptor = true
 wants_other which test = false
 
 -- A command begins a job at a device of a family: among its tests are that a device is there and that no job is, and
@@ -70,9 +78,17 @@ is_for which c =
     list_any wants_device (tests_of c) && list_any wants_no_job (tests_of c)
     && not (list_any (wants_other which) (tests_of c))
 
--- A command begins a job at an acceptor.
+-- A command begins a job at a coin acceptor.
 abbrev pub is_for_acceptor : Command → Bool
 is_for_acceptor c = is_for family.Acceptor c
+
+-- A command begins a job at a bill acceptor.
+abbrev pub is_for_bills : Command → Bool
+is_for_bills c = is_for family.Bill c
+
+-- A command begins a job at a device that takes money.
+abbrev pub is_for_taker : Command → Bool
+is_for_taker c = is_for_acceptor c || is_for_bills c
 
 -- A command begins a job at a hopper.
 abbrev pub is_for_hopper : Command → Bool
@@ -82,11 +98,12 @@ is_for_hopper c = is_for family.Hopper c
 abbrev pub suits : DeviceBody → Command → Bool
 suits body c = is_for (family_of body) c
 
--- A command to an acceptor is not refused because of its epoch.
+-- A command to a device that takes money is not refused because of its epoch.
 abbrev pub IsTaken : DeviceSetup → Command → EpochState → Type 0
 IsTaken d (command.Start addr mask) state = start_refusal mask d state ≡ None
 IsTaken d (command.Round addr) state = running_refusal state ≡ None
 IsTaken d (command.Stop addr) state = running_refusal state ≡ None
+IsTaken d (command.Route addr way) state = running_refusal state ≡ None
 IsTaken d c state = ⊤
 
 -- The job at a device is one of a command for it and for its kind, in its range.

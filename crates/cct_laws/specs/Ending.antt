@@ -8,7 +8,7 @@ use Rattle.cct_model.specs.lines.command.Step.{Step}
 use Rattle.cct_model.specs.lines.command.Step.TheVariants as step
 use Rattle.cct_model.specs.lines.command.WireFault.TheVariants.{Clear}
 use Rattle.cct_model.specs.lines.entry.End.{End}
-use Rattle.cct_model.specs.lines.entry.End.TheVariants.{Started, Unquiet, Clean, Posted, Broke, Moved, Stopped, Told, PathSet, Closed, OddLife, Sold}
+use Rattle.cct_model.specs.lines.entry.End.TheVariants.{Started, Unquiet, Clean, Posted, Broke, Moved, Stopped, Told, PathSet, Closed, OddLife, Routed, RouteUnsure, Sold}
 use Rattle.cct_model.specs.lines.entry.Entry.{Entry}
 use Rattle.cct_model.specs.lines.entry.Entry.TheVariants as entry
 use Rattle.cct_model.specs.Exchange.{asked}
@@ -55,7 +55,7 @@ nexts_needed d c steps = if is_payment c then row_count d c + halts_at d.addr st
 
 -- The ends of a job that got its answers: a start that started, or whose acceptor wasn't quiet; a round or a stop that
 -- came to its end, that broke, or whose reading has to be made again; an order that was closed. An identification and a
--- path were told, and a sale was made.
+-- path were told, and a sale was made. A bill was routed, or the bill acceptor held none and refused.
 abbrev pub IsEndOf : Command → End → Type 0
 IsEndOf (command.Start addr mask) Started = ⊤
 IsEndOf (command.Start addr mask) (Unquiet counter) = ⊤
@@ -72,6 +72,8 @@ IsEndOf (command.Settle addr) Closed = ⊤
 IsEndOf (command.Settle addr) OddLife = ⊤
 IsEndOf (command.Ident addr) Told = ⊤
 IsEndOf (command.Path addr place path) (PathSet at number) = ⊤
+IsEndOf (command.Route addr way) Routed = ⊤
+IsEndOf (command.Route addr way) RouteUnsure = ⊤
 IsEndOf (command.Vend id price) Sold = ⊤
 IsEndOf c end = ⊥
 

@@ -2,7 +2,7 @@
 use Rattle.std.specs.Prelude.{◌≡◌, ◌≢◌, ℕ, zero, suc, ◌==◌, Bool, true, false, List, [], ◌∷◌, Option, Some, None, MatchBool, ⊤}
 use Rattle.cct_model.specs.terms.device.DeviceSetup.{DeviceSetup}
 use Rattle.cct_model.specs.terms.request.Request.{Request}
-use Rattle.cct_model.specs.terms.request.Request.TheVariants.{Dispense}
+use Rattle.cct_model.specs.terms.request.Request.TheVariants.{RouteBill, Dispense}
 use Rattle.cct_model.specs.lines.command.Command.{Command}
 use Rattle.cct_model.specs.lines.command.Command.TheVariants as command
 use Rattle.cct_model.specs.lines.command.WireFault.TheVariants.{Clear}
@@ -22,10 +22,11 @@ abbrev pub FailsByFault : DeviceSetup → List Entry → Entry → Type 0
 FailsByFault d past (entry.Wire addr sent piece) = addr ≡ d.addr → got_by d sent piece ≡ None → IsFaultSet past
 FailsByFault d past e = ⊤
 
--- A hopper may refuse what it is asked: a dispense.
-abbrev pub is_dispense : Option Request → Bool
-is_dispense (Some (Dispense serial count)) = true
-is_dispense asks = false
+-- A device may refuse what it is asked: a hopper a dispense, and a bill acceptor to route a bill.
+abbrev pub may_be_refused : Option Request → Bool
+may_be_refused (Some (Dispense serial count)) = true
+may_be_refused (Some (RouteBill way)) = true
+may_be_refused asks = false
 
 -- The same, but for exchanges that ask what is excused.
 abbrev pub FailsByFaultBut : (Option Request → Bool) → DeviceSetup → List Entry → Entry → Type 0

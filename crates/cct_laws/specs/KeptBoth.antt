@@ -1,4 +1,4 @@
--- A fact of what a device of either kind met and of the lines of its address that every step over an honest wire keeps.
+-- A fact of what a device of any kind met and of the lines of its address that every step over an honest wire keeps.
 use Rattle.std.specs.Prelude.{◌≡◌, ◌≤◌, ℕ, ◌==◌, true, false, List, [], ◌∷◌, ◌++◌, Option, Some}
 use Rattle.cct_model.specs.terms.coin.TheConstants.{COIN_PLACES}
 use Rattle.cct_model.specs.terms.device.DeviceSetup.{DeviceSetup}
@@ -10,7 +10,8 @@ use Rattle.cct_model.specs.Reply.{Reply}
 use Rattle.cct_model.specs.History.{Met, coin, alien, fall, jam, reset, heard}
 use Rattle.cct_model.specs.Acceptor.{path_of}
 use Rattle.cct_model.specs.Acceptor as acceptor
-use Rattle.cct_model.specs.Device.{IsAcceptor, IsHopper}
+use Rattle.cct_model.specs.Bill as bill
+use Rattle.cct_model.specs.Device.{IsAcceptor, IsBill, IsHopper}
 use Rattle.cct_model.specs.Hopper.{remaining}
 use Rattle.cct_model.specs.Line.{Line, accepted, inhibited, fell, exchange, put, taken, restarted}
 use Rattle.cct_model.specs.Line as line
@@ -35,6 +36,11 @@ pub record IsKeptBoth (d : DeviceSetup) (P : List Met → List Met → List Line
       P (coin place ∷ since) (coin place ∷ past) (inhibited place ∷ lines)
   pub aliens : (since past : List Met) (lines : List Line) → IsAcceptor d.body → P since past lines →
       P (alien ∷ since) (alien ∷ past) (line.alien ∷ lines)
+  pub holds : (since past : List Met) (lines : List Line) (place : ℕ) → IsBill d.body → 1 ≤ place → place ≤ COIN_PLACES →
+      bill.holds past place ≡ true → P since past lines → P (coin place ∷ since) (coin place ∷ past) lines
+  pub rejects : (since past : List Met) (lines : List Line) (place : ℕ) → IsBill d.body →
+      bill.holds past place ≡ false → P since past lines →
+      P (coin place ∷ since) (coin place ∷ past) (inhibited place ∷ lines)
   pub falls : (since past : List Met) (lines : List Line) → IsHopper d.body → (remaining d.serial past == 0) ≡ false →
       P since past lines → P (fall ∷ since) (fall ∷ past) (fell ∷ lines)
   pub no_falls : (since past : List Met) (lines : List Line) → IsHopper d.body →

@@ -16,4 +16,5 @@ pub mod Restart
 pub mod Right
 pub mod Scope
 pub mod SinceEpoch
+pub mod Takers
 pub mod Tries

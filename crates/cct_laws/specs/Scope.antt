@@ -1,4 +1,4 @@
--- The scope of a law: each legal transcript, each acceptor or hopper over an honest wire, each command for a device.
+-- The scope of a law: each legal transcript, each device of a kind over an honest wire, each command for a device.
 use Rattle.std.specs.Prelude.{◌≡◌, ℕ, true, List}
 use Rattle.std.specs.List.{All}
 use Rattle.cct_model.specs.terms.device.DeviceSetup.{DeviceSetup}
@@ -6,7 +6,7 @@ use Rattle.cct_model.specs.terms.device.Setup.{Setup}
 use Rattle.cct_model.specs.lines.command.Command.{Command}
 use Rattle.cct_model.specs.lines.command.Step.{Step}
 use Rattle.cct_model.specs.lines.entry.Entry.{Entry}
-use Rattle.cct_model.specs.Device.{IsAcceptor, IsHopper}
+use Rattle.cct_model.specs.Device.{IsHopper, IsTaker}
 use Rattle.cct_model.specs.Honest.{Honest}
 use Rattle.cct_model.specs.Legal.{Legal}
 use Rattle.cct_model.specs.Script.{IsCommand, IsInRange}
@@ -27,9 +27,9 @@ EachDevice IsOfKind P =
     IsOf setup d → IsOfKind d → All IsInRange steps → Legal capacity setup steps transcript → Honest transcript →
     P d transcript
 
--- A fact of each acceptor, in each such transcript over an honest wire.
-abbrev pub EachAcceptor : (DeviceSetup → List Entry → Type 0) → Type 0
-EachAcceptor P = EachDevice (λ d. IsAcceptor d.body) P
+-- A fact of each device that takes money, in each such transcript over an honest wire.
+abbrev pub EachTaker : (DeviceSetup → List Entry → Type 0) → Type 0
+EachTaker P = EachDevice (λ d. IsTaker d.body) P
 
 -- A fact of each hopper, in each such transcript over an honest wire.
 abbrev pub EachHopper : (DeviceSetup → List Entry → Type 0) → Type 0

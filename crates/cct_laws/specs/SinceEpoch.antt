@@ -1,9 +1,11 @@
--- What an acceptor met since its epoch began, and a fact of that which every step over an honest wire keeps.
-use Rattle.std.specs.Prelude.{◌≡◌, ◌≤◌, ◌⊎◌, ℕ, ◌==◌, Bool, true, false, List, [], ◌∷◌, ◌++◌, if◌then◌else◌, Option, Some, None, ⊤}
+-- What a device that takes money met since its epoch began, and a fact of that which every step over an honest wire keeps.
+use Rattle.std.specs.Prelude.{◌≡◌, ◌≢◌, ◌≤◌, ◌⊎◌, ℕ, ◌==◌, Bool, true, false, List, [], ◌∷◌, ◌++◌, if◌then◌else◌, Option, Some, None, ⊤}
 use Rattle.cct_model.specs.terms.coin.TheConstants.{COIN_PLACES}
 use Rattle.cct_model.specs.terms.device.DeviceSetup.{DeviceSetup}
 use Rattle.cct_model.specs.terms.request.Request.{Request}
 use Rattle.cct_model.specs.terms.request.Request.TheVariants.{SetMask}
+use Rattle.cct_model.specs.declared.judging.EpochState.TheVariants.{Idle}
+use Rattle.cct_model.specs.Claims.{AllPast}
 use Rattle.cct_model.specs.lines.record.Record.{Record}
 use Rattle.cct_model.specs.lines.record.Record.TheVariants as record_of
 use Rattle.cct_model.specs.lines.command.Command.{Command}
@@ -13,15 +15,17 @@ use Rattle.cct_model.specs.Reply.{Reply}
 use Rattle.cct_model.specs.History.{Met, coin, alien, fall, jam, reset, heard, unless_reset}
 use Rattle.cct_model.specs.Acceptor.{mask_of, path_of}
 use Rattle.cct_model.specs.Acceptor as acceptor
+use Rattle.cct_model.specs.Bill as bill
+use Rattle.cct_model.specs.Device.{IsAcceptor, IsBill}
 use Rattle.cct_model.specs.Line.{Line, accepted, inhibited, exchange, put, taken, restarted}
 use Rattle.cct_model.specs.Line as line
 use Rattle.cct_model.specs.Order.{order}
 use Rattle.cct_model.specs.Job.{free, job, epoch, sends, puts, address_of}
 use Rattle.cct_model.specs.Rows.{row, end_of}
 use Rattle.cct_model.specs.Script.{IsCommand}
-use Rattle.cct_model.specs.Transcript.{meets, onto}
+use Rattle.cct_model.specs.Transcript.{doses, meets, onto}
 use Rattle.cct_laws.specs.Law.{EachEntry}
-use Rattle.cct_laws.specs.DeviceJobs.{Fate, IsForOthers, is_for_acceptor, with_ended, IsTaken, WorksAt}
+use Rattle.cct_laws.specs.DeviceJobs.{Fate, IsForOthers, is_for_taker, with_ended, IsTaken, WorksAt}
 
 -- What a device met since a record: nothing, where the record begins an epoch at its address.
 abbrev pub since_record : DeviceSetup → Record → List Met → List Met
@@ -55,7 +59,7 @@ mask_set_in (jam ∷ past) = mask_set_in past
 mask_set_in (reset ∷ past) = None
 mask_set_in (heard asked ∷ past) = mask_set_by asked (mask_set_in past)
 
--- An acceptor whose epoch runs with a mask has this inhibit mask, which was then set in the epoch, and no reset came
+-- A device whose epoch runs with a mask has this inhibit mask, which was then set in the epoch, and no reset came
 -- after that; or it has the mask 0, and none stands that was set in the epoch.
 abbrev pub IsMaskedBy : ℕ → List Met → List Met → Type 0
 IsMaskedBy mask since past =
@@ -86,7 +90,7 @@ was_masked (jam ∷ past) = was_masked past
 was_masked (reset ∷ past) = was_masked past
 was_masked (heard asked ∷ past) = masked_by asked (was_masked past)
 
--- The epoch of an acceptor that met this since it began may break: it was reset, or heard no inhibit mask.
+-- The epoch of a device that met this since it began may break: it was reset, or heard no inhibit mask.
 abbrev pub MayBreak : List Met → Type 0
 MayBreak since = (was_reset since ≡ true) ⊎ (was_masked since ≡ false)
 
@@ -105,29 +109,45 @@ HasCauseAt d past e = ⊤
 abbrev pub HaveCauses : DeviceSetup → List Entry → Type 0
 HaveCauses d past = EachEntry (HasCauseAt d) past
 
--- A fact of what an acceptor met since its epoch began, of all that it met, and of its lines, each newest first. It holds
--- before anything came, and is kept by each thing that can come over an honest wire.
+-- What is accepted is so while an epoch runs: a coin, and a bill as it is stacked.
+abbrev pub InEpochAt : List Line → Line → Type 0
+InEpochAt past (accepted what) = epoch past ≢ Idle
+InEpochAt past line = ⊤
+
+-- The same of each of these lines.
+abbrev pub AcceptsInEpochs : List Line → Type 0
+AcceptsInEpochs lines = AllPast InEpochAt lines
+
+-- A fact of what a device that takes money met since its epoch began, of all that it met, and of its lines, each newest
+-- first. It holds before anything came, and is kept by each thing that can come over an honest wire.
 pub record IsKeptSince (d : DeviceSetup) (P : List Met → List Met → List Line → Type 0) : Type 0 where
   pub starts : P [] [] []
-  pub accepts : (since past : List Met) (lines : List Line) (place : ℕ) → 1 ≤ place → place ≤ COIN_PLACES →
-      acceptor.accepts past place ≡ true →
+  pub accepts : (since past : List Met) (lines : List Line) (place : ℕ) → IsAcceptor d.body → 1 ≤ place →
+      place ≤ COIN_PLACES → acceptor.accepts past place ≡ true →
       P since past lines → P (coin place ∷ since) (coin place ∷ past)
       (accepted (record { place = place; path = path_of past place }) ∷ lines)
-  pub inhibits : (since past : List Met) (lines : List Line) (place : ℕ) → acceptor.accepts past place ≡ false →
-      P since past lines → P (coin place ∷ since) (coin place ∷ past) (inhibited place ∷ lines)
-  pub aliens : (since past : List Met) (lines : List Line) → P since past lines →
+  pub inhibits : (since past : List Met) (lines : List Line) (place : ℕ) → IsAcceptor d.body →
+      acceptor.accepts past place ≡ false → P since past lines →
+      P (coin place ∷ since) (coin place ∷ past) (inhibited place ∷ lines)
+  pub aliens : (since past : List Met) (lines : List Line) → IsAcceptor d.body → P since past lines →
       P (alien ∷ since) (alien ∷ past) (line.alien ∷ lines)
+  pub holds : (since past : List Met) (lines : List Line) (place : ℕ) → IsBill d.body → 1 ≤ place → place ≤ COIN_PLACES →
+      bill.holds past place ≡ true → P since past lines → P (coin place ∷ since) (coin place ∷ past) lines
+  pub rejects : (since past : List Met) (lines : List Line) (place : ℕ) → IsBill d.body →
+      bill.holds past place ≡ false → P since past lines →
+      P (coin place ∷ since) (coin place ∷ past) (inhibited place ∷ lines)
   pub resets : (since past : List Met) (lines : List Line) → P since past lines →
       P (reset ∷ since) (reset ∷ past) (line.reset ∷ lines)
   pub elsewhere : (since past : List Met) (lines : List Line) (asked : Option Request) → IsForOthers asked →
       P since past lines → P (heard asked ∷ since) (heard asked ∷ past) lines
   pub takes : (since past : List Met) (lines : List Line) (c : Command) → job lines ≡ free → address_of c ≡ d.addr →
-      IsCommand c → is_for_acceptor c ≡ true → IsTaken d c (epoch lines) → P since past lines → P since past (taken c ∷ lines)
+      IsCommand c → is_for_taker c ≡ true → IsTaken d c (epoch lines) → P since past lines → P since past (taken c ∷ lines)
   pub asks : (since past : List Met) (lines : List Line) (c : Command) (work : List Line) (q : Request)
       (asked : Option Request) (got : Option Reply) →
       WorksAt d lines c work → row d c work (epoch lines) (order lines) ≡ sends q → Fate d past q asked got →
       P since past lines → P (heard asked ∷ since) (heard asked ∷ past)
-      (with_ended (end_of d c (exchange (Some q) got) work (epoch lines)) (exchange (Some q) got ∷ lines))
+      (with_ended (end_of d c (exchange (Some q) got) work (epoch lines))
+      (exchange (Some q) got ∷ doses d.body d.serial past asked ++ lines))
   pub restarts : (since past : List Met) (lines : List Line) → P since past lines → P since past (restarted ∷ lines)
   pub keeps : (since past : List Met) (lines : List Line) (c : Command) (work : List Line) (r : Record) →
       WorksAt d lines c work → row d c work (epoch lines) (order lines) ≡ puts r →

@@ -1,5 +1,5 @@
 //! Laws of all legal transcripts, over the definitions of `cct_model`: each is a clause of a function without parameters,
-//! whose body is empty. They hold of a setup of several devices, of both kinds and under both checks, with power cuts at
+//! whose body is empty. They hold of a setup of several devices, of all kinds and under both checks, with power cuts at
 //! every step and after each disk call of a put. `specs/Scope.antt` names the transcripts and the devices that a law is of.
 //!
 //! Each goes by cases on what one step brought (`Brought` of `proofs/jobs/Brought.antt`, to which `tells` of
@@ -43,9 +43,9 @@ ghost use Rattle.cct_model.specs.lines.command.WireFault.{WireFault};
 ghost use Rattle.cct_model.specs.lines.command.WireFault.TheVariants.{Clear};
 ghost use Rattle.cct_model.specs.lines.entry.Entry.{Entry};
 ghost use Rattle.cct_model.specs.terms.wire.TheConstants.{BROADCAST};
-ghost use Rattle.cct_model.specs.Acceptor.{accepts, events, credits_of};
+ghost use Rattle.cct_model.specs.Acceptor.{accepts, credits_in};
 ghost use Rattle.cct_model.specs.Claims.{AllPast, InOrder, Covers, Pace, Tallies};
-ghost use Rattle.cct_model.specs.Device.{IsAcceptor};
+ghost use Rattle.cct_model.specs.Device.{IsAcceptor, IsTaker};
 ghost use Rattle.cct_model.specs.Exchange.{ask, by_address};
 ghost use Rattle.cct_model.specs.Job.{works, job, epoch, sends, puts, Noted};
 ghost use Rattle.cct_model.specs.Rows.{row, row_at};
@@ -74,20 +74,21 @@ ghost use Rattle.cct_laws.specs.LifeCounts.{FitsLife};
 ghost use Rattle.cct_laws.specs.PaidOut.{is_paid_out};
 ghost use Rattle.cct_laws.specs.Recorded.{HasNoJob, IsRestart, open_orders, totals_in};
 ghost use Rattle.cct_laws.specs.Ending.{nexts_at, EndsRound, IsUndisturbed, IsOnlyMovedByCoins, nexts_needed, is_payment, EndsAs, AlwaysFindsNoneLeft};
-ghost use Rattle.cct_laws.specs.Faults.{FailsByFault, EchoFailsByFault, EndsByFaults, is_dispense, FailsByFaultBut};
+ghost use Rattle.cct_laws.specs.Faults.{FailsByFault, EchoFailsByFault, EndsByFaults, may_be_refused, FailsByFaultBut};
 ghost use Rattle.cct_model.specs.Honest.{Honest, IsAllUnforged, IsHonestFault};
 ghost use Rattle.cct_laws.specs.Law.{AreOfToday, AreRising, Begins, EachEntry, HasBytes, IsAnswered, IsOf, IsUnanswered, NamesNoPut, lines_in};
 ghost use Rattle.cct_laws.specs.Moving.{MovesWithCoins, NoStopMoves};
 ghost use Rattle.cct_laws.specs.Right.{IsRight};
-ghost use Rattle.cct_laws.specs.Scope.{EachAcceptor, EachHopper, EachTranscript, IsCommandFor};
-ghost use Rattle.cct_laws.specs.SinceEpoch.{since_epoch_in, mask_set_in, IsMaskedBy, MayBreak, HaveCauses};
+ghost use Rattle.cct_laws.specs.Scope.{EachHopper, EachTaker, EachTranscript, IsCommandFor};
+ghost use Rattle.cct_laws.specs.SinceEpoch.{AcceptsInEpochs, since_epoch_in, mask_set_in, IsMaskedBy, MayBreak, HaveCauses};
+ghost use Rattle.cct_laws.specs.Takers.{events_of};
 ghost use Rattle.cct_laws.specs.Tries.{TriesAt, ScanTriesAt, HasFewTries, failed_in};
 
 /// Where no fault is set for the next exchange, a job at a device of a sound setup gets an answer to each request that it
 /// sends, where its command suits the device. The device replies, and the host gets just that reply, in the form that
-/// the request wants. Only a dispense that the hopper doesn't take may be refused; the host then gets nothing. An
-/// acceptor refuses nothing. The other devices of the setup may be of any kind, and of either check. Nothing is said of
-/// the devices that a scan polls.
+/// the request wants. Only a dispense that the hopper doesn't take, and the routing of a bill that the bill acceptor
+/// doesn't hold, may be refused; the host then gets nothing. A coin acceptor refuses nothing. The other devices of the
+/// setup may be of any kind, and of either check. Nothing is said of the devices that a scan polls.
 pub fn an_undisturbed_exchange_is_answered()
     ensures { (setup : Setup) (past : List Entry) (d : DeviceSetup) (command : Command) (rows : ℕ) (judged : Judged)
         (noted : Noted) (q : Request)
@@ -111,8 +112,8 @@ pub fn honest_as_told()
 {}
 
 /// Where an honest fault is set for the next exchange, such a job gets the device's own reply to what it asks, or
-/// nothing: damage never makes another reply of it. A fault is honest if its bytes fail their check. A dispense that the
-/// hopper refuses gets nothing.
+/// nothing: damage never makes another reply of it. A fault is honest if its bytes fail their check. What the device
+/// refuses gets nothing.
 pub fn an_honest_exchange_gets_the_reply_or_nothing()
     ensures { (setup : Setup) (past : List Entry) (d : DeviceSetup) (command : Command) (rows : ℕ) (judged : Judged)
         (noted : Noted) (q : Request)
@@ -121,32 +122,32 @@ pub fn an_honest_exchange_gets_the_reply_or_nothing()
         → IsUnanswered setup d past q ⊎ IsAnswered setup d past q }
 {}
 
-/// A round that was just taken at an acceptor ends within five `next` at its address, where no fault is set for one of
-/// its own exchanges and the power isn't cut before. Nothing came, a reading is put, a break, or the reading has to be made
-/// again; and that only if a coin was accepted between its two readings of the accept counter. Its past is legal. Whatever
-/// else comes between them doesn't hinder it: coins, resets, commands, the jobs of other devices, and faults set for the
-/// exchanges of those, or of later jobs. It doesn't say what the round posts.
+/// A round that was just taken at an acceptor, of coins or of bills, ends within five `next` at its address, where no
+/// fault is set for one of its own exchanges and the power isn't cut before. Nothing came, a reading is put, a break, or the
+/// reading has to be made again; and that only if a coin was accepted between its two readings of the accept counter. Its
+/// past is legal. Whatever else comes between them doesn't hinder it: coins, bills, resets, commands, the jobs of other
+/// devices, and faults set for the exchanges of those, or of later jobs. It doesn't say what the round posts.
 pub fn a_round_without_a_fault_ends()
     ensures ends { (capacity : ℕ) (setup : Setup) (before : List Step) (past : List Entry) (d : DeviceSetup)
         (steps : List Step) (end : List Entry)
-        → IsSoundSetup setup → IsOf setup d → IsAcceptor d.body → LegalFrom capacity setup [] before past
+        → IsSoundSetup setup → IsOf setup d → IsTaker d.body → LegalFrom capacity setup [] before past
         → job (lines_of d past) ≡ works (Round d.addr) []
         → 5 ≤ nexts_at d.addr steps → LegalFrom capacity setup past steps end → IsUndisturbed d.addr past end
         → EndsRound d.addr past end }
     ensures moved { (capacity : ℕ) (setup : Setup) (before : List Step) (past : List Entry) (d : DeviceSetup)
         (steps : List Step) (end : List Entry)
-        → IsSoundSetup setup → IsOf setup d → IsAcceptor d.body → LegalFrom capacity setup [] before past
+        → IsSoundSetup setup → IsOf setup d → IsTaker d.body → LegalFrom capacity setup [] before past
         → job (lines_of d past) ≡ works (Round d.addr) [] → LegalFrom capacity setup past steps end
         → IsUndisturbed d.addr past end → IsOnlyMovedByCoins d past end }
 {}
 
 /// Every job at a device that was just taken ends in the same way, within as many `next` at its address as it has rows,
 /// and for a payment one more for each halt. A start ends within 5, a stop within 7, a payment within 7, a settlement
-/// within 3, an identification within one for each of its questions, the setting of a path within 2. A payment and a
-/// settlement do so where no coin is left to pay whenever the hopper is asked how its payout goes. The end is one of a
-/// job that got its answers, never one for want of an answer. That a reading has to be made again ends a stop too only if
-/// a coin was accepted between its two readings of the accept counter. It doesn't say which coins were paid, nor that
-/// coins fall.
+/// within 3, an identification within one for each of its questions, the setting of a path within 2, the routing of a
+/// bill within 1. A payment and a settlement do so where no coin is left to pay whenever the hopper is asked how its payout
+/// goes. The end is one of a job that got its answers, never one for want of an answer; the routing of a bill that isn't
+/// held is refused, and ends unsure. That a reading has to be made again ends a stop too only if a coin was accepted
+/// between its two readings of the accept counter. It doesn't say which coins were paid, nor that coins fall.
 pub fn a_job_without_a_fault_ends()
     ensures ends { (capacity : ℕ) (setup : Setup) (before : List Step) (past : List Entry) (d : DeviceSetup)
         (command : Command) (steps : List Step) (end : List Entry)
@@ -157,53 +158,54 @@ pub fn a_job_without_a_fault_ends()
         → EndsAs command d.addr past end }
     ensures moved { (capacity : ℕ) (setup : Setup) (before : List Step) (past : List Entry) (d : DeviceSetup)
         (command : Command) (steps : List Step) (end : List Entry)
-        → IsCommandFor setup d command → IsAcceptor d.body → LegalFrom capacity setup [] before past
+        → IsCommandFor setup d command → IsTaker d.body → LegalFrom capacity setup [] before past
         → job (lines_of d past) ≡ works command [] → LegalFrom capacity setup past steps end
         → IsUndisturbed d.addr past end → IsOnlyMovedByCoins d past end }
 {}
 
-/// Posts are accepted coins in their order, none twice, for every acceptor of the setup, in every legal transcript over
-/// an honest wire. Each record's posts are the newest coins of its part, which begins where the part of the record or
-/// the clean end before it ended. It holds whatever is asked besides, however exchanges fail, and whenever a device is
+/// Posts are accepted coins in their order, none twice, for every acceptor of the setup, of coins or of bills, in every
+/// legal transcript over an honest wire. A bill is accepted as it is stacked, so one that was only held, or was given
+/// back, is never posted. Each record's posts are the newest coins of its part, which begins where the part of the record
+/// or the clean end before it ended. It holds whatever is asked besides, however exchanges fail, and whenever a device is
 /// reset. It doesn't say that a coin is ever posted: that takes a round that ends.
 pub fn posts_in_order()
-    ensures { EachAcceptor (λ d transcript. InOrder (lines_in d transcript)) }
+    ensures { EachTaker (λ d transcript. InOrder (lines_in d transcript)) }
 {}
 
-/// No coin that came before a completed reading is lost in silence in such a transcript. A reading or a break tells as lost
+/// No coin that came before a completed reading is lost in silence in such a transcript, nor a bill that was stacked. A reading or a break tells as lost
 /// exactly the coins of its part that it doesn't post, and a clean end and the end of an epoch have no coin in theirs. So
 /// it is whenever the acceptor is reset, and however many other objects come. The premise is the pace: fewer than 2^24
 /// coins are accepted from each record that begins an epoch up to the next such record. It doesn't say which coins were
 /// lost.
 pub fn none_lost_in_silence()
-    ensures { EachAcceptor (λ d transcript. Pace (lines_in d transcript) → Covers (lines_in d transcript)) }
+    ensures { EachTaker (λ d transcript. Pace (lines_in d transcript) → Covers (lines_in d transcript)) }
 {}
 
 /// The coins up to the mark are exactly as many as all records of the acceptor together post and tell to be lost, under the
 /// same pace. The mark is the number of coins up to which its last record or clean end tells. So what was posted and what
 /// was told to be lost is together what was accepted, up to the last reading that told anything.
 pub fn coins_up_to_the_mark_are_tallied()
-    ensures { EachAcceptor (λ d transcript. Pace (lines_in d transcript) → Tallies (lines_in d transcript)) }
+    ensures { EachTaker (λ d transcript. Pace (lines_in d transcript) → Tallies (lines_in d transcript)) }
 {}
 
 /// If a job of an acceptor ends because its reading has to be made again, a coin was accepted meanwhile: after the accept
 /// counter was read the first time, before the credits, and before it was read the second time. It holds in every legal
 /// transcript over an honest wire, at any pace. It doesn't say that the next reading posts that coin.
 pub fn a_reading_made_again_met_a_coin()
-    ensures { EachAcceptor (λ d transcript. MovesWithCoins (lines_in d transcript)) }
+    ensures { EachTaker (λ d transcript. MovesWithCoins (lines_in d transcript)) }
 {}
 
 /// No stop of an acceptor ends because its reading has to be made again, in every legal transcript over an honest wire:
 /// every coin is inhibited before it reads, so none is accepted while it does. It doesn't say that a stop ends. On a wire
 /// that isn't honest a forged message may let coins in again, and then a stop may end so.
 pub fn no_stop_is_made_again()
-    ensures { EachAcceptor (λ d transcript. NoStopMoves (lines_in d transcript)) }
+    ensures { EachTaker (λ d transcript. NoStopMoves (lines_in d transcript)) }
 {}
 
 /// A job at a device ends for want of an answer exactly after the third failed try in succession of one of its rows. In
 /// every legal transcript that end stands after three failed tries, and any other line of the address after fewer; a
 /// job that goes on has fewer than three. The row that stops a payout after a halt counts its own tries. It holds
-/// whatever the wire does, at devices of either kind, and over power cuts, which free every job.
+/// whatever the wire does, at devices of any kind, and over power cuts, which free every job.
 pub fn third_failed_try_ends_a_job()
     ensures exact { (capacity : ℕ) (setup : Setup) (steps : List Step) (transcript : List Entry)
         (d : DeviceSetup)
@@ -227,23 +229,24 @@ pub fn third_failed_try_ends_a_scan()
         → HasFewTries (job (scan_lines (onto [] transcript))) }
 {}
 
-/// An exchange that fails had a fault, which was set for it. It fails where an acceptor's job didn't get the wanted
-/// reply; where a job at a device of either kind didn't get it to anything but a dispense, which a hopper may refuse;
-/// and where the host didn't hear its own echo. Nothing is asked of the wire, nor of the damage that the fault does.
+/// An exchange that fails had a fault, which was set for it. It fails where a coin acceptor's job didn't get the wanted
+/// reply; where a job at a device of any kind didn't get it to anything but a dispense or the routing of a bill, which the
+/// device may refuse; and where the host didn't hear its own echo. Nothing is asked of the wire, nor of the damage that
+/// the fault does.
 pub fn a_failed_exchange_had_a_fault()
     ensures replies { (capacity : ℕ) (setup : Setup) (steps : List Step) (transcript : List Entry)
         (d : DeviceSetup)
         → IsSoundSetup setup → IsOf setup d → IsAcceptor d.body → All IsInRange steps
         → Legal capacity setup steps transcript → EachEntry (FailsByFault d) (onto [] transcript) }
-    ensures either_kind { (capacity : ℕ) (setup : Setup) (steps : List Step) (transcript : List Entry)
+    ensures any_kind { (capacity : ℕ) (setup : Setup) (steps : List Step) (transcript : List Entry)
         (d : DeviceSetup)
         → IsSoundSetup setup → IsOf setup d → All IsInRange steps → Legal capacity setup steps transcript
-        → EachEntry (FailsByFaultBut is_dispense d) (onto [] transcript) }
+        → EachEntry (FailsByFaultBut may_be_refused d) (onto [] transcript) }
     ensures echoes { (capacity : ℕ) (setup : Setup) (steps : List Step) (transcript : List Entry)
         → Legal capacity setup steps transcript → EachEntry EchoFailsByFault (onto [] transcript) }
 {}
 
-/// A job ends for want of an answer only by faults. Where a job at a device of either kind or a scan ends so, a fault
+/// A job ends for want of an answer only by faults. Where a job at a device of any kind or a scan ends so, a fault
 /// was set for each of the last three exchanges that it made. So no job ends so whose exchanges have no fault. It
 /// doesn't say that three faults end a job.
 pub fn a_job_given_up_had_three_faults()
@@ -257,7 +260,7 @@ pub fn a_job_given_up_had_three_faults()
 
 /// Whatever bytes a script has, its setup is sound, and its steps and every front of them are in range, say bytes and are
 /// played. So the laws above hold of them, also where a line of the script is refused. The devices of the setup may be
-/// of either kind.
+/// of any kind.
 pub fn scripts_are_in_range()
     ensures setup { (bytes : List ℕ) → IsSoundSetup (script bytes).setup }
     ensures steps { (bytes : List ℕ) → AreOfToday (script bytes).steps }
@@ -315,11 +318,13 @@ pub fn a_text_tells_its_transcript()
         → text first ≡ text second → first ≡ second }
 {}
 
-/// Where no epoch runs at an acceptor, it accepts no coin: its inhibit mask is 0, or its master inhibit is set. It
-/// holds in every legal transcript over an honest wire, whenever the acceptor is reset, and wherever a start, a round
-/// or a stop ended for want of an answer.
+/// A coin is accepted only while an epoch runs at its acceptor, and a bill is stacked only then. Where none runs, an
+/// acceptor lets no coin and no bill in: its inhibit mask is 0, or its master inhibit is set. It holds in every legal
+/// transcript over an honest wire, whenever the acceptor is reset, and wherever a start, a round, a stop or the routing of
+/// a bill ended for want of an answer.
 pub fn no_coin_is_accepted_without_an_epoch()
-    ensures { EachAcceptor (λ d transcript. epoch (lines_in d transcript) ≡ Idle → (place : ℕ)
+    ensures accepted { EachTaker (λ d transcript. AcceptsInEpochs (lines_in d transcript)) }
+    ensures inhibits { EachTaker (λ d transcript. epoch (lines_in d transcript) ≡ Idle → (place : ℕ)
         → accepts (met d (onto [] transcript)) place ≡ false) }
 {}
 
@@ -327,20 +332,21 @@ pub fn no_coin_is_accepted_without_an_epoch()
 /// the acceptor heard the epoch's own header 231 since the Epoch record, and was not reset after that. It doesn't say
 /// that a start whose 231 was sent is answered.
 pub fn a_running_epoch_sets_its_mask_or_none()
-    ensures { EachAcceptor (λ d transcript. (mask counter accepts : ℕ)
+    ensures { EachTaker (λ d transcript. (mask counter accepts : ℕ)
         → epoch (lines_in d transcript) ≡ Running mask counter accepts
         → IsMaskedBy mask (since_epoch_in d transcript) (met d (onto [] transcript))) }
 {}
 
 /// While an epoch runs at an acceptor that didn't hear the epoch's header 231 since the Epoch record, or was reset
-/// after that, none of its events since its last reset is a credit. So no pair of its credit buffer is one.
+/// after that, none of its events since its last reset is a credit, as they are judged: that of a bill which is held is
+/// none. So no pair of its buffer is one.
 pub fn after_a_reset_no_event_is_a_credit()
-    ensures events { EachAcceptor (λ d transcript. (mask counter accepts : ℕ)
+    ensures events { EachTaker (λ d transcript. (mask counter accepts : ℕ)
         → epoch (lines_in d transcript) ≡ Running mask counter accepts → mask_set_in (since_epoch_in d transcript) ≡ None
-        → coins_among (events (met d (onto [] transcript))) ≡ []) }
-    ensures pairs { EachAcceptor (λ d transcript. (mask counter accepts : ℕ)
+        → coins_among (events_of d.body (met d (onto [] transcript))) ≡ []) }
+    ensures pairs { EachTaker (λ d transcript. (mask counter accepts : ℕ)
         → epoch (lines_in d transcript) ≡ Running mask counter accepts → mask_set_in (since_epoch_in d transcript) ≡ None
-        → coins_among (credits_of (met d (onto [] transcript))).pairs ≡ []) }
+        → coins_among (credits_in (events_of d.body (met d (onto [] transcript)))).pairs ≡ []) }
 {}
 
 /// An epoch breaks only with a cause. A job at an acceptor has a Broken record to put only where, since the Epoch
@@ -348,13 +354,13 @@ pub fn after_a_reset_no_event_is_a_credit()
 /// the moment when it was put. It doesn't say that such an epoch breaks: that takes a round or a stop that reads the
 /// mask.
 pub fn a_break_has_its_cause()
-    ensures waiting { EachAcceptor (λ d transcript. (command : Command) (since : List Line)
+    ensures waiting { EachTaker (λ d transcript. (command : Command) (since : List Line)
         (addr seen counter lost accepts : ℕ) (posted : List Coin)
         → job (lines_in d transcript) ≡ works command since
         → row d command since (epoch (lines_in d transcript)) (order (lines_in d transcript))
         ≡ puts (Broken addr seen counter lost accepts posted)
         → MayBreak (since_epoch_in d transcript)) }
-    ensures put { EachAcceptor (λ d transcript. HaveCauses d (onto [] transcript)) }
+    ensures put { EachTaker (λ d transcript. HaveCauses d (onto [] transcript)) }
 {}
 
 /// Each order is paid at most once, and closed with exactly the coins that fell, for every hopper of the setup, in every

@@ -40,7 +40,7 @@ lines_same : (front lines others : List Line) → SameJob lines others → SameJ
 lines_same [] lines others same = same
 lines_same (l ∷ front) lines others same = line_same l (front ++ lines) (front ++ others) (lines_same front lines others same)
 
--- an exchange, and what a hopper took in it
+-- an exchange, and what a device did in it
 dosed : (d : DeviceSetup) (past : List Entry) (sent : List ℕ) → SameJob (doses_of d past sent ++ lines_of d past) (lines_of d past)
 dosed d past sent =
     job_undosed d.body d.serial (met d past) (asks_of d (heard_by_devices (pending past) sent)) (lines_of d past)

@@ -17,7 +17,7 @@ use Rattle.cct_model.specs.Transcript.{lines_of, owner}
 use Rattle.cct_laws.specs.Law.{EachEntry}
 use Rattle.cct_laws.proofs.money.Recorded.{epoch_recorded}
 use Rattle.cct_lives.specs.Counters.{Told, none_told, events_to, accepted_to, told_with, told_in, IsTallied}
-use Rattle.cct_lives.specs.Posts.{PostAt, PostOf, PostedBy}
+use Rattle.cct_lives.specs.Posts.{PostAt, PostOf, PostedBy, as_judged}
 use Rattle.cct_lives.proofs.Fronts.{EachFront}
 
 none_tallied : IsTallied none_told
@@ -59,7 +59,7 @@ one_more state counter accepts posted lost before few is tallied =
 -- by what was heard
 module _ (d : DeviceSetup) (past : List Entry) where
   by_posted : (breaks : Bool) (first seen counter lost accepts : ℕ) (posted : List Coin) →
-      PostedBy (lines_of d past) breaks first seen counter lost accepts posted → IsTallied (told_in d.addr (records past)) →
+      PostedBy d.body (lines_of d past) breaks first seen counter lost accepts posted → IsTallied (told_in d.addr (records past)) →
       IsTallied (told_with (epoch_in d.addr (records past)) counter accepts (length posted) lost (told_in d.addr (records past)))
   by_posted breaks first seen counter lost accepts posted by tallied =
       let state_is : Running by.mask by.before by.earlier ≡ epoch_in d.addr (records past) =
@@ -68,9 +68,9 @@ module _ (d : DeviceSetup) (past : List Entry) where
       state_is
       (one_more (Running by.mask by.before by.earlier) counter accepts (length posted) lost (told_in d.addr (records past))
       (subst (λ coins. length coins ≤ distance by.before counter) (sym by.posted_is)
-      (posted_few (distance by.before counter) by.read.pairs)) by.lost_is tallied)
+      (posted_few (distance by.before counter) (as_judged d.body by.read.pairs))) by.lost_is tallied)
 
-  post_tallied : (r : Record) → (owner past r ≡ d.addr → PostOf (lines_of d past) r) →
+  post_tallied : (r : Record) → (owner past r ≡ d.addr → PostOf d.body (lines_of d past) r) →
       IsTallied (told_in d.addr (records past)) → IsTallied (told_in d.addr (r ∷ records past))
   post_tallied (record_of.Epoch a mask accepts) of tallied = by_test (a == d.addr)
     where
@@ -80,7 +80,7 @@ module _ (d : DeviceSetup) (past : List Entry) where
   post_tallied (record_of.Reading a counter lost accepts posted) of tallied =
       by_test (a == d.addr) (λ here. of (eqb-true a d.addr here))
     where
-      by_test : (here : Bool) → (here ≡ true → PostOf (lines_of d past) (record_of.Reading a counter lost accepts posted)) →
+      by_test : (here : Bool) → (here ≡ true → PostOf d.body (lines_of d past) (record_of.Reading a counter lost accepts posted)) →
           IsTallied (cond here (told_with (epoch_in d.addr (records past)) counter accepts (length posted) lost (told_in d.addr (records past))) (told_in d.addr (records past)))
       by_test true heard =
           let both = heard refl in by_posted false accepts both.0 counter lost accepts posted both.1 tallied
@@ -88,7 +88,7 @@ module _ (d : DeviceSetup) (past : List Entry) where
   post_tallied (record_of.Broken a seen counter lost accepts posted) of tallied =
       by_test (a == d.addr) (λ here. of (eqb-true a d.addr here))
     where
-      by_test : (here : Bool) → (here ≡ true → PostOf (lines_of d past) (record_of.Broken a seen counter lost accepts posted)) →
+      by_test : (here : Bool) → (here ≡ true → PostOf d.body (lines_of d past) (record_of.Broken a seen counter lost accepts posted)) →
           IsTallied (cond here (told_with (epoch_in d.addr (records past)) counter accepts (length posted) lost (told_in d.addr (records past))) (told_in d.addr (records past)))
       by_test true heard =
           let both = heard refl in by_posted true both.0 seen counter lost accepts posted both.1 tallied

@@ -22,7 +22,7 @@ use Rattle.cct_model.specs.Script.{IsInRange}
 use Rattle.cct_model.specs.Transcript.{heard_after, met}
 use Rattle.cct_laws.specs.Law.{HasBytes}
 use Rattle.cct_laws.proofs.OnWire.{next_unforged, forged_off, on_wire}
-use Rattle.cct_laws.proofs.jobs.Brought.{Comes, takes_coin, leaves_coin, leaves_alien, drops_coin, drops_none, jams, jams_none, is_reset, AtDevice, came, took, halted, idled, made_exchange, made_put, wire_end, record_end, poll_end, Brought, of_device, faulted, refused, began_scan, began_sale, nobody, polled, sold, balanced, lost_power, lost_in_put, lost_in_sale, told_of, brought}
+use Rattle.cct_laws.proofs.jobs.Brought.{Comes, takes_coin, leaves_coin, takes_bill, leaves_bill, leaves_alien, drops_coin, drops_none, jams, jams_none, is_reset, AtDevice, came, took, halted, idled, made_exchange, made_put, wire_end, record_end, poll_end, Brought, of_device, faulted, refused, began_scan, began_sale, nobody, polled, sold, balanced, lost_power, lost_in_put, lost_in_sale, told_of, brought}
 use Rattle.cct_laws.proofs.jobs.Telling.{forged_or_not}
 use Rattle.cct_lives.specs.LiveStep.{LiveStep}
 use Rattle.cct_lives.specs.LiveStep as live
@@ -72,6 +72,8 @@ came_shown : (d : DeviceSetup) (past : List Met) (s : Step) (e : Entry) (m : Met
     Comes d past s e m ls → AreShown (e ∷ [])
 came_shown d past _ _ _ _ (takes_coin place accepting test) = refl
 came_shown d past _ _ _ _ (leaves_coin place accepting test) = refl
+came_shown d past _ _ _ _ (takes_bill place banking test) = refl
+came_shown d past _ _ _ _ (leaves_bill place banking test) = refl
 came_shown d past _ _ _ _ (leaves_alien accepting) = refl
 came_shown d past _ _ _ _ (drops_coin paying test) = refl
 came_shown d past _ _ _ _ (drops_none paying test) = refl

@@ -4,9 +4,11 @@ use Rattle.std.proofs.Common.{◌≡◌, ℕ, zero, suc, nat_le, ◌-◌, cond, 
 use Rattle.std.specs.Prelude.{⊤, option_and_then}
 use Rattle.std.specs.Option.{option_or}
 use Rattle.cct_model.specs.terms.coin.Credits.{Credits}
+use Rattle.cct_model.specs.terms.device.DeviceBody.{DeviceBody}
+use Rattle.cct_model.specs.terms.device.DeviceBody.TheVariants.{Acceptor, Bill, Hopper}
 use Rattle.cct_model.specs.terms.device.DeviceSetup.{DeviceSetup}
 use Rattle.cct_model.specs.terms.request.Request.{Request}
-use Rattle.cct_model.specs.terms.request.Request.TheVariants.{ReadCredits, GetMask, AcceptCount}
+use Rattle.cct_model.specs.terms.request.Request.TheVariants.{ReadCredits, GetMask, AcceptCount, ReadBills}
 use Rattle.cct_model.specs.terms.request.ReplyForm.{ReplyForm}
 use Rattle.cct_model.specs.terms.wire.CheckKind.{CheckKind}
 use Rattle.cct_model.specs.declared.judging.Judged.{Judged}
@@ -23,7 +25,7 @@ use Rattle.cct_model.specs.Reply as reply
 use Rattle.cct_model.specs.Exchange.{after_echo, asked, got, reply_from}
 use Rattle.cct_model.specs.Line.{Line, exchange, put}
 use Rattle.cct_model.specs.Order.{close, life_between}
-use Rattle.cct_model.specs.Job.{sends, puts, Noted, noted_in, state_row, judged_in, address_of, ident_requests, credits_line, credits_read, mask_line, mask_read, accepts_line, accepts_read, at_credits, accepts_before}
+use Rattle.cct_model.specs.Job.{sends, puts, Noted, noted_in, state_row, judged_in, address_of, credits_request, ident_requests, settled_events, credits_line, credits_read, mask_line, mask_read, accepts_line, accepts_read, at_credits, accepts_before}
 use Rattle.cct_model.specs.Rows.{Due, new_epoch, reading, epoch_end, new_order, order_end, sale, TableRow, asks_for, asks_once, waits_for_coins, puts_due, rows_of, after, from, first, rest, row, row_at, done, ends_first}
 use Rattle.cct_model.specs.Transcript.{got_by}
 use Rattle.cct_model.proofs.Rows.{RowHolds, DueHolds, puts_only, told_only, each_put}
@@ -31,7 +33,7 @@ use Rattle.cct_model.proofs.RowEnds.{rest_asks}
 use Rattle.cct_model.proofs.Tries.{due_sends, same_request}
 use Rattle.cct_msg.specs.Forms.{form_shown}
 use Rattle.cct_msg.proofs.Replies.{reply_form}
-use Rattle.cct_lives.specs.Posts.{HasOver, HaveInTurn, credits_heard, mask_heard, accepts_heard}
+use Rattle.cct_lives.specs.Posts.{HasOver, HaveInTurn, as_judged, credits_heard, mask_heard, accepts_heard}
 
 -- what the first of these rows asks, and that it puts a record
 abbrev AsksFirst : List TableRow → Option Request → Type 0
@@ -190,6 +192,7 @@ no_mask (Some q) = refl
 no_credits : (asked : Option Request) → credits_line (exchange asked None) ≡ None
 no_credits None = refl
 no_credits (Some ReadCredits) = refl
+no_credits (Some ReadBills) = refl
 no_credits (Some q) = refl
 
 quiet_accepts : (l : Line) (ls : List Line) → IsQuiet l → accepts_read (l ∷ ls) ≡ accepts_read ls
@@ -226,24 +229,56 @@ unfolding form_of
 read_mask (reply.mask k) older seen fits is = cc
 read_mask y older seen fits is = absurd cc
 
-read_credits : (y : Reply) (older : List Line) (read : Credits) → form_shown y ≡ form_of ReadCredits →
-    credits_read (exchange (Some ReadCredits) (Some y) ∷ older) ≡ Some read → y ≡ reply.credits read
-unfolding form_of
-read_credits (reply.credits k) older read fits is = cc
-read_credits y older read fits is = absurd cc
+-- credits as they are judged are those of a reply
+record IsReplied (body : DeviceBody) (y : Reply) (judged : Credits) : Type 0 where
+  read : Credits
+  is : y ≡ reply.credits read
+  counter_is : judged.counter ≡ read.counter
+  pairs_are : judged.pairs ≡ as_judged body read.pairs
 
-before_credits : (y : Reply) (older : List Line) (first : ℕ) → form_shown y ≡ form_of ReadCredits →
-    accepts_before (exchange (Some ReadCredits) (Some y) ∷ older) ≡ Some first → accepts_read older ≡ Some first
-unfolding form_of
-before_credits (reply.credits k) older first fits is = is
-before_credits y older first fits is = absurd cc
+plain_reply : (body : DeviceBody) (read judged : Credits) → judged.counter ≡ read.counter →
+    judged.pairs ≡ as_judged body read.pairs → IsReplied body (reply.credits read) judged
+plain_reply body read judged counts are = record { read = read; is = refl; counter_is = counts; pairs_are = are }
 
--- the replies were heard in turn
-abbrev pub InTurn : List Line → Type 0
-InTurn since =
-    (first seen now : ℕ) (read : Credits) → accepts_read since ≡ Some now → mask_read since ≡ Some seen →
-    credits_read since ≡ Some read → accepts_before since ≡ Some first →
-    HaveInTurn since (accepts_heard now ∷ mask_heard seen ∷ credits_heard read ∷ accepts_heard first ∷ [])
+read_credits : (body : DeviceBody) (y : Reply) (older : List Line) (judged : Credits) →
+    form_shown y ≡ form_of (credits_request body) →
+    credits_read (exchange (Some (credits_request body)) (Some y) ∷ older) ≡ Some judged → IsReplied body y judged
+unfolding form_of
+read_credits (Acceptor accepts values ids) (reply.credits k) older judged fits is =
+    let same : judged ≡ k = cc in
+    plain_reply _ k judged (ap (λ c. c.counter) same) (ap (λ c. c.pairs) same)
+read_credits (Acceptor accepts values ids) y older judged fits is = absurd cc
+read_credits (Hopper life value) (reply.credits k) older judged fits is =
+    let same : judged ≡ k = cc in
+    plain_reply _ k judged (ap (λ c. c.counter) same) (ap (λ c. c.pairs) same)
+read_credits (Hopper life value) y older judged fits is = absurd cc
+read_credits (Bill accepts values ids) (reply.credits k) older judged fits is =
+    let same : judged ≡ settled_events k = cc in
+    plain_reply _ k judged (ap (λ c. c.counter) same) (ap (λ c. c.pairs) same)
+read_credits (Bill accepts values ids) y older judged fits is = absurd cc
+
+before_credits : (body : DeviceBody) (y : Reply) (older : List Line) (first : ℕ) →
+    form_shown y ≡ form_of (credits_request body) →
+    accepts_before (exchange (Some (credits_request body)) (Some y) ∷ older) ≡ Some first → accepts_read older ≡ Some first
+unfolding form_of
+before_credits (Acceptor accepts values ids) (reply.credits k) older first fits is = is
+before_credits (Acceptor accepts values ids) y older first fits is = absurd cc
+before_credits (Hopper life value) (reply.credits k) older first fits is = is
+before_credits (Hopper life value) y older first fits is = absurd cc
+before_credits (Bill accepts values ids) (reply.credits k) older first fits is = is
+before_credits (Bill accepts values ids) y older first fits is = absurd cc
+
+-- replies were heard in turn, among them credits that are judged as these
+abbrev pub HeardAs : DeviceBody → List Line → ℕ → ℕ → Credits → ℕ → Type 0
+HeardAs body lines now seen judged first =
+    (read : Credits) × (judged.counter ≡ read.counter) × (judged.pairs ≡ as_judged body read.pairs)
+    × HaveInTurn lines (accepts_heard now ∷ mask_heard seen ∷ credits_heard body read ∷ accepts_heard first ∷ [])
+
+-- the replies of a job were
+abbrev pub InTurn : DeviceBody → List Line → Type 0
+InTurn body since =
+    (first seen now : ℕ) (judged : Credits) → accepts_read since ≡ Some now → mask_read since ≡ Some seen →
+    credits_read since ≡ Some judged → accepts_before since ≡ Some first → HeardAs body since now seen judged first
 
 has_front : (newer ls : List Line) (l : Line) (P : List Line → Type 0) → HasOver ls l P → HasOver (newer ++ ls) l P
 has_front [] ls l P has = has
@@ -257,38 +292,43 @@ turn_over rows n q since before y by same turn =
     (has_front by.newer (exchange (Some q) (Some by.y) ∷ by.older) (exchange (Some q) (Some y))
     (λ older. HaveInTurn older before) (inl (ap (λ r. exchange (Some q) (Some r)) same, turn)))
 
-in_turn : (rows : List TableRow) (n : ℕ) (since : List Line) (d : Answered rows (suc (suc (suc n))) AcceptCount since)
-    (c : Answered rows (suc (suc n)) GetMask d.older) (b : Answered rows (suc n) ReadCredits c.older)
-    (a : Answered rows n AcceptCount b.older) → InTurn since
-in_turn rows n since d c b a first seen now read counts sees reads was =
+in_turn : (body : DeviceBody) (rows : List TableRow) (n : ℕ) (since : List Line)
+    (d : Answered rows (suc (suc (suc n))) AcceptCount since) (c : Answered rows (suc (suc n)) GetMask d.older)
+    (b : Answered rows (suc n) (credits_request body) c.older) (a : Answered rows n AcceptCount b.older) → InTurn body since
+in_turn body rows n since d c b a first seen now judged counts sees reads was =
     let now_is = read_accepts d.y d.older now d.fits (sym (read_back accepts_read quiet_accepts rows _ AcceptCount since d) ∙ counts) in
     let seen_is = read_mask c.y c.older seen c.fits
     (sym (read_back mask_read quiet_mask rows _ AcceptCount since d ∙ read_back mask_read quiet_mask rows _ GetMask d.older c) ∙ sees) in
-    let read_is = read_credits b.y b.older read b.fits
+    let replied = read_credits body b.y b.older judged b.fits
     (sym (read_back credits_read quiet_credits rows _ AcceptCount since d
     ∙ read_back credits_read quiet_credits rows _ GetMask d.older c
-    ∙ read_back credits_read quiet_credits rows _ ReadCredits c.older b) ∙ reads) in
-    let was_read = before_credits b.y b.older first b.fits
+    ∙ read_back credits_read quiet_credits rows _ (credits_request body) c.older b) ∙ reads) in
+    let was_read = before_credits body b.y b.older first b.fits
     (sym (read_back accepts_before quiet_before rows _ AcceptCount since d
     ∙ read_back accepts_before quiet_before rows _ GetMask d.older c
-    ∙ read_back accepts_before quiet_before rows _ ReadCredits c.older b) ∙ was) in
+    ∙ read_back accepts_before quiet_before rows _ (credits_request body) c.older b) ∙ was) in
     let first_is = read_accepts a.y a.older first a.fits
-    (sym (read_back accepts_read quiet_accepts rows _ AcceptCount b.older a) ∙ was_read) in
-    turn_over rows _ AcceptCount since (mask_heard seen ∷ credits_heard read ∷ accepts_heard first ∷ []) (reply.accepts now) d now_is
-    (turn_over rows _ GetMask d.older (credits_heard read ∷ accepts_heard first ∷ []) (reply.mask seen) c seen_is
-    (turn_over rows _ ReadCredits c.older (accepts_heard first ∷ []) (reply.credits read) b read_is
-    (turn_over rows _ AcceptCount b.older [] (reply.accepts first) a first_is tt)))
+    (sym (read_back accepts_read quiet_accepts rows _ AcceptCount b.older a) ∙ was_read) in (
+      replied.read,
+      replied.counter_is,
+      replied.pairs_are,
+      turn_over rows _ AcceptCount since (mask_heard seen ∷ credits_heard body replied.read ∷ accepts_heard first ∷ [])
+          (reply.accepts now) d now_is
+          (turn_over rows _ GetMask d.older (credits_heard body replied.read ∷ accepts_heard first ∷ []) (reply.mask seen) c seen_is
+          (turn_over rows _ (credits_request body) c.older (accepts_heard first ∷ []) (reply.credits replied.read) b replied.is
+          (turn_over rows _ AcceptCount b.older [] (reply.accepts first) a first_is tt))),
+    )
 
-turn_at : (rows : List TableRow) (n : ℕ) (since : List Line) → IsAsk (after rows n) AcceptCount →
-    IsAsk (after rows (suc n)) ReadCredits → IsAsk (after rows (suc (suc n))) GetMask →
+turn_at : (body : DeviceBody) (rows : List TableRow) (n : ℕ) (since : List Line) → IsAsk (after rows n) AcceptCount →
+    IsAsk (after rows (suc n)) (credits_request body) → IsAsk (after rows (suc (suc n))) GetMask →
     IsAsk (after rows (suc (suc (suc n)))) AcceptCount → IsPlain (after rows (suc (suc (suc (suc n))))) →
-    Obeys rows since → done rows since ≡ suc (suc (suc (suc n))) → InTurn since
-turn_at rows n since first reads sees counts plain obeys at =
+    Obeys rows since → done rows since ≡ suc (suc (suc (suc n))) → InTurn body since
+turn_at body rows n since first reads sees counts plain obeys at =
     let d = back rows (suc (suc (suc n))) AcceptCount since counts plain obeys at in
     let c = back rows (suc (suc n)) GetMask d.older sees (ask_plain (after rows (suc (suc (suc n)))) AcceptCount counts) d.obeys d.at in
-    let b = back rows (suc n) ReadCredits c.older reads (ask_plain (after rows (suc (suc n))) GetMask sees) c.obeys c.at in
-    let a = back rows n AcceptCount b.older first (ask_plain (after rows (suc n)) ReadCredits reads) b.obeys b.at in
-    in_turn rows n since d c b a
+    let b = back rows (suc n) (credits_request body) c.older reads (ask_plain (after rows (suc (suc n))) GetMask sees) c.obeys c.at in
+    let a = back rows n AcceptCount b.older first (ask_plain (after rows (suc n)) (credits_request body) reads) b.obeys b.at in
+    in_turn body rows n since d c b a
 
 -- a record is a reading or a break
 abbrev pub IsReading : Record → Type 0
@@ -351,12 +391,13 @@ other_none d c n means p r only is =
 
 -- so one that has heard its replies in turn
 pub reading_turn : (d : DeviceSetup) (c : Command) (since : List Line) (means : Judged) (p : Noted) (r : Record) →
-    row_at d c (done (rows_of d c) since) means p ≡ puts r → IsReading r → Obeys (rows_of d c) since → InTurn since
+    row_at d c (done (rows_of d c) since) means p ≡ puts r → IsReading r → Obeys (rows_of d c) since →
+    InTurn d.body since
 reading_turn d (command.Round addr) since means p r is reads obeys =
-    turn_at (rows_of d (command.Round addr)) 0 since refl refl refl refl tt obeys
+    turn_at d.body (rows_of d (command.Round addr)) 0 since refl refl refl refl tt obeys
     (round_at d addr (done (rows_of d (command.Round addr)) since) means p r is)
 reading_turn d (command.Stop addr) since means p r is reads obeys =
-    turn_at (rows_of d (command.Stop addr)) 1 since refl refl refl refl tt obeys
+    turn_at d.body (rows_of d (command.Stop addr)) 1 since refl refl refl refl tt obeys
     (stop_at d addr (done (rows_of d (command.Stop addr)) since) means p r is reads)
 reading_turn d (command.Ident addr) since means p r is reads obeys =
     absurd (other_none d (command.Ident addr) _ means p r (told_only is_other (ident_requests d.body)) is reads)

@@ -1,10 +1,11 @@
 -- What is posted was heard, whatever the wire does: a job puts what it judged of the lines that it read, and these are among
 -- those of its address.
-use Rattle.std.proofs.Common.{◌≡◌, ℕ, ◌-◌, ◌==◌, ◌&&◌, ◌||◌, nat_le, not, cond, true, false, Bool, List, [], ◌∷◌, ◌++◌, length, refl, sym, ◌∙◌, subst, Option, Some, None, ◌⊎◌, inl, inr, eq-eqb, eqb-true}
+use Rattle.std.proofs.Common.{◌≡◌, ℕ, ◌-◌, ◌==◌, ◌&&◌, ◌||◌, nat_le, not, cond, true, false, Bool, List, [], ◌∷◌, ◌++◌, length, refl, ap, sym, ◌∙◌, subst, Option, Some, None, ◌⊎◌, inl, inr, eq-eqb, eqb-true}
 use Rattle.std.specs.Prelude.{⊤}
 use Rattle.std.specs.Option.{option_or}
 use Rattle.cct_model.specs.terms.coin.Coin.{Coin}
 use Rattle.cct_model.specs.terms.coin.Credits.{Credits}
+use Rattle.cct_model.specs.terms.device.DeviceBody.{DeviceBody}
 use Rattle.cct_model.specs.terms.device.DeviceSetup.{DeviceSetup}
 use Rattle.cct_model.specs.terms.device.Setup.{Setup}
 use Rattle.cct_model.specs.terms.request.Request.TheVariants.{AcceptCount}
@@ -34,14 +35,14 @@ use Rattle.cct_model.proofs.Doses.{AreDoses, job_undosed}
 use Rattle.cct_model.proofs.Rows.{RowHolds, JudgedHolds, DueHolds, is_at_device, device_puts, each_put}
 use Rattle.cct_laws.specs.Ids.{Ids}
 use Rattle.cct_laws.specs.Law.{IsOf, EachEntry}
-use Rattle.cct_laws.proofs.jobs.Brought.{Comes, takes_coin, leaves_coin, leaves_alien, drops_coin, drops_none, jams, jams_none, is_reset, AtWork, AtDevice, came, took, halted, idled, made_exchange, made_put, Brought, wire_of, wire_end, record_end, row_after, begun_at_work}
+use Rattle.cct_laws.proofs.jobs.Brought.{Comes, takes_coin, leaves_coin, takes_bill, leaves_bill, leaves_alien, drops_coin, drops_none, jams, jams_none, is_reset, AtWork, AtDevice, came, took, halted, idled, made_exchange, made_put, Brought, wire_of, wire_end, record_end, row_after, begun_at_work}
 use Rattle.cct_laws.proofs.jobs.Seen.{Passes, Lost, bare, kept_here, kept_elsewhere, seen_here, seen_aside, seen_lost, seen_from, along, passed_job, loose, loose_line, lines_wire, lines_with_end, lines_put, lines_taken, lines_kept, lines_kept_elsewhere}
 use Rattle.cct_laws.proofs.jobs.Telling.{any_steps}
 use Rattle.cct_model.specs.Exchange.{ask, asked, asks_of}
 use Rattle.cct_laws.specs.DeviceJobs.{with_ended, suits}
 use Rattle.cct_laws.proofs.orders.Ids.{put_owned}
 use Rattle.cct_lives.proofs.Sends.{asks_it}
-use Rattle.cct_lives.proofs.InTurn.{InTurn, IsReading, Obeys, reading_turn, obeys_asked, obeys_put}
+use Rattle.cct_lives.proofs.InTurn.{HeardAs, InTurn, IsReading, Obeys, reading_turn, obeys_asked, obeys_put}
 use Rattle.cct_lives.proofs.Fronts.{EachFront, front_aside, front_each, front_with_end}
 use Rattle.cct_lives.specs.Posts.{HasOver, Has, HaveInTurn, since_taken, credits_heard, mask_heard, accepts_heard, PostedBy, PostOf, PostAt}
 
@@ -139,41 +140,42 @@ unmoved mask counter seen read before now whole still =
     eqb-true before now (unmoved_by (seen == mask) (before == now) (shown_same mask counter seen read whole) still)
 
 -- what a record posts was heard, if the replies of a reading were heard in turn
-abbrev PostsIf : List Line → List Line → Record → Type 0
-PostsIf lines since r = (IsReading r → InTurn since) → PostOf lines r
+abbrev PostsIf : DeviceBody → List Line → List Line → Record → Type 0
+PostsIf body lines since r = (IsReading r → InTurn body since) → PostOf body lines r
 
 -- so it is of what was judged of the lines of a job
-judged_posts : (lines since : List Line) (addr mask counter accepts : ℕ) (c : Credits) (seen before now : ℕ) →
-    epoch lines ≡ Running mask counter accepts →
-    (InTurn since → HaveInTurn (since_taken lines)
-    (accepts_heard now ∷ mask_heard seen ∷ credits_heard c ∷ accepts_heard before ∷ [])) →
-    JudgedHolds (PostsIf lines since) (judge addr mask counter accepts c seen before now)
+judged_posts : (body : DeviceBody) (lines since : List Line) (addr mask counter accepts : ℕ) (c : Credits)
+    (seen before now : ℕ) → epoch lines ≡ Running mask counter accepts →
+    (InTurn body since → HeardAs body (since_taken lines) now seen c before) →
+    JudgedHolds (PostsIf body lines since) (judge addr mask counter accepts c seen before now)
 unfolding judge
-judged_posts lines since addr mask counter accepts c seen before now runs turn =
+judged_posts body lines since addr mask counter accepts c seen before now runs turn =
     by_tests (shows_move mask seen before now) (shows_break mask counter seen c.counter)
     ((distance counter c.counter == 0) && (accepted_between accepts now == 0)) refl refl
   where
     coins : List Coin
     coins = posted_of (distance counter c.counter) c.pairs
 
-    posts : (breaks : Bool) → shows_break mask counter seen c.counter ≡ breaks → InTurn since →
-        PostedBy lines breaks before seen c.counter (accepted_between accepts now - length coins) now coins
-    posts breaks shows heard = record {
-      mask = mask;
-      before = counter;
-      earlier = accepts;
-      read = c;
-      runs = runs;
-      heard = turn heard;
-      counter_is = refl;
-      shows = shows;
-      posted_is = refl;
-      lost_is = refl;
-    }
+    posts : (breaks : Bool) → shows_break mask counter seen c.counter ≡ breaks → InTurn body since →
+        PostedBy body lines breaks before seen c.counter (accepted_between accepts now - length coins) now coins
+    posts breaks shows heard =
+        let told = turn heard in
+        record {
+          mask = mask;
+          before = counter;
+          earlier = accepts;
+          read = told.0;
+          runs = runs;
+          heard = told.3;
+          counter_is = told.1;
+          shows = shows;
+          posted_is = ap (posted_of (distance counter c.counter)) told.2;
+          lost_is = refl;
+        }
 
     by_tests : (moved broke none : Bool) → shows_move mask seen before now ≡ moved →
         shows_break mask counter seen c.counter ≡ broke →
-        JudgedHolds (PostsIf lines since) (cond moved Moved (cond broke
+        JudgedHolds (PostsIf body lines since) (cond moved Moved (cond broke
         (Broken (record_of.Broken addr seen c.counter (accepted_between accepts now - length coins) now coins))
         (cond none Nothing
         (Reading (record_of.Reading addr c.counter (accepted_between accepts now - length coins) now coins)))))
@@ -182,31 +184,38 @@ judged_posts lines since addr mask counter accepts c seen before now runs turn =
     by_tests false false true moves breaks = tt
     by_tests false false false moves breaks = λ given. (
       seen,
-      subst (λ first. PostedBy lines false first seen c.counter (accepted_between accepts now - length coins) now coins)
+      subst (λ first. PostedBy body lines false first seen c.counter (accepted_between accepts now - length coins) now coins)
           (unmoved mask counter seen c.counter before now breaks moves) (posts false breaks (given tt)),
     )
 
-judged_by_posts : (lines since : List Line) (addr : ℕ) (state : EpochState) (credits : Option Credits)
+heard_within : (body : DeviceBody) (since lines : List Line) (now seen first : ℕ) (judged : Credits) → Within since lines →
+    HeardAs body since now seen judged first → HeardAs body lines now seen judged first
+heard_within body since lines now seen first judged within told = (
+  told.0,
+  told.1,
+  told.2,
+  turn_within since lines (accepts_heard now ∷ mask_heard seen ∷ credits_heard body told.0 ∷ accepts_heard first ∷ []) within told.3,
+)
+
+judged_by_posts : (body : DeviceBody) (lines since : List Line) (addr : ℕ) (state : EpochState) (credits : Option Credits)
     (seen before now : Option ℕ) → Within since (since_taken lines) → epoch lines ≡ state →
     credits_read since ≡ credits → mask_read since ≡ seen → accepts_before since ≡ before → accepts_read since ≡ now →
-    JudgedHolds (PostsIf lines since) (judged_by addr state credits seen before now)
-judged_by_posts lines since addr (Running mask counter accepts) (Some c) (Some seen) (Some before) (Some now) within runs read saw was is =
-    judged_posts lines since addr mask counter accepts c seen before now runs
-    (λ turn. turn_within since (since_taken lines)
-    (accepts_heard now ∷ mask_heard seen ∷ credits_heard c ∷ accepts_heard before ∷ []) within
-    (turn before seen now c is saw read was))
-judged_by_posts lines since addr (Running mask counter accepts) (Some c) (Some seen) (Some before) None within runs read saw was is = tt
-judged_by_posts lines since addr (Running mask counter accepts) (Some c) (Some seen) None now within runs read saw was is = tt
-judged_by_posts lines since addr (Running mask counter accepts) (Some c) None before now within runs read saw was is = tt
-judged_by_posts lines since addr (Running mask counter accepts) None seen before now within runs read saw was is = tt
-judged_by_posts lines since addr Idle credits seen before now within runs read saw was is = tt
+    JudgedHolds (PostsIf body lines since) (judged_by addr state credits seen before now)
+judged_by_posts body lines since addr (Running mask counter accepts) (Some c) (Some seen) (Some before) (Some now) within runs read saw was is =
+    judged_posts body lines since addr mask counter accepts c seen before now runs
+    (λ turn. heard_within body since (since_taken lines) now seen before c within (turn before seen now c is saw read was))
+judged_by_posts body lines since addr (Running mask counter accepts) (Some c) (Some seen) (Some before) None within runs read saw was is = tt
+judged_by_posts body lines since addr (Running mask counter accepts) (Some c) (Some seen) None now within runs read saw was is = tt
+judged_by_posts body lines since addr (Running mask counter accepts) (Some c) None before now within runs read saw was is = tt
+judged_by_posts body lines since addr (Running mask counter accepts) None seen before now within runs read saw was is = tt
+judged_by_posts body lines since addr Idle credits seen before now within runs read saw was is = tt
 
 -- the record that closes an order posts nothing
-close_posts : (lines : List Line) (o : OpenOrder) (life : ℕ) → PostOf lines (close o life)
+close_posts : (body : DeviceBody) (lines : List Line) (o : OpenOrder) (life : ℕ) → PostOf body lines (close o life)
 unfolding close
-close_posts lines o life = by_test (nat_le (life_between o.life life) o.count)
+close_posts body lines o life = by_test (nat_le (life_between o.life life) o.count)
   where
-    by_test : (fits : Bool) → PostOf lines (cond fits
+    by_test : (fits : Bool) → PostOf body lines (cond fits
         (record_of.Closed o.id (life_between o.life life) (o.count - life_between o.life life))
         (record_of.Odd o.id o.life life))
     by_test true = tt
@@ -214,21 +223,21 @@ close_posts lines o life = by_test (nat_le (life_between o.life life) o.count)
 
 -- so it is of what the row of a job puts
 row_posts : (lines : List Line) (d : DeviceSetup) (c : Command) (since : List Line) (owed : Option OpenOrder) →
-    Within since (since_taken lines) → RowHolds (λ q. ⊤) (PostsIf lines since) (row d c since (epoch lines) owed)
+    Within since (since_taken lines) → RowHolds (λ q. ⊤) (PostsIf d.body lines since) (row d c since (epoch lines) owed)
 row_posts lines d c since owed within =
-    each_put (PostsIf lines since) is_at_device d c (done (rows_of d c) since) (judged_in c since (epoch lines))
+    each_put (PostsIf d.body lines since) is_at_device d c (done (rows_of d c) since) (judged_in c since (epoch lines))
     (noted_in since owed) (device_puts d c) due_posts
   where
     due_posts : (due : Due) → is_at_device due ≡ true →
-        DueHolds (PostsIf lines since) (address_of c) (judged_in c since (epoch lines)) (noted_in since owed) due
+        DueHolds (PostsIf d.body lines since) (address_of c) (judged_in c since (epoch lines)) (noted_in since owed) due
     due_posts (new_epoch mask) here = λ accepts read given.
         has_all since (since_taken lines) (accepts_heard accepts) within (accepts_has since accepts read)
     due_posts reading here =
-        judged_by_posts lines since (address_of c) (epoch lines) (credits_read since) (mask_read since)
+        judged_by_posts d.body lines since (address_of c) (epoch lines) (credits_read since) (mask_read since)
         (accepts_before since) (accepts_read since) within refl refl refl refl refl
     due_posts epoch_end here = λ given. tt
     due_posts (new_order id count) here = λ life read given. tt
-    due_posts order_end here = λ o life is read given. close_posts lines o life
+    due_posts order_end here = λ o life is read given. close_posts d.body lines o life
     due_posts (sale id price) here = absurd cc
 
 -- the job of a device goes by its rows
@@ -240,28 +249,28 @@ abbrev pub Orderly : DeviceSetup → List Line → Type 0
 Orderly d lines = ObeysJob d (job lines)
 
 job_turn : (d : DeviceSetup) (past : List Entry) (c : Command) (since : List Line) (r : Record) → AtWork d past c since →
-    row_after d past c since ≡ puts r → Orderly d (lines_of d past) → IsReading r → InTurn since
+    row_after d past c since ≡ puts r → Orderly d (lines_of d past) → IsReading r → InTurn d.body since
 job_turn d past c since r at_work is orderly reads =
     reading_turn d c since (judged_in c since (epoch (lines_of d past))) (noted_in since (order (lines_of d past))) r is reads
     (subst (ObeysJob d) at_work.job_is orderly)
 
 put_posts : (d : DeviceSetup) (past : List Entry) (c : Command) (since : List Line) (r : Record) → AtWork d past c since →
-    row_after d past c since ≡ puts r → Orderly d (lines_of d past) → PostOf (lines_of d past) r
+    row_after d past c since ≡ puts r → Orderly d (lines_of d past) → PostOf d.body (lines_of d past) r
 put_posts d past c since r at_work is orderly =
     let lines = lines_of d past in
-    let posts : PostsIf lines since r =
-    subst (RowHolds (λ q. ⊤) (PostsIf lines since)) is
+    let posts : PostsIf d.body lines since r =
+    subst (RowHolds (λ q. ⊤) (PostsIf d.body lines since)) is
     (row_posts lines d c since (order lines) (job_within lines c since at_work.job_is)) in
     posts (job_turn d past c since r at_work is orderly)
 
 -- also after the power was cut
 kept_posts : (d : DeviceSetup) (past : List Entry) (c : Command) (since : List Line) (r : Record) →
     AtWork d past c since → row_after d past c since ≡ puts r → Orderly d (lines_of d past) →
-    PostOf (restarted ∷ lines_of d past) r
+    PostOf d.body (restarted ∷ lines_of d past) r
 kept_posts d past c since r at_work is orderly =
     let lines = lines_of d past in
-    let posts : PostsIf (restarted ∷ lines) since r =
-    subst (RowHolds (λ q. ⊤) (PostsIf (restarted ∷ lines) since)) is
+    let posts : PostsIf d.body (restarted ∷ lines) since r =
+    subst (RowHolds (λ q. ⊤) (PostsIf d.body (restarted ∷ lines) since)) is
     (row_posts (restarted ∷ lines) d c since (order lines)
     (within_more since (since_taken lines) restarted (job_within lines c since at_work.job_is))) in
     posts (job_turn d past c since r at_work is orderly)
@@ -335,6 +344,8 @@ came_posts : (d : DeviceSetup) (before : List Met) (past : List Entry) (s : Step
     Comes d before s e m ls → PostAt d past e
 came_posts d before past _ _ _ _ (takes_coin place accepting test) = tt
 came_posts d before past _ _ _ _ (leaves_coin place accepting test) = tt
+came_posts d before past _ _ _ _ (takes_bill place banking test) = tt
+came_posts d before past _ _ _ _ (leaves_bill place banking test) = tt
 came_posts d before past _ _ _ _ (leaves_alien accepting) = tt
 came_posts d before past _ _ _ _ (drops_coin paying test) = tt
 came_posts d before past _ _ _ _ (drops_none paying test) = tt

@@ -29,8 +29,8 @@ use Rattle.cct_model.specs.Legal.{Legal}
 use Rattle.cct_model.specs.Order.{order, order_by}
 use Rattle.cct_model.specs.Paid.{anew_by, OfOrder}
 use Rattle.cct_model.specs.Rows.{TableRow, asks_for, asks_once, waits_for_coins, puts_due, new_epoch, reading, epoch_end, new_order, order_end, sale, telling, rows_of, after, from, first, rest, row, done, sent_once, ends_first}
-use Rattle.cct_model.specs.Transcript.{pending, met, own, lines_of, heard_by_devices, heard_after, got_by, doses, doses_of, dispensed_by, onto}
-use Rattle.cct_model.proofs.Doses.{AreDoses, undosed, job_undosed, order_undosed}
+use Rattle.cct_model.specs.Transcript.{pending, met, own, lines_of, heard_by_devices, heard_after, got_by, doses, doses_of, onto}
+use Rattle.cct_model.proofs.Doses.{AreDoses, IsAside, undosed, job_undosed, order_undosed}
 use Rattle.cct_model.proofs.Requests.{is_asked_again}
 use Rattle.cct_model.proofs.Rows.{but_first, after_none, after_next, EachBefore, before_on, fact_after, told_fact}
 use Rattle.cct_model.proofs.RowEnds.{stays_again, rest_asks, fails_rest}
@@ -40,7 +40,7 @@ use Rattle.cct_laws.specs.DeviceJobs.{with_ended}
 use Rattle.cct_laws.specs.Ids.{Ids}
 use Rattle.cct_laws.specs.Law.{IsOf, EachEntry, lines_in}
 use Rattle.cct_laws.proofs.Setups.{found_in}
-use Rattle.cct_laws.proofs.jobs.Brought.{Comes, takes_coin, leaves_coin, leaves_alien, drops_coin, drops_none, jams, jams_none, is_reset, AtDevice, came, took, halted, idled, made_exchange, made_put, Brought, wire_of, wire_end, record_end, row_after, begun_at_work}
+use Rattle.cct_laws.proofs.jobs.Brought.{Comes, takes_coin, leaves_coin, takes_bill, leaves_bill, leaves_alien, drops_coin, drops_none, jams, jams_none, is_reset, AtDevice, came, took, halted, idled, made_exchange, made_put, Brought, wire_of, wire_end, record_end, row_after, begun_at_work}
 use Rattle.cct_laws.proofs.jobs.Seen.{Passes, ArePassed, passed_same, passed_job, each_aside, each_with_end, loose, loose_line, Lost, bare, kept_here, kept_elsewhere, seen_here, seen_aside, seen_lost, seen_from, along, lines_wire, lines_with_end, lines_put, lines_taken, lines_kept, lines_kept_elsewhere}
 use Rattle.cct_laws.proofs.jobs.Telling.{any_steps}
 use Rattle.cct_laws.proofs.jobs.Tries.{sent_fits}
@@ -245,25 +245,27 @@ ready_ended : (d : DeviceSetup) (end : Option End) (lines : List Line) → Ready
 ready_ended d None lines ready = ready
 ready_ended d (Some end) lines ready = (ready.0, tt)
 
+sent_aside : IsAside sent_in
+sent_aside = record { dosed = λ count lines. refl; stacked = λ coin lines. refl }
+
 sent_undosed : (body : DeviceBody) (own : ℕ) (past : List Met) (asked : Option Request) (lines : List Line) →
     sent_in (doses body own past asked ++ lines) ≡ sent_in lines
-sent_undosed = undosed sent_in same
-  where
-    same : (count : Option ℕ) (lines : List Line) → sent_in (dispensed_by count ++ lines) ≡ sent_in lines
-    same None lines = refl
-    same (Some count) lines = refl
+sent_undosed = undosed sent_in sent_aside
 
 ready_passed : (d : DeviceSetup) (past news : List Entry) → ArePassed d past news → Ready d (lines_of d past) →
     Ready d (lines_of d (news ++ past))
 ready_passed d past news passes =
-    going_same d (lines_of d past) (lines_of d (news ++ past)) (passed_same sent_in (λ count lines. refl) d past news passes)
-    (passed_same order (λ count lines. refl) d past news passes) (passed_job d past news passes)
+    going_same d (lines_of d past) (lines_of d (news ++ past)) (passed_same sent_in sent_aside d past news passes)
+    (passed_same order (record { dosed = λ count lines. refl; stacked = λ coin lines. refl }) d past news passes)
+    (passed_job d past news passes)
 
 -- what comes to the device
 came_ready : (d : DeviceSetup) (past : List Met) (s : Step) (e : Entry) (m : Met) (ls lines : List Line) →
     Comes d past s e m ls → Ready d lines → Ready d (ls ++ lines)
 came_ready d past _ _ _ _ lines (takes_coin place accepting test) ready = ready
 came_ready d past _ _ _ _ lines (leaves_coin place accepting test) ready = ready
+came_ready d past _ _ _ _ lines (takes_bill place banking test) ready = ready
+came_ready d past _ _ _ _ lines (leaves_bill place banking test) ready = ready
 came_ready d past _ _ _ _ lines (leaves_alien accepting) ready = ready
 came_ready d past _ _ _ _ lines (drops_coin paying test) ready = ready
 came_ready d past _ _ _ _ lines (drops_none paying test) ready = ready
@@ -277,7 +279,7 @@ halted_ready : (d : DeviceSetup) (addr sent : ℕ) (owed : Option OpenOrder) (j 
 halted_ready d addr sent owed free ready = tt
 halted_ready d addr sent owed (works c since) ready = ready
 
--- an exchange of its job, with the dispense that a hopper took in it
+-- an exchange of its job, with what a device did in it
 exchange_ready : (d : DeviceSetup) (lines since : List Line) (c : Command) (q : Request) (got : Option Reply)
     (state : EpochState) → job lines ≡ works c since → row d c since state (order lines) ≡ sends q →
     Ready d lines → Ready d (exchange (Some q) got ∷ lines)
@@ -378,6 +380,8 @@ came_sent : (d : DeviceSetup) (before : List Met) (past : List Entry) (s : Step)
     Comes d before s e m ls → SentAt d past e
 came_sent d before past _ _ _ _ (takes_coin place accepting test) = tt
 came_sent d before past _ _ _ _ (leaves_coin place accepting test) = tt
+came_sent d before past _ _ _ _ (takes_bill place banking test) = tt
+came_sent d before past _ _ _ _ (leaves_bill place banking test) = tt
 came_sent d before past _ _ _ _ (leaves_alien accepting) = tt
 came_sent d before past _ _ _ _ (drops_coin paying test) = tt
 came_sent d before past _ _ _ _ (drops_none paying test) = tt

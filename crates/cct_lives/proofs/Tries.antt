@@ -6,7 +6,7 @@ use Rattle.cct_model.specs.lines.entry.Entry.{Entry}
 use Rattle.cct_model.specs.lines.entry.Entry.TheVariants as entry
 use Rattle.cct_model.specs.Claims.{AllPast}
 use Rattle.cct_model.specs.Job.{job}
-use Rattle.cct_model.specs.Line.{Line, dispensed, ended}
+use Rattle.cct_model.specs.Line.{Line, accepted, dispensed, ended}
 use Rattle.cct_model.specs.Transcript.{lines_of, onto, scan_lines, scan_own}
 use Rattle.cct_laws.specs.Law.{IsOf, lines_in}
 use Rattle.cct_laws.specs.Tries.{HasFewTries, ScanTriesAt, TriesAt, failed_in}
@@ -19,10 +19,11 @@ use Rattle.cct_lives.proofs.Carrying.{by_law}
 use Rattle.cct_lives.proofs.Followed.{alike_shown}
 use Rattle.cct_lives.proofs.Undosed.{lines_shown, undosed}
 
--- the job of lines without the dispenses that a hopper took
+-- the job of lines without what devices did in exchanges
 job_undosed : (lines : List Line) → job lines ≡ job (undosed lines)
 job_undosed [] = refl
 job_undosed (dispensed count ∷ lines) = job_undosed lines
+job_undosed (accepted coin ∷ lines) = job_undosed lines
 job_undosed (l ∷ lines) = line_same l lines (undosed lines) (job_undosed lines)
 
 -- tries go by the job alone
@@ -33,12 +34,14 @@ tries_over past other l same at = subst (λ at_work. failed_in at_work < 3) same
 pub tries_undosed : (lines : List Line) → AllPast TriesAt lines → AllPast TriesAt (undosed lines)
 tries_undosed [] all = tt
 tries_undosed (dispensed count ∷ lines) all = tries_undosed lines all.1
+tries_undosed (accepted coin ∷ lines) all = tries_undosed lines all.1
 tries_undosed (l ∷ lines) all =
     (tries_over lines (undosed lines) l (job_undosed lines) all.0, tries_undosed lines all.1)
 
 pub tries_seen : (lines : List Line) → AllPast TriesAt (undosed lines) → AllPast SeenTriesAt lines
 tries_seen [] all = tt
 tries_seen (dispensed count ∷ lines) all = (tt, tries_seen lines all)
+tries_seen (accepted coin ∷ lines) all = (tt, tries_seen lines all)
 tries_seen (l ∷ lines) all =
     (tries_over (undosed lines) lines l (sym (job_undosed lines)) all.0, tries_seen lines all.1)
 
@@ -48,6 +51,7 @@ tries_at_first lines all = tries_seen lines (tries_undosed lines all)
 seen_undosed : (lines : List Line) → AllPast SeenTriesAt lines → AllPast TriesAt (undosed lines)
 seen_undosed [] all = tt
 seen_undosed (dispensed count ∷ lines) all = seen_undosed lines all.1
+seen_undosed (accepted coin ∷ lines) all = seen_undosed lines all.1
 seen_undosed (l ∷ lines) all =
     (tries_over lines (undosed lines) l (job_undosed lines) all.0, seen_undosed lines all.1)
 

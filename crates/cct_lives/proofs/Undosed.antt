@@ -1,10 +1,10 @@
--- The lines of an address after a past, and after what it shows: they are the same but for the dispenses that a hopper took,
--- which what was sent and what was posted don't go by.
+-- The lines of an address after a past, and after what it shows: they are the same but for the dispenses that a hopper took
+-- and the bills that a bill acceptor stacked, which what was sent and what was posted don't go by.
 use Rattle.std.proofs.Common.{◌≡◌, inl, inr, ℕ, ◌≤◌, max, ◌==◌, Bool, true, false, cond, List, [], ◌∷◌, ◌++◌, refl, sym, ap, ◌∙◌, subst, Option, Some, None}
 use Rattle.std.specs.Prelude.{⊤}
 use Rattle.cct_model.specs.terms.coin.Coin.{Coin}
 use Rattle.cct_model.specs.terms.device.DeviceBody.{DeviceBody}
-use Rattle.cct_model.specs.terms.device.DeviceBody.TheVariants.{Acceptor, Hopper}
+use Rattle.cct_model.specs.terms.device.DeviceBody.TheVariants.{Acceptor, Bill, Hopper}
 use Rattle.cct_model.specs.terms.device.DeviceSetup.{DeviceSetup}
 use Rattle.cct_model.specs.terms.request.Request.{Request}
 use Rattle.cct_model.specs.lines.record.Record.{Record}
@@ -15,12 +15,12 @@ use Rattle.cct_model.specs.lines.entry.Entry.TheVariants as entry
 use Rattle.cct_model.specs.Exchange.{asked, asks_of}
 use Rattle.cct_model.specs.History.{Met}
 use Rattle.cct_model.specs.Job.{epoch, epoch_by}
-use Rattle.cct_model.specs.Line.{Line, dispensed, exchange, put, restarted, taken}
+use Rattle.cct_model.specs.Line.{Line, accepted, dispensed, exchange, put, restarted, taken}
 use Rattle.cct_model.specs.Order.{order}
 use Rattle.cct_model.specs.Paid.{anew_by}
 use Rattle.cct_model.specs.Records.{owner_in, records}
 use Rattle.cct_model.specs.Reply.{Reply}
-use Rattle.cct_model.specs.Transcript.{dispensed_by, doses, doses_of, got_by, heard_by_devices, lines_of, met, onto, own, owner, pending}
+use Rattle.cct_model.specs.Transcript.{dispensed_by, doses, doses_of, got_by, heard_by_devices, lines_of, met, onto, own, owner, pending, stacked_line}
 use Rattle.cct_laws.specs.Law.{EachEntry, IsOf, lines_in}
 use Rattle.cct_lives.specs.Live.{EachLive, shown}
 use Rattle.cct_lives.specs.Posts.{Has, HasOver, HaveInTurn, accepts_heard, credits_heard, mask_heard, PostAt, PostOf, PostedBy, since_taken}
@@ -31,25 +31,32 @@ use Rattle.cct_lives.proofs.Onward.{order_same}
 use Rattle.cct_lives.proofs.Posting.{legal_posts}
 use Rattle.cct_lives.proofs.Sends.{legal_few_sent, legal_sent}
 
--- lines without the dispenses that were taken
+-- lines without the dispenses that were taken and without what was accepted
 abbrev pub undosed : List Line → List Line
 undosed [] = []
 undosed (dispensed count ∷ lines) = undosed lines
+undosed (accepted coin ∷ lines) = undosed lines
 undosed (l ∷ lines) = l ∷ undosed lines
 
 undosed_on : (front lines : List Line) → undosed (front ++ lines) ≡ undosed front ++ undosed lines
 undosed_on [] lines = refl
 undosed_on (dispensed count ∷ front) lines = undosed_on front lines
+undosed_on (accepted coin ∷ front) lines = undosed_on front lines
 undosed_on (l ∷ front) lines = ap (λ ls. l ∷ ls) (undosed_on front lines)
 
 taken_dose : (count : Option ℕ) (lines : List Line) → undosed (dispensed_by count ++ lines) ≡ undosed lines
 taken_dose None lines = refl
 taken_dose (Some count) lines = refl
 
+stacked_bill : (place : Option ℕ) (lines : List Line) → undosed (stacked_line place ++ lines) ≡ undosed lines
+stacked_bill None lines = refl
+stacked_bill (Some place) lines = refl
+
 no_doses : (body : DeviceBody) (serial : ℕ) (past : List Met) (q : Option Request) (lines : List Line) →
     undosed (doses body serial past q ++ lines) ≡ undosed lines
 no_doses (Acceptor accepts values ids) serial past q lines = refl
 no_doses (Hopper life value) serial past q lines = taken_dose _ lines
+no_doses (Bill accepts values ids) serial past q lines = stacked_bill _ lines
 
 -- the same but for these
 abbrev pub SameUndosed : List Line → List Line → Type 0
@@ -114,6 +121,7 @@ lines_shown d (e ∷ past) = lines_shown d past
 sent_undosed : (lines : List Line) → sent_in lines ≡ sent_in (undosed lines)
 sent_undosed [] = refl
 sent_undosed (dispensed count ∷ lines) = sent_undosed lines
+sent_undosed (accepted coin ∷ lines) = sent_undosed lines
 sent_undosed (exchange q y ∷ lines) = ap (one_by q) (sent_undosed lines)
 sent_undosed (put r ∷ lines) = ap (anew_by r) (sent_undosed lines)
 sent_undosed (restarted ∷ lines) = ap (max 1) (sent_undosed lines)
@@ -127,22 +135,28 @@ sent_shown d past =
 epoch_undosed : (lines : List Line) → epoch lines ≡ epoch (undosed lines)
 epoch_undosed [] = refl
 epoch_undosed (dispensed count ∷ lines) = epoch_undosed lines
+epoch_undosed (accepted coin ∷ lines) = epoch_undosed lines
 epoch_undosed (put r ∷ lines) = ap (epoch_by r) (epoch_undosed lines)
 epoch_undosed (l ∷ lines) = epoch_undosed lines
 
 since_undosed : (lines : List Line) → undosed (since_taken lines) ≡ since_taken (undosed lines)
 since_undosed [] = refl
 since_undosed (dispensed count ∷ lines) = since_undosed lines
+since_undosed (accepted coin ∷ lines) = since_undosed lines
 since_undosed (taken (command.Halt addr) ∷ lines) = ap (λ ls. taken (command.Halt addr) ∷ ls) (since_undosed lines)
 since_undosed (taken c ∷ lines) = refl
 since_undosed (l ∷ lines) = ap (λ ls. l ∷ ls) (since_undosed lines)
 
--- an exchange is among lines as it is among them without the dispenses
+-- an exchange is among lines as it is among them without these
 over_undosed : (q : Option Request) (y : Option Reply) (P Q : List Line → Type 0) →
     ((older : List Line) → P older → Q (undosed older)) → (lines : List Line) → HasOver lines (exchange q y) P →
     HasOver (undosed lines) (exchange q y) Q
 over_undosed q y P Q over [] has = absurd has
 over_undosed q y P Q over (dispensed count ∷ lines) has = elim has [
+  | inl here ↦ absurd (cc here.0)
+  | inr older ↦ over_undosed q y P Q over lines older
+]
+over_undosed q y P Q over (accepted coin ∷ lines) has = elim has [
   | inl here ↦ absurd (cc here.0)
   | inr older ↦ over_undosed q y P Q over lines older
 ]
@@ -156,6 +170,7 @@ over_dosed : (q : Option Request) (y : Option Reply) (P Q : List Line → Type 0
     HasOver lines (exchange q y) Q
 over_dosed q y P Q over [] has = absurd has
 over_dosed q y P Q over (dispensed count ∷ lines) has = inr (over_dosed q y P Q over lines has)
+over_dosed q y P Q over (accepted coin ∷ lines) has = inr (over_dosed q y P Q over lines has)
 over_dosed q y P Q over (l ∷ lines) has = elim has [
   | inl here ↦ inl (here.0, over lines here.1)
   | inr older ↦ inr (over_dosed q y P Q over lines older)
@@ -196,10 +211,10 @@ turn_same lines others (exchange q y ∷ before) are same turn =
 turn_same lines others (l ∷ before) are same turn = absurd are
 
 -- what a record posts
-posted_same : (lines others : List Line) (breaks : Bool) (first seen counter lost accepts : ℕ) (posted : List Coin) →
-    SameUndosed lines others → PostedBy lines breaks first seen counter lost accepts posted →
-    PostedBy others breaks first seen counter lost accepts posted
-posted_same lines others breaks first seen counter lost accepts posted same by =
+posted_same : (body : DeviceBody) (lines others : List Line) (breaks : Bool) (first seen counter lost accepts : ℕ) (posted : List Coin) →
+    SameUndosed lines others → PostedBy body lines breaks first seen counter lost accepts posted →
+    PostedBy body others breaks first seen counter lost accepts posted
+posted_same body lines others breaks first seen counter lost accepts posted same by =
     let since = since_same lines others same in
     record {
       mask = by.mask;
@@ -209,7 +224,7 @@ posted_same lines others breaks first seen counter lost accepts posted same by =
       runs = sym (epoch_undosed lines ∙ ap epoch same ∙ sym (epoch_undosed others)) ∙ by.runs;
       heard =
           turn_same (since_taken lines) (since_taken others)
-          (accepts_heard accepts ∷ mask_heard seen ∷ credits_heard by.read ∷ accepts_heard first ∷ []) tt
+          (accepts_heard accepts ∷ mask_heard seen ∷ credits_heard body by.read ∷ accepts_heard first ∷ []) tt
           since by.heard;
       counter_is = by.counter_is;
       shows = by.shows;
@@ -217,19 +232,20 @@ posted_same lines others breaks first seen counter lost accepts posted same by =
       lost_is = by.lost_is;
     }
 
-post_same : (lines others : List Line) (r : Record) → SameUndosed lines others → PostOf lines r → PostOf others r
-post_same lines others (record_of.Epoch addr mask accepts) same of =
+post_same : (body : DeviceBody) (lines others : List Line) (r : Record) → SameUndosed lines others → PostOf body lines r →
+    PostOf body others r
+post_same body lines others (record_of.Epoch addr mask accepts) same of =
     has_same _ _ (since_taken lines) (since_taken others) (since_same lines others same) of
-post_same lines others (record_of.Reading addr counter lost accepts posted) same of =
-    (of.0, posted_same lines others false accepts of.0 counter lost accepts posted same of.1)
-post_same lines others (record_of.Broken addr seen counter lost accepts posted) same of =
-    (of.0, posted_same lines others true of.0 seen counter lost accepts posted same of.1)
-post_same lines others r same of = tt
+post_same body lines others (record_of.Reading addr counter lost accepts posted) same of =
+    (of.0, posted_same body lines others false accepts of.0 counter lost accepts posted same of.1)
+post_same body lines others (record_of.Broken addr seen counter lost accepts posted) same of =
+    (of.0, posted_same body lines others true of.0 seen counter lost accepts posted same of.1)
+post_same body lines others r same of = tt
 
-post_shown : (d : DeviceSetup) (past : List Entry) (r : Record) → (owner past r ≡ d.addr → PostOf (lines_of d past) r) →
-    owner (shown past) r ≡ d.addr → PostOf (lines_of d (shown past)) r
+post_shown : (d : DeviceSetup) (past : List Entry) (r : Record) → (owner past r ≡ d.addr → PostOf d.body (lines_of d past) r) →
+    owner (shown past) r ≡ d.addr → PostOf d.body (lines_of d (shown past)) r
 post_shown d past r of own =
-    post_same (lines_of d past) (lines_of d (shown past)) r (lines_shown d past)
+    post_same d.body (lines_of d past) (lines_of d (shown past)) r (lines_shown d past)
     (of (ap (λ rs. owner_in rs r) (alike_shown past).recorded ∙ own))
 
 pub posts_shown : (d : DeviceSetup) (past : List Entry) (e : Entry) → PostAt d past e → PostAt d (shown past) e

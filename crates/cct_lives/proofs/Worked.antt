@@ -1,11 +1,12 @@
 -- Two lives of a host, one after the other over one journal, on a line that is silent, damaged, and well. A life over an
--- epoch that was found, on a line that lies about counters. And what no host does that finds an order open.
-use Rattle.std.proofs.Common.{◌≡◌, ◌≤◌, arith, false, List, [], ◌∷◌, ◌++◌, inr, replicate, refl, Some, None, All}
+-- epoch that was found, on a line that lies about counters, and one over that of a bill acceptor. And what no host does that
+-- finds an order open.
+use Rattle.std.proofs.Common.{◌≡◌, ℕ, ◌≤◌, arith, false, List, [], ◌∷◌, ◌++◌, inr, replicate, refl, Some, None, All}
 use Rattle.std.specs.Prelude.{⊤, codes}
 use Rattle.std.proofs.lemmas.List.Elements.{All-nil, All-cons}
 use Rattle.cct_model.specs.terms.wire.CheckKind.TheVariants.{Simple}
 use Rattle.cct_model.specs.terms.coin.Coin.{Coin}
-use Rattle.cct_model.specs.terms.device.DeviceBody.TheVariants.{Acceptor, Hopper}
+use Rattle.cct_model.specs.terms.device.DeviceBody.TheVariants.{Acceptor, Bill, Hopper}
 use Rattle.cct_model.specs.terms.device.DeviceSetup.{DeviceSetup}
 use Rattle.cct_model.specs.terms.device.Setup.{Setup}
 use Rattle.cct_model.specs.terms.device.Texts.{Texts}
@@ -13,14 +14,14 @@ use Rattle.cct_model.specs.lines.command.Command.TheVariants as command
 use Rattle.cct_model.specs.lines.command.CommandNo.TheVariants.{NoEpoch}
 use Rattle.cct_model.specs.lines.record.Record.{Record}
 use Rattle.cct_model.specs.lines.record.Record.TheVariants as record_of
-use Rattle.cct_model.specs.lines.entry.End.TheVariants.{Posted}
+use Rattle.cct_model.specs.lines.entry.End.TheVariants.{Posted, RouteUnsure}
 use Rattle.cct_model.specs.lines.entry.Entry.{Entry}
 use Rattle.cct_model.specs.lines.entry.Entry.TheVariants as entry
 use Rattle.cct_model.specs.Message.{message, spelling}
 use Rattle.cct_model.specs.Request.{data_of, request_of, requests_with, form_of}
 use Rattle.cct_model.specs.Reply.{reply_data, reply_in}
 use Rattle.cct_model.specs.Setting.{has_place}
-use Rattle.cct_model.specs.Exchange.{ask, asked, after_echo, got}
+use Rattle.cct_model.specs.Exchange.{ask, asked, asks_of, after_echo, got}
 use Rattle.cct_model.specs.Transcript.{got_by}
 use Rattle.cct_model.specs.Reading.{distance, accepted_between, judge}
 use Rattle.cct_model.specs.Records.{records}
@@ -31,7 +32,7 @@ use Rattle.cct_lives.specs.LiveStep as live
 use Rattle.cct_lives.specs.Live.{LiveEntries, LiveFrom, started}
 use Rattle.cct_lives.specs.Sends.{SentAt}
 
--- an acceptor at address 2
+-- a coin acceptor at address 2, and a bill acceptor at address 4
 abbrev texts : Texts
 texts = record { maker = codes "BENCH"; product = codes "CCT"; software = codes "1"; build = codes "1" }
 
@@ -45,7 +46,16 @@ setup = record {
         texts = texts;
         named = false;
         body = Acceptor 0 (replicate 16 100) (replicate 16 (codes "XX100A"));
-      } ∷ [];
+      }
+      ∷ record {
+        addr = 4;
+        kind = Simple;
+        serial = 9;
+        texts = texts;
+        named = false;
+        body = Bill 0 (replicate 16 500) (replicate 16 (codes "XX500A"));
+      }
+      ∷ [];
 }
 
 -- one step of a run with its entries, newest first
@@ -91,7 +101,7 @@ two_lives =
     ∷ []
 
 two_lived : Lives [] two_lives
-unfolding message spelling data_of request_of requests_with form_of reply_data reply_in has_place ask asked after_echo got
+unfolding message spelling data_of request_of requests_with form_of reply_data reply_in has_place ask asked asks_of after_echo got
     got_by distance accepted_between judge
 two_lived = (
   refl,
@@ -170,7 +180,7 @@ one_round =
     ∷ []
 
 one_round_lived : Lives (started begun) one_round
-unfolding message spelling data_of request_of requests_with form_of reply_data reply_in has_place ask asked after_echo got
+unfolding message spelling data_of request_of requests_with form_of reply_data reply_in has_place ask asked asks_of after_echo got
     got_by distance accepted_between judge
 one_round_lived = (
   refl,
@@ -219,6 +229,103 @@ no_more_lost tallied = let loses : 1 ≤ 0 = tallied.loses in omega (arith, lose
 none_left_out : IsTallied (told_in 2 (record_of.Reading 2 1 0 1 [] ∷ begun)) → ⊥
 unfolding distance accepted_between
 none_left_out tallied = let covers : 1 ≤ 0 = tallied.covers in omega (arith, covers)
+
+-- a bill acceptor holds a bill, and a round posts none; the answer to the route is lost; the next round posts the bill, which
+-- was stacked
+abbrev counts : List ℕ
+counts = 4 ∷ 0 ∷ 1 ∷ 225 ∷ 26 ∷ []
+
+abbrev reads_bills : List ℕ
+reads_bills = 4 ∷ 0 ∷ 1 ∷ 159 ∷ 92 ∷ []
+
+abbrev reads_mask : List ℕ
+reads_mask = 4 ∷ 0 ∷ 1 ∷ 230 ∷ 21 ∷ []
+
+abbrev stacks : List ℕ
+stacks = 4 ∷ 1 ∷ 1 ∷ 154 ∷ 1 ∷ 95 ∷ []
+
+abbrev none_counted : List ℕ
+none_counted = 4 ∷ 0 ∷ 1 ∷ 225 ∷ 26 ∷ 1 ∷ 3 ∷ 4 ∷ 0 ∷ 0 ∷ 0 ∷ 0 ∷ 248 ∷ []
+
+abbrev one_counted : List ℕ
+one_counted = 4 ∷ 0 ∷ 1 ∷ 225 ∷ 26 ∷ 1 ∷ 3 ∷ 4 ∷ 0 ∷ 1 ∷ 0 ∷ 0 ∷ 247 ∷ []
+
+abbrev held_read : List ℕ
+held_read = 4 ∷ 0 ∷ 1 ∷ 159 ∷ 92 ∷ 1 ∷ 11 ∷ 4 ∷ 0 ∷ 1 ∷ 1 ∷ 1 ∷ 0 ∷ 0 ∷ 0 ∷ 0 ∷ 0 ∷ 0 ∷ 0 ∷ 0 ∷ 237 ∷ []
+
+abbrev stacked_read : List ℕ
+stacked_read = 4 ∷ 0 ∷ 1 ∷ 159 ∷ 92 ∷ 1 ∷ 11 ∷ 4 ∷ 0 ∷ 2 ∷ 1 ∷ 0 ∷ 1 ∷ 1 ∷ 0 ∷ 0 ∷ 0 ∷ 0 ∷ 0 ∷ 0 ∷ 235 ∷ []
+
+abbrev mask_read : List ℕ
+mask_read = 4 ∷ 0 ∷ 1 ∷ 230 ∷ 21 ∷ 1 ∷ 2 ∷ 4 ∷ 0 ∷ 1 ∷ 0 ∷ 248 ∷ []
+
+abbrev bill : Coin
+bill = record { place = 1; path = 0 }
+
+abbrev one_route : List Row
+one_route =
+    one (live.command (command.Round 4)) (entry.Taken (command.Round 4))
+    ∷ one (live.next 4) (entry.Wire 4 counts none_counted)
+    ∷ one (live.next 4) (entry.Wire 4 reads_bills held_read)
+    ∷ one (live.next 4) (entry.Wire 4 reads_mask mask_read)
+    ∷ one (live.next 4) (entry.Wire 4 counts none_counted)
+    ∷ record {
+      step = live.next 4;
+      news = entry.Ended 4 Posted ∷ entry.Put (record_of.Reading 4 1 0 0 []) ∷ [];
+    }
+    ∷ one (live.command (command.Route 4 1)) (entry.Taken (command.Route 4 1))
+    ∷ record { step = live.next 4; news = entry.Ended 4 RouteUnsure ∷ entry.Wire 4 stacks stacks ∷ [] }
+    ∷ one (live.command (command.Round 4)) (entry.Taken (command.Round 4))
+    ∷ one (live.next 4) (entry.Wire 4 counts one_counted)
+    ∷ one (live.next 4) (entry.Wire 4 reads_bills stacked_read)
+    ∷ one (live.next 4) (entry.Wire 4 reads_mask mask_read)
+    ∷ one (live.next 4) (entry.Wire 4 counts one_counted)
+    ∷ record {
+      step = live.next 4;
+      news = entry.Ended 4 Posted ∷ entry.Put (record_of.Reading 4 2 0 1 (bill ∷ [])) ∷ [];
+    }
+    ∷ []
+
+one_route_lived : Lives (started (record_of.Epoch 4 1 0 ∷ [])) one_route
+unfolding message spelling data_of request_of requests_with form_of reply_data reply_in has_place ask asked asks_of after_echo got
+    got_by distance accepted_between judge
+one_route_lived = (
+  refl,
+  (
+    (none_counted, omega arith, refl),
+    (
+      (held_read, omega arith, refl),
+      (
+        (mask_read, omega arith, refl),
+        (
+          (none_counted, omega arith, refl),
+          (
+            ([], omega arith, refl),
+            (
+              refl,
+              (
+                (stacks, omega arith, refl),
+                (
+                  refl,
+                  (
+                    (one_counted, omega arith, refl),
+                    (
+                      (stacked_read, omega arith, refl),
+                      (
+                        (mask_read, omega arith, refl),
+                        ((one_counted, omega arith, refl), (([], omega arith, refl), tt)),
+                      ),
+                    ),
+                  ),
+                ),
+              ),
+            ),
+          ),
+        ),
+      ),
+    ),
+  ),
+)
 
 -- a hopper at address 3
 abbrev hopper : DeviceSetup

@@ -163,8 +163,9 @@ pub fn each_order_is_sent_once()
 /// that one reply of the credits: of the newest events, as many as the reply's counter tells since the event counter that was
 /// recorded, and at most five. It tells as lost how many coins the second accept counter tells since the one that was
 /// recorded, without those posted. A reading heard the same accept counter twice. The one at which an epoch begins was heard
-/// as well. In one life over any journal it is so of all that was put since the start. It says nothing of coins: a wire that
-/// lies about counters makes money.
+/// as well. Of a bill acceptor it is so with header 159 for the credits and bills for coins, and no bill is posted of an event
+/// that says that it is held. In one life over any journal all this is so of what was put since the start. It says nothing of
+/// coins: a wire that lies about counters makes money.
 pub fn what_is_posted_was_heard()
     ensures legal { (capacity : ℕ) (setup : Setup) (steps : List Step) (transcript : List Entry) (d : DeviceSetup)
         → IsSoundSetup setup → IsOf setup d → Legal capacity setup steps transcript

@@ -1,13 +1,14 @@
--- What an acceptor replies to each request that a job sends it.
-use Rattle.std.proofs.Common.{◌≡◌, ℕ, zero, suc, ◌+◌, ◌-◌, ◌<◌, ◌≤◌, ◌==◌, cond, true, false, Bool, List, [], ◌∷◌, ◌++◌, length, drop, refl, ◌∙◌, slice_get, unwrap_or, All, arith, length-append, length-take}
+-- What a device that takes money replies to each request that a job sends it.
+use Rattle.std.proofs.Common.{◌≡◌, ℕ, zero, suc, ◌+◌, ◌-◌, ◌<◌, ◌≤◌, ◌==◌, cond, true, false, Bool, List, [], ◌∷◌, ◌++◌, length, drop, refl, ap, sym, ◌∙◌, subst, slice_get, unwrap_or, Some, inl, inr, All, arith, length-append, length-take}
+use Rattle.std.specs.Prelude.{◌&&◌, is_some}
 use Rattle.std.proofs.lemmas.List.Elements.{All-head, All-tail}
 use Rattle.std.proofs.lemmas.Bool.Decides.{nat_tests}
 use Rattle.cct_model.specs.terms.coin.Pair.{Pair}
 use Rattle.cct_model.specs.terms.device.DeviceSetup.{DeviceSetup}
 use Rattle.cct_model.specs.terms.device.DeviceBody.{DeviceBody}
-use Rattle.cct_model.specs.terms.device.DeviceBody.TheVariants.{Acceptor, Hopper}
+use Rattle.cct_model.specs.terms.device.DeviceBody.TheVariants.{Acceptor, Bill, Hopper}
 use Rattle.cct_model.specs.terms.request.Request.{Request}
-use Rattle.cct_model.specs.terms.request.Request.TheVariants.{SetMask, GetMask, SetMaster, GetMaster, ReadCredits, SetPath, GetPath, SetDefault, GetDefault, CoinId, AcceptCount}
+use Rattle.cct_model.specs.terms.request.Request.TheVariants.{SetMask, GetMask, SetMaster, GetMaster, SetPath, GetPath, SetDefault, GetDefault, CoinId, AcceptCount, RouteBill}
 use Rattle.cct_model.specs.terms.request.ReplyForm.TheVariants as form
 use Rattle.cct_model.specs.lines.command.Command.{Command}
 use Rattle.cct_model.specs.lines.command.Command.TheVariants as command
@@ -15,74 +16,92 @@ use Rattle.cct_model.specs.Request.{form_of}
 use Rattle.cct_model.specs.Reply as reply
 use Rattle.cct_model.specs.History.{Met}
 use Rattle.cct_model.specs.Setting.{is_place, is_path, default_in}
-use Rattle.cct_model.specs.Acceptor.{settings, events, no_event, last_five, credits_of, mask_of, path_of, master_of, accept_count, id_at, acceptor_reply}
-use Rattle.cct_model.specs.Device.{IsSound, IsSoundBody, IsId, IsAcceptor, common_reply, reply_of}
-use Rattle.cct_model.specs.Job.{own_requests, ident_requests}
+use Rattle.cct_model.specs.Acceptor.{counted, settings, no_event, last_five, credits_in, mask_of, path_of, master_of, id_at, acceptor_reply}
+use Rattle.cct_model.specs.Bill.{bill_held, bill_reply, is_way}
+use Rattle.cct_model.specs.Device.{IsSound, IsSoundBody, IsId, IsAcceptor, IsBill, IsTaker, common_reply, reply_of}
+use Rattle.cct_model.specs.Exchange.{to_one}
+use Rattle.cct_model.specs.Job.{credits_request, own_requests, ident_requests}
 use Rattle.cct_model.specs.Script.{IsCommand}
-use Rattle.cct_laws.specs.DeviceJobs.{is_for_acceptor}
-use Rattle.cct_laws.proofs.Exchanges.{Replied}
-use Rattle.cct_laws.proofs.Replies.{start_of, ids_of, acceptor_is, replied_credits, replied_mask}
-use Rattle.cct_laws.proofs.CommonReplies.{answers_so, reset_replied, also, ident_replied}
+use Rattle.cct_laws.specs.DeviceJobs.{is_for_taker, suits}
+use Rattle.cct_laws.specs.Takers.{accepted_of, told_events}
+use Rattle.cct_msg.specs.Forms.{FitsItsBytes}
+use Rattle.cct_laws.proofs.Exchanges.{Answers, Replied}
+use Rattle.cct_laws.proofs.Replies.{start_of, ids_of, acceptor_is, bill_is, taker_is, replied_accepts, replied_credits, replied_mask}
+use Rattle.cct_laws.proofs.CommonReplies.{answers_so, each_answers, reset_replied, also, ident_replied}
 use Rattle.cct_model.proofs.Requests.{Each}
 use Rattle.cct_model.proofs.Rows.{EachRow, each_asked, Asks}
 use Rattle.cct_model.specs.Rows.{rows_of}
 
--- a sound acceptor
+-- a sound device that takes money
 pub record Sane (d : DeviceSetup) : Type 0 where
   pub sound : IsSound d
-  pub accepting : IsAcceptor d.body
+  pub taking : IsTaker d.body
 
 master_replied : (d : DeviceSetup) (past : List Met) → Sane d → Replied d past GetMaster
-unfolding reply_of common_reply form_of acceptor_reply
+unfolding reply_of common_reply form_of acceptor_reply bill_reply
 master_replied d past sane =
     answers_so d past GetMaster (reply.master (master_of past)) form.Master
-    (acceptor_is d.serial d.body past GetMaster sane.accepting)
+    (taker_is d.serial d.body past GetMaster (Some (reply.master (master_of past))) sane.taking refl refl)
     refl refl tt tt (λ serial count e. cc) refl
 
-default_replied : (d : DeviceSetup) (past : List Met) → Sane d → Replied d past GetDefault
+default_replied : (d : DeviceSetup) (past : List Met) → IsAcceptor d.body → Replied d past GetDefault
 unfolding reply_of common_reply form_of acceptor_reply
-default_replied d past sane =
+default_replied d past accepting =
     answers_so d past GetDefault (reply.path (default_in (settings past))) form.Path
-    (acceptor_is d.serial d.body past GetDefault sane.accepting) refl refl tt tt (λ serial count e. cc) refl
+    (acceptor_is d.serial d.body past GetDefault accepting) refl refl tt tt (λ serial count e. cc) refl
 
 length-last_five : (newest : List Pair) → length (last_five newest) ≡ 5
 length-last_five newest =
     let blank : List Pair = no_event ∷ no_event ∷ no_event ∷ no_event ∷ no_event ∷ [] in
     length-take 5 (newest ++ blank) ∙ omega (arith, length-append newest blank)
 
-credits_replied : (d : DeviceSetup) (past : List Met) → Sane d → Replied d past ReadCredits
-unfolding reply_of common_reply form_of acceptor_reply
+-- the request for the last events wants them, and is for one device
+record AsksCredits (q : Request) : Type 0 where
+  wants : form_of q ≡ Some form.Credits
+  fits : FitsItsBytes q
+  to_one_device : to_one (Some q) ≡ Some q
+
+credits_asked : (body : DeviceBody) → AsksCredits (credits_request body)
+unfolding form_of
+credits_asked (Acceptor accepts values ids) =
+    record { wants = refl; fits = λ serial count e. cc; to_one_device = refl }
+credits_asked (Hopper life value) = record { wants = refl; fits = λ serial count e. cc; to_one_device = refl }
+credits_asked (Bill accepts values ids) = record { wants = refl; fits = λ serial count e. cc; to_one_device = refl }
+
+credits_replied : (d : DeviceSetup) (past : List Met) → Sane d → Replied d past (credits_request d.body)
 credits_replied d past sane =
-    answers_so d past ReadCredits (reply.credits (credits_of past)) form.Credits
-    (replied_credits d past sane.accepting) refl refl (length-last_five (events past)) tt
-    (λ serial count e. cc) refl
+    let asks = credits_asked d.body in
+    answers_so d past (credits_request d.body) (reply.credits (credits_in (told_events d.body past))) form.Credits
+    (replied_credits d past sane.taking) asks.wants refl (length-last_five (told_events d.body past)) tt asks.fits
+    asks.to_one_device
 
 set_mask_replied : (d : DeviceSetup) (past : List Met) (mask : ℕ) → Sane d → Replied d past (SetMask mask)
-unfolding reply_of common_reply form_of acceptor_reply
+unfolding reply_of common_reply form_of acceptor_reply bill_reply
 set_mask_replied d past mask sane =
-    answers_so d past (SetMask mask) reply.ack form.Ack (acceptor_is d.serial d.body past (SetMask mask) sane.accepting)
+    answers_so d past (SetMask mask) reply.ack form.Ack
+    (taker_is d.serial d.body past (SetMask mask) (Some reply.ack) sane.taking refl refl)
     refl refl tt tt
     (λ serial count e. cc) refl
 
 mask_replied : (d : DeviceSetup) (past : List Met) → Sane d → Replied d past GetMask
-unfolding reply_of common_reply form_of acceptor_reply
+unfolding form_of
 mask_replied d past sane =
     answers_so d past GetMask (reply.mask (mask_of past)) form.Mask
-    (replied_mask d past sane.accepting) refl refl tt tt (λ serial count e. cc) refl
+    (replied_mask d past sane.taking) refl refl tt tt (λ serial count e. cc) refl
 
 set_master_replied : (d : DeviceSetup) (past : List Met) (value : ℕ) → Sane d → Replied d past (SetMaster value)
-unfolding reply_of common_reply form_of acceptor_reply
+unfolding reply_of common_reply form_of acceptor_reply bill_reply
 set_master_replied d past value sane =
     answers_so d past (SetMaster value) reply.ack form.Ack
-    (acceptor_is d.serial d.body past (SetMaster value) sane.accepting)
+    (taker_is d.serial d.body past (SetMaster value) (Some reply.ack) sane.taking refl refl)
     refl refl
     tt tt (λ serial count e. cc) refl
 
 accepts_replied : (d : DeviceSetup) (past : List Met) → Sane d → Replied d past AcceptCount
-unfolding reply_of common_reply form_of acceptor_reply
+unfolding form_of
 accepts_replied d past sane =
-    answers_so d past AcceptCount (reply.accepts (accept_count (start_of d.body) past)) form.Accepts
-    (acceptor_is d.serial d.body past AcceptCount sane.accepting) refl refl tt (omega arith) (λ serial count e. cc) refl
+    answers_so d past AcceptCount (reply.accepts (counted (start_of d.body) (accepted_of d.body past))) form.Accepts
+    (replied_accepts d past sane.taking) refl refl tt (omega arith) (λ serial count e. cc) refl
 
 place_is : (place : ℕ) → 1 ≤ place → place ≤ 16 → is_place place ≡ true
 place_is place low high = grind (arith, nat_tests)
@@ -101,101 +120,162 @@ six_at (Acceptor accepts values ids) place accepting sound low high =
     let whole : length ids ≡ 16 = sound.4 in
     id_long ids (place - 1) sound.2 (omega (arith, whole))
 six_at (Hopper life value) place accepting sound low high = absurd accepting
+six_at (Bill accepts values ids) place accepting sound low high = absurd accepting
 
-coin_id_replied : (d : DeviceSetup) (past : List Met) (place : ℕ) → Sane d → 1 ≤ place → place ≤ 16 →
-    Replied d past (CoinId place)
+coin_id_replied : (d : DeviceSetup) (past : List Met) (place : ℕ) → Sane d → IsAcceptor d.body → 1 ≤ place →
+    place ≤ 16 → Replied d past (CoinId place)
 unfolding reply_of common_reply form_of acceptor_reply
-coin_id_replied d past place sane low high =
+coin_id_replied d past place sane accepting low high =
     let there : is_place place ≡ true = place_is place low high in
     answers_so d past (CoinId place) (reply.coin_id (id_at (ids_of d.body) place)) form.CoinId
-    (acceptor_is d.serial d.body past (CoinId place) sane.accepting ∙ rw there refl) refl refl
-    (six_at d.body place sane.accepting sane.sound.body low high) tt (λ serial count e. cc) refl
+    (acceptor_is d.serial d.body past (CoinId place) accepting ∙ rw there refl) refl refl
+    (six_at d.body place accepting sane.sound.body low high) tt (λ serial count e. cc) refl
 
 -- the sorter paths
-set_path_replied : (d : DeviceSetup) (past : List Met) (place path : ℕ) → Sane d → is_place place ≡ true →
+set_path_replied : (d : DeviceSetup) (past : List Met) (place path : ℕ) → IsAcceptor d.body → is_place place ≡ true →
     is_path path ≡ true → Replied d past (SetPath place path)
 unfolding reply_of common_reply form_of acceptor_reply
-set_path_replied d past place path sane there known =
+set_path_replied d past place path accepting there known =
     answers_so d past (SetPath place path) reply.ack form.Ack
-    (acceptor_is d.serial d.body past (SetPath place path) sane.accepting ∙ rw (there, known) refl) refl refl tt tt
+    (acceptor_is d.serial d.body past (SetPath place path) accepting ∙ rw (there, known) refl) refl refl tt tt
     (λ serial count e. cc) refl
 
-set_default_replied : (d : DeviceSetup) (past : List Met) (path : ℕ) → Sane d → is_path path ≡ true →
+set_default_replied : (d : DeviceSetup) (past : List Met) (path : ℕ) → IsAcceptor d.body → is_path path ≡ true →
     Replied d past (SetDefault path)
 unfolding reply_of common_reply form_of acceptor_reply
-set_default_replied d past path sane known =
+set_default_replied d past path accepting known =
     answers_so d past (SetDefault path) reply.ack form.Ack
-    (acceptor_is d.serial d.body past (SetDefault path) sane.accepting ∙ rw known refl) refl refl tt tt
+    (acceptor_is d.serial d.body past (SetDefault path) accepting ∙ rw known refl) refl refl tt tt
     (λ serial count e. cc) refl
 
-path_replied : (d : DeviceSetup) (past : List Met) (place : ℕ) → Sane d → is_place place ≡ true →
+path_replied : (d : DeviceSetup) (past : List Met) (place : ℕ) → IsAcceptor d.body → is_place place ≡ true →
     Replied d past (GetPath place)
 unfolding reply_of common_reply form_of acceptor_reply
-path_replied d past place sane there =
+path_replied d past place accepting there =
     answers_so d past (GetPath place) (reply.path (path_of past place)) form.Path
-    (acceptor_is d.serial d.body past (GetPath place) sane.accepting
+    (acceptor_is d.serial d.body past (GetPath place) accepting
     ∙ rw there refl) refl refl tt tt (λ serial count e. cc)
     refl
 
--- all that an acceptor is asked of itself
+-- all that a device that takes money is asked of itself
 coin_ids : (n place : ℕ) → List Request
 coin_ids zero place = []
 coin_ids (suc n) place = CoinId place ∷ coin_ids n (suc place)
 
-ids_replied : (d : DeviceSetup) (past : List Met) (n place : ℕ) → Sane d → 1 ≤ place → n + place ≤ 17 →
+ids_replied : (d : DeviceSetup) (past : List Met) (n place : ℕ) → Sane d → IsAcceptor d.body → 1 ≤ place → n + place ≤ 17 →
     Each (Replied d past) (coin_ids n place)
 unfolding coin_ids
-ids_replied d past zero place sane low high = tt
-ids_replied d past (suc n) place sane low high = (
-  coin_id_replied d past place sane low (omega (arith, high)),
-  ids_replied d past n (suc place) sane
+ids_replied d past zero place sane accepting low high = tt
+ids_replied d past (suc n) place sane accepting low high = (
+  coin_id_replied d past place sane accepting low (omega (arith, high)),
+  ids_replied d past n (suc place) sane accepting
       (omega (arith, low)) (omega (arith, high)),
 )
 
-owns_by : (d : DeviceSetup) (past : List Met) (body : DeviceBody) → IsAcceptor body → Sane d →
+owns_by : (d : DeviceSetup) (past : List Met) (body : DeviceBody) → body ≡ d.body → Sane d →
     Each (Replied d past) (own_requests body)
 unfolding coin_ids
-owns_by d past (Hopper life value) accepting sane = absurd accepting
-owns_by d past (Acceptor accepts values ids) accepting sane =
+owns_by d past (Hopper life value) is sane = absurd (subst IsTaker (sym is) sane.taking)
+owns_by d past (Bill accepts values ids) is sane =
+    also d past GetMaster (AcceptCount ∷ []) (master_replied d past sane)
+    (also d past AcceptCount [] (accepts_replied d past sane) tt)
+owns_by d past (Acceptor accepts values ids) is sane =
+    let accepting : IsAcceptor d.body = subst IsAcceptor is tt in
     let qs = own_requests (Acceptor accepts values ids) in
     also d past GetMaster (drop 1 qs) (master_replied d past sane)
-    (also d past GetDefault (drop 2 qs) (default_replied d past sane)
+    (also d past GetDefault (drop 2 qs) (default_replied d past accepting)
     (also d past AcceptCount (drop 3 qs) (accepts_replied d past sane)
-    (ids_replied d past 16 1 sane (omega arith) (omega arith))))
+    (ids_replied d past 16 1 sane accepting (omega arith) (omega arith))))
 
 -- a sorter path that is set and read back
-set_by : (d : DeviceSetup) (past : List Met) (place path : ℕ) (b : Bool) → (place == 0) ≡ b → Sane d →
+set_by : (d : DeviceSetup) (past : List Met) (place path : ℕ) (b : Bool) → (place == 0) ≡ b → IsAcceptor d.body →
     IsCommand (command.Path 0 place path) → Replied d past (cond b (SetDefault path) (SetPath place path))
-set_by d past place path true test sane known = set_default_replied d past path sane (path_is path known.1 known.2)
-set_by d past place path false test sane known =
-    set_path_replied d past place path sane (place_is place (not_zero place test) known.0)
+set_by d past place path true test accepting known =
+    set_default_replied d past path accepting (path_is path known.1 known.2)
+set_by d past place path false test accepting known =
+    set_path_replied d past place path accepting (place_is place (not_zero place test) known.0)
     (path_is path known.1 known.2)
   where
     not_zero : (n : ℕ) → (n == 0) ≡ false → 1 ≤ n
     not_zero n e = grind (arith, nat_tests)
 
-read_by : (d : DeviceSetup) (past : List Met) (place : ℕ) (b : Bool) → (place == 0) ≡ b → Sane d → place ≤ 16 →
+read_by : (d : DeviceSetup) (past : List Met) (place : ℕ) (b : Bool) → (place == 0) ≡ b → IsAcceptor d.body →
+    place ≤ 16 →
     Replied d past (cond b GetDefault (GetPath place))
-read_by d past place true test sane high = default_replied d past sane
-read_by d past place false test sane high = path_replied d past place sane (place_is place (not_zero place test) high)
+read_by d past place true test accepting high = default_replied d past accepting
+read_by d past place false test accepting high =
+    path_replied d past place accepting (place_is place (not_zero place test) high)
   where
     not_zero : (n : ℕ) → (n == 0) ≡ false → 1 ≤ n
     not_zero n e = grind (arith, nat_tests)
 
--- all that a command asks has a reply in the wanted form
-pub acceptor_replied : (d : DeviceSetup) (past : List Met) (c : Command) → Sane d → IsCommand c →
-    is_for_acceptor c ≡ true → EachRow (Asks (Replied d past)) (rows_of d c)
-acceptor_replied d past (command.Start addr mask) sane known suited =
-    (reset_replied d past, (credits_replied d past sane, (accepts_replied d past sane, (tt, (set_mask_replied d past mask sane, tt)))))
-acceptor_replied d past (command.Round addr) sane known suited =
-    (accepts_replied d past sane, (credits_replied d past sane, (mask_replied d past sane, (accepts_replied d past sane, (tt, tt)))))
-acceptor_replied d past (command.Stop addr) sane known suited =
-    (set_master_replied d past 0 sane, (accepts_replied d past sane, (credits_replied d past sane, (mask_replied d past sane, (accepts_replied d past sane, (tt, (tt, tt)))))))
-acceptor_replied d past (command.Ident addr) sane known suited =
-    each_asked (Replied d past) (ident_requests d.body)
-    (ident_replied d past d.body sane.sound (owns_by d past d.body sane.accepting sane))
-acceptor_replied d past (command.Path addr place path) sane known suited = (
-  set_by d past place path (place == 0) refl sane known,
-  (read_by d past place (place == 0) refl sane known.0, tt),
+-- a bill that is routed; it is refused where none is held
+route_replied : (d : DeviceSetup) (past : List Met) (way : ℕ) → IsBill d.body →
+    reply_of d past (RouteBill way) ≡ Some (cond (is_some (bill_held past) && is_way way) reply.ack reply.nak)
+unfolding reply_of common_reply bill_reply
+route_replied d past way banking = bill_is d.serial d.body past (RouteBill way) banking
+
+route_by : (d : DeviceSetup) (past : List Met) (way : ℕ) (routes : Bool) → IsBill d.body →
+    (is_some (bill_held past) && is_way way) ≡ routes → Answers d past (RouteBill way)
+unfolding form_of
+route_by d past way true banking test =
+    inl (answers_so d past (RouteBill way) reply.ack form.Ack
+    (route_replied d past way banking ∙ ap (λ b. Some (cond b reply.ack reply.nak)) test) refl refl tt tt
+    (λ serial count e. cc) refl)
+route_by d past way false banking test = inr (record {
+  refuses = (banking, test);
+  replied = route_replied d past way banking ∙ ap (λ b. Some (cond b reply.ack reply.nak)) test;
+  fits = λ serial count e. cc;
+  to_its_device = refl;
+})
+
+-- the kind of a device by a command to it
+sets_paths : (body : DeviceBody) (addr place path : ℕ) → suits body (command.Path addr place path) ≡ true → IsAcceptor body
+sets_paths (Acceptor accepts values ids) addr place path suited = tt
+sets_paths (Hopper life value) addr place path suited = absurd cc
+sets_paths (Bill accepts values ids) addr place path suited = absurd cc
+
+routes_bills : (body : DeviceBody) (addr way : ℕ) → suits body (command.Route addr way) ≡ true → IsBill body
+routes_bills (Acceptor accepts values ids) addr way suited = absurd cc
+routes_bills (Hopper life value) addr way suited = absurd cc
+routes_bills (Bill accepts values ids) addr way suited = tt
+
+-- all that a command asks has a reply in the wanted form, or is to route a bill and is refused
+pub taker_answers : (d : DeviceSetup) (past : List Met) (c : Command) → Sane d → IsCommand c →
+    suits d.body c ≡ true → is_for_taker c ≡ true → EachRow (Asks (Answers d past)) (rows_of d c)
+taker_answers d past (command.Start addr mask) sane known suited for_one = (
+  inl (reset_replied d past),
+  (
+    inl (credits_replied d past sane),
+    (inl (accepts_replied d past sane), (tt, (inl (set_mask_replied d past mask sane), tt))),
+  ),
 )
-acceptor_replied d past c sane known suited = absurd cc
+taker_answers d past (command.Round addr) sane known suited for_one = (
+  inl (accepts_replied d past sane),
+  (
+    inl (credits_replied d past sane),
+    (inl (mask_replied d past sane), (inl (accepts_replied d past sane), (tt, tt))),
+  ),
+)
+taker_answers d past (command.Stop addr) sane known suited for_one = (
+  inl (set_master_replied d past 0 sane),
+  (
+    inl (accepts_replied d past sane),
+    (
+      inl (credits_replied d past sane),
+      (inl (mask_replied d past sane), (inl (accepts_replied d past sane), (tt, (tt, tt)))),
+    ),
+  ),
+)
+taker_answers d past (command.Ident addr) sane known suited for_one =
+    each_asked (Answers d past) (ident_requests d.body)
+    (each_answers d past (ident_requests d.body)
+    (ident_replied d past d.body sane.sound (owns_by d past d.body refl sane)))
+taker_answers d past (command.Path addr place path) sane known suited for_one =
+    let accepting = sets_paths d.body addr place path suited in (
+      inl (set_by d past place path (place == 0) refl accepting known),
+      (inl (read_by d past place (place == 0) refl accepting known.0), tt),
+    )
+taker_answers d past (command.Route addr way) sane known suited for_one =
+    (route_by d past way (is_some (bill_held past) && is_way way) (routes_bills d.body addr way suited) refl, tt)
+taker_answers d past c sane known suited for_one = absurd cc

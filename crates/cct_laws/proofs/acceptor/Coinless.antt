@@ -1,9 +1,9 @@
--- A hopper posts nothing: no line of it tells of coins that an acceptor took, so each is in order, and none is lost at it
--- in silence. So that holds of every device of a setup, of either kind.
+-- A hopper posts nothing: no line of it tells of money that was taken, so each is in order, and none is lost at it in
+-- silence. So that holds of every device of a setup, of any kind.
 use Rattle.std.proofs.Common.{refl, ◌≡◌, ℕ, ◌-◌, nat_le, cond, Bool, true, false, List, ◌∷◌, ◌++◌, subst, Option, Some, None, All, inl, inr, sym, ap, rules, ◌∙◌}
 use Rattle.std.specs.Prelude.{⊤}
 use Rattle.cct_model.specs.terms.device.DeviceBody.{DeviceBody}
-use Rattle.cct_model.specs.terms.device.DeviceBody.TheVariants.{Acceptor, Hopper}
+use Rattle.cct_model.specs.terms.device.DeviceBody.TheVariants.{Acceptor, Bill, Hopper}
 use Rattle.cct_model.specs.terms.device.DeviceSetup.{DeviceSetup}
 use Rattle.cct_model.specs.terms.device.Setup.{Setup}
 use Rattle.cct_model.specs.terms.request.Request.{Request}
@@ -128,16 +128,17 @@ coinless_more lines None less = less
 coinless_more lines (Some count) less = record { in_order = (tt, less.in_order); covers = (tt, less.covers) }
 
 coinless_doses : (body : DeviceBody) (own : ℕ) (past : List Met) (asked : Option Request) (lines : List Line) →
-    Coinless lines → Coinless (doses body own past asked ++ lines)
-coinless_doses (Acceptor accepts values ids) own past asked lines less = less
-coinless_doses (Hopper life value) own past asked lines less = coinless_more lines (taken_of own past asked) less
+    IsHopper body → Coinless lines → Coinless (doses body own past asked ++ lines)
+coinless_doses (Acceptor accepts values ids) own past asked lines paying less = absurd paying
+coinless_doses (Hopper life value) own past asked lines paying less = coinless_more lines (taken_of own past asked) less
+coinless_doses (Bill accepts values ids) own past asked lines paying less = absurd paying
 
 coinless_asks : (d : DeviceSetup) (past : List Met) (lines : List Line) (c : Command) (work : List Line) (q : Request)
-    (asked : Option Request) (got : Option Reply) → is_for_hopper c ≡ true → Coinless lines →
+    (asked : Option Request) (got : Option Reply) → IsHopper d.body → is_for_hopper c ≡ true → Coinless lines →
     Coinless (with_ended (end_of d c (exchange (Some q) got) work (epoch lines))
     (exchange (Some q) got ∷ doses d.body d.serial past asked ++ lines))
-coinless_asks d past lines c work q asked got suited less =
-    let dosed = coinless_doses d.body d.serial past asked lines less in
+coinless_asks d past lines c work q asked got paying suited less =
+    let dosed = coinless_doses d.body d.serial past asked lines paying less in
     coinless_ended (exchange (Some q) got ∷ doses d.body d.serial past asked ++ lines) _
     (exchange_other d c q got work (epoch lines) suited)
     (record { in_order = (tt, dosed.in_order); covers = (tt, dosed.covers) })
@@ -155,7 +156,7 @@ coinless_kept d paying = record {
   halts = λ past lines can less. record { in_order = (tt, less.in_order); covers = (tt, less.covers) };
   restarts = λ past lines less. record { in_order = (tt, less.in_order); covers = (tt, less.covers) };
   asks = λ past lines c work q asked got at row_is fate less.
-      coinless_asks d past lines c work q asked got (for_hopper d.body c paying at.suited) less;
+      coinless_asks d past lines c work q asked got paying (for_hopper d.body c paying at.suited) less;
   keeps = λ past lines c work r at row_is less.
       coinless_put (restarted ∷ lines) r
       (puts_of_order d c work (epoch lines) (order lines) r (for_hopper d.body c paying at.suited) row_is)
@@ -172,13 +173,13 @@ legal_coinless capacity setup steps transcript d sound own paying in_range legal
     legal honest (coinless_kept d paying) in
     (less.in_order, less.covers)
 
--- posts are accepted coins in their order, none twice, at a device of either kind
+-- posts are accepted coins in their order, none twice, at a device of any kind
 pub each_in_order : (capacity : ℕ) (setup : Setup) (steps : List Step) (transcript : List Entry)
     (d : DeviceSetup) → IsSoundSetup setup → IsOf setup d → All IsInRange steps →
     Legal capacity setup steps transcript → Honest transcript → InOrder (lines_in d transcript)
 each_in_order capacity setup steps transcript d sound own in_range legal honest =
     elim (kind_of d.body) [
-      | inl accepting ↦ legal_in_order capacity setup steps transcript d sound own accepting in_range legal honest
+      | inl taking ↦ legal_in_order capacity setup steps transcript d sound own taking in_range legal honest
       | inr paying ↦ (legal_coinless capacity setup steps transcript d sound own paying in_range legal honest).0
     ]
 
@@ -189,7 +190,7 @@ pub each_covers : (capacity : ℕ) (setup : Setup) (steps : List Step) (transcri
     Covers (lines_in d transcript)
 each_covers capacity setup steps transcript d sound own in_range legal honest pace =
     elim (kind_of d.body) [
-      | inl accepting ↦ legal_covers capacity setup steps transcript d sound own accepting in_range legal honest pace
+      | inl taking ↦ legal_covers capacity setup steps transcript d sound own taking in_range legal honest pace
       | inr paying ↦ (legal_coinless capacity setup steps transcript d sound own paying in_range legal honest).1
     ]
 

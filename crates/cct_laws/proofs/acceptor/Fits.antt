@@ -1,11 +1,11 @@
--- What holds of an acceptor beside its epoch, and what the rows of a job need besides; every move of the acceptor keeps
--- both.
+-- What holds of a device that takes money beside its epoch, and what the rows of a job need besides; every move of the
+-- device keeps both, and a bill that is stacked keeps what holds in an epoch.
 use Rattle.std.proofs.Common.{◌≡◌, ◌≢◌, ℕ, ◌+◌, ◌-◌, ◌<◌, ◌≤◌, Bool, true, false, List, [], ◌∷◌, length, take, ap, sym, ◌∙◌, arith, Option, Some, None}
 use Rattle.std.specs.Prelude.{⊤}
 use Rattle.cct_model.specs.terms.coin.Coin.{Coin}
 use Rattle.cct_model.specs.terms.coin.Credits.{Credits}
 use Rattle.cct_model.specs.terms.device.DeviceSetup.{DeviceSetup}
-use Rattle.cct_model.specs.terms.request.Request.TheVariants.{ResetDevice, ReadCredits, SetMaster, GetMask, AcceptCount, SetMask}
+use Rattle.cct_model.specs.terms.request.Request.TheVariants.{ResetDevice, ReadCredits, ReadBills, SetMaster, GetMask, AcceptCount, SetMask, RouteBill}
 use Rattle.cct_model.specs.lines.record.Record.{Record}
 use Rattle.cct_model.specs.lines.record.Record.TheVariants as record_of
 use Rattle.cct_model.specs.declared.judging.Judged.{Judged}
@@ -19,7 +19,7 @@ use Rattle.cct_model.specs.Rows.{if_quiet, new_epoch, reading, epoch_end, TableR
 use Rattle.cct_model.specs.Claims as claims
 use Rattle.cct_model.specs.Claims.{coins, looking, mark, base, fewer, AreNewest, IsNear}
 use Rattle.cct_laws.specs.Moving.{counting}
-use Rattle.cct_laws.proofs.acceptor.World.{World, Shut, Silent, IsLive, Tracks, On, mask_at, count_from, count_at, tracks_on, closed}
+use Rattle.cct_laws.proofs.acceptor.World.{World, Shut, Silent, IsLive, Tracks, Goes, On, mask_at, count_from, count_at, tracks_on, closed}
 
 -- what was read so far, which no object changes: the mark, the base and the epoch; the coins before the last reading of the
 -- credits, before the last look at the mask, before the last reading of the accept counter, and before the one that stands
@@ -219,16 +219,20 @@ CountsAt w b (puts_due (new_epoch mask) behind ∷ rows) notes = IsIdle b.epoch 
 CountsAt w b (puts_due reading behind ∷ rows) notes =
     SeesIn w b b.epoch notes × IfOver (ends_epoch rows) (IsStill w b)
 CountsAt w b (asks_for ReadCredits behind ∷ rows) notes = IsRunning b.epoch × IfOver (ends_epoch rows) (Shut w)
+CountsAt w b (asks_for ReadBills behind ∷ rows) notes = IsRunning b.epoch × IfOver (ends_epoch rows) (Shut w)
 CountsAt w b rows notes = ⊤
 
 -- what a job needs, by the first of the rows that are left. No epoch runs before the row that begins one, and the acceptor
--- is silent from its reset on. One runs before its readings. Where the rows end it, no coin comes any more from the row on
--- that inhibits all coins
+-- is silent from its reset on. One runs before its readings, and where a bill is routed. Where the rows end it, no coin
+-- comes any more from the row on that inhibits all coins
 abbrev pub FitsAt : World → ReadSoFar → List TableRow → Notes → Judged → Type 0
 FitsAt w b [] notes judged = ⊤
 FitsAt w b (asks_for ResetDevice behind ∷ rows) notes judged = IsIdle b.epoch
 FitsAt w b (asks_for ReadCredits if_quiet ∷ rows) notes judged = IsIdle b.epoch × Silent w
 FitsAt w b (asks_for ReadCredits behind ∷ rows) notes judged =
+    Begins w b notes × IfOver (ends_epoch rows) (IsShutSince w b)
+FitsAt w b (asks_for ReadBills if_quiet ∷ rows) notes judged = IsIdle b.epoch × Silent w
+FitsAt w b (asks_for ReadBills behind ∷ rows) notes judged =
     Begins w b notes × IfOver (ends_epoch rows) (IsShutSince w b)
 FitsAt w b (asks_for (SetMaster value) behind ∷ rows) notes judged = IsRunning b.epoch
 FitsAt w b (asks_for GetMask behind ∷ rows) notes judged =
@@ -236,6 +240,7 @@ FitsAt w b (asks_for GetMask behind ∷ rows) notes judged =
 FitsAt w b (asks_for AcceptCount behind ∷ rows) notes judged = CountsAt w b rows notes
 FitsAt w b (asks_for q behind ∷ rows) notes judged = FitsAt w b rows notes judged
 FitsAt w b (asks_once (SetMask mask) behind without ∷ rows) notes judged = Waits w b mask
+FitsAt w b (asks_once (RouteBill way) behind without ∷ rows) notes judged = IsRunning b.epoch
 FitsAt w b (asks_once q behind without ∷ rows) notes judged = ⊤
 FitsAt w b (waits_for_coins ∷ rows) notes judged = ⊤
 FitsAt w b (puts_due (new_epoch mask) behind ∷ rows) notes judged =
@@ -267,6 +272,8 @@ AfterCount (puts_due (new_epoch mask) behind ∷ rows) = ⊤
 AfterCount (puts_due reading behind ∷ rows) = ⊤
 AfterCount (asks_for ReadCredits behind ∷ rows) = (w : World) (b : ReadSoFar) (notes : Notes) (judged : Judged) →
     Begins w b notes → IfOver (ends_epoch rows) (IsShutSince w b) → FitsAt w b (asks_for ReadCredits behind ∷ rows) notes judged
+AfterCount (asks_for ReadBills behind ∷ rows) = (w : World) (b : ReadSoFar) (notes : Notes) (judged : Judged) →
+    Begins w b notes → IfOver (ends_epoch rows) (IsShutSince w b) → FitsAt w b (asks_for ReadBills behind ∷ rows) notes judged
 AfterCount rows = (w : World) (b : ReadSoFar) (notes : Notes) (judged : Judged) → FitsAt w b rows notes judged
 
 abbrev pub AfterEpoch : ℕ → List TableRow → Type 0
@@ -289,41 +296,52 @@ pub near_less : (from : Option ℕ) (fewer more : ℕ) → fewer ≤ more → Is
 near_less None fewer more less near = tt
 near_less (Some begun) fewer more less near = omega (arith, less, near)
 
-pub near_on : (w v : World) (from : Option ℕ) → On w v → IsNear from (length v.coins) → IsNear from (length w.coins)
-near_on w v from on near = near_less from (length w.coins) (length v.coins) on.longer near
+pub near_on : (w v : World) (from : Option ℕ) → Goes w v → IsNear from (length v.coins) → IsNear from (length w.coins)
+near_on w v from goes near = near_less from (length w.coins) (length v.coins) goes.longer near
 
-count_on : (w v : World) (n : ℕ) → On w v → count_from w.start n ≡ count_from v.start n
-count_on w v n on = ap (λ start. count_from start n) (sym on.starts)
+count_on : (w v : World) (n : ℕ) → Goes w v → count_from w.start n ≡ count_from v.start n
+count_on w v n goes = ap (λ start. count_from start n) (sym goes.starts)
 
-read_on : (w v : World) (found : Option ℕ) (n : ℕ) → On w v → found ≡ Some (count_from w.start n) →
+read_on : (w v : World) (found : Option ℕ) (n : ℕ) → Goes w v → found ≡ Some (count_from w.start n) →
     found ≡ Some (count_from v.start n)
-read_on w v found n on read = read ∙ ap Some (count_on w v n on)
+read_on w v found n goes read = read ∙ ap Some (count_on w v n goes)
 
 rests_on : (w v : World) (m : ℕ) → On w v → Rests w m → Rests v m
 rests_on w v m on rests = record { shut = on.shut rests.shut; marked = ap length (on.same rests.shut) ∙ rests.marked }
 
-pub state_on : (w v : World) (m : ℕ) (from : Option ℕ) (state : EpochState) → On w v → StateOf w m from state → StateOf v m from state
-state_on w v m from Idle on rests = rests_on w v m on rests
-state_on w v m from (Running mask c accepts) on runs = record {
+runs_on : (w v : World) (m : ℕ) (from : Option ℕ) (mask c accepts : ℕ) → Goes w v → Runs w m from mask c accepts →
+    Runs v m from mask c accepts
+runs_on w v m from mask c accepts goes runs = record {
   begun = runs.begun;
   based = runs.based;
   least = runs.least;
-  live = on.live mask runs.live;
-  tracks = tracks_on w v mask c m on runs.tracks;
-  exact = λ near. runs.exact (near_on w v from on near) ∙ count_on w v m on;
+  live = goes.live mask runs.live;
+  tracks = tracks_on w v mask c m goes runs.tracks;
+  exact = λ near. runs.exact (near_on w v from goes near) ∙ count_on w v m goes;
 }
+
+pub state_on : (w v : World) (m : ℕ) (from : Option ℕ) (state : EpochState) → On w v → StateOf w m from state →
+    StateOf v m from state
+state_on w v m from Idle on rests = rests_on w v m on rests
+state_on w v m from (Running mask c accepts) on runs = runs_on w v m from mask c accepts on.goes runs
+
+-- a bill that is stacked in an epoch keeps what holds then
+pub running_on : (w v : World) (m : ℕ) (from : Option ℕ) (state : EpochState) → IsRunning state → Goes w v →
+    StateOf w m from state → StateOf v m from state
+running_on w v m from Idle running goes rests = absurd running
+running_on w v m from (Running mask c accepts) running goes runs = runs_on w v m from mask c accepts goes runs
 
 begins_on : (w v : World) (b : ReadSoFar) (notes : Notes) → On w v → Begins w b notes → Begins v b notes
 begins_on w v b notes on begins = record {
   running = begins.running;
-  read = read_on w v notes.now (length b.counted) on begins.read;
+  read = read_on w v notes.now (length b.counted) on.goes begins.read;
   goes_on = begins.goes_on;
-  few = omega (arith, begins.few, on.longer);
+  few = omega (arith, begins.few, on.goes.longer);
 }
 
 begun_on : (w v : World) (b : ReadSoFar) (notes : Notes) → On w v → Begun w b notes → Begun v b notes
 begun_on w v b notes on begun = record {
-  read = read_on w v notes.before (length b.first) on begun.read;
+  read = read_on w v notes.before (length b.first) on.goes begun.read;
   goes_on = begun.goes_on;
   few = begun.few;
 }
@@ -335,8 +353,8 @@ held_on w v b (Running mask c accepts) notes on held = record {
   read = held.read;
   begun = begun_on w v b notes on held.begun;
   reads = held.reads;
-  counts = λ is_mask. held.counts (on.masked mask held.tracks.nonzero is_mask);
-  tracks = tracks_on w v mask held.credits.counter (length b.known) on held.tracks;
+  counts = λ is_mask. held.counts (on.goes.masked mask held.tracks.nonzero is_mask);
+  tracks = tracks_on w v mask held.credits.counter (length b.known) on.goes held.tracks;
 }
 
 sees_on : (w v : World) (b : ReadSoFar) (state : EpochState) (notes : Notes) → On w v → SeesIn w b state notes → SeesIn v b state notes
@@ -346,7 +364,7 @@ sees_on w v b (Running mask c accepts) notes on sees = record {
   read = sees.read;
   begun = begun_on w v b notes on sees.begun;
   reads = sees.reads;
-  tracks = tracks_on w v mask sees.credits.counter (length b.known) on sees.tracks;
+  tracks = tracks_on w v mask sees.credits.counter (length b.known) on.goes sees.tracks;
   seen = sees.seen;
   looked = sees.looked;
   few = sees.few;
@@ -358,14 +376,14 @@ sees_on w v b (Running mask c accepts) notes on sees = record {
 
 tracks_in_on : (w v : World) (state : EpochState) (k m : ℕ) → On w v → TracksIn w state k m → TracksIn v state k m
 tracks_in_on w v Idle k m on tracks = absurd tracks
-tracks_in_on w v (Running mask c accepts) k m on tracks = tracks_on w v mask k m on tracks
+tracks_in_on w v (Running mask c accepts) k m on tracks = tracks_on w v mask k m on.goes tracks
 
 posts_on : (w v : World) (b : ReadSoFar) (entry : Record) → On w v → PostsAs w b entry → PostsAs v b entry
 posts_on w v b (record_of.Reading addr k lost accepts posted) on posts = record {
   reads = posts.reads;
-  covers = λ near. posts.covers (near_on w v b.base on near);
+  covers = λ near. posts.covers (near_on w v b.base on.goes near);
   tracks = tracks_in_on w v b.epoch k (length b.known) on posts.tracks;
-  exact = λ near. posts.exact (near_on w v b.base on near) ∙ count_on w v (length b.known) on;
+  exact = λ near. posts.exact (near_on w v b.base on.goes near) ∙ count_on w v (length b.known) on.goes;
 }
 posts_on w v b r on posts = absurd posts
 
@@ -373,7 +391,7 @@ breaks_on : (w v : World) (b : ReadSoFar) (entry : Record) → On w v → Breaks
 breaks_on w v b (record_of.Broken addr seen k lost accepts posted) on breaks = record {
   goes_on = breaks.goes_on;
   newest = breaks.newest;
-  covers = λ near. breaks.covers (near_on w v b.base on near);
+  covers = λ near. breaks.covers (near_on w v b.base on.goes near);
   silent = on.silent breaks.silent;
   marked = ap length (on.same (closed w breaks.silent.masked)) ∙ breaks.marked;
 }
@@ -382,7 +400,7 @@ breaks_on w v b r on breaks = absurd breaks
 ready_on : (w v : World) (b : ReadSoFar) (judged : Judged) → On w v → Ready w b judged → Ready v b judged
 ready_on w v b Nothing on ready = record {
   goes_on = ready.goes_on;
-  none = λ near. ready.none (near_on w v b.base on near);
+  none = λ near. ready.none (near_on w v b.base on.goes near);
   state = state_on w v (length b.known) b.base b.epoch on ready.state;
 }
 ready_on w v b Moved on ready = ready
@@ -396,7 +414,7 @@ waits_on w v b mask on waits = record {
   silent = on.silent waits.silent;
   marked = ap length (on.same (closed w waits.silent.masked)) ∙ waits.marked;
   based = waits.based;
-  exact = waits.exact ∙ count_on w v b.mark on;
+  exact = waits.exact ∙ count_on w v b.mark on.goes;
 }
 
 still_on : (w v : World) (b : ReadSoFar) (over : Bool) → On w v → IfOver over (IsStill w b) → IfOver over (IsStill v b)
@@ -415,7 +433,7 @@ shut_on w v over on = if_over over (Shut w) (Shut v) on.shut
 -- no coin comes while the acceptor is silent
 silent_count : (w v : World) (found : Option ℕ) → On w v → Silent w → found ≡ Some (count_at w) → found ≡ Some (count_at v)
 silent_count w v found on silent read =
-    read_on w v found (length w.coins) on read
+    read_on w v found (length w.coins) on.goes read
     ∙ ap (λ cs. Some (count_from v.start (length cs))) (sym (on.same (closed w silent.masked)))
 
 counts_on : (w v : World) (b : ReadSoFar) (rows : List TableRow) (notes : Notes) → On w v → CountsAt w b rows notes →
@@ -424,6 +442,7 @@ counts_on w v b (puts_due (new_epoch mask) behind ∷ rows) notes on fits = (fit
 counts_on w v b (puts_due reading behind ∷ rows) notes on fits =
     (sees_on w v b b.epoch notes on fits.0, still_on w v b (ends_epoch rows) on fits.1)
 counts_on w v b (asks_for ReadCredits behind ∷ rows) notes on fits = (fits.0, shut_on w v (ends_epoch rows) on fits.1)
+counts_on w v b (asks_for ReadBills behind ∷ rows) notes on fits = (fits.0, shut_on w v (ends_epoch rows) on fits.1)
 counts_on w v b rows notes on fits = tt
 
 pub at_on : (w v : World) (b : ReadSoFar) (rows : List TableRow) (notes : Notes) (judged : Judged) → On w v →
@@ -433,12 +452,16 @@ at_on w v b (asks_for ResetDevice behind ∷ rows) notes judged on fits = fits
 at_on w v b (asks_for ReadCredits if_quiet ∷ rows) notes judged on fits = (fits.0, on.silent fits.1)
 at_on w v b (asks_for ReadCredits behind ∷ rows) notes judged on fits =
     (begins_on w v b notes on fits.0, since_on w v b (ends_epoch rows) on fits.1)
+at_on w v b (asks_for ReadBills if_quiet ∷ rows) notes judged on fits = (fits.0, on.silent fits.1)
+at_on w v b (asks_for ReadBills behind ∷ rows) notes judged on fits =
+    (begins_on w v b notes on fits.0, since_on w v b (ends_epoch rows) on fits.1)
 at_on w v b (asks_for (SetMaster value) behind ∷ rows) notes judged on fits = fits
 at_on w v b (asks_for GetMask behind ∷ rows) notes judged on fits =
     (held_on w v b b.epoch notes on fits.0, still_on w v b (ends_epoch rows) on fits.1)
 at_on w v b (asks_for AcceptCount behind ∷ rows) notes judged on fits = counts_on w v b rows notes on fits
 at_on w v b (asks_for q behind ∷ rows) notes judged on fits = at_on w v b rows notes judged on fits
 at_on w v b (asks_once (SetMask mask) behind without ∷ rows) notes judged on fits = waits_on w v b mask on fits
+at_on w v b (asks_once (RouteBill way) behind without ∷ rows) notes judged on fits = fits
 at_on w v b (asks_once q behind without ∷ rows) notes judged on fits = tt
 at_on w v b (waits_for_coins ∷ rows) notes judged on fits = tt
 at_on w v b (puts_due (new_epoch mask) behind ∷ rows) notes judged on fits =

@@ -1,22 +1,25 @@
--- What each row of a job at an acceptor leads to: the rows after it need no more than it brings, and no end but a clean one
+-- What each row of a job at a device that takes money leads to: the rows after it need no more than it brings, and no end but a clean one
 -- is an item.
 use Rattle.std.proofs.Common.{◌≡◌, ◌≤◌, ◌==◌, true, List, [], ◌∷◌, refl, rules}
 use Rattle.cct_model.specs.terms.device.DeviceSetup.{DeviceSetup}
 use Rattle.cct_model.specs.terms.request.Request.{Request}
-use Rattle.cct_model.specs.terms.request.Request.TheVariants.{ResetDevice, ReadCredits, SetMaster, GetMask, AcceptCount, SetMask}
+use Rattle.cct_model.specs.terms.request.Request.TheVariants.{ResetDevice, ReadCredits, ReadBills, SetMaster, GetMask, AcceptCount, SetMask, RouteBill}
 use Rattle.cct_model.specs.lines.command.Command.{Command}
 use Rattle.cct_model.specs.lines.command.Command.TheVariants as command
 use Rattle.cct_model.specs.lines.entry.End.TheVariants.{Told}
-use Rattle.cct_model.specs.Job.{ident_requests}
+use Rattle.cct_model.specs.terms.request.TheConstants.{STACK_CODE}
+use Rattle.cct_model.specs.terms.device.DeviceBody.{DeviceBody}
+use Rattle.cct_model.specs.terms.device.DeviceBody.TheVariants.{Acceptor, Bill, Hopper}
+use Rattle.cct_model.specs.Job.{credits_request, ident_requests}
 use Rattle.cct_model.specs.Rows.{Then, goes_on, ends_as, if_quiet, path_told, if_posted, new_epoch, reading, epoch_end, TableRow, asks_for, asks_once, puts_due, telling, rows_of}
 use Rattle.cct_model.specs.Script.{IsCommand}
 use Rattle.cct_model.proofs.Requests.{Each}
 use Rattle.cct_model.proofs.Rows.{Behind, EachBefore}
-use Rattle.cct_laws.specs.DeviceJobs.{is_for_acceptor}
+use Rattle.cct_laws.specs.DeviceJobs.{is_for_taker}
 use Rattle.cct_model.specs.declared.judging.Judged.{Judged}
 use Rattle.cct_laws.proofs.acceptor.World.{World}
 use Rattle.cct_laws.proofs.acceptor.Fits.{ReadSoFar, Notes, FitsAt, AfterReset, AfterCredits, AfterShut, AfterMask, AfterCount, AfterEpoch}
-use Rattle.cct_laws.proofs.acceptor.Moves.{IsOtherEnd, IsNeutral, neutral_if, IsTold, ident_told, told_fits}
+use Rattle.cct_laws.proofs.acceptor.Moves.{IsOtherEnd, IsNeutral, neutral_if, IsTold, ident_told, told_fits, quiet_fits, reading_counts}
 use Rattle.cct_laws.proofs.acceptor.Rounds.{IsAfterCount, IsAfterReading}
 use Rattle.cct_laws.proofs.acceptor.Stops.{IsOverNext}
 
@@ -24,11 +27,14 @@ abbrev pub Leads : TableRow → List TableRow → Type 0
 Leads (asks_for ResetDevice behind) rows = Behind IsOtherEnd behind × AfterReset rows
 Leads (asks_for ReadCredits if_quiet) rows = AfterReset rows
 Leads (asks_for ReadCredits behind) rows = Behind IsOtherEnd behind × AfterCredits rows
+Leads (asks_for ReadBills if_quiet) rows = AfterReset rows
+Leads (asks_for ReadBills behind) rows = Behind IsOtherEnd behind × AfterCredits rows
 Leads (asks_for (SetMaster value) behind) rows = (value ≡ 0) × Behind IsOtherEnd behind × AfterShut rows
 Leads (asks_for GetMask behind) rows = Behind IsOtherEnd behind × AfterMask rows
 Leads (asks_for AcceptCount behind) rows = IsAfterCount behind rows × AfterCount rows
 Leads (asks_for q behind) rows = IsNeutral q × Behind IsOtherEnd behind
 Leads (asks_once (SetMask mask) (ends_as end) (ends_as other)) rows = (1 ≤ mask) × IsOtherEnd end × IsOtherEnd other
+Leads (asks_once (RouteBill way) (ends_as end) (ends_as other)) rows = (way ≤ STACK_CODE) × IsOtherEnd end × IsOtherEnd other
 Leads (asks_once q (ends_as end) (ends_as other)) rows = IsNeutral q × IsOtherEnd end × IsOtherEnd other
 Leads (puts_due (new_epoch mask) behind) rows = (1 ≤ mask) × Behind IsOtherEnd behind × AfterEpoch mask rows
 Leads (puts_due reading (if_posted of_reading)) rows = IsAfterReading of_reading rows × IsOverNext rows
@@ -40,6 +46,7 @@ neutral_leads : (q : Request) (behind : Then) (rows : List TableRow) → IsNeutr
     Leads (asks_for q behind) rows
 neutral_leads ResetDevice behind rows neutral other = absurd neutral
 neutral_leads ReadCredits behind rows neutral other = absurd neutral
+neutral_leads ReadBills behind rows neutral other = absurd neutral
 neutral_leads GetMask behind rows neutral other = absurd neutral
 neutral_leads AcceptCount behind rows neutral other = absurd neutral
 neutral_leads (SetMaster value) behind rows neutral other = absurd neutral
@@ -51,6 +58,7 @@ asked_leads : (q : Request) (behind : Then) (rows : List TableRow) → IsTold q 
 asked_leads AcceptCount behind rows told after next other = (after, next)
 asked_leads ResetDevice behind rows told after next other = absurd told
 asked_leads ReadCredits behind rows told after next other = absurd told
+asked_leads ReadBills behind rows told after next other = absurd told
 asked_leads GetMask behind rows told after next other = absurd told
 asked_leads (SetMaster value) behind rows told after next other = absurd told
 asked_leads q behind rows told after next other = (told, other)
@@ -59,6 +67,7 @@ told_next : (q : Request) (behind : Then) (rows : List TableRow) → IsTold q �
     ((w : World) (b : ReadSoFar) (notes : Notes) (judged : Judged) → FitsAt w b (asks_for q behind ∷ rows) notes judged) →
     AfterCount (asks_for q behind ∷ rows)
 told_next ReadCredits behind rows told fits = absurd told
+told_next ReadBills behind rows told fits = absurd told
 told_next q behind rows told fits = fits
 
 told_leads : (qs : List Request) → Each IsTold qs → EachBefore Leads (telling qs)
@@ -76,28 +85,52 @@ told_leads (q ∷ r ∷ s ∷ qs) each = (
   told_leads (r ∷ s ∷ qs) each.1,
 )
 
+-- the rows that read the last events
+quiet_leads : (body : DeviceBody) (rows : List TableRow) → AfterReset rows →
+    Leads (asks_for (credits_request body) if_quiet) rows
+quiet_leads (Acceptor accepts values ids) rows next = next
+quiet_leads (Hopper life value) rows next = next
+quiet_leads (Bill accepts values ids) rows next = next
+
+reading_leads : (body : DeviceBody) (rows : List TableRow) → AfterCredits rows →
+    Leads (asks_for (credits_request body) goes_on) rows
+reading_leads (Acceptor accepts values ids) rows next = (tt, next)
+reading_leads (Hopper life value) rows next = (tt, next)
+reading_leads (Bill accepts values ids) rows next = (tt, next)
+
+reading_next : (body : DeviceBody) (rows : List TableRow) → AfterCount (asks_for (credits_request body) goes_on ∷ rows)
+reading_next (Acceptor accepts values ids) rows = λ w b notes judged begins shut. (begins, shut)
+reading_next (Hopper life value) rows = λ w b notes judged begins shut. (begins, shut)
+reading_next (Bill accepts values ids) rows = λ w b notes judged begins shut. (begins, shut)
+
+counting_leads : (body : DeviceBody) (rows : List TableRow) →
+    Leads (asks_for AcceptCount goes_on) (asks_for (credits_request body) goes_on ∷ rows)
+counting_leads (Acceptor accepts values ids) rows = (tt, reading_next (Acceptor accepts values ids) rows)
+counting_leads (Hopper life value) rows = (tt, reading_next (Hopper life value) rows)
+counting_leads (Bill accepts values ids) rows = (tt, reading_next (Bill accepts values ids) rows)
+
 -- the table
-pub leads : (d : DeviceSetup) (c : Command) → is_for_acceptor c ≡ true → IsCommand c → EachBefore Leads (rows_of d c)
+pub leads : (d : DeviceSetup) (c : Command) → is_for_taker c ≡ true → IsCommand c → EachBefore Leads (rows_of d c)
 leads d (command.Start addr mask) suited some = (
-  (tt, λ w b notes judged idle silent. (idle, silent)),
+  (tt, λ w b notes judged idle silent. quiet_fits d.body w b _ notes judged idle silent),
   (
-    λ w b notes judged idle silent. (idle, silent),
+    quiet_leads d.body _ (λ w b notes judged idle silent. (idle, silent)),
     ((tt, tt), ((some, tt, λ w b notes judged waits. waits), ((some, tt, tt), tt))),
   ),
 )
 leads d (command.Round addr) suited range = (
-  (tt, λ w b notes judged begins shut. (begins, shut)),
+  counting_leads d.body _,
   (
-    (tt, λ w b notes judged held still. (held, still)),
+    reading_leads d.body _ (λ w b notes judged held still. (held, still)),
     ((tt, λ w b notes judged sees still. (sees, still)), ((tt, tt), ((tt, tt), tt))),
   ),
 )
 leads d (command.Stop addr) suited range = (
-  (refl, tt, λ w b notes judged running shut. (running, shut)),
+  (refl, tt, λ w b notes judged running shut. reading_counts d.body w b _ notes running shut),
   (
-    (tt, λ w b notes judged begins shut. (begins, shut)),
+    counting_leads d.body _,
     (
-      (tt, λ w b notes judged held still. (held, still)),
+      reading_leads d.body _ (λ w b notes judged held still. (held, still)),
       (
         (tt, λ w b notes judged sees still. (sees, still)),
         ((refl, tt), (((refl, λ w b notes judged rests. rests), tt), (tt, tt))),
@@ -110,6 +143,7 @@ leads d (command.Path addr place path) suited range = (
   neutral_leads _ goes_on _ (neutral_if (place == 0) _ _ tt tt) tt,
   (neutral_leads _ (path_told place) [] (neutral_if (place == 0) _ _ tt tt) (λ number. tt), tt),
 )
+leads d (command.Route addr way) suited range = ((range, tt, tt), tt)
 leads d (command.Pay addr id count) suited range = absurd cc
 leads d (command.Settle addr) suited range = absurd cc
 leads d c suited range = search rules

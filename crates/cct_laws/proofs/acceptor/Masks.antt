@@ -1,5 +1,5 @@
--- Which inhibit mask an acceptor has while its epoch runs, by what it met since the epoch began.
-use Rattle.std.proofs.Common.{◌≡◌, ◌≢◌, ℕ, true, cond, List, [], ◌∷◌, refl, ap, sym, ◌∙◌, subst, Option, Some, None, inl, inr, eq-eqb}
+-- Which inhibit mask a device that takes money has while its epoch runs, by what it met since the epoch began.
+use Rattle.std.proofs.Common.{◌≡◌, ◌≢◌, ℕ, true, cond, List, [], ◌∷◌, ◌++◌, refl, ap, sym, ◌∙◌, subst, Option, Some, None, inl, inr, eq-eqb}
 use Rattle.std.specs.Prelude.{⊤}
 use Rattle.cct_model.specs.terms.device.DeviceSetup.{DeviceSetup}
 use Rattle.cct_model.specs.terms.request.Request.{Request}
@@ -13,18 +13,21 @@ use Rattle.cct_model.specs.lines.command.Command.{Command}
 use Rattle.cct_model.specs.lines.entry.End.{End}
 use Rattle.cct_model.specs.Reply.{Reply}
 use Rattle.cct_model.specs.History.{Met, coin, alien, reset, heard}
-use Rattle.cct_model.specs.Acceptor.{mask_of, events}
+use Rattle.cct_model.specs.Acceptor.{mask_of}
 use Rattle.cct_model.specs.Claims.{mark, base}
 use Rattle.cct_model.specs.Reading.{coins_among}
 use Rattle.cct_model.specs.terms.coin.Coin.{Coin}
-use Rattle.cct_model.specs.Device.{IsAcceptor}
+use Rattle.cct_model.specs.Device.{IsTaker}
+use Rattle.cct_model.proofs.Doses.{epoch_undosed}
+use Rattle.cct_model.specs.Transcript.{doses}
+use Rattle.cct_laws.specs.Takers.{events_of}
 use Rattle.cct_model.specs.Line.{Line, exchange, put}
 use Rattle.cct_model.specs.Order.{order}
 use Rattle.cct_model.specs.Job.{works, job, sends, puts, noted_in, epoch, counted, epoch_by, address_of, judged_in, Noted}
 use Rattle.cct_model.specs.Rows.{ends_as, TableRow, asks_for, asks_once, waits_for_coins, puts_due, row, rest, first}
 use Rattle.cct_model.specs.Script.{IsCommand}
-use Rattle.cct_laws.proofs.EitherKind.{for_acceptor}
-use Rattle.cct_laws.specs.DeviceJobs.{is_for_acceptor, Fate, unheard, silenced, answered, IsForOthers, with_ended}
+use Rattle.cct_laws.proofs.EitherKind.{for_taker}
+use Rattle.cct_laws.specs.DeviceJobs.{is_for_taker, Fate, unheard, silenced, answered, IsForOthers, with_ended}
 use Rattle.cct_laws.specs.SinceEpoch.{since_record, mask_set_in, IsMaskedBy, MayBreak, IsKeptSince}
 use Rattle.cct_model.proofs.Rows.{EachBefore}
 use Rattle.cct_laws.proofs.acceptor.World.{World, Silent, IsLive, mask_at, world}
@@ -101,7 +104,7 @@ first_asks w b addr notes judged p (puts_due due behind ∷ rows) q each fits ro
     absurd (due_sends addr judged p due q row)
 
 row_asks : (d : DeviceSetup) (past : List Met) (lines : List Line) (c : Command) (work : List Line) (q : Request) →
-    is_for_acceptor c ≡ true → IsCommand c → job lines ≡ works c work → Keeps d past lines →
+    is_for_taker c ≡ true → IsCommand c → job lines ≡ works c work → Keeps d past lines →
     row d c work (epoch lines) (order lines) ≡ sends q → Asks (epoch lines) q
 row_asks d past lines c work q suited in_range is_job keeps row_is =
     first_asks (world d past lines) (read_so_far lines) (address_of c) (notes_in work) (judged_in c work (epoch lines))
@@ -135,16 +138,31 @@ put_masked d state (record_of.EpochEnd addr) since past lines puts_it masked = t
 put_masked d state r since past lines puts_it masked = masked
 
 -- all that can come keeps it
-pub masks_kept : (d : DeviceSetup) → IsAcceptor d.body → IsKeptSince d (Masks d)
-masks_kept d accepting =
-    let kept = keeps_kept d accepting in
+pub masks_kept : (d : DeviceSetup) → IsTaker d.body → IsKeptSince d (Masks d)
+masks_kept d taking =
+    let kept = keeps_kept d taking in
     record {
       starts = record { keeps = kept.starts; masked = tt };
-      accepts = λ since past lines place low high test holds.
-          record { keeps = kept.accepts since past lines place low high test holds.keeps; masked = same_masked (epoch lines) (coin place) since past refl refl holds.masked };
-      inhibits = λ since past lines place test holds.
-          record { keeps = kept.inhibits since past lines place test holds.keeps; masked = same_masked (epoch lines) (coin place) since past refl refl holds.masked };
-      aliens = λ since past lines holds. record { keeps = kept.aliens since past lines holds.keeps; masked = same_masked (epoch lines) alien since past refl refl holds.masked };
+      accepts = λ since past lines place accepting low high test holds. record {
+        keeps = kept.accepts since past lines place accepting low high test holds.keeps;
+        masked = same_masked (epoch lines) (coin place) since past refl refl holds.masked;
+      };
+      inhibits = λ since past lines place accepting test holds. record {
+        keeps = kept.inhibits since past lines place accepting test holds.keeps;
+        masked = same_masked (epoch lines) (coin place) since past refl refl holds.masked;
+      };
+      aliens = λ since past lines accepting holds. record {
+        keeps = kept.aliens since past lines accepting holds.keeps;
+        masked = same_masked (epoch lines) alien since past refl refl holds.masked;
+      };
+      holds = λ since past lines place billing low high test holds. record {
+        keeps = kept.holds since past lines place billing low high test holds.keeps;
+        masked = same_masked (epoch lines) (coin place) since past refl refl holds.masked;
+      };
+      rejects = λ since past lines place billing test holds. record {
+        keeps = kept.rejects since past lines place billing test holds.keeps;
+        masked = same_masked (epoch lines) (coin place) since past refl refl holds.masked;
+      };
       resets = λ since past lines holds. record { keeps = kept.resets since past lines holds.keeps; masked = reset_masked (epoch lines) since past };
       elsewhere = λ since past lines asked others holds.
           record { keeps = kept.elsewhere since past lines asked others holds.keeps; masked = others_masked (epoch lines) asked since past others holds.masked };
@@ -152,20 +170,22 @@ masks_kept d accepting =
           record { keeps = kept.takes since past lines c is_free here known played is_taken holds.keeps; masked = holds.masked };
       asks = λ since past lines c work q asked got at_work is_row fate holds. record {
         keeps = kept.asks since past lines c work q asked got at_work is_row fate holds.keeps;
-        masked = with_ended_masked _ (exchange (Some q) got ∷ lines) (heard asked ∷ since) (heard asked ∷ past)
-            (fate_masked d (epoch lines) q asked got since past (row_asks d past lines c work q (for_acceptor d.body c accepting at_work.suited) at_work.in_range at_work.job_is holds.keeps is_row) fate holds.masked);
+        masked = with_ended_masked _ (exchange (Some q) got ∷ doses d.body d.serial past asked ++ lines) (heard asked ∷ since) (heard asked ∷ past)
+            (subst (λ state. MaskedIn state (heard asked ∷ since) (heard asked ∷ past))
+            (sym (epoch_undosed d.body d.serial past asked lines))
+            (fate_masked d (epoch lines) q asked got since past (row_asks d past lines c work q (for_taker d.body c taking at_work.suited) at_work.in_range at_work.job_is holds.keeps is_row) fate holds.masked));
       };
       restarts = λ since past lines holds. record { keeps = kept.restarts since past lines holds.keeps; masked = holds.masked };
       keeps = λ since past lines c work r at_work is_row holds. record {
         keeps = kept.keeps since past lines c work r at_work is_row holds.keeps;
         masked = put_masked d (epoch lines) r since past lines
-            (row_puts d past lines c work r (for_acceptor d.body c accepting at_work.suited) at_work.in_range at_work.job_is at_work.is_here
+            (row_puts d past lines c work r (for_taker d.body c taking at_work.suited) at_work.in_range at_work.job_is at_work.is_here
             is_row holds.keeps) holds.masked;
       };
       puts = λ since past lines c work r at_work is_row holds. record {
         keeps = kept.puts since past lines c work r at_work is_row holds.keeps;
         masked = with_ended_masked _ (put r ∷ lines) (since_record d r since) past
-            (put_masked d (epoch lines) r since past lines (row_puts d past lines c work r (for_acceptor d.body c accepting at_work.suited) at_work.in_range at_work.job_is at_work.is_here is_row holds.keeps) holds.masked);
+            (put_masked d (epoch lines) r since past lines (row_puts d past lines c work r (for_taker d.body c taking at_work.suited) at_work.in_range at_work.job_is at_work.is_here is_row holds.keeps) holds.masked);
       };
     }
 
@@ -182,7 +202,7 @@ live_silent : (w : World) (mask : ℕ) → mask ≢ 0 → mask_at w ≡ 0 → Is
 live_silent w mask some none (inl set) = absurd (some (sym set ∙ none))
 live_silent w mask some none (inr silent) = silent
 
-pub masks_silent : (d : DeviceSetup) (since past : List Met) (lines : List Line) (mask counter accepts : ℕ) → epoch lines ≡ Running mask counter accepts → mask_set_in since ≡ None → Masks d since past lines → coins_among (events past) ≡ []
+pub masks_silent : (d : DeviceSetup) (since past : List Met) (lines : List Line) (mask counter accepts : ℕ) → epoch lines ≡ Running mask counter accepts → mask_set_in since ≡ None → Masks d since past lines → coins_among (events_of d.body past) ≡ []
 masks_silent d since past lines mask counter accepts running none holds =
     let w = world d past lines in
     let runs = subst (StateOf w (mark lines) (base lines)) running holds.keeps.sound.state in
@@ -206,7 +226,7 @@ unset_cause (m ∷ since) none = unset_cause since none
 
 -- a job that has a break to put
 pub masks_break : (d : DeviceSetup) (since past : List Met) (lines : List Line) (c : Command) (work : List Line)
-    (addr seen counter lost accepts : ℕ) (posted : List Coin) → is_for_acceptor c ≡ true → IsCommand c → job lines ≡ works c work → address_of c ≡ d.addr →
+    (addr seen counter lost accepts : ℕ) (posted : List Coin) → is_for_taker c ≡ true → IsCommand c → job lines ≡ works c work → address_of c ≡ d.addr →
     row d c work (epoch lines) (order lines) ≡ puts (record_of.Broken addr seen counter lost accepts posted) → Masks d since past lines → MayBreak since
 masks_break d since past lines c work addr seen counter lost accepts posted suited in_range is_job here is_row holds =
     let puts_it = row_puts d past lines c work (record_of.Broken addr seen counter lost accepts posted) suited in_range is_job here is_row holds.keeps in

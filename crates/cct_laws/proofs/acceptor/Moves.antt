@@ -1,10 +1,10 @@
--- What holds of an acceptor after every step, and how objects, commands, ends and exchanges keep it.
-use Rattle.std.proofs.Common.{◌≡◌, ℕ, suc, ◌≤◌, cond, true, false, List, ◌∷◌, length, refl, sym, subst, Option, Some, None, arith, rules, [], ◌==◌, Bool}
+-- What holds of a device that takes money after every step, and how objects, commands, ends and exchanges keep it.
+use Rattle.std.proofs.Common.{◌≡◌, ◌≢◌, ◌∙◌, ℕ, ◌≤◌, cond, true, false, List, ◌∷◌, length, refl, sym, subst, Option, Some, None, arith, rules, [], ◌==◌, Bool}
 use Rattle.std.specs.Prelude.{⊤}
 use Rattle.cct_model.specs.terms.coin.Coin.{Coin}
 use Rattle.cct_model.specs.terms.device.DeviceSetup.{DeviceSetup}
 use Rattle.cct_model.specs.terms.request.Request.{Request}
-use Rattle.cct_model.specs.terms.request.Request.TheVariants.{ResetDevice, SetMask, SetMaster, SetPath, SetDefault, ReadCredits, GetMask, AcceptCount}
+use Rattle.cct_model.specs.terms.request.Request.TheVariants.{ResetDevice, SetMask, SetMaster, SetPath, SetDefault, ReadCredits, ReadBills, GetMask, AcceptCount, RouteBill}
 use Rattle.cct_model.specs.lines.record.Record.{Record}
 use Rattle.cct_model.specs.declared.judging.EpochState.{EpochState}
 use Rattle.cct_model.specs.declared.judging.EpochState.TheVariants.{Idle, Running}
@@ -15,37 +15,41 @@ use Rattle.cct_model.specs.lines.entry.End.TheVariants.{Clean, Moved}
 use Rattle.cct_model.specs.Reply.{Reply}
 use Rattle.cct_model.specs.History.{Met, heard}
 use Rattle.cct_model.specs.History as met
-use Rattle.cct_model.specs.Acceptor.{accepts, accepted_coins, path_of}
-use Rattle.cct_model.specs.Device.{reply_of}
+use Rattle.cct_model.specs.Acceptor.{accepts, path_of}
+use Rattle.cct_model.specs.Bill.{holds}
+use Rattle.cct_model.specs.Device.{IsAcceptor, IsBill, reply_of}
 use Rattle.cct_model.specs.Line.{Line, accepted, inhibited, exchange, taken, ended}
 use Rattle.cct_model.specs.Line as line
-use Rattle.cct_model.specs.Job.{works, job, with_line, epoch, judged_in, sends, puts, ident_requests}
-use Rattle.cct_model.specs.Rows.{Then, TableRow, asks_for, telling, rows_of, end_of, end_answered, ends_first, after, rest, left, sent_once}
+use Rattle.cct_model.specs.Job.{works, job, with_line, epoch, judged_in, sends, puts, credits_request, ident_requests}
+use Rattle.cct_model.specs.Rows.{Then, goes_on, if_quiet, TableRow, asks_for, telling, rows_of, end_of, end_answered, ends_first, after, rest, left, sent_once}
 use Rattle.cct_model.proofs.Requests.{Each}
 use Rattle.cct_model.proofs.Rows.{IfEnd, EachRow, BareEnds, each_told, failed_end, after_none, ended_leaves}
 use Rattle.cct_model.specs.terms.device.DeviceBody.{DeviceBody}
-use Rattle.cct_model.specs.terms.device.DeviceBody.TheVariants.{Acceptor, Hopper}
+use Rattle.cct_model.specs.terms.device.DeviceBody.TheVariants.{Acceptor, Bill, Hopper}
 use Rattle.cct_model.specs.declared.judging.Judged.{Judged}
 use Rattle.cct_model.specs.declared.judging.Judged.TheVariants.{Nothing}
 use Rattle.cct_model.specs.Refusal.{start_refusal, running_refusal}
 use Rattle.cct_model.specs.Claims.{AllPast, coins, mark, base, OrderAt, CoverAt, Near, PaceAt, InOrder, Covers, Pace}
 use Rattle.cct_laws.specs.Moving.{MovedAt, NoStopMovesAt}
-use Rattle.cct_laws.specs.DeviceJobs.{is_for_acceptor, Fate, unheard, silenced, answered, with_ended, IsTaken}
-use Rattle.cct_laws.proofs.acceptor.World.{World, world, On, on_coin, on_piece, on_reset, on_master, on_path, on_default, on_nothing}
-use Rattle.cct_laws.proofs.acceptor.Fits.{ReadSoFar, read_so_far, Notes, notes_in, StateOf, IsIdle, IsRunning, CountsAt, FitsAt, Fits, state_on, at_on, fits_on}
+use Rattle.cct_laws.specs.SinceEpoch.{InEpochAt}
+use Rattle.cct_laws.specs.DeviceJobs.{is_for_taker, Fate, unheard, silenced, answered, with_ended, IsTaken}
+use Rattle.cct_laws.proofs.acceptor.World.{World, world, Shut, Silent, Tells, On, IsUnrouted, after_heard, world_heard, on_reset, on_master, on_path, on_default, on_nothing}
+use Rattle.cct_laws.proofs.acceptor.Kinds.{on_accepted, on_inhibited, on_alien, on_holding, on_rejecting, on_resetting}
+use Rattle.cct_laws.proofs.acceptor.Fits.{ReadSoFar, read_so_far, Notes, notes_in, StateOf, IsIdle, IsRunning, IfOver, ends_epoch, CountsAt, FitsAt, Fits, state_on, at_on, fits_on}
 use Rattle.cct_model.proofs.RowEnds.{failed_stays}
 
--- an end by which a reading has to be made again met a coin, and is none of a stop
-abbrev pub MovesWell : List Line → Line → Type 0
-MovesWell past (ended Moved) = MovedAt past (ended Moved) × NoStopMovesAt past (ended Moved)
-MovesWell past line = ⊤
+-- an end by which a reading has to be made again met a coin, and is none of a stop; and what is accepted is so in an epoch
+abbrev pub StandsWell : List Line → Line → Type 0
+StandsWell past (ended Moved) = MovedAt past (ended Moved) × NoStopMovesAt past (ended Moved)
+StandsWell past (accepted coin) = InEpochAt past (accepted coin)
+StandsWell past line = ⊤
 
 -- what holds after every line
 pub record Sound (d : DeviceSetup) (past : List Met) (lines : List Line) : Type 0 where
   pub in_order : InOrder lines
   pub covers : Pace lines → Covers lines
-  pub moves : AllPast MovesWell lines
-  pub told : accepted_coins past ≡ length (coins lines)
+  pub well : AllPast StandsWell lines
+  pub told : Tells (world d past lines)
   pub marked : mark lines ≤ length (coins lines)
   pub state : StateOf (world d past lines) (mark lines) (base lines) (epoch lines)
 
@@ -56,14 +60,14 @@ pub record Keeps (d : DeviceSetup) (past : List Met) (lines : List Line) : Type 
 
 -- what a line has to show
 pub sound_line : (d : DeviceSetup) (past now : List Met) (lines : List Line) (line : Line) → OrderAt lines line →
-    (PaceAt lines line → CoverAt lines line) → MovesWell lines line →
-    accepted_coins now ≡ length (coins (line ∷ lines)) → mark (line ∷ lines) ≤ length (coins (line ∷ lines)) →
+    (PaceAt lines line → CoverAt lines line) → StandsWell lines line →
+    Tells (world d now (line ∷ lines)) → mark (line ∷ lines) ≤ length (coins (line ∷ lines)) →
     StateOf (world d now (line ∷ lines)) (mark (line ∷ lines)) (base (line ∷ lines)) (epoch (line ∷ lines)) →
     Sound d past lines → Sound d now (line ∷ lines)
-sound_line d past now lines line order cover moved told marked state sound = record {
+sound_line d past now lines line order cover well told marked state sound = record {
   in_order = (order, sound.in_order);
   covers = λ pace. (cover pace.0, sound.covers pace.1);
-  moves = (moved, sound.moves);
+  well = (well, sound.well);
   told = told;
   marked = marked;
   state = state;
@@ -79,47 +83,100 @@ near_of (line ∷ lines) pace = pace.0
 record IsPiece (lines : List Line) (line : Line) : Type 0 where
   orders : OrderAt lines line
   covers : CoverAt lines line
-  moves : MovesWell lines line
+  well : StandsWell lines line
   book_stays : read_so_far (line ∷ lines) ≡ read_so_far lines
   job_stays : job (line ∷ lines) ≡ job lines
 
-keeps_piece : (d : DeviceSetup) (past now : List Met) (lines : List Line) (line : Line) → IsPiece lines line → On (world d past lines) (world d now (line ∷ lines)) → Keeps d past lines → Keeps d now (line ∷ lines)
+keeps_piece : (d : DeviceSetup) (past now : List Met) (lines : List Line) (line : Line) → IsPiece lines line →
+    On (world d past lines) (world d now (line ∷ lines)) → Keeps d past lines → Keeps d now (line ∷ lines)
 keeps_piece d past now lines line piece on keeps =
     let v = world d now (line ∷ lines) in
     let same = sym piece.book_stays in
     let state = state_on (world d past lines) v (mark lines) (base lines) (epoch lines) on keeps.sound.state in
     let fits = fits_on d (world d past lines) v (read_so_far lines) (job lines) on keeps.fits in
     record {
-      sound = sound_line d past now lines line piece.orders (λ _. piece.covers) piece.moves (on.told keeps.sound.told)
-          (subst (λ (b : ReadSoFar). b.mark ≤ length (coins (line ∷ lines))) same (omega (arith, keeps.sound.marked, on.longer)))
+      sound = sound_line d past now lines line piece.orders (λ _. piece.covers) piece.well (on.goes.told keeps.sound.told)
+          (subst (λ (b : ReadSoFar). b.mark ≤ length (coins (line ∷ lines))) same
+          (omega (arith, keeps.sound.marked, on.goes.longer)))
           (subst (λ (b : ReadSoFar). StateOf v b.mark b.base b.epoch) same state) keeps.sound;
       fits = subst (Fits d v (read_so_far (line ∷ lines))) (sym piece.job_stays) (subst (λ (b : ReadSoFar). Fits d v b (job lines)) same fits);
     }
 
-pub keeps_accepted : (d : DeviceSetup) (past : List Met) (lines : List Line) (place : ℕ) → 1 ≤ place → accepts past place ≡ true →
-    Keeps d past lines → Keeps d (met.coin place ∷ past) (accepted (record { place = place; path = path_of past place }) ∷ lines)
-keeps_accepted d past lines place has_place is keeps =
-    let w = world d past lines in
+-- an acceptor that lets a coin in has an epoch that runs
+lets_in_runs : (d : DeviceSetup) (past : List Met) (lines : List Line) (state : EpochState) (place : ℕ) →
+    accepts past place ≡ true → StateOf (world d past lines) (mark lines) (base lines) state → IsRunning state
+lets_in_runs d past lines Idle place is rests = absurd (clash (sym is ∙ rests.shut place))
+  where
+    clash : true ≡ false → ⊥
+    clash e = cc
+lets_in_runs d past lines (Running mask counter accepts) place is runs = tt
+
+pub runs_not_idle : (state : EpochState) → IsRunning state → state ≢ Idle
+runs_not_idle Idle running is = running
+runs_not_idle (Running mask counter accepts) running is = absurd cc
+
+pub keeps_accepted : (d : DeviceSetup) (past : List Met) (lines : List Line) (place : ℕ) → IsAcceptor d.body → 1 ≤ place →
+    accepts past place ≡ true → Keeps d past lines →
+    Keeps d (met.coin place ∷ past) (accepted (record { place = place; path = path_of past place }) ∷ lines)
+keeps_accepted d past lines place accepting has_place is keeps =
     let coin : Coin = record { place = place; path = path_of past place } in
-    let on = subst (λ b. On w (record { events = cond b (record { a = place; b = path_of past place }) (record { a = 0; b = 2 }) ∷ w.events; settings = w.settings; coins = coin ∷ w.coins; start = w.start; accepted = cond b (suc w.accepted) w.accepted }))
-    (sym is) (on_coin w coin has_place is) in
-    keeps_piece d past (met.coin place ∷ past) lines (accepted coin) (record { orders = tt; covers = tt; moves = tt; book_stays = refl; job_stays = refl }) on keeps
+    keeps_piece d past (met.coin place ∷ past) lines (accepted coin)
+    (record {
+      orders = tt;
+      covers = tt;
+      well = runs_not_idle (epoch lines) (lets_in_runs d past lines (epoch lines) place is keeps.sound.state);
+      book_stays = refl;
+      job_stays = refl;
+    })
+    (on_accepted d.body past lines place accepting has_place is) keeps
 
-pub keeps_inhibited : (d : DeviceSetup) (past : List Met) (lines : List Line) (place : ℕ) → accepts past place ≡ false →
-    Keeps d past lines → Keeps d (met.coin place ∷ past) (inhibited place ∷ lines)
-keeps_inhibited d past lines place is keeps =
-    let w = world d past lines in
-    let on = subst (λ b. On w (record { events = cond b (record { a = place; b = path_of past place }) (record { a = 0; b = 2 }) ∷ w.events; settings = w.settings; coins = w.coins; start = w.start; accepted = cond b (suc w.accepted) w.accepted }))
-    (sym is) (on_piece w 2) in
-    keeps_piece d past (met.coin place ∷ past) lines (inhibited place) (record { orders = tt; covers = tt; moves = tt; book_stays = refl; job_stays = refl }) on keeps
+pub keeps_inhibited : (d : DeviceSetup) (past : List Met) (lines : List Line) (place : ℕ) → IsAcceptor d.body →
+    accepts past place ≡ false → Keeps d past lines → Keeps d (met.coin place ∷ past) (inhibited place ∷ lines)
+keeps_inhibited d past lines place accepting is keeps =
+    keeps_piece d past (met.coin place ∷ past) lines (inhibited place)
+    (record { orders = tt; covers = tt; well = tt; book_stays = refl; job_stays = refl })
+    (on_inhibited d.body past lines place accepting is) keeps
 
-pub keeps_alien : (d : DeviceSetup) (past : List Met) (lines : List Line) → Keeps d past lines → Keeps d (met.alien ∷ past) (line.alien ∷ lines)
-keeps_alien d past lines keeps =
-    keeps_piece d past (met.alien ∷ past) lines line.alien (record { orders = tt; covers = tt; moves = tt; book_stays = refl; job_stays = refl }) (on_piece (world d past lines) 1) keeps
+pub keeps_alien : (d : DeviceSetup) (past : List Met) (lines : List Line) → IsAcceptor d.body → Keeps d past lines →
+    Keeps d (met.alien ∷ past) (line.alien ∷ lines)
+keeps_alien d past lines accepting keeps =
+    keeps_piece d past (met.alien ∷ past) lines line.alien
+    (record { orders = tt; covers = tt; well = tt; book_stays = refl; job_stays = refl })
+    (on_alien d.body past lines accepting) keeps
 
-pub keeps_reset : (d : DeviceSetup) (past : List Met) (lines : List Line) → Keeps d past lines → Keeps d (met.reset ∷ past) (line.reset ∷ lines)
+pub keeps_reset : (d : DeviceSetup) (past : List Met) (lines : List Line) → Keeps d past lines →
+    Keeps d (met.reset ∷ past) (line.reset ∷ lines)
 keeps_reset d past lines keeps =
-    keeps_piece d past (met.reset ∷ past) lines line.reset (record { orders = tt; covers = tt; moves = tt; book_stays = refl; job_stays = refl }) (on_reset (world d past lines)) keeps
+    keeps_piece d past (met.reset ∷ past) lines line.reset
+    (record { orders = tt; covers = tt; well = tt; book_stays = refl; job_stays = refl })
+    (on_resetting d.body past lines) keeps
+
+-- a bill is put in: it is given back, or it is held, which no line tells
+pub keeps_rejecting : (d : DeviceSetup) (past : List Met) (lines : List Line) (place : ℕ) → IsBill d.body →
+    holds past place ≡ false → Keeps d past lines → Keeps d (met.coin place ∷ past) (inhibited place ∷ lines)
+keeps_rejecting d past lines place billing is keeps =
+    keeps_piece d past (met.coin place ∷ past) lines (inhibited place)
+    (record { orders = tt; covers = tt; well = tt; book_stays = refl; job_stays = refl })
+    (on_rejecting d.body past lines place billing is) keeps
+
+pub keeps_moved_on : (d : DeviceSetup) (past now : List Met) (lines : List Line) →
+    On (world d past lines) (world d now lines) → Keeps d past lines → Keeps d now lines
+keeps_moved_on d past now lines on keeps = record {
+  sound = record {
+    in_order = keeps.sound.in_order;
+    covers = keeps.sound.covers;
+    well = keeps.sound.well;
+    told = on.goes.told keeps.sound.told;
+    marked = keeps.sound.marked;
+    state = state_on (world d past lines) (world d now lines) (mark lines) (base lines) (epoch lines) on keeps.sound.state;
+  };
+  fits = fits_on d (world d past lines) (world d now lines) (read_so_far lines) (job lines) on keeps.fits;
+}
+
+pub keeps_holding : (d : DeviceSetup) (past : List Met) (lines : List Line) (place : ℕ) → IsBill d.body → 1 ≤ place →
+    holds past place ≡ true → Keeps d past lines → Keeps d (met.coin place ∷ past) lines
+keeps_holding d past lines place billing has_place is keeps =
+    keeps_moved_on d past (met.coin place ∷ past) lines (on_holding d.body past lines place billing has_place is) keeps
 
 -- the end of a job
 
@@ -159,10 +216,12 @@ running_taken (Running mask counter accepts) fine = tt
 abbrev pub IsNeutral : Request → Type 0
 IsNeutral ResetDevice = ⊥
 IsNeutral ReadCredits = ⊥
+IsNeutral ReadBills = ⊥
 IsNeutral GetMask = ⊥
 IsNeutral AcceptCount = ⊥
 IsNeutral (SetMaster value) = ⊥
 IsNeutral (SetMask mask) = ⊥
+IsNeutral (RouteBill way) = ⊥
 IsNeutral q = ⊤
 
 pub neutral_if : (b : Bool) (q r : Request) → IsNeutral q → IsNeutral r → IsNeutral (cond b q r)
@@ -177,12 +236,14 @@ IsTold q = IsNeutral q
 pub ident_told : (body : DeviceBody) → Each IsTold (ident_requests body)
 ident_told (Acceptor accepts values ids) = search rules
 ident_told (Hopper life value) = search rules
+ident_told (Bill accepts values ids) = search rules
 
 neutral_fits : (w : World) (b : ReadSoFar) (q : Request) (behind : Then) (rows : List TableRow) (notes : Notes)
     (judged : Judged) → IsNeutral q → FitsAt w b rows notes judged →
     FitsAt w b (asks_for q behind ∷ rows) notes judged
 neutral_fits w b ResetDevice behind rows notes judged neutral fits = absurd neutral
 neutral_fits w b ReadCredits behind rows notes judged neutral fits = absurd neutral
+neutral_fits w b ReadBills behind rows notes judged neutral fits = absurd neutral
 neutral_fits w b GetMask behind rows notes judged neutral fits = absurd neutral
 neutral_fits w b AcceptCount behind rows notes judged neutral fits = absurd neutral
 neutral_fits w b (SetMaster value) behind rows notes judged neutral fits = absurd neutral
@@ -192,6 +253,7 @@ neutral_fits w b q behind rows notes judged neutral fits = fits
 told_counts : (w : World) (b : ReadSoFar) (q : Request) (behind : Then) (rows : List TableRow) (notes : Notes) →
     IsTold q → CountsAt w b (asks_for q behind ∷ rows) notes
 told_counts w b ReadCredits behind rows notes told = absurd told
+told_counts w b ReadBills behind rows notes told = absurd told
 told_counts w b q behind rows notes told = tt
 
 asked_fits : (w : World) (b : ReadSoFar) (q : Request) (behind : Then) (rows : List TableRow) (notes : Notes)
@@ -200,6 +262,7 @@ asked_fits : (w : World) (b : ReadSoFar) (q : Request) (behind : Then) (rows : L
 asked_fits w b AcceptCount behind rows notes judged told counts fits = counts
 asked_fits w b ResetDevice behind rows notes judged told counts fits = absurd told
 asked_fits w b ReadCredits behind rows notes judged told counts fits = absurd told
+asked_fits w b ReadBills behind rows notes judged told counts fits = absurd told
 asked_fits w b GetMask behind rows notes judged told counts fits = absurd told
 asked_fits w b (SetMaster value) behind rows notes judged told counts fits = absurd told
 asked_fits w b q behind rows notes judged told counts fits = fits
@@ -215,16 +278,32 @@ told_fits w b (q ∷ r ∷ s ∷ qs) notes judged each =
     asked_fits w b q _ (telling (r ∷ s ∷ qs)) notes judged each.0
     (told_counts w b r _ (telling (s ∷ qs)) notes each.1.0) (told_fits w b (r ∷ s ∷ qs) notes judged each.1)
 
-begun_fits : (d : DeviceSetup) (w : World) (b : ReadSoFar) (c : Command) → is_for_acceptor c ≡ true → IsTaken d c b.epoch →
+-- the rows that read the last events, of a device of a kind
+pub quiet_fits : (body : DeviceBody) (w : World) (b : ReadSoFar) (rows : List TableRow) (notes : Notes) (judged : Judged) →
+    IsIdle b.epoch → Silent w → FitsAt w b (asks_for (credits_request body) if_quiet ∷ rows) notes judged
+quiet_fits (Acceptor accepts values ids) w b rows notes judged idle silent = (idle, silent)
+quiet_fits (Hopper life value) w b rows notes judged idle silent = (idle, silent)
+quiet_fits (Bill accepts values ids) w b rows notes judged idle silent = (idle, silent)
+
+pub reading_counts : (body : DeviceBody) (w : World) (b : ReadSoFar) (rows : List TableRow) (notes : Notes) →
+    IsRunning b.epoch → IfOver (ends_epoch rows) (Shut w) →
+    CountsAt w b (asks_for (credits_request body) goes_on ∷ rows) notes
+reading_counts (Acceptor accepts values ids) w b rows notes running shut = (running, shut)
+reading_counts (Hopper life value) w b rows notes running shut = (running, shut)
+reading_counts (Bill accepts values ids) w b rows notes running shut = (running, shut)
+
+begun_fits : (d : DeviceSetup) (w : World) (b : ReadSoFar) (c : Command) → is_for_taker c ≡ true → IsTaken d c b.epoch →
     FitsAt w b (rows_of d c) (notes_in []) Nothing
 begun_fits d w b (command.Start addr mask) played fine = idle_taken mask d b.epoch fine
-begun_fits d w b (command.Round addr) played fine = (running_taken b.epoch fine, tt)
+begun_fits d w b (command.Round addr) played fine =
+    reading_counts d.body w b _ (notes_in []) (running_taken b.epoch fine) tt
 begun_fits d w b (command.Stop addr) played fine = running_taken b.epoch fine
 begun_fits d w b (command.Ident addr) played fine =
     told_fits w b (ident_requests d.body) (notes_in []) Nothing (ident_told d.body)
 begun_fits d w b (command.Path addr place path) played fine =
     neutral_fits w b _ _ _ (notes_in []) Nothing (neutral_if (place == 0) _ _ tt tt)
     (neutral_fits w b _ _ _ (notes_in []) Nothing (neutral_if (place == 0) _ _ tt tt) tt)
+begun_fits d w b (command.Route addr way) played fine = running_taken b.epoch fine
 begun_fits d w b (command.Pay addr id count) played fine = absurd cc
 begun_fits d w b (command.Settle addr) played fine = absurd cc
 begun_fits d w b c played fine = search rules
@@ -233,18 +312,18 @@ judged_none : (c : Command) (state : EpochState) → judged_in c [] state ≡ No
 judged_none c Idle = refl
 judged_none c (Running mask counter accepts) = refl
 
-begins_fits : (d : DeviceSetup) (w : World) (b : ReadSoFar) (c : Command) → is_for_acceptor c ≡ true →
+begins_fits : (d : DeviceSetup) (w : World) (b : ReadSoFar) (c : Command) → is_for_taker c ≡ true →
     IsTaken d c b.epoch → Fits d w b (works c [])
 begins_fits d w b c played fine =
     subst (λ judged. FitsAt w b (after (rows_of d c) 0) (notes_in []) judged) (sym (judged_none c b.epoch))
     (subst (λ rows. FitsAt w b rows (notes_in []) Nothing) (sym (after_none (rows_of d c))) (begun_fits d w b c played fine))
 
-taken_fits : (d : DeviceSetup) (w : World) (lines : List Line) (c : Command) → is_for_acceptor c ≡ true →
+taken_fits : (d : DeviceSetup) (w : World) (lines : List Line) (c : Command) → is_for_taker c ≡ true →
     IsTaken d c (epoch lines) → Fits d w (read_so_far lines) (job (taken c ∷ lines))
 taken_fits d w lines (command.Halt addr) played fine = absurd cc
 taken_fits d w lines c played fine = begins_fits d w (read_so_far lines) c played fine
 
-pub keeps_taken : (d : DeviceSetup) (past : List Met) (lines : List Line) (c : Command) → is_for_acceptor c ≡ true → IsTaken d c (epoch lines) →
+pub keeps_taken : (d : DeviceSetup) (past : List Met) (lines : List Line) (c : Command) → is_for_taker c ≡ true → IsTaken d c (epoch lines) →
     Keeps d past lines → Keeps d past (taken c ∷ lines)
 keeps_taken d past lines c played fine keeps = record {
   sound = sound_line d past past lines (taken c) tt (λ _. tt) tt keeps.sound.told keeps.sound.marked keeps.sound.state
@@ -257,7 +336,7 @@ keeps_taken d past lines c played fine keeps = record {
 pub sound_exchange : (d : DeviceSetup) (past now : List Met) (lines : List Line) (asked : Option Request) (got : Option Reply) → On (world d past lines) (world d now lines) →
     Sound d past lines → Sound d now (exchange asked got ∷ lines)
 sound_exchange d past now lines asked got on sound =
-    sound_line d past now lines (exchange asked got) tt (λ _. tt) tt (on.told sound.told) sound.marked
+    sound_line d past now lines (exchange asked got) tt (λ _. tt) tt (on.goes.told sound.told) sound.marked
     (state_on (world d past lines) (world d now lines) (mark lines) (base lines) (epoch lines) on sound.state) sound
 
 -- what a job needs after an exchange
@@ -293,6 +372,7 @@ unanswered_fits : (d : DeviceSetup) (now : List Met) (lines : List Line) (c : Co
     FitsAt (world d now lines) (read_so_far lines) (rest d c (exchange (Some q) None ∷ since)) (notes_in since) (judged_in c since (epoch lines)) →
     FitsBehind d now (exchange (Some q) None ∷ lines) c (exchange (Some q) None ∷ since)
 unanswered_fits d now lines c since ReadCredits fits = fits
+unanswered_fits d now lines c since ReadBills fits = fits
 unanswered_fits d now lines c since GetMask fits = fits
 unanswered_fits d now lines c since AcceptCount fits = fits
 unanswered_fits d now lines c since q fits = fits
@@ -308,26 +388,43 @@ keeps_failed d past now lines c since q again is_job on keeps =
     keeps_with_ended d now (line ∷ lines) _ (failure_other d c q since (epoch lines))
     (keeps_exchange d past now lines c since (Some q) None is_job on keeps.sound (unanswered_fits d now lines c since q stays))
 
--- a request that opens no place
+-- a request that opens no place, and routes no bill
 abbrev pub IsMild : Request → Type 0
 IsMild (SetMask mask) = ⊥
 IsMild (SetMaster value) = value ≡ 0
+IsMild (RouteBill way) = ⊥
 IsMild q = ⊤
 
-pub on_heard : (d : DeviceSetup) (past : List Met) (lines : List Line) (q : Request) → IsMild q → On (world d past lines) (world d (heard (Some q) ∷ past) lines)
-on_heard d past lines ResetDevice mild = on_reset (world d past lines)
-on_heard d past lines (SetMask mask) mild = absurd mild
-on_heard d past lines (SetMaster value) mild = subst (λ n. On (world d past lines) (world d (heard (Some (SetMaster n)) ∷ past) lines)) (sym mild) (on_master (world d past lines))
-on_heard d past lines (SetPath place path) mild = on_path (world d past lines) place path
-on_heard d past lines (SetDefault path) mild = on_default (world d past lines) path
-on_heard d past lines q mild = on_nothing (world d past lines)
+pub mild_unrouted : (q : Request) → IsMild q → IsUnrouted (Some q)
+mild_unrouted (RouteBill way) mild = mild
+mild_unrouted q mild = tt
+
+pub on_after : (w : World) (q : Request) → IsMild q → On w (after_heard w (Some q))
+on_after w ResetDevice mild = on_reset w
+on_after w (SetMask mask) mild = absurd mild
+on_after w (SetMaster value) mild = subst (λ n. On w (after_heard w (Some (SetMaster n)))) (sym mild) (on_master w)
+on_after w (SetPath place path) mild = on_path w place path
+on_after w (SetDefault path) mild = on_default w path
+on_after w (RouteBill way) mild = absurd mild
+on_after w q mild = on_nothing w
+
+pub on_heard : (d : DeviceSetup) (past : List Met) (lines : List Line) (q : Request) → IsMild q →
+    On (world d past lines) (world d (heard (Some q) ∷ past) lines)
+on_heard d past lines q mild =
+    subst (On (world d past lines)) (sym (world_heard d.body past lines (Some q) (mild_unrouted q mild)))
+    (on_after (world d past lines) q mild)
+
+pub on_unheard : (d : DeviceSetup) (past : List Met) (lines : List Line) →
+    On (world d past lines) (world d (heard None ∷ past) lines)
+on_unheard d past lines =
+    subst (On (world d past lines)) (sym (world_heard d.body past lines None tt)) (on_nothing (world d past lines))
 
 -- so what is left to show is what the reply brings
 pub by_fate : (d : DeviceSetup) (past : List Met) (lines : List Line) (c : Command) (since : List Line) (q : Request) (asked : Option Request) (got : Option Reply) →
     sent_once (rest d c since) ≡ false → IsMild q → job lines ≡ works c since → Keeps d past lines →
     ((y : Reply) → reply_of d past q ≡ Some y → KeepsAsk d past lines c since q (Some q) (Some y)) → Fate d past q asked got → KeepsAsk d past lines c since q asked got
 by_fate d past lines c since q asked got again mild is_job keeps replied unheard =
-    keeps_failed d past (heard None ∷ past) lines c since q again is_job (on_nothing (world d past lines)) keeps
+    keeps_failed d past (heard None ∷ past) lines c since q again is_job (on_unheard d past lines) keeps
 by_fate d past lines c since q asked got again mild is_job keeps replied silenced =
     keeps_failed d past (heard (Some q) ∷ past) lines c since q again is_job (on_heard d past lines q mild) keeps
 by_fate d past lines c since q asked got again mild is_job keeps replied (answered y gives) = replied y gives
@@ -340,7 +437,18 @@ pub record AtRows (d : DeviceSetup) (past : List Met) (lines : List Line) (c : C
   pub left_is : left d c since (epoch lines) ≡ rows
   pub keeps : Keeps d past lines
 
--- an answer to the first of them brings its end
+-- an answer to the first of them brings its end, whatever the lines are then
+pub answered_over : (d : DeviceSetup) (past : List Met) (lines : List Line) (c : Command) (since : List Line)
+    (rows : List TableRow) (q : Request) (y : Reply) (more : List Line) → AtRows d past lines c since rows →
+    Keeps d (heard (Some q) ∷ past)
+    (with_ended (end_answered rows y (judged_in c (exchange (Some q) (Some y) ∷ since) (epoch lines))) more) →
+    Keeps d (heard (Some q) ∷ past)
+    (with_ended (end_of d c (exchange (Some q) (Some y)) since (epoch lines)) more)
+answered_over d past lines c since rows q y more at keeps =
+    subst (λ first_rows. Keeps d (heard (Some q) ∷ past)
+    (with_ended (end_answered first_rows y (judged_in c (exchange (Some q) (Some y) ∷ since) (epoch lines))) more))
+    (sym at.left_is) keeps
+
 pub answered_at : (d : DeviceSetup) (past : List Met) (lines : List Line) (c : Command) (since : List Line)
     (rows : List TableRow) (q : Request) (y : Reply) → AtRows d past lines c since rows →
     Keeps d (heard (Some q) ∷ past)
@@ -348,25 +456,26 @@ pub answered_at : (d : DeviceSetup) (past : List Met) (lines : List Line) (c : C
     (exchange (Some q) (Some y) ∷ lines)) →
     KeepsAsk d past lines c since q (Some q) (Some y)
 answered_at d past lines c since rows q y at keeps =
-    let line = exchange (Some q) (Some y) in
-    subst (λ first_rows. Keeps d (heard (Some q) ∷ past)
-    (with_ended (end_answered first_rows y (judged_in c (line ∷ since) (epoch lines))) (line ∷ lines))) (sym at.left_is)
-    keeps
+    answered_over d past lines c since rows q y (exchange (Some q) (Some y) ∷ lines) at keeps
 
 -- and leaves those after it
 pub next_at : (d : DeviceSetup) (past : List Met) (lines : List Line) (c : Command) (since : List Line) (r : TableRow)
     (rows : List TableRow) (q : Request) (y : Reply) → AtRows d past lines c since (r ∷ rows) →
-    ends_first (r ∷ rows) (Some y) ≡ true → On (world d past lines) (world d (heard (Some q) ∷ past) lines) →
-    FitsAt (world d (heard (Some q) ∷ past) lines) (read_so_far (exchange (Some q) (Some y) ∷ lines)) rows
+    ends_first (r ∷ rows) (Some y) ≡ true → IsMild q →
+    FitsAt (after_heard (world d past lines) (Some q)) (read_so_far (exchange (Some q) (Some y) ∷ lines)) rows
     (notes_in (exchange (Some q) (Some y) ∷ since)) (judged_in c (exchange (Some q) (Some y) ∷ since) (epoch lines)) →
     Keeps d (heard (Some q) ∷ past) (exchange (Some q) (Some y) ∷ lines)
-next_at d past lines c since r rows q y at ends on fits =
+next_at d past lines c since r rows q y at ends mild fits =
     let line = exchange (Some q) (Some y) in
     let now = heard (Some q) ∷ past in
-    keeps_exchange d past now lines c since (Some q) (Some y) at.is_job on at.keeps.sound
-    (subst (λ later. FitsAt (world d now lines) (read_so_far (line ∷ lines)) later (notes_in (line ∷ since))
+    let v = world d now lines in
+    let is = sym (world_heard d.body past lines (Some q) (mild_unrouted q mild)) in
+    let fits_now = subst (λ w. FitsAt w (read_so_far (line ∷ lines)) rows (notes_in (line ∷ since))
+    (judged_in c (line ∷ since) (epoch lines))) is fits in
+    keeps_exchange d past now lines c since (Some q) (Some y) at.is_job (on_heard d past lines q mild) at.keeps.sound
+    (subst (λ later. FitsAt v (read_so_far (line ∷ lines)) later (notes_in (line ∷ since))
     (judged_in c (line ∷ since) (epoch lines)))
-    (sym (ended_leaves (rows_of d c) (Some q) (Some y) since r rows at.rest_is ends)) fits)
+    (sym (ended_leaves (rows_of d c) (Some q) (Some y) since r rows at.rest_is ends)) fits_now)
 
 -- a row tells its request or its record
 pub request_is : (q r : Request) → sends q ≡ sends r → q ≡ r

@@ -1,4 +1,4 @@
--- What a record that a job has to put tells of its acceptor.
+-- What a record that a job has to put tells of its device.
 use Rattle.std.proofs.Common.{◌≡◌, ℕ, true, List, [], ◌∷◌, subst, Option, Some, None}
 use Rattle.std.specs.Prelude.{⊤}
 use Rattle.cct_model.specs.terms.device.DeviceSetup.{DeviceSetup}
@@ -15,7 +15,7 @@ use Rattle.cct_model.specs.Job.{works, job, puts, epoch, begin_row, address_of, 
 use Rattle.cct_model.specs.Rows.{Then, ends_as, if_posted, new_epoch, reading, epoch_end, TableRow, asks_for, asks_once, waits_for_coins, puts_due, row, rest, from, first}
 use Rattle.cct_model.specs.Script.{IsCommand}
 use Rattle.cct_model.specs.Order.{order}
-use Rattle.cct_laws.specs.DeviceJobs.{is_for_acceptor}
+use Rattle.cct_laws.specs.DeviceJobs.{is_for_taker}
 use Rattle.cct_laws.proofs.acceptor.World.{World, Silent, world}
 use Rattle.cct_laws.proofs.acceptor.Fits.{ReadSoFar, read_so_far, Notes, notes_in, PostsAs, BreaksAs, Ready, IsRunning, FitsAt}
 use Rattle.cct_laws.proofs.acceptor.Moves.{Keeps, fits_at, entry_is}
@@ -98,9 +98,9 @@ first_puts d w b addr r notes judged p (puts_due epoch_end (ends_as end) ∷ row
     end_puts d w b addr r row_is
 first_puts d w b addr r notes judged p (puts_due due behind ∷ rows) here runs each fits row_is = absurd each.0
 
--- the row of any job at an acceptor
+-- the row of any job at a device that takes money
 pub row_puts : (d : DeviceSetup) (past : List Met) (lines : List Line) (c : Command) (since : List Line) (r : Record) →
-    is_for_acceptor c ≡ true → IsCommand c → job lines ≡ works c since → address_of c ≡ d.addr →
+    is_for_taker c ≡ true → IsCommand c → job lines ≡ works c since → address_of c ≡ d.addr →
     row d c since (epoch lines) (order lines) ≡ puts r → Keeps d past lines → Puts d (world d past lines) (epoch lines) r
 row_puts d past lines c since r suited in_range is_job here row_is keeps =
     first_puts d (world d past lines) (read_so_far lines) (address_of c) r (notes_in since) (judged_in c since (epoch lines))

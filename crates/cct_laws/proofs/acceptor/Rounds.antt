@@ -1,9 +1,9 @@
--- How the rows that read an acceptor in its epoch, and what they put, keep what holds of it.
-use Rattle.std.proofs.Common.{◌≡◌, ◌≤◌, ℕ, length, arith, rules, le_refl, true, List, ◌∷◌, refl, sym, ◌∙◌, subst, Option, Some, None, ap}
+-- How the rows that read a device that takes money in its epoch, and what they put, keep what holds of it.
+use Rattle.std.proofs.Common.{◌≡◌, ◌≤◌, ℕ, length, arith, rules, le_refl, true, Bool, List, ◌∷◌, refl, sym, ◌∙◌, subst, Option, Some, None, ap}
 use Rattle.std.specs.Prelude.{⊤}
 use Rattle.cct_model.specs.terms.device.DeviceSetup.{DeviceSetup}
 use Rattle.cct_model.specs.terms.request.Request.{Request}
-use Rattle.cct_model.specs.terms.request.Request.TheVariants.{ReadCredits, GetMask, AcceptCount}
+use Rattle.cct_model.specs.terms.request.Request.TheVariants.{ReadCredits, ReadBills, GetMask, AcceptCount}
 use Rattle.cct_model.specs.lines.record.Record.{Record}
 use Rattle.cct_model.specs.lines.record.Record.TheVariants as record_of
 use Rattle.cct_model.specs.declared.judging.Judged.{Judged}
@@ -16,83 +16,111 @@ use Rattle.cct_model.specs.lines.entry.End.TheVariants.{Broke}
 use Rattle.cct_model.specs.Reply.{Reply}
 use Rattle.cct_model.specs.Reply as reply
 use Rattle.cct_model.specs.History.{Met, heard}
-use Rattle.cct_model.specs.Acceptor.{credits_of, mask_of, accept_count}
-use Rattle.cct_model.specs.Device.{IsAcceptor}
+use Rattle.cct_model.specs.terms.coin.Credits.{Credits}
+use Rattle.cct_model.specs.Acceptor.{counted, mask_of}
+use Rattle.cct_model.specs.Device.{IsTaker}
 use Rattle.cct_model.specs.Line.{Line, exchange, put}
 use Rattle.cct_model.specs.Job.{works, job, with_line, epoch, ident_requests, judged_in, end_of_moving, end_of_reading, address_of}
 use Rattle.cct_model.specs.Claims.{coins}
 use Rattle.cct_laws.specs.DeviceJobs.{Fate, with_ended}
 use Rattle.cct_laws.specs.Moving.{counting, IsNoStop}
-use Rattle.cct_laws.proofs.acceptor.World.{World, world, Shut, count_from, count_at, on_nothing}
+use Rattle.cct_laws.proofs.acceptor.World.{World, world, world_heard, Shut, count_from, count_at}
 use Rattle.cct_laws.proofs.acceptor.Fits.{IsShutSince, read_so_far, Notes, notes_in, Begins, HeldIn, SeesIn, Posts, PostsAs, BreaksAs, Ready, CountsAt, FitsAt, Fits, IfOver, if_over, IsStill, ends_epoch, AfterCredits, AfterMask, AfterCount, AfterReading}
 use Rattle.cct_laws.proofs.acceptor.Moves.{Sound, Keeps, KeepsAsk, AtRows, IsOtherEnd, keeps_ended, keeps_with_ended, answered_at, next_at, by_fate}
-use Rattle.cct_laws.proofs.acceptor.Readings.{held_now, sees_now, ready_now}
+use Rattle.cct_laws.proofs.acceptor.Readings.{credits_at, held_now, sees_now, ready_now}
+use Rattle.cct_laws.proofs.acceptor.Starts.{reading_mild, read_same}
+use Rattle.cct_laws.specs.Takers.{accepted_of}
 use Rattle.cct_laws.proofs.acceptor.Items.{reading_fewer, keeps_clean, keeps_moved, sound_reading, sound_broken}
-use Rattle.cct_laws.proofs.Replies.{start_of, replied_credits, replied_mask, replied_accepts}
+use Rattle.cct_laws.proofs.Replies.{start_of, IsReading, judged_as, reading_tells, replied_mask, replied_accepts}
 use Rattle.cct_model.specs.Rows.{done, Then, if_judged, if_unmoved, if_posted, new_epoch, reading, TableRow, asks_for, puts_due, rows_of, rest, end_by_answer, end_kept, sent_once}
 use Rattle.cct_model.proofs.Rows.{EachRow, each_told, each_after, Behind, behind_answer, put_leaves}
 
--- what an acceptor's credits tell an epoch
-held_at : (d : DeviceSetup) (past : List Met) (lines since : List Line) → Begins (world d past lines) (read_so_far lines) (notes_in since) → Sound d past lines →
-    HeldIn (world d past lines) (read_so_far (exchange (Some ReadCredits) (Some (reply.credits (credits_of past))) ∷ lines)) (epoch lines)
-    (notes_in (exchange (Some ReadCredits) (Some (reply.credits (credits_of past))) ∷ since))
-held_at d past lines since begins sound =
-    let line = exchange (Some ReadCredits) (Some (reply.credits (credits_of past))) in
-    held_now (world d past lines) (read_so_far (line ∷ lines)) (epoch lines) (notes_in (line ∷ since)) refl refl
+-- what the last events tell an epoch
+held_at : (d : DeviceSetup) (past : List Met) (lines since : List Line) (q : Request) (credits : Credits) → IsReading q →
+    judged_as q credits ≡ credits_at (world d past lines) →
+    Begins (world d past lines) (read_so_far lines) (notes_in since) → Sound d past lines →
+    HeldIn (world d past lines) (read_so_far (exchange (Some q) (Some (reply.credits credits)) ∷ lines)) (epoch lines)
+    (notes_in (exchange (Some q) (Some (reply.credits credits)) ∷ since))
+held_at d past lines since ReadCredits credits is_reading told begins sound =
+    let line = exchange (Some ReadCredits) (Some (reply.credits credits)) in
+    held_now (world d past lines) (read_so_far (line ∷ lines)) (epoch lines) (notes_in (line ∷ since)) refl (ap Some told)
     sound.marked begins.running (record { read = begins.read; goes_on = begins.goes_on; few = begins.few }) sound.state
+held_at d past lines since ReadBills credits is_reading told begins sound =
+    let line = exchange (Some ReadBills) (Some (reply.credits credits)) in
+    held_now (world d past lines) (read_so_far (line ∷ lines)) (epoch lines) (notes_in (line ∷ since)) refl (ap Some told)
+    sound.marked begins.running (record { read = begins.read; goes_on = begins.goes_on; few = begins.few }) sound.state
+held_at d past lines since q credits is_reading told begins sound = absurd is_reading
 
--- the credits are read
+still_at : (w : World) (lines : List Line) (q : Request) (credits : Credits) (over : Bool) → IsReading q →
+    w.coins ≡ coins lines → IfOver over (IsShutSince w (read_so_far lines)) →
+    IfOver over (IsStill w (read_so_far (exchange (Some q) (Some (reply.credits credits)) ∷ lines)))
+still_at w lines ReadCredits credits over is_reading all shut =
+    if_over over (IsShutSince w (read_so_far lines))
+    (IsStill w (read_so_far (exchange (Some ReadCredits) (Some (reply.credits credits)) ∷ lines)))
+    (λ is. (is.0, ap length all, is.1)) shut
+still_at w lines ReadBills credits over is_reading all shut =
+    if_over over (IsShutSince w (read_so_far lines))
+    (IsStill w (read_so_far (exchange (Some ReadBills) (Some (reply.credits credits)) ∷ lines)))
+    (λ is. (is.0, ap length all, is.1)) shut
+still_at w lines q credits over is_reading all shut = absurd is_reading
+
+-- they are read
 pub reads : (d : DeviceSetup) (past : List Met) (lines : List Line) (c : Command) (since : List Line) (behind : Then)
-    (rows : List TableRow) (asked : Option Request) (got : Option Reply) → IsAcceptor d.body →
-    AtRows d past lines c since (asks_for ReadCredits behind ∷ rows) → Behind IsOtherEnd behind → AfterCredits rows →
+    (rows : List TableRow) (q : Request) (asked : Option Request) (got : Option Reply) → IsTaker d.body → IsReading q →
+    AtRows d past lines c since (asks_for q behind ∷ rows) → Behind IsOtherEnd behind → AfterCredits rows →
     Begins (world d past lines) (read_so_far lines) (notes_in since) →
     IfOver (ends_epoch rows) (IsShutSince (world d past lines) (read_so_far lines)) →
-    Fate d past ReadCredits asked got → KeepsAsk d past lines c since ReadCredits asked got
-reads d past lines c since behind rows asked got accepting at other next begins shut fate =
+    Fate d past q asked got → KeepsAsk d past lines c since q asked got
+reads d past lines c since behind rows q asked got taking is_reading at other next begins shut fate =
     let w = world d past lines in
-    let now = heard (Some ReadCredits) ∷ past in
-    let y = reply.credits (credits_of past) in
-    let line = exchange (Some ReadCredits) (Some y) in
+    let now = heard (Some q) ∷ past in
+    let mild = reading_mild q is_reading in
+    let replied : (credits : Credits) → judged_as q credits ≡ credits_at w →
+    KeepsAsk d past lines c since q (Some q) (Some (reply.credits credits)) = λ credits told.
+    let y = reply.credits credits in
+    let line = exchange (Some q) (Some y) in
     let b = read_so_far (line ∷ lines) in
-    let still = if_over (ends_epoch rows) (IsShutSince w (read_so_far lines)) (IsStill w b) (λ is. (is.0, refl, is.1)) shut in
-    let kept = next_at d past lines c since (asks_for ReadCredits behind) rows ReadCredits y at refl (on_nothing w)
-    (next w b (notes_in (line ∷ since)) _ (held_at d past lines since begins at.keeps.sound) still) in
-    let replied : KeepsAsk d past lines c since ReadCredits (Some ReadCredits) (Some y) =
-    answered_at d past lines c since (asks_for ReadCredits behind ∷ rows) ReadCredits y at
+    let still = still_at w lines q credits (ends_epoch rows) is_reading refl shut in
+    let fits = next w b (notes_in (line ∷ since)) (judged_in c (line ∷ since) (epoch lines))
+    (held_at d past lines since q credits is_reading told begins at.keeps.sound) still in
+    let kept = next_at d past lines c since (asks_for q behind) rows q y at refl mild
+    (subst (λ v. FitsAt v b rows (notes_in (line ∷ since)) (judged_in c (line ∷ since) (epoch lines)))
+    (sym (read_same w q is_reading)) fits) in
+    answered_at d past lines c since (asks_for q behind ∷ rows) q y at
     (keeps_with_ended d now (line ∷ lines) _ (behind_answer IsOtherEnd behind y _ other) kept) in
-    by_fate d past lines c since ReadCredits asked got (ap sent_once at.rest_is) tt at.is_job at.keeps
-    (λ z gives. subst (λ found. KeepsAsk d past lines c since ReadCredits (Some ReadCredits) found)
-    (sym (replied_credits d past accepting) ∙ gives) replied) fate
+    by_fate d past lines c since q asked got (ap sent_once at.rest_is) mild at.is_job at.keeps
+    (λ y gives. let told = reading_tells d past q y taking is_reading gives in
+    subst (λ z. KeepsAsk d past lines c since q (Some q) (Some z)) (sym told.1) (replied told.0 told.2)) fate
 
 -- the mask is read
 pub looks : (d : DeviceSetup) (past : List Met) (lines : List Line) (c : Command) (since : List Line) (behind : Then)
-    (rows : List TableRow) (asked : Option Request) (got : Option Reply) → IsAcceptor d.body →
+    (rows : List TableRow) (asked : Option Request) (got : Option Reply) → IsTaker d.body →
     AtRows d past lines c since (asks_for GetMask behind ∷ rows) → Behind IsOtherEnd behind → AfterMask rows →
     HeldIn (world d past lines) (read_so_far lines) (epoch lines) (notes_in since) →
     IfOver (ends_epoch rows) (IsStill (world d past lines) (read_so_far lines)) → Fate d past GetMask asked got →
     KeepsAsk d past lines c since GetMask asked got
-looks d past lines c since behind rows asked got accepting at other next held still fate =
+looks d past lines c since behind rows asked got taking at other next held still fate =
     let w = world d past lines in
     let now = heard (Some GetMask) ∷ past in
     let y = reply.mask (mask_of past) in
     let line = exchange (Some GetMask) (Some y) in
     let sees : SeesIn w (read_so_far (line ∷ lines)) (epoch lines) (notes_in (line ∷ since)) =
     sees_now w (read_so_far lines) (epoch lines) (notes_in since) (reading_fewer lines) at.keeps.sound.state held in
-    let kept = next_at d past lines c since (asks_for GetMask behind) rows GetMask y at refl (on_nothing w)
+    let kept = next_at d past lines c since (asks_for GetMask behind) rows GetMask y at refl tt
     (next w (read_so_far (line ∷ lines)) (notes_in (line ∷ since)) _ sees still) in
     let replied : KeepsAsk d past lines c since GetMask (Some GetMask) (Some y) =
     answered_at d past lines c since (asks_for GetMask behind ∷ rows) GetMask y at
     (keeps_with_ended d now (line ∷ lines) _ (behind_answer IsOtherEnd behind y _ other) kept) in
     by_fate d past lines c since GetMask asked got (ap sent_once at.rest_is) tt at.is_job at.keeps
     (λ z gives. subst (λ found. KeepsAsk d past lines c since GetMask (Some GetMask) found)
-    (sym (replied_mask d past accepting) ∙ gives) replied) fate
+    (sym (replied_mask d past taking) ∙ gives) replied) fate
 
 -- the accept counter is read
 
 -- it tells all coins that were accepted
 count_is : (d : DeviceSetup) (past : List Met) (lines : List Line) → Sound d past lines →
-    accept_count (start_of d.body) past ≡ count_at (world d past lines)
-count_is d past lines sound = ap (λ coins. count_from (start_of d.body) coins) sound.told
+    counted (start_of d.body) (accepted_of d.body past) ≡ count_at (world d past lines)
+count_is d past lines sound = ap (λ coins. count_from (start_of d.body) coins) sound.told.0
 
 abbrev counted_by : World → Line
 counted_by w = exchange (Some AcceptCount) (Some (reply.accepts (count_at w)))
@@ -111,6 +139,12 @@ counted_fits d past lines c since (puts_due reading behind ∷ rows) sound next 
   fits.1,
 )
 counted_fits d past lines c since (asks_for ReadCredits behind ∷ rows) sound next fits =
+    next (world d past lines) (read_so_far (counted_by (world d past lines) ∷ lines)) _ _
+    (record { running = fits.0; read = refl; goes_on = sound.marked; few = le_refl _ })
+    (if_over (ends_epoch rows) (Shut (world d past lines))
+    (IsShutSince (world d past lines) (read_so_far (counted_by (world d past lines) ∷ lines))) (λ shut. (shut, refl))
+    fits.1)
+counted_fits d past lines c since (asks_for ReadBills behind ∷ rows) sound next fits =
     next (world d past lines) (read_so_far (counted_by (world d past lines) ∷ lines)) _ _
     (record { running = fits.0; read = refl; goes_on = sound.marked; few = le_refl _ })
     (if_over (ends_epoch rows) (Shut (world d past lines))
@@ -177,27 +211,28 @@ counted_ends d now lines c since behind rows y notes judged is_job judges few ot
     keeps_with_ended d now lines (end_by_answer behind y judged) (behind_answer IsOtherEnd behind y judged other) keeps
 
 pub counts : (d : DeviceSetup) (past : List Met) (lines : List Line) (c : Command) (since : List Line) (behind : Then)
-    (rows : List TableRow) (asked : Option Request) (got : Option Reply) → IsAcceptor d.body →
+    (rows : List TableRow) (asked : Option Request) (got : Option Reply) → IsTaker d.body →
     AtRows d past lines c since (asks_for AcceptCount behind ∷ rows) → IsAfterCount behind rows → AfterCount rows →
     CountsAt (world d past lines) (read_so_far lines) rows (notes_in since) → Fate d past AcceptCount asked got →
     KeepsAsk d past lines c since AcceptCount asked got
-counts d past lines c since behind rows asked got accepting at other next needs fate =
+counts d past lines c since behind rows asked got taking at other next needs fate =
     let w = world d past lines in
     let now = heard (Some AcceptCount) ∷ past in
     let y = reply.accepts (count_at w) in
     let line = exchange (Some AcceptCount) (Some y) in
     let fits = counted_fits d past lines c since rows at.keeps.sound next needs in
-    let kept = next_at d past lines c since (asks_for AcceptCount behind) rows AcceptCount y at refl (on_nothing w) fits in
+    let kept = next_at d past lines c since (asks_for AcceptCount behind) rows AcceptCount y at refl tt fits in
     let judges =
     subst (EachRow (JudgesNoStop c)) at.rest_is
     (each_after (JudgesNoStop c) (rows_of d c) (done (rows_of d c) since) (judges_none d c)) in
     let replied : KeepsAsk d past lines c since AcceptCount (Some AcceptCount) (Some y) =
     answered_at d past lines c since (asks_for AcceptCount behind ∷ rows) AcceptCount y at
     (counted_ends d now (line ∷ lines) c (line ∷ since) behind rows y (notes_in (line ∷ since))
-    (judged_in c (line ∷ since) (epoch lines)) (ap (with_line line) at.is_job) judges.0 (le_refl _) other fits kept) in
+    (judged_in c (line ∷ since) (epoch lines)) (ap (with_line line) at.is_job) judges.0 (le_refl _) other (subst (λ v. FitsAt v (read_so_far (line ∷ lines)) rows (notes_in (line ∷ since))
+    (judged_in c (line ∷ since) (epoch lines))) (sym (world_heard d.body past lines (Some AcceptCount) tt)) fits) kept) in
     by_fate d past lines c since AcceptCount asked got (ap sent_once at.rest_is) tt at.is_job at.keeps
     (λ z gives. subst (λ found. KeepsAsk d past lines c since AcceptCount (Some AcceptCount) found)
-    (ap (λ n. Some (reply.accepts n)) (sym (count_is d past lines at.keeps.sound)) ∙ sym (replied_accepts d past accepting)
+    (ap (λ n. Some (reply.accepts n)) (sym (count_is d past lines at.keeps.sound)) ∙ sym (replied_accepts d past taking)
     ∙ gives) replied) fate
 
 -- how a job goes on after a reading that it puts

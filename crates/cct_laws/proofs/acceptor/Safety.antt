@@ -1,4 +1,4 @@
--- Where an acceptor is safe in every legal transcript over an honest wire: which mask it has, what its events then tell, and
+-- Where a device that takes money is safe in every legal transcript over an honest wire: which mask it has, what its events then tell, and
 -- why its epoch breaks.
 use Rattle.std.proofs.Common.{◌≡◌, ℕ, false, List, [], ◌∷◌, ◌++◌, take, drop, take-append-drop, refl, ap, sym, ◌∙◌, subst, None, replicate}
 use Rattle.cct_model.specs.terms.coin.Coin.{Coin}
@@ -6,7 +6,8 @@ use Rattle.cct_model.specs.terms.coin.Pair.{Pair}
 use Rattle.cct_model.specs.lines.record.Record.TheVariants as record_of
 use Rattle.cct_model.specs.declared.judging.EpochState.TheVariants.{Idle, Running}
 use Rattle.cct_model.specs.lines.command.Command.{Command}
-use Rattle.cct_model.specs.Acceptor.{accepts, events, no_event, last_five, credits_of}
+use Rattle.cct_model.specs.Acceptor.{accepts, no_event, last_five, credits_in}
+use Rattle.cct_laws.specs.Takers.{events_of}
 use Rattle.cct_model.specs.Line.{Line}
 use Rattle.cct_model.specs.Reading.{coins_among}
 use Rattle.cct_model.specs.Order.{order}
@@ -16,14 +17,14 @@ use Rattle.cct_model.specs.Claims.{mark, base}
 use Rattle.cct_model.specs.Transcript.{met, onto}
 use Rattle.cct_laws.specs.Law.{lines_in}
 use Rattle.cct_laws.specs.SinceEpoch.{since_epoch_in, mask_set_in, IsMaskedBy, MayBreak, HaveCauses}
-use Rattle.cct_laws.specs.Scope.{EachAcceptor}
+use Rattle.cct_laws.specs.Scope.{EachTaker}
 use Rattle.cct_laws.proofs.acceptor.Newest.{coins_among-append}
 use Rattle.cct_laws.proofs.acceptor.Causes.{causes_go_on}
 use Rattle.cct_laws.proofs.Whole.{kept_since_legal, goes_on_legal, ranged_legal}
 use Rattle.cct_laws.proofs.acceptor.Fits.{StateOf}
 use Rattle.cct_laws.proofs.acceptor.World.{world}
 use Rattle.cct_laws.proofs.jobs.Brought.{IsAt, job_at}
-use Rattle.cct_laws.proofs.EitherKind.{for_acceptor}
+use Rattle.cct_laws.proofs.EitherKind.{for_taker}
 use Rattle.cct_laws.proofs.Keeping.{IsRanged}
 use Rattle.cct_laws.proofs.acceptor.Masks.{MaskedIn, Masks, masks_kept, masks_silent, masks_break}
 
@@ -40,52 +41,52 @@ buffer_none newest none =
     front_nil (coins_among (take 5 all)) (coins_among (drop 5 all))
     (sym (coins_among-append (take 5 all) (drop 5 all)) ∙ ap coins_among (take-append-drop 5 all) ∙ nothing)
 
-legal_masks : EachAcceptor (λ d transcript. Masks d (since_epoch_in d transcript) (met d (onto [] transcript))
+legal_masks : EachTaker (λ d transcript. Masks d (since_epoch_in d transcript) (met d (onto [] transcript))
     (lines_in d transcript))
-legal_masks capacity setup steps transcript d sound own accepting in_range legal honest =
-    kept_since_legal capacity setup steps transcript d (Masks d) sound own accepting in_range legal honest (masks_kept d accepting)
+legal_masks capacity setup steps transcript d sound own taking in_range legal honest =
+    kept_since_legal capacity setup steps transcript d (Masks d) sound own taking in_range legal honest (masks_kept d taking)
 
 -- without an epoch no coin is accepted
-pub legal_shut : EachAcceptor (λ d transcript. epoch (lines_in d transcript) ≡ Idle → (place : ℕ) → accepts (met d
+pub legal_shut : EachTaker (λ d transcript. epoch (lines_in d transcript) ≡ Idle → (place : ℕ) → accepts (met d
     (onto [] transcript)) place ≡ false)
-legal_shut capacity setup steps transcript d sound own accepting in_range legal honest idle place =
+legal_shut capacity setup steps transcript d sound own taking in_range legal honest idle place =
     let lines = lines_in d transcript in
-    let masks = legal_masks capacity setup steps transcript d sound own accepting in_range legal honest in
+    let masks = legal_masks capacity setup steps transcript d sound own taking in_range legal honest in
     (subst (StateOf (world d (met d (onto [] transcript)) lines) (mark lines) (base lines)) idle masks.keeps.sound.state).shut place
 
 -- while an epoch runs, its mask is set or none is
-pub legal_masked : EachAcceptor (λ d transcript. (mask counter accepts : ℕ) → epoch (lines_in d transcript) ≡ Running mask
+pub legal_masked : EachTaker (λ d transcript. (mask counter accepts : ℕ) → epoch (lines_in d transcript) ≡ Running mask
     counter accepts → IsMaskedBy mask (since_epoch_in d transcript) (met d (onto [] transcript)))
-legal_masked capacity setup steps transcript d sound own accepting in_range legal honest mask counter accepts running =
-    subst (λ s. MaskedIn s (since_epoch_in d transcript) (met d (onto [] transcript))) running (legal_masks capacity setup steps transcript d sound own accepting in_range legal honest).masked
+legal_masked capacity setup steps transcript d sound own taking in_range legal honest mask counter accepts running =
+    subst (λ s. MaskedIn s (since_epoch_in d transcript) (met d (onto [] transcript))) running (legal_masks capacity setup steps transcript d sound own taking in_range legal honest).masked
 
 -- and where none is, no event is a coin
-pub legal_silent : EachAcceptor (λ d transcript. (mask counter accepts : ℕ) → epoch (lines_in d transcript) ≡ Running mask
-    counter accepts → mask_set_in (since_epoch_in d transcript) ≡ None → coins_among (events (met d (onto [] transcript))) ≡
+pub legal_silent : EachTaker (λ d transcript. (mask counter accepts : ℕ) → epoch (lines_in d transcript) ≡ Running mask
+    counter accepts → mask_set_in (since_epoch_in d transcript) ≡ None → coins_among (events_of d.body (met d (onto [] transcript))) ≡
     [])
-legal_silent capacity setup steps transcript d sound own accepting in_range legal honest mask counter accepts running none =
-    masks_silent d (since_epoch_in d transcript) (met d (onto [] transcript)) (lines_in d transcript) mask counter accepts running none (legal_masks capacity setup steps transcript d sound own accepting in_range legal honest)
+legal_silent capacity setup steps transcript d sound own taking in_range legal honest mask counter accepts running none =
+    masks_silent d (since_epoch_in d transcript) (met d (onto [] transcript)) (lines_in d transcript) mask counter accepts running none (legal_masks capacity setup steps transcript d sound own taking in_range legal honest)
 
-pub legal_unread : EachAcceptor (λ d transcript. (mask counter accepts : ℕ) → epoch (lines_in d transcript) ≡ Running mask
-    counter accepts → mask_set_in (since_epoch_in d transcript) ≡ None → coins_among (credits_of (met d (onto []
-    transcript))).pairs ≡ [])
-legal_unread capacity setup steps transcript d sound own accepting in_range legal honest mask counter accepts running none =
-    buffer_none (events (met d (onto [] transcript))) (legal_silent capacity setup steps transcript d sound own accepting in_range legal honest mask counter accepts running none)
+pub legal_unread : EachTaker (λ d transcript. (mask counter accepts : ℕ) → epoch (lines_in d transcript) ≡ Running mask
+    counter accepts → mask_set_in (since_epoch_in d transcript) ≡ None → coins_among (credits_in
+    (events_of d.body (met d (onto [] transcript)))).pairs ≡ [])
+legal_unread capacity setup steps transcript d sound own taking in_range legal honest mask counter accepts running none =
+    buffer_none (events_of d.body (met d (onto [] transcript))) (legal_silent capacity setup steps transcript d sound own taking in_range legal honest mask counter accepts running none)
 
 -- a break has its cause
-pub legal_caused : EachAcceptor (λ d transcript. (c : Command) (since : List Line) (addr seen counter lost accepts : ℕ) (posted :
+pub legal_caused : EachTaker (λ d transcript. (c : Command) (since : List Line) (addr seen counter lost accepts : ℕ) (posted :
     List Coin) → job (lines_in d transcript) ≡ works c since → row d c since (epoch (lines_in d transcript)) (order
     (lines_in d transcript)) ≡ puts (record_of.Broken addr seen counter lost accepts posted) → MayBreak (since_epoch_in d
     transcript))
-legal_caused capacity setup steps transcript d sound own accepting in_range legal honest c since addr seen counter lost accepts posted is_job is_row =
+legal_caused capacity setup steps transcript d sound own taking in_range legal honest c since addr seen counter lost accepts posted is_job is_row =
     let here : address_of c ≡ d.addr = subst (IsAt d.addr) is_job (job_at d (onto [] transcript)) in
     let ranged = subst (IsRanged d) is_job (ranged_legal capacity setup steps transcript d sound own in_range legal) in
     masks_break d (since_epoch_in d transcript) (met d (onto [] transcript)) (lines_in d transcript) c since addr seen counter lost accepts posted
-    (for_acceptor d.body c accepting ranged.1) ranged.0 is_job here is_row
-    (legal_masks capacity setup steps transcript d sound own accepting in_range legal honest)
+    (for_taker d.body c taking ranged.1) ranged.0 is_job here is_row
+    (legal_masks capacity setup steps transcript d sound own taking in_range legal honest)
 
-pub legal_causes : EachAcceptor (λ d transcript. HaveCauses d (onto [] transcript))
-legal_causes capacity setup steps transcript d sound own accepting in_range legal honest =
-    goes_on_legal capacity setup steps transcript d (Masks d) (HaveCauses d) sound own accepting in_range legal honest (masks_kept d accepting)
-    (λ past news s ranged ids told masks before. causes_go_on capacity setup d past news s sound own accepting ranged ids told masks before)
+pub legal_causes : EachTaker (λ d transcript. HaveCauses d (onto [] transcript))
+legal_causes capacity setup steps transcript d sound own taking in_range legal honest =
+    goes_on_legal capacity setup steps transcript d (Masks d) (HaveCauses d) sound own taking in_range legal honest (masks_kept d taking)
+    (λ past news s ranged ids told masks before. causes_go_on capacity setup d past news s sound own taking ranged ids told masks before)
     (λ past addr causes. (tt, causes)) tt

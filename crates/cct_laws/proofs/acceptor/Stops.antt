@@ -1,4 +1,4 @@
--- How the rows that end an epoch, and what they put, keep what holds of an acceptor.
+-- How the rows that end an epoch, and what they put, keep what holds of a device that takes money.
 use Rattle.std.proofs.Common.{◌≡◌, ℕ, ◌≤◌, List, [], ◌∷◌, length, refl, sym, subst, Option, Some, ap, arith}
 use Rattle.std.specs.Prelude.{⊤}
 use Rattle.cct_model.specs.terms.device.DeviceSetup.{DeviceSetup}
@@ -18,9 +18,9 @@ use Rattle.cct_model.specs.Claims.{coins, mark, Near}
 use Rattle.cct_model.specs.Rows.{Then, ends_as, if_posted, reading, epoch_end, TableRow, asks_for, puts_due, from, first, rest, end_kept, sent_once}
 use Rattle.cct_model.proofs.Rows.{Behind, behind_answer}
 use Rattle.cct_laws.specs.DeviceJobs.{Fate, with_ended}
-use Rattle.cct_laws.proofs.acceptor.World.{world, Shut, shut_by_master}
+use Rattle.cct_laws.proofs.acceptor.World.{world, Shut, after_heard, shut_by_master}
 use Rattle.cct_laws.proofs.acceptor.Fits.{read_so_far, Ready, IsRunning, IfOver, IsStill, ends_epoch, AfterShut}
-use Rattle.cct_laws.proofs.acceptor.Moves.{Sound, Keeps, KeepsAsk, AtRows, IsOtherEnd, keeps_ended, keeps_with_ended, answered_at, next_at, by_fate, on_heard, entry_is}
+use Rattle.cct_laws.proofs.acceptor.Moves.{Sound, Keeps, KeepsAsk, AtRows, IsOtherEnd, keeps_ended, keeps_with_ended, answered_at, next_at, by_fate, entry_is}
 use Rattle.cct_laws.proofs.acceptor.Items.{sound_over}
 use Rattle.cct_laws.proofs.acceptor.Rounds.{IsAfterReading, posts_put, breaks_put}
 
@@ -34,13 +34,13 @@ shuts d past lines c since value behind rows asked got none at other next runnin
     by_fate d past lines c since (SetMaster value) asked got (ap sent_once at.rest_is) none at.is_job at.keeps (λ y gives.
     let now = heard (Some (SetMaster value)) ∷ past in
     let line = exchange (Some (SetMaster value)) (Some y) in
-    let shut : Shut (world d now lines) =
-    subst (λ n. Shut (world d (heard (Some (SetMaster n)) ∷ past) lines)) (sym none) (shut_by_master (world d past lines)) in
+    let v = after_heard (world d past lines) (Some (SetMaster value)) in
+    let shut : Shut v =
+    subst (λ n. Shut (after_heard (world d past lines) (Some (SetMaster n)))) (sym none) (shut_by_master (world d past lines)) in
     answered_at d past lines c since (asks_for (SetMaster value) behind ∷ rows) (SetMaster value) y at
     (keeps_with_ended d now (line ∷ lines) _ (behind_answer IsOtherEnd behind y _ other)
     (next_at d past lines c since (asks_for (SetMaster value) behind) rows (SetMaster value) y at refl
-    (on_heard d past lines (SetMaster value) none)
-    (next (world d now lines) (read_so_far (line ∷ lines)) _ _ running shut)))) fate
+    none (next v (read_so_far (line ∷ lines)) _ _ running shut)))) fate
 
 -- the epoch's end is put, and ends the job
 pub over_put : (d : DeviceSetup) (past : List Met) (lines : List Line) (addr : ℕ) (rows : List TableRow) (end : End)

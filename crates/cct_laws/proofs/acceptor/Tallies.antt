@@ -8,7 +8,7 @@ use Rattle.cct_model.specs.lines.entry.End.TheVariants.{Clean}
 use Rattle.cct_model.specs.Line.{Line, put, ended}
 use Rattle.cct_model.specs.Claims.{coins, reading, looking, mark, part, OrderAt, UnpostedOf, CoverAt, InOrder, Covers, Pace, Tallies}
 use Rattle.cct_laws.specs.Law.{lines_in}
-use Rattle.cct_laws.specs.Scope.{EachAcceptor}
+use Rattle.cct_laws.specs.Scope.{EachTaker}
 use Rattle.cct_laws.proofs.acceptor.Posts.{legal_in_order, legal_covers}
 
 -- an item that tells up to these coins
@@ -53,8 +53,8 @@ tallied [] order covers = refl
 tallied (line ∷ past) order covers =
     line_tallied past line order.0 covers.0 (tallied past order.1 covers.1)
 
-pub legal_tallies : EachAcceptor (λ d transcript. Pace (lines_in d transcript) → Tallies (lines_in d transcript))
-legal_tallies capacity setup steps transcript d sound own accepting in_range legal honest pace =
+pub legal_tallies : EachTaker (λ d transcript. Pace (lines_in d transcript) → Tallies (lines_in d transcript))
+legal_tallies capacity setup steps transcript d sound own taking in_range legal honest pace =
     tallied (lines_in d transcript)
-    (legal_in_order capacity setup steps transcript d sound own accepting in_range legal honest)
-    (legal_covers capacity setup steps transcript d sound own accepting in_range legal honest pace)
+    (legal_in_order capacity setup steps transcript d sound own taking in_range legal honest)
+    (legal_covers capacity setup steps transcript d sound own taking in_range legal honest pace)

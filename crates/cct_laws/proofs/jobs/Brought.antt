@@ -7,7 +7,7 @@ use Rattle.cct_model.specs.declared.judging.EpochState.TheVariants.{Idle, Runnin
 use Rattle.cct_model.specs.terms.wire.CheckKind.{CheckKind}
 use Rattle.cct_model.specs.terms.wire.TheConstants.{BROADCAST, HOST}
 use Rattle.cct_model.specs.terms.device.DeviceBody.{DeviceBody}
-use Rattle.cct_model.specs.terms.device.DeviceBody.TheVariants.{Acceptor, Hopper}
+use Rattle.cct_model.specs.terms.device.DeviceBody.TheVariants.{Acceptor, Bill, Hopper}
 use Rattle.cct_model.specs.terms.device.DeviceSetup.{DeviceSetup}
 use Rattle.cct_model.specs.terms.device.Setup.{Setup}
 use Rattle.cct_model.specs.terms.family.Happening.{Happening}
@@ -31,7 +31,8 @@ use Rattle.cct_model.specs.declared.judging.OpenOrder.{OpenOrder}
 use Rattle.cct_model.specs.History.{Met}
 use Rattle.cct_model.specs.History as history
 use Rattle.cct_model.specs.Acceptor.{accepts, path_of}
-use Rattle.cct_model.specs.Device.{IsAcceptor, IsHopper, is_acceptor, is_hopper}
+use Rattle.cct_model.specs.Bill.{holds}
+use Rattle.cct_model.specs.Device.{IsAcceptor, IsBill, IsHopper, is_acceptor, is_bill, is_hopper, is_taker}
 use Rattle.cct_model.specs.Family.{family_of, known_to}
 use Rattle.cct_model.specs.Hopper.{remaining}
 use Rattle.cct_model.specs.Exchange.{ask, asked, asks_of, device_at}
@@ -45,7 +46,7 @@ use Rattle.cct_model.specs.Refusal.{unless, is_busy, epoch_refusal, value_refusa
 use Rattle.cct_model.specs.Honest.{without_forged}
 use Rattle.cct_model.specs.Legal.{happening_entry, step_of, command_entry, with_end, RowEntries, NextEntries, PollEntries, ScanEntries, SaleRowEntries, SaleEntries, BareNext, OfKnowing, OfNext, record_due, due_of, due_of_sale, due_there, due_at, bare_restart, keeping_restart, RestartEntries, EntriesOfRestart, Entries}
 use Rattle.cct_model.specs.Transcript.{met, owner, lines_of, scan_lines, scan_line, sale_lines, heard_after, heard_by_devices, pending, got_by, doses_of}
-use Rattle.cct_laws.specs.DeviceJobs.{is_for_acceptor, is_for_hopper, suits, IsTaken}
+use Rattle.cct_laws.specs.DeviceJobs.{is_for_acceptor, is_for_bills, is_for_hopper, suits, IsTaken}
 use Rattle.cct_laws.specs.KeptHopper.{IsOwed}
 use Rattle.cct_laws.specs.Law.{IsOf}
 use Rattle.cct_model.proofs.Doses.{job_undosed}
@@ -60,6 +61,10 @@ pub data Comes (d : DeviceSetup) (past : List Met) : Step → Entry → Met → 
       (entry.Accepted d.addr (record { place = place; path = path_of past place })) (history.coin place)
       (accepted (record { place = place; path = path_of past place }) ∷ [])
   leaves_coin : (place : ℕ) → IsAcceptor d.body → accepts past place ≡ false → Comes d past (step.Coin d.addr place)
+      (entry.Inhibited d.addr place) (history.coin place) (inhibited place ∷ [])
+  takes_bill : (place : ℕ) → IsBill d.body → holds past place ≡ true → Comes d past (step.Bill d.addr place)
+      (entry.Held d.addr place) (history.coin place) []
+  leaves_bill : (place : ℕ) → IsBill d.body → holds past place ≡ false → Comes d past (step.Bill d.addr place)
       (entry.Inhibited d.addr place) (history.coin place) (inhibited place ∷ [])
   leaves_alien : IsAcceptor d.body → Comes d past (step.Alien d.addr) (entry.Alien d.addr) history.alien (alien ∷ [])
   drops_coin : IsHopper d.body → (remaining d.serial past == 0) ≡ false →
@@ -195,7 +200,7 @@ line_if : (addr : ℕ) (b : Bool) (l : Line) (lines : List Line) → (b ≡ true
 line_if addr true l lines here before = line_at addr l lines (here refl) before
 line_if addr false l lines here before = before
 
--- an exchange, and the dispense that a hopper took in it
+-- an exchange, and what the device did in it
 wire_if : (addr : ℕ) (b : Bool) (l : Line) (dosed lines : List Line) → (b ≡ true → TakesAt addr l) →
     IsAt addr (job (dosed ++ lines)) → IsAt addr (job ((cond b (l ∷ []) [] ++ dosed) ++ lines))
 wire_if addr true l dosed lines here before = line_at addr l (dosed ++ lines) (here refl) before
@@ -234,6 +239,7 @@ pub begun_at_work : (body : DeviceBody) (c : Command) (lines : List Line) → su
     job (taken c ∷ lines) ≡ works c []
 begun_at_work (Acceptor accepts values ids) (command.Halt addr) lines suited = absurd cc
 begun_at_work (Hopper life value) (command.Halt addr) lines suited = absurd cc
+begun_at_work (Bill accepts values ids) (command.Halt addr) lines suited = absurd cc
 begun_at_work body c lines suited = refl
 
 -- the device of a setup at an address
@@ -252,10 +258,17 @@ there capacity setup past s news addr d was told =
 pub accepting_by : (body : DeviceBody) → is_acceptor body ≡ true → IsAcceptor body
 accepting_by (Acceptor accepts values ids) test = tt
 accepting_by (Hopper life value) test = absurd cc
+accepting_by (Bill accepts values ids) test = absurd cc
 
 pub paying_by : (body : DeviceBody) → is_hopper body ≡ true → IsHopper body
 paying_by (Acceptor accepts values ids) test = absurd cc
 paying_by (Hopper life value) test = tt
+paying_by (Bill accepts values ids) test = absurd cc
+
+pub banking_by : (body : DeviceBody) → is_bill body ≡ true → IsBill body
+banking_by (Acceptor accepts values ids) test = absurd cc
+banking_by (Hopper life value) test = absurd cc
+banking_by (Bill accepts values ids) test = tt
 
 -- what comes without being asked
 kind_holds : (b : Bool) (P : Type 0) → MatchBool b P ⊥ → (b ≡ true) × P
@@ -269,6 +282,13 @@ coin_comes : (capacity : ℕ) (setup : Setup) (d : DeviceSetup) (past : List Ent
     (entry.Inhibited d.addr place) ∷ [])
 coin_comes capacity setup d past place true accepting is = came _ _ _ _ (takes_coin place accepting is)
 coin_comes capacity setup d past place false accepting is = came _ _ _ _ (leaves_coin place accepting is)
+
+bill_comes : (capacity : ℕ) (setup : Setup) (d : DeviceSetup) (past : List Entry) (place : ℕ) (test : Bool) →
+    IsBill d.body →
+    holds (met d past) place ≡ test → AtDevice capacity setup d past (step.Bill d.addr place)
+    (cond test (entry.Held d.addr place) (entry.Inhibited d.addr place) ∷ [])
+bill_comes capacity setup d past place true banking is = came _ _ _ _ (takes_bill place banking is)
+bill_comes capacity setup d past place false banking is = came _ _ _ _ (leaves_bill place banking is)
 
 fall_comes : (capacity : ℕ) (setup : Setup) (d : DeviceSetup) (past : List Entry) (none_left : Bool) → IsHopper d.body →
     (remaining d.serial (met d past) == 0) ≡ none_left → AtDevice capacity setup d past (step.Fall d.addr)
@@ -288,6 +308,8 @@ happening_comes : (capacity : ℕ) (setup : Setup) (d : DeviceSetup) (past : Lis
 happening_comes capacity setup d past (happening.Coin place) known =
     coin_comes capacity setup d past place (accepts (met d past) place) (accepting_by d.body known) refl
 happening_comes capacity setup d past happening.Alien known = came _ _ _ _ (leaves_alien (accepting_by d.body known))
+happening_comes capacity setup d past (happening.Bill place) known =
+    bill_comes capacity setup d past place (holds (met d past) place) (banking_by d.body known) refl
 happening_comes capacity setup d past happening.Fall known =
     fall_comes capacity setup d past (remaining d.serial (met d past) == 0) (paying_by d.body known) refl
 happening_comes capacity setup d past happening.Jam known =
@@ -322,14 +344,28 @@ may_start mask d (Running running counter accepts) idle none = absurd cc
 suits_acceptor : (body : DeviceBody) (c : Command) → is_acceptor body ≡ true → is_for_acceptor c ≡ true → suits body c ≡ true
 suits_acceptor (Acceptor accepts values ids) c test suited = suited
 suits_acceptor (Hopper life value) c test suited = absurd cc
+suits_acceptor (Bill accepts values ids) c test suited = absurd cc
+
+suits_bills : (body : DeviceBody) (c : Command) → is_bill body ≡ true → is_for_bills c ≡ true → suits body c ≡ true
+suits_bills (Acceptor accepts values ids) c test suited = absurd cc
+suits_bills (Hopper life value) c test suited = absurd cc
+suits_bills (Bill accepts values ids) c test suited = suited
+
+suits_taker : (body : DeviceBody) (c : Command) → is_taker body ≡ true → is_for_acceptor c ≡ true → is_for_bills c ≡ true →
+    suits body c ≡ true
+suits_taker (Acceptor accepts values ids) c test coins bills = coins
+suits_taker (Hopper life value) c test coins bills = absurd cc
+suits_taker (Bill accepts values ids) c test coins bills = bills
 
 suits_hopper : (body : DeviceBody) (c : Command) → is_hopper body ≡ true → is_for_hopper c ≡ true → suits body c ≡ true
 suits_hopper (Acceptor accepts values ids) c test suited = absurd cc
 suits_hopper (Hopper life value) c test suited = suited
+suits_hopper (Bill accepts values ids) c test suited = absurd cc
 
 suits_ident : (body : DeviceBody) (addr : ℕ) → suits body (command.Ident addr) ≡ true
 suits_ident (Acceptor accepts values ids) addr = refl
 suits_ident (Hopper life value) addr = refl
+suits_ident (Bill accepts values ids) addr = refl
 
 -- what the tests of a command at a device tell of its epoch and of its open order
 PassesAt : DeviceSetup → List Line → ℕ → Command → Type 0
@@ -342,6 +378,7 @@ taken_by d lines last (command.Start addr mask) passes =
     may_start mask d (epoch lines) passes.1.1.1.0 passes.1.1.1.1.0
 taken_by d lines last (command.Round addr) passes = passes.1.1.1.0
 taken_by d lines last (command.Stop addr) passes = passes.1.1.1.0
+taken_by d lines last (command.Route addr way) passes = passes.1.1.1.0
 taken_by d lines last c passes = tt
 
 owed_by : (d : DeviceSetup) (lines : List Line) (last : ℕ) (c : Command) → PassesAt d lines last c →
@@ -386,9 +423,16 @@ taken_at capacity setup past (command.Pay addr id count) (Some d) was none passe
 taken_at capacity setup past (command.Settle addr) (Some d) was none passes =
     began_at capacity setup past (command.Settle addr) d was none
     (suits_hopper d.body (command.Settle addr) (test_holds (is_hopper d.body) WrongKind passes.1.0) refl) passes.1.1.0 passes
+taken_at capacity setup past (command.Path addr place path) (Some d) was none passes =
+    began_at capacity setup past (command.Path addr place path) d was none
+    (suits_acceptor d.body (command.Path addr place path) (test_holds (is_acceptor d.body) WrongKind passes.1.0) refl)
+    passes.1.1.0 passes
+taken_at capacity setup past (command.Route addr way) (Some d) was none passes =
+    began_at capacity setup past (command.Route addr way) d was none
+    (suits_bills d.body (command.Route addr way) (test_holds (is_bill d.body) WrongKind passes.1.0) refl) passes.1.1.0 passes
 taken_at capacity setup past c (Some d) was none passes =
     began_at capacity setup past c d was none
-    (suits_acceptor d.body c (test_holds (is_acceptor d.body) WrongKind passes.1.0) refl) passes.1.1.0 passes
+    (suits_taker d.body c (test_holds (is_taker d.body) WrongKind passes.1.0) refl refl) passes.1.1.0 passes
 
 command_brought : (capacity : ℕ) (setup : Setup) (past : List Entry) (c : Command) (why : Option CommandNo) →
     refusal capacity setup past c ≡ why → Brought capacity setup past (step.Command c) (command_entry c why ∷ [])
@@ -595,6 +639,8 @@ brought capacity setup past news (step.Coin addr place) told =
     happening_brought capacity setup past news addr (happening.Coin place) _ refl told
 brought capacity setup past news (step.Alien addr) told =
     happening_brought capacity setup past news addr happening.Alien _ refl told
+brought capacity setup past news (step.Bill addr place) told =
+    happening_brought capacity setup past news addr (happening.Bill place) _ refl told
 brought capacity setup past news (step.Fall addr) told =
     happening_brought capacity setup past news addr happening.Fall _ refl told
 brought capacity setup past news (step.Jam addr) told =

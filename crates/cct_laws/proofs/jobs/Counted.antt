@@ -1,10 +1,12 @@
--- The accept counters that a job read tell how many coins had come, as the lines of its acceptor do. So where a reading has
+-- The accept counters that a job read tell how many coins had come, as the lines of its device do. So where a reading has
 -- to be made again, a coin came between the two.
-use Rattle.std.proofs.Common.{◌≡◌, ◌≢◌, ℕ, ◌<◌, ◌≤◌, ◌==◌, ◌&&◌, not, Bool, true, false, cond, List, [], ◌∷◌, length, refl, ap, sym, ◌∙◌, subst, Option, Some, None, arith, rules, eq-eqb}
+use Rattle.std.proofs.Common.{◌≡◌, ◌≢◌, ℕ, ◌<◌, ◌≤◌, ◌==◌, ◌&&◌, not, Bool, true, false, cond, List, [], ◌∷◌, ◌++◌, length, refl, ap, sym, ◌∙◌, subst, Option, Some, None, arith, rules, eq-eqb}
 use Rattle.std.specs.Prelude.{⊤}
 use Rattle.std.specs.Option.{option_or}
 use Rattle.std.proofs.Math.Arith.{lt_of_le-ne}
 use Rattle.cct_model.specs.terms.coin.Credits.{Credits}
+use Rattle.cct_model.specs.terms.device.DeviceBody.{DeviceBody}
+use Rattle.cct_model.specs.terms.device.DeviceBody.TheVariants.{Acceptor, Bill, Hopper}
 use Rattle.cct_model.specs.terms.device.DeviceSetup.{DeviceSetup}
 use Rattle.cct_model.specs.terms.request.Request.{Request}
 use Rattle.cct_model.specs.terms.request.Request.TheVariants.{AcceptCount}
@@ -12,24 +14,26 @@ use Rattle.cct_model.specs.lines.record.Record.{Record}
 use Rattle.cct_model.specs.lines.command.Command.{Command}
 use Rattle.cct_model.specs.lines.command.Command.TheVariants as command
 use Rattle.cct_model.specs.lines.entry.End.{End}
-use Rattle.cct_model.specs.lines.entry.End.TheVariants.{Moved, Unquiet}
+use Rattle.cct_model.specs.lines.entry.End.TheVariants.{Moved, NoAnswer, Unquiet}
 use Rattle.cct_model.specs.declared.judging.Judged.{Judged}
 use Rattle.cct_model.specs.declared.judging.Judged.TheVariants.{Nothing, Reading, Broken}
 use Rattle.cct_model.specs.declared.judging.Judged.TheVariants as judged_of
 use Rattle.cct_model.specs.declared.judging.EpochState.{EpochState}
 use Rattle.cct_model.specs.declared.judging.EpochState.TheVariants.{Running}
-use Rattle.cct_model.specs.Acceptor.{accepted_coins, accept_count}
+use Rattle.cct_model.specs.Acceptor.{counted}
 use Rattle.cct_model.specs.Claims.{behind, coins, reading}
-use Rattle.cct_model.specs.Device.{IsAcceptor, reply_of}
+use Rattle.cct_model.specs.Device.{IsTaker, reply_of}
 use Rattle.cct_model.specs.History.{Met}
 use Rattle.cct_model.specs.Job.{accepts_line, accepts_reply, accepts_read, accepts_before, at_credits, credits_line, credits_read, mask_read, judged_by, judged_in, address_of, ident_requests}
 use Rattle.cct_model.specs.Line.{Line, accepted, exchange, put, ended}
 use Rattle.cct_model.specs.Reading.{judge}
 use Rattle.cct_model.specs.Reply.{Reply}
 use Rattle.cct_model.specs.Reply as reply
-use Rattle.cct_model.specs.Rows.{Then, goes_on, ends_as, if_quiet, if_judged, if_unmoved, path_told, if_posted, if_closed, TableRow, asks_for, asks_once, waits_for_coins, puts_due, rows_of, left, end_by_answer, end_answered, end_of}
+use Rattle.cct_model.specs.Rows.{Then, goes_on, ends_as, if_quiet, if_judged, if_unmoved, path_told, if_posted, if_closed, TableRow, asks_for, asks_once, waits_for_coins, puts_due, rows_of, left, end_bare, end_by_answer, end_answered, end_failed, end_of}
 use Rattle.cct_model.proofs.Rows.{EachRow, each_told, each_left, IfEnd, PutEnds, put_end}
+use Rattle.cct_model.specs.Transcript.{doses}
 use Rattle.cct_laws.specs.Moving.{MovedAt, counting}
+use Rattle.cct_laws.specs.Takers.{accepted_of}
 use Rattle.cct_laws.proofs.Replies.{start_of, replied_accepts, same_reply}
 use Rattle.cct_laws.proofs.acceptor.World.{count_from}
 
@@ -45,7 +49,7 @@ abbrev pub counted_before : List Line → ℕ
 counted_before lines = length (coins (counting (reading lines)))
 
 -- an accept counter that a job read is that of so many
-abbrev CountsAs : ℕ → Option ℕ → List Line → Type 0
+abbrev pub CountsAs : ℕ → Option ℕ → List Line → Type 0
 CountsAs start read lines = (n : ℕ) → read ≡ Some n → n ≡ count_of start lines
 
 pub record Counted (start : ℕ) (lines since : List Line) : Type 0 where
@@ -84,20 +88,32 @@ counted_line start l lines since here counted = record {
   before = before_by start (credits_line l) lines since counted;
 }
 
--- an answered exchange reads the accept counter of its moment
-pub read_counts : (d : DeviceSetup) (past : List Met) (lines : List Line) (q : Request) (y : Reply) → IsAcceptor d.body →
-    accepted_coins past ≡ length (coins lines) → reply_of d past q ≡ Some y →
-    CountsAs (start_of d.body) (accepts_line (exchange (Some q) (Some y))) lines
-read_counts d past lines AcceptCount y accepting told replied = λ n is.
+-- an answered exchange reads the accept counter of its moment, in which no bill is stacked
+undosed_count : (body : DeviceBody) (own : ℕ) (past : List Met) → doses body own past (Some AcceptCount) ≡ []
+undosed_count (Acceptor accepts values ids) own past = refl
+undosed_count (Hopper life value) own past = refl
+undosed_count (Bill accepts values ids) own past = refl
+
+pub read_counts : (d : DeviceSetup) (past : List Met) (lines : List Line) (q : Request) (y : Reply) → IsTaker d.body →
+    accepted_of d.body past ≡ length (coins lines) → reply_of d past q ≡ Some y →
+    CountsAs (start_of d.body) (accepts_line (exchange (Some q) (Some y))) (doses d.body d.serial past (Some q) ++ lines)
+read_counts d past lines AcceptCount y taking told replied = λ n is.
     let start = start_of d.body in
-    let same : reply.accepts (accept_count start past) ≡ y =
-    same_reply (reply.accepts (accept_count start past)) y (sym (replied_accepts d past accepting) ∙ replied) in
-    same_count n (accept_count start past) (sym is ∙ ap (λ x. accepts_reply (Some x)) (sym same))
+    let count = counted start (accepted_of d.body past) in
+    let same : reply.accepts count ≡ y =
+    same_reply (reply.accepts count) y (sym (replied_accepts d past taking) ∙ replied) in
+    same_count n count (sym is ∙ ap (λ x. accepts_reply (Some x)) (sym same))
     ∙ ap (count_from start) told
+    ∙ ap (λ ls. count_from start (length (coins (ls ++ lines)))) (sym (undosed_count d.body d.serial past))
   where
     same_count : (n count : ℕ) → Some n ≡ Some count → n ≡ count
     same_count n count is = cc
-read_counts d past lines q y accepting told replied = λ n is. cc
+read_counts d past lines q y taking told replied = λ n is. cc
+
+-- one without an answer reads none
+pub none_read : (start : ℕ) (q : Request) (lines : List Line) → CountsAs start (accepts_line (exchange (Some q) None)) lines
+none_read start AcceptCount lines = λ n is. cc
+none_read start q lines = λ n is. cc
 
 -- no fewer coins had come at the last reading of an accept counter than at an earlier one
 pub coins_more : (l : Line) (lines : List Line) → length (coins lines) ≤ length (coins (l ∷ lines))
@@ -208,20 +224,21 @@ behind_moved if_closed y means other is = cc
 
 abbrev AnswersOther : TableRow → Type 0
 AnswersOther (asks_for q behind) = IsOther behind
-AnswersOther (asks_once q behind without) = IsOther behind
+AnswersOther (asks_once q behind without) = IsOther behind × IsOther without
 AnswersOther r = ⊤
 
 answers_other : (d : DeviceSetup) (c : Command) → EachRow AnswersOther (rows_of d c)
 answers_other d (command.Ident addr) =
     each_told AnswersOther (λ q. tt) (λ q is. cc) (ident_requests d.body)
-answers_other d (command.Start addr mask) = (tt, (tt, (tt, (tt, ((λ is. cc), tt)))))
+answers_other d (command.Start addr mask) = (tt, (tt, (tt, (tt, (((λ is. cc), (λ is. cc)), tt)))))
+answers_other d (command.Route addr way) = (((λ is. cc), (λ is. cc)), tt)
 answers_other d c = search rules
 
 first_moved : (rows : List TableRow) (y : Reply) (means : Judged) → EachRow AnswersOther rows →
     end_answered rows y means ≡ Some Moved → means ≡ judged_of.Moved
 first_moved [] y means others is = cc
 first_moved (asks_for q behind ∷ rows) y means others is = behind_moved behind y means others.0 is
-first_moved (asks_once q behind without ∷ rows) y means others is = behind_moved behind y means others.0 is
+first_moved (asks_once q behind without ∷ rows) y means others is = behind_moved behind y means others.0.0 is
 first_moved (waits_for_coins ∷ rows) y means others is = cc
 first_moved (puts_due due behind ∷ rows) y means others is = cc
 
@@ -240,7 +257,33 @@ answer_tells start d c asked y lines since state end counted is =
     (first_moved (left d c since state) y (judged_in c later state)
     (each_left AnswersOther d c since state (answers_other d c)) (is ∙ ap Some moved)))
 
--- and a put ends none so
+-- and an exchange without an answer ends none so
+tries_moved : (third : Bool) → cond third (Some NoAnswer) None ≡ Some Moved → ⊥
+tries_moved true is = cc
+tries_moved false is = cc
+
+bare_moved : (without : Then) → IsOther without → end_bare without ≡ Some Moved → ⊥
+bare_moved (ends_as end) other is = other (same_end end Moved is)
+  where
+    same_end : (end found : End) → Some end ≡ Some found → end ≡ found
+    same_end end found is = cc
+bare_moved without other is = cc
+
+first_unmoved : (rows : List TableRow) (failed : ℕ) → EachRow AnswersOther rows →
+    end_failed rows failed ≡ Some Moved → ⊥
+first_unmoved [] failed others is = tries_moved (failed == 3) is
+first_unmoved (asks_for q behind ∷ rows) failed others is = tries_moved (failed == 3) is
+first_unmoved (asks_once q behind without ∷ rows) failed others is = bare_moved without others.0.1 is
+first_unmoved (waits_for_coins ∷ rows) failed others is = tries_moved (failed == 3) is
+first_unmoved (puts_due due behind ∷ rows) failed others is = tries_moved (failed == 3) is
+
+pub failed_tells : (d : DeviceSetup) (c : Command) (q : Request) (lines since : List Line) (state : EpochState)
+    (end : End) → end_of d c (exchange (Some q) None) since state ≡ Some end → MovedAt lines (ended end)
+failed_tells d c q lines since state end is =
+    tells_of lines end (λ moved. absurd (first_unmoved (left d c since state) _
+    (each_left AnswersOther d c since state (answers_other d c)) (is ∙ ap Some moved)))
+
+-- nor does a put
 puts_other : (d : DeviceSetup) (c : Command) → EachRow (PutEnds (λ end. end ≢ Moved)) (rows_of d c)
 puts_other d (command.Ident addr) =
     each_told (PutEnds (λ end. end ≢ Moved)) (λ q. tt) (λ q. tt) (ident_requests d.body)

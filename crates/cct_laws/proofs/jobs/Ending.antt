@@ -2,11 +2,11 @@
 use Rattle.std.proofs.Common.{◌≡◌, ℕ, zero, suc, ◌+◌, ◌<◌, ◌≤◌, ◌==◌, cond, true, false, Bool, List, [], ◌∷◌, ◌++◌, refl, ap, sym, ◌∙◌, subst, Option, Some, None, ◌⊎◌, inl, inr, arith, eq-eqb, append_assoc}
 use Rattle.std.specs.Prelude.{⊤}
 use Rattle.cct_model.specs.terms.device.DeviceBody.{DeviceBody}
-use Rattle.cct_model.specs.terms.device.DeviceBody.TheVariants.{Acceptor, Hopper}
+use Rattle.cct_model.specs.terms.device.DeviceBody.TheVariants.{Acceptor, Bill, Hopper}
 use Rattle.cct_model.specs.terms.device.DeviceSetup.{DeviceSetup}
 use Rattle.cct_model.specs.terms.device.Setup.{Setup}
 use Rattle.cct_model.specs.terms.request.Request.{Request}
-use Rattle.cct_model.specs.terms.request.Request.TheVariants.{Dispense, GetStatus, StopNow}
+use Rattle.cct_model.specs.terms.request.Request.TheVariants.{GetStatus, StopNow}
 use Rattle.cct_model.specs.terms.request.ReplyForm.{ReplyForm}
 use Rattle.cct_model.specs.lines.record.Record.{Record}
 use Rattle.cct_model.specs.declared.judging.Judged.{Judged}
@@ -22,7 +22,7 @@ use Rattle.cct_model.specs.Request.{form_of, header_of}
 use Rattle.cct_model.specs.Reply.{Reply}
 use Rattle.cct_model.specs.History.{Met}
 use Rattle.cct_model.specs.Hopper.{remaining, status_of}
-use Rattle.cct_model.specs.Device.{IsAcceptor, IsHopper, reply_of}
+use Rattle.cct_model.specs.Device.{IsHopper, IsTaker, reply_of}
 use Rattle.cct_model.specs.Setup.{IsSoundSetup}
 use Rattle.cct_model.specs.Exchange.{ask, asked, asks_of}
 use Rattle.cct_model.specs.Line.{Line, exchange, put, taken}
@@ -37,9 +37,9 @@ use Rattle.cct_msg.specs.Forms.{form_shown}
 use Rattle.cct_msg.proofs.Exchanges.{asked_back}
 use Rattle.cct_laws.specs.Ending.{nexts_after, nexts_at, halts_after, halts_at, is_payment, row_count, nexts_needed, ShowsEnd, EndsAs, EndsRound, HasNoEnd, EachWhileRunning, LeavesAlone, IsUndisturbed, FindsNoneLeft, AlwaysFindsNoneLeft}
 use Rattle.cct_laws.specs.Ids.{Ids}
-use Rattle.cct_laws.specs.DeviceJobs.{IsRefused, suits}
+use Rattle.cct_laws.specs.DeviceJobs.{suits}
 use Rattle.cct_laws.specs.Law.{IsOf}
-use Rattle.cct_laws.proofs.jobs.Asked.{answers_at}
+use Rattle.cct_laws.proofs.jobs.Asked.{answers_at, refusable}
 use Rattle.cct_laws.proofs.jobs.Brought.{AtDevice, came, took, halted, idled, made_exchange, made_put, AtWork, row_after, wire_of, wire_end, record_end, Brought}
 use Rattle.cct_model.proofs.Doses.{job_undosed}
 use Rattle.cct_laws.proofs.Exchanges.{Replied, Refused, undisturbed_got, undisturbed_refused}
@@ -49,7 +49,7 @@ use Rattle.cct_model.proofs.Rows.{waits_before, told_no_waits}
 use Rattle.cct_laws.proofs.jobs.Telling.{Telling, tells, GoesOverForged, over_telling, any_steps}
 use Rattle.cct_laws.proofs.jobs.Seen.{ArePassed, loose, loose_line, Lost, bare, kept_here, kept_elsewhere, seen_here, seen_aside, seen_lost, seen_from, passed_job, lines_wire, lines_put, lines_taken, along_from, ids_told}
 use Rattle.cct_laws.proofs.jobs.Tries.{IfEndOf, ends_of_answer, ends_of_put}
-use Rattle.cct_laws.proofs.jobs.LastRows.{dispensed_ends, few_failed, few_put, few_answered}
+use Rattle.cct_laws.proofs.jobs.LastRows.{few_failed, few_put, few_answered, refused_ends, refused_once}
 use Rattle.cct_laws.proofs.money.Held.{judged_reads}
 use Rattle.cct_model.proofs.Tries.{same_request, left_asks}
 use Rattle.cct_model.proofs.RowEnds.{AnswersAs, answers_as, once_ends, once_goes, row_once, rest_asks}
@@ -98,6 +98,9 @@ paying_of (Hopper life value) c suited pays = tt
 paying_of (Acceptor accepts values ids) (command.Pay addr id count) suited pays = absurd cc
 paying_of (Acceptor accepts values ids) (command.Settle addr) suited pays = absurd cc
 paying_of (Acceptor accepts values ids) c suited pays = absurd cc
+paying_of (Bill accepts values ids) (command.Pay addr id count) suited pays = absurd cc
+paying_of (Bill accepts values ids) (command.Settle addr) suited pays = absurd cc
+paying_of (Bill accepts values ids) c suited pays = absurd cc
 
 -- the premise that all coins have fallen where a status is asked
 abbrev FoundNoneLeft : DeviceSetup → List Met → Request → Type 0
@@ -218,30 +221,26 @@ answered_there setup d c nexts past since q sound own suited is_job few enough i
     (answer_brings d (met d past) c since q is.y nexts suited (answers_as d c since state owed q is_row) is.replied found
     enough)
 
--- and so does a dispense that the hopper refuses
+-- and so does what the device refuses
 refused_there : (setup : Setup) (d : DeviceSetup) (c : Command) (nexts : ℕ) (past : List Entry) (since : List Line)
     (q : Request) → IsSoundSetup setup → IsOf setup d → job (lines_of d past) ≡ works c since →
     done (rows_of d c) since < row_count d c → row_count d c + cond (is_marked since) 1 0 ≤ done (rows_of d c) since + suc nexts →
-    row_after d past c since ≡ sends q → pending past ≡ fault.Clear → IsRefused d (met d past) q →
-    Refused d (met d past) q →
+    row_after d past c since ≡ sends q → pending past ≡ fault.Clear → Refused d (met d past) q →
     Goes d c nexts past (with_end d.addr (wire_of setup d past q) (wire_end setup d past c since q))
-refused_there setup d c nexts past since (Dispense serial count) sound own is_job few enough is_row clear refuses is =
-    let q = Dispense serial count in
+refused_there setup d c nexts past since q sound own is_job few enough is_row clear is =
     let state = epoch (lines_of d past) in
     let owed = order (lines_of d past) in
-    let none : end_of d c (exchange (Some q) None) since state ≡ None =
-    dispensed_ends d c since state owed serial count is_row in
-    let once = row_once d c since state owed q is_row refl in
+    let may = refusable d (met d past) q is.refuses in
+    let once = row_once d c since state owed q is_row (refused_once q may) in
     let failed = tries (header_of q) (exchange (Some q) None ∷ since) in
     exchanged setup d c nexts past since q None is_job (asked_back d.kind d.addr q is.fits)
-    (undisturbed_refused setup d past q is sound own clear) (subst (IfEndOf c) (sym none) tt)
+    (undisturbed_refused setup d past q is sound own clear) (refused_ends d c since state owed q may is_row)
     (λ no_end.
     subst (λ n. n < row_count d c) (sym (once_goes (rows_of d c) (Some q) None since once))
     (few_failed d c (done (rows_of d c) since) failed once few
     (subst (λ rows. end_failed rows failed ≡ None) (left_asks d c since state owed q is_row) no_end)))
-    (on_by (ends_first (rest d c since) None) false (is_marked since) (row_count d c) (done (rows_of d c) since) nexts
-    (once_ends (rest d c since) None once) enough)
-refused_there setup d c nexts past since q sound own is_job few enough is_row clear refuses is = absurd refuses
+    (on_by (ends_first (rest d c since) None) (is_stopped (Some q) None) (is_marked since) (row_count d c)
+    (done (rows_of d c) since) nexts (once_ends (rest d c since) None once) enough)
 
 asks_there : (setup : Setup) (d : DeviceSetup) (c : Command) (nexts : ℕ) (past : List Entry) (since : List Line)
     (q : Request) → IsSoundSetup setup → IsOf setup d → IsCommand c → suits d.body c ≡ true →
@@ -254,7 +253,7 @@ asks_there setup d c nexts past since q sound own known suited is_job few enough
     elim (answers_at setup past d c (done (rows_of d c) since) (judged_in c since (epoch (lines_of d past)))
     (noted_in since (order (lines_of d past))) q sound own suited known is_row) [
       | inl is ↦ answered_there setup d c nexts past since q sound own suited is_job few enough is_row clear found is
-      | inr is ↦ refused_there setup d c nexts past since q sound own is_job few enough is_row clear is.refuses is
+      | inr is ↦ refused_there setup d c nexts past since q sound own is_job few enough is_row clear is
     ]
 
 -- a put brings it on
@@ -573,6 +572,9 @@ has_rows d (Acceptor accepts values ids) (command.Vend id price) suited = absurd
 has_rows d (Hopper life value) (command.Halt addr) suited = absurd cc
 has_rows d (Hopper life value) command.Scan suited = absurd cc
 has_rows d (Hopper life value) (command.Vend id price) suited = absurd cc
+has_rows d (Bill accepts values ids) (command.Halt addr) suited = absurd cc
+has_rows d (Bill accepts values ids) command.Scan suited = absurd cc
+has_rows d (Bill accepts values ids) (command.Vend id price) suited = absurd cc
 has_rows d body c suited = omega arith
 
 needs_by : (pays : Bool) (rows halts come : ℕ) → cond pays (rows + halts) rows ≤ come → rows + cond pays halts 0 ≤ come
@@ -601,15 +603,16 @@ job_ends capacity setup before past d c steps end sound own known suited was is_
     undisturbed paid
 
 -- a round does so within five `next`
-pub round_suits : (body : DeviceBody) (addr : ℕ) → IsAcceptor body → suits body (command.Round addr) ≡ true
-round_suits (Acceptor accepts values ids) addr accepting = refl
-round_suits (Hopper life value) addr accepting = absurd accepting
+pub round_suits : (body : DeviceBody) (addr : ℕ) → IsTaker body → suits body (command.Round addr) ≡ true
+round_suits (Acceptor accepts values ids) addr taking = refl
+round_suits (Hopper life value) addr taking = absurd taking
+round_suits (Bill accepts values ids) addr taking = refl
 
 pub round_ends : (capacity : ℕ) (setup : Setup) (before : List Step) (past : List Entry) (d : DeviceSetup)
-    (steps : List Step) (end : List Entry) → IsSoundSetup setup → IsOf setup d → IsAcceptor d.body →
+    (steps : List Step) (end : List Entry) → IsSoundSetup setup → IsOf setup d → IsTaker d.body →
     LegalFrom capacity setup [] before past → job (lines_of d past) ≡ works (command.Round d.addr) [] →
     5 ≤ nexts_at d.addr steps → LegalFrom capacity setup past steps end → IsUndisturbed d.addr past end →
     EndsRound d.addr past end
-round_ends capacity setup before past d steps end sound own accepting was is_job enough legal undisturbed =
+round_ends capacity setup before past d steps end sound own taking was is_job enough legal undisturbed =
     job_ends capacity setup before past d (command.Round d.addr) steps end sound own tt
-    (round_suits d.body d.addr accepting) was is_job enough legal undisturbed (λ pays. absurd cc)
+    (round_suits d.body d.addr taking) was is_job enough legal undisturbed (λ pays. absurd cc)

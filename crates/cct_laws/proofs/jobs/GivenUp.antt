@@ -6,7 +6,7 @@ use Rattle.cct_model.specs.terms.wire.CheckKind.TheVariants.{Simple, Crc}
 use Rattle.cct_model.specs.terms.device.DeviceSetup.{DeviceSetup}
 use Rattle.cct_model.specs.terms.device.Setup.{Setup}
 use Rattle.cct_model.specs.terms.request.Request.{Request}
-use Rattle.cct_model.specs.terms.request.Request.TheVariants.{Dispense}
+use Rattle.cct_model.specs.terms.request.Request.TheVariants.{RouteBill, Dispense}
 use Rattle.cct_model.specs.lines.record.Record.{Record}
 use Rattle.cct_model.specs.lines.command.Command.{Command}
 use Rattle.cct_model.specs.lines.command.Command.TheVariants as command
@@ -26,7 +26,7 @@ use Rattle.cct_model.specs.Claims.{AllPast}
 use Rattle.cct_model.specs.Legal.{Legal}
 use Rattle.cct_model.specs.Script.{IsInRange}
 use Rattle.cct_model.specs.Transcript.{pending, met, own, owner, lines_of, heard_by_devices, doses_of, scan_own, scan_lines, scan_line, got_by, onto}
-use Rattle.cct_laws.specs.Faults.{IsFaultSet, is_dispense, FailsByFaultBut, EchoFailsByFault, begins, AreFaulted, EndsByFaults}
+use Rattle.cct_laws.specs.Faults.{IsFaultSet, may_be_refused, FailsByFaultBut, EchoFailsByFault, begins, AreFaulted, EndsByFaults}
 use Rattle.cct_laws.specs.Law.{IsOf, EachEntry}
 use Rattle.cct_laws.specs.Tries.{failed_tries, failed_in, HasThreeTries, ScanTriesAt}
 use Rattle.cct_model.proofs.Doses.{job_undosed}
@@ -147,18 +147,19 @@ one_more None found (works c since) = omega arith
 one_more (Some q) (Some y) (works c since) = none_counted (is_asked_again q) (suc (counted_tries since))
 one_more (Some q) None (works c since) = failed_more (is_asked_again q) q since refl
 
--- an exchange that is counted wasn't answered, and asked no dispense
-no_dispense : (q : Request) → is_asked_again q ≡ true → is_dispense (Some q) ≡ false
-no_dispense (Dispense serial count) again = absurd cc
-no_dispense q again = refl
+-- an exchange that is counted wasn't answered, and asked nothing that may be refused
+none_refusable : (q : Request) → is_asked_again q ≡ true → may_be_refused (Some q) ≡ false
+none_refusable (Dispense serial count) again = absurd cc
+none_refusable (RouteBill way) again = absurd cc
+none_refusable q again = refl
 
 unanswered_by : (asks_it : Bool) (q : Request) (n : ℕ) → is_asked_again q ≡ asks_it → 1 ≤ cond asks_it n 0 →
-    is_dispense (Some q) ≡ false
-unanswered_by true q n test some = no_dispense q test
+    may_be_refused (Some q) ≡ false
+unanswered_by true q n test some = none_refusable q test
 unanswered_by false q n test some = absurd (omega (arith, some))
 
 unanswered : (asks : Option Request) (found : Option Reply) (j : Job) →
-    1 ≤ counted (with_line (exchange asks found) j) → (found ≡ None) × (is_dispense asks ≡ false)
+    1 ≤ counted (with_line (exchange asks found) j) → (found ≡ None) × (may_be_refused asks ≡ false)
 unanswered asks found free some = absurd (omega (arith, some))
 unanswered None found (works c since) some = absurd (omega (arith, some))
 unanswered (Some q) (Some y) (works c since) some =
@@ -167,7 +168,7 @@ unanswered (Some q) None (works c since) some = (refl, unanswered_by (is_asked_a
 
 exchange_faulted : (d : DeviceSetup) (past : List Entry) (addr : ℕ) (sent piece : List ℕ) (here : Bool)
     (ls : List Line) → (addr == d.addr) ≡ here → job (ls ++ lines_of d past) ≡ job (lines_of d past) →
-    FailsByFaultBut is_dispense d past (entry.Wire addr sent piece) →
+    FailsByFaultBut may_be_refused d past (entry.Wire addr sent piece) →
     AreFaulted d.addr (counted (job (lines_of d past))) past →
     AreFaulted d.addr (counted (job ((cond here (exchange (asked d.kind sent) (got_by d sent piece) ∷ []) [] ++ ls)
     ++ lines_of d past))) (entry.Wire addr sent piece ∷ past)
@@ -190,7 +191,7 @@ exchange_faulted d past addr sent piece false ls test same fails before =
 put_fewer : (r : Record) (j : Job) → counted (with_line (put r) j) ≤ counted j
 put_fewer r j = line_fewer (put r) j (λ since. none_counted (asks_again since) (counted_tries since))
 
-faulted_at : (d : DeviceSetup) (past : List Entry) (e : Entry) → FailsByFaultBut is_dispense d past e →
+faulted_at : (d : DeviceSetup) (past : List Entry) (e : Entry) → FailsByFaultBut may_be_refused d past e →
     AreFaulted d.addr (counted (job (lines_of d past))) past →
     AreFaulted d.addr (counted (job (lines_of d (e ∷ past)))) (e ∷ past)
 faulted_at d past (entry.Accepted addr c) fails before =
@@ -256,7 +257,7 @@ record Ends (addr many : ℕ) (past : List Entry) : Type 0 where
   faulted : AreFaulted addr many past
   each : EachEntry (EndsByFaults addr) past
 
-all_ends : (d : DeviceSetup) (past : List Entry) → EachEntry (FailsByFaultBut is_dispense d) past →
+all_ends : (d : DeviceSetup) (past : List Entry) → EachEntry (FailsByFaultBut may_be_refused d) past →
     AllPast GivenUpAt (lines_of d past) → Ends d.addr (counted (job (lines_of d past))) past
 all_ends d [] fails given = record { faulted = tt; each = tt }
 all_ends d (e ∷ past) fails given =

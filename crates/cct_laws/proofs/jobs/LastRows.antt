@@ -1,9 +1,9 @@
 -- The last row of a job ends it: whatever ends no job leaves rows after it.
-use Rattle.std.proofs.Common.{◌==◌, ◌≡◌, ℕ, zero, suc, ◌<◌, Bool, true, false, cond, List, [], ◌∷◌, length, refl, ap, sym, ◌∙◌, subst, Some, None, ◌⊎◌, inl, inr, arith, rules, true≢false, Option}
+use Rattle.std.proofs.Common.{◌==◌, ◌≡◌, ℕ, zero, suc, ◌<◌, Bool, true, false, cond, List, [], ◌∷◌, length, refl, ap, sym, ◌∙◌, subst, Some, None, ◌⊎◌, inl, inr, arith, rules, true≢false, Option, MatchBool}
 use Rattle.std.specs.Prelude.{⊤}
 use Rattle.cct_model.specs.terms.device.DeviceSetup.{DeviceSetup}
 use Rattle.cct_model.specs.terms.request.Request.{Request}
-use Rattle.cct_model.specs.terms.request.Request.TheVariants.{GetPath, GetDefault, Dispense}
+use Rattle.cct_model.specs.terms.request.Request.TheVariants.{GetPath, GetDefault, RouteBill, Dispense}
 use Rattle.cct_model.specs.terms.request.ReplyForm.{ReplyForm}
 use Rattle.cct_model.specs.terms.request.ReplyForm.TheVariants as form
 use Rattle.cct_model.specs.lines.record.Record.{Record}
@@ -20,7 +20,10 @@ use Rattle.cct_model.specs.Job.{sends, puts, Noted, ident_requests, address_of, 
 use Rattle.cct_model.specs.Rows.{ends_as, path_told, if_posted, if_closed, new_epoch, reading, epoch_end, new_order, order_end, sale, TableRow, asks_for, asks_once, waits_for_coins, puts_due, telling, rows_of, after, from, first, row_at, end_by_answer, end_answered, end_failed, end_kept, end_bare, end_of, done, rest, row, sent_once}
 use Rattle.cct_msg.specs.Forms.{form_shown}
 use Rattle.cct_laws.proofs.money.Held.{IsReading, close_row_closes, same_record}
-use Rattle.cct_model.proofs.Rows.{EachRow, each_told, each_after}
+use Rattle.cct_laws.specs.Ending.{IsEndOf}
+use Rattle.cct_laws.specs.Faults.{may_be_refused}
+use Rattle.cct_model.proofs.Requests.{is_asked_again}
+use Rattle.cct_model.proofs.Rows.{IfEnd, EachRow, each_told, each_after}
 use Rattle.cct_model.proofs.Tries.{due_sends, same_request, left_asks}
 use Rattle.cct_model.specs.Line.{Line, exchange}
 use Rattle.cct_model.specs.declared.judging.EpochState.{EpochState}
@@ -173,32 +176,39 @@ few_failed d c n failed once few none =
     last_failed r failed ends (subst (λ rows. sent_once rows ≡ true) last once)
     (subst (λ rows. end_failed rows failed ≡ None) last none))
 
--- a dispense that isn't acknowledged ends no job
-abbrev DispensesOn : TableRow → Type 0
-DispensesOn (asks_once (Dispense serial count) behind without) = end_bare without ≡ None
-DispensesOn r = ⊤
+-- what may be refused and isn't acknowledged ends no job, or ends it as one that got its answers
+abbrev RefusedEnds : Command → TableRow → Type 0
+RefusedEnds c (asks_once q behind without) = MatchBool (may_be_refused (Some q)) (IfEnd (IsEndOf c) (end_bare without)) ⊤
+RefusedEnds c r = ⊤
 
-dispenses_on : (d : DeviceSetup) (c : Command) → EachRow DispensesOn (rows_of d c)
-dispenses_on d (command.Ident addr) = each_told DispensesOn (λ q. tt) (λ q. tt) (ident_requests d.body)
-dispenses_on d c = search rules
+refused_rows : (d : DeviceSetup) (c : Command) → EachRow (RefusedEnds c) (rows_of d c)
+refused_rows d (command.Ident addr) =
+    each_told (RefusedEnds (command.Ident addr)) (λ q. tt) (λ q. tt) (ident_requests d.body)
+refused_rows d c = search rules
 
-first_dispenses : (addr : ℕ) (means : Judged) (p : Noted) (rows : List TableRow) (serial count failed : ℕ) →
-    EachRow DispensesOn rows → sent_once rows ≡ true → first addr means p rows ≡ sends (Dispense serial count) →
-    end_failed rows failed ≡ None
-first_dispenses addr means p [] serial count failed on once is = absurd cc
-first_dispenses addr means p (asks_for x behind ∷ rows) serial count failed on once is = absurd cc
-first_dispenses addr means p (asks_once x behind without ∷ rows) serial count failed on once is =
-    subst (λ q. DispensesOn (asks_once q behind without)) (same_request x (Dispense serial count) is) on.0
-first_dispenses addr means p (waits_for_coins ∷ rows) serial count failed on once is = absurd cc
-first_dispenses addr means p (puts_due due behind ∷ rows) serial count failed on once is = absurd cc
+first_refused : (c : Command) (means : Judged) (p : Noted) (rows : List TableRow) (q : Request) (failed : ℕ) →
+    EachRow (RefusedEnds c) rows → sent_once rows ≡ true → may_be_refused (Some q) ≡ true →
+    first (address_of c) means p rows ≡ sends q → IfEnd (IsEndOf c) (end_failed rows failed)
+first_refused c means p [] q failed each once may is = absurd cc
+first_refused c means p (asks_for x behind ∷ rows) q failed each once may is = absurd (true≢false (sym once))
+first_refused c means p (asks_once x behind without ∷ rows) q failed each once may is =
+    subst (λ b. MatchBool b (IfEnd (IsEndOf c) (end_bare without)) ⊤)
+    (ap (λ r. may_be_refused (Some r)) (same_request x q is) ∙ may) each.0
+first_refused c means p (waits_for_coins ∷ rows) q failed each once may is = absurd (true≢false (sym once))
+first_refused c means p (puts_due due behind ∷ rows) q failed each once may is = absurd (true≢false (sym once))
 
-pub dispensed_ends : (d : DeviceSetup) (c : Command) (since : List Line) (state : EpochState) (owed : Option OpenOrder)
-    (serial count : ℕ) → row d c since state owed ≡ sends (Dispense serial count) →
-    end_of d c (exchange (Some (Dispense serial count)) None) since state ≡ None
-dispensed_ends d c since state owed serial count is =
-    let q = Dispense serial count in
-    subst (λ rows. end_failed rows (tries (header_of q) (exchange (Some q) None ∷ since)) ≡ None)
+-- it is asked once
+pub refused_once : (q : Request) → may_be_refused (Some q) ≡ true → is_asked_again q ≡ false
+refused_once (Dispense serial count) may = refl
+refused_once (RouteBill way) may = refl
+refused_once q may = absurd cc
+
+pub refused_ends : (d : DeviceSetup) (c : Command) (since : List Line) (state : EpochState) (owed : Option OpenOrder)
+    (q : Request) → may_be_refused (Some q) ≡ true → row d c since state owed ≡ sends q →
+    IfEnd (IsEndOf c) (end_of d c (exchange (Some q) None) since state)
+refused_ends d c since state owed q may is =
+    subst (λ rows. IfEnd (IsEndOf c) (end_failed rows (tries (header_of q) (exchange (Some q) None ∷ since))))
     (sym (left_asks d c since state owed q is))
-    (first_dispenses (address_of c) (judged_in c since state) (noted_in since owed) (rest d c since) serial count _
-    (each_after DispensesOn (rows_of d c) (done (rows_of d c) since) (dispenses_on d c))
-    (row_once d c since state owed q is refl) (rest_asks d c since state owed q is))
+    (first_refused c (judged_in c since state) (noted_in since owed) (rest d c since) q _
+    (each_after (RefusedEnds c) (rows_of d c) (done (rows_of d c) since) (refused_rows d c))
+    (row_once d c since state owed q is (refused_once q may)) may (rest_asks d c since state owed q is))

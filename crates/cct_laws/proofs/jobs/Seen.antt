@@ -1,10 +1,10 @@
 -- What a step brought, seen from one device or from address 0: something there, or entries that are none of it. And
 -- how a fact that each step keeps goes along all of them.
-use Rattle.std.proofs.Common.{◌≡◌, ◌≢◌, ℕ, ◌==◌, cond, Bool, true, false, List, [], ◌∷◌, ◌++◌, slice_index, refl, ap, sym, ◌∙◌, subst, Option, Some, None, ◌⊎◌, inl, inr, All, arith, rules, eq-eqb}
-use Rattle.std.specs.Prelude.{⊤}
+use Rattle.std.proofs.Common.{◌≡◌, ◌≢◌, ℕ, suc, ◌==◌, cond, Bool, true, false, List, [], ◌∷◌, ◌++◌, length, slice_index, refl, ap, sym, ◌∙◌, subst, subst₂, Option, Some, None, ◌⊎◌, inl, inr, All, arith, rules, eq-eqb}
+use Rattle.std.specs.Prelude.{⊤, is_some}
 use Rattle.std.proofs.lemmas.Bool.{ne_eqb}
 use Rattle.cct_model.specs.terms.device.DeviceBody.{DeviceBody}
-use Rattle.cct_model.specs.terms.device.DeviceBody.TheVariants.{Acceptor, Hopper}
+use Rattle.cct_model.specs.terms.device.DeviceBody.TheVariants.{Acceptor, Bill, Hopper}
 use Rattle.cct_model.specs.terms.device.DeviceSetup.{DeviceSetup}
 use Rattle.cct_model.specs.terms.request.Request.{Request}
 use Rattle.cct_model.specs.terms.request.Request.TheVariants.{AddressPoll, SimplePoll}
@@ -21,14 +21,16 @@ use Rattle.cct_model.specs.lines.entry.Entry.{Entry}
 use Rattle.cct_model.specs.lines.entry.Entry.TheVariants as entry
 use Rattle.cct_model.specs.History.{Met, heard}
 use Rattle.cct_model.specs.History as history
-use Rattle.cct_model.specs.Acceptor.{accepted_coins}
+use Rattle.cct_model.specs.Bill.{bill_held, stacked_bills, stacked_by}
+use Rattle.cct_model.specs.Claims.{coins}
+use Rattle.cct_model.specs.Hopper.{taken_of}
 use Rattle.cct_model.specs.Device.{IsSound}
 use Rattle.cct_model.specs.Setup.{IsSoundSetup}
 use Rattle.cct_model.specs.Exchange.{ask, asked, asks_of, device_at}
-use Rattle.cct_model.specs.Line.{Line, dispensed, exchange, put, taken, ended, restarted}
+use Rattle.cct_model.specs.Line.{Line, exchange, put, taken, ended, restarted}
 use Rattle.cct_model.specs.Job.{job, puts, address_of}
 use Rattle.cct_model.specs.Legal.{with_end, bare_restart, keeping_restart, LegalFrom}
-use Rattle.cct_model.specs.Transcript.{pending, meets, met, own, owner, lines_of, heard_by_devices, got_by, doses, doses_of, scan_own, scan_lines}
+use Rattle.cct_model.specs.Transcript.{pending, meets, met, own, owner, lines_of, heard_by_devices, got_by, dispensed_by, doses, doses_of, stacked_line, scan_own, scan_lines}
 use Rattle.cct_laws.specs.Ending.{nexts_after, HasNoEnd}
 use Rattle.cct_laws.specs.Faults.{FailsByFault, EchoFailsByFault}
 use Rattle.cct_model.specs.Honest.{IsHonestAt, IsHonestFault}
@@ -36,8 +38,9 @@ use Rattle.cct_laws.specs.DeviceJobs.{IsForOthers, with_ended}
 use Rattle.cct_laws.specs.Law.{IsOf, EachEntry}
 use Rattle.cct_laws.specs.SinceEpoch.{since_record, since_epoch, HasCause, HasCauseAt}
 use Rattle.cct_laws.specs.Ids.{Ids}
-use Rattle.cct_laws.proofs.jobs.Brought.{Comes, takes_coin, leaves_coin, leaves_alien, drops_coin, drops_none, jams, jams_none, is_reset, AtWork, AtDevice, came, took, halted, idled, made_exchange, made_put, row_after, wire_of, wire_end, record_end, poll_wire, poll_end, Brought, of_device, faulted, refused, began_scan, began_sale, nobody, polled, sold, balanced, lost_power, lost_in_put, lost_in_sale}
-use Rattle.cct_model.proofs.Doses.{AreDoses, doses_are, same_over}
+use Rattle.cct_laws.specs.Takers.{accepted_of}
+use Rattle.cct_laws.proofs.jobs.Brought.{Comes, takes_coin, leaves_coin, takes_bill, leaves_bill, leaves_alien, drops_coin, drops_none, jams, jams_none, is_reset, AtWork, AtDevice, came, took, halted, idled, made_exchange, made_put, row_after, wire_of, wire_end, record_end, poll_wire, poll_end, Brought, of_device, faulted, refused, began_scan, began_sale, nobody, polled, sold, balanced, lost_power, lost_in_put, lost_in_sale}
+use Rattle.cct_model.proofs.Doses.{AreDoses, IsAside, doses_are, same_over}
 use Rattle.cct_laws.proofs.jobs.Telling.{Telling, GoesOverForged, over_telling, each_brought}
 use Rattle.cct_laws.proofs.orders.Ids.{ids_start, ids_step, ids_forged, put_owned}
 use Rattle.cct_laws.proofs.HeardBytes.{ask_to, asked_elsewhere, poll_others}
@@ -49,9 +52,9 @@ AreForOthers [] = ⊤
 AreForOthers (heard asked ∷ met) = IsForOthers asked × AreForOthers met
 AreForOthers (m ∷ met) = ⊥
 
--- an entry is none of a device: no line of it but that it took a dispense, which it heard from a damaged wire, and nothing
--- that it met but what is for others. It begins no epoch of it, puts no break of it, ends no job of it and is no coin that
--- it accepted
+-- an entry is none of a device: no line of it but of what it did, which it heard from a damaged wire, and nothing
+-- that it met but what is for others. It begins no epoch of it, puts no break of it and ends no job of it; and its lines
+-- tell as many coins as it accepted, if they did before
 pub record Passes (d : DeviceSetup) (past : List Entry) (e : Entry) : Type 0 where
   pub dosed : AreDoses (own d past e)
   pub no_line : IsHonestAt past e → own d past e ≡ []
@@ -59,29 +62,55 @@ pub record Passes (d : DeviceSetup) (past : List Entry) (e : Entry) : Type 0 whe
   pub goes_on : since_epoch d (e ∷ past) ≡ meets d past e ++ since_epoch d past
   pub no_break : HasCauseAt d past e
   pub no_end : HasNoEnd d.addr (e ∷ [])
-  pub no_coin : (ms : List Met) → accepted_coins (meets d past e ++ ms) ≡ accepted_coins ms
+  pub told : (lines : List Line) → accepted_of d.body (met d past) ≡ length (coins lines) →
+      accepted_of d.body (meets d past e ++ met d past) ≡ length (coins (own d past e ++ lines))
 
 abbrev pub ArePassed : DeviceSetup → List Entry → List Entry → Type 0
 ArePassed d past [] = ⊤
 ArePassed d past (e ∷ news) = Passes d (news ++ past) e × ArePassed d past news
+
+-- after an exchange a device's lines tell as many coins as it accepted, if they did before
+dispensed_told : (count : Option ℕ) (lines : List Line) → 0 ≡ length (coins lines) →
+    0 ≡ length (coins (dispensed_by count ++ lines))
+dispensed_told None lines told = told
+dispensed_told (Some count) lines told = told
+
+stacked_told : (place : Option ℕ) (n : ℕ) (lines : List Line) → n ≡ length (coins lines) →
+    cond (is_some place) (suc n) n ≡ length (coins (stacked_line place ++ lines))
+stacked_told None n lines told = told
+stacked_told (Some place) n lines told = ap suc told
+
+pub doses_told : (body : DeviceBody) (own : ℕ) (past : List Met) (asked : Option Request) (lines : List Line) →
+    accepted_of body past ≡ length (coins lines) →
+    accepted_of body (heard asked ∷ past) ≡ length (coins (doses body own past asked ++ lines))
+doses_told (Acceptor accepts values ids) own past asked lines told = told
+doses_told (Hopper life value) own past asked lines told = dispensed_told (taken_of own past asked) lines told
+doses_told (Bill accepts values ids) own past asked lines told =
+    stacked_told (stacked_by asked (bill_held past)) (stacked_bills past) lines told
+
+-- so they do where a device met nothing, and has no line
+none_told : (body : DeviceBody) (past ms : List Met) (ls lines : List Line) → ms ≡ [] → ls ≡ [] →
+    accepted_of body past ≡ length (coins lines) → accepted_of body (ms ++ past) ≡ length (coins (ls ++ lines))
+none_told body past ms ls lines unmet unlined told =
+    subst₂ (λ m l. accepted_of body (m ++ past) ≡ length (coins (l ++ lines))) (sym unmet) (sym unlined) told
 
 -- a step brought a device nothing, and is no `next` at it
 pub record Aside (d : DeviceSetup) (past : List Entry) (s : Step) (news : List Entry) : Type 0 where
   pub passes : ArePassed d past news
   pub no_next : (nexts : ℕ) → nexts_after d.addr s nexts ≡ nexts
 
--- what does not change over a dispense does not change over entries that are none of a device
-pub passed_same : {A : Type 0} (f : List Line → A) → ((count : ℕ) (lines : List Line) → f (dispensed count ∷ lines) ≡ f lines) →
-    (d : DeviceSetup) (past news : List Entry) → ArePassed d past news →
+-- what changes over no dose does not change over entries that are none of a device
+pub passed_same : {A : Type 0} (f : List Line → A) → IsAside f → (d : DeviceSetup) (past news : List Entry) → ArePassed d past news →
     f (lines_of d (news ++ past)) ≡ f (lines_of d past)
-passed_same f same d past [] passes = refl
-passed_same f same d past (e ∷ news) passes =
-    same_over f same (own d (news ++ past) e) (lines_of d (news ++ past)) passes.0.dosed
-    ∙ passed_same f same d past news passes.1
+passed_same f aside d past [] passes = refl
+passed_same f aside d past (e ∷ news) passes =
+    same_over f aside (own d (news ++ past) e) (lines_of d (news ++ past)) passes.0.dosed
+    ∙ passed_same f aside d past news passes.1
 
 pub passed_job : (d : DeviceSetup) (past news : List Entry) → ArePassed d past news →
     job (lines_of d (news ++ past)) ≡ job (lines_of d past)
-passed_job d past news passes = passed_same job (λ count lines. refl) d past news passes
+passed_job d past news passes =
+    passed_same job (record { dosed = λ count lines. refl; stacked = λ coin lines. refl }) d past news passes
 
 -- a fact of each entry over entries that are none of a device, and over an entry and the end after it
 pub each_aside : (P : List Entry → Entry → Type 0) (d : DeviceSetup) (past news : List Entry) →
@@ -137,6 +166,11 @@ pub loose : (d : DeviceSetup) (past : List Met) (s : Step) (e : Entry) (m : Met)
     IsLoose d.addr s e m ls
 loose d past _ _ _ _ (takes_coin place accepting test) = search rules
 loose d past _ _ _ _ (leaves_coin place accepting test) = search rules
+loose d past _ _ _ _ (takes_bill place banking test) =
+    unlined d.addr (step.Bill d.addr place) (entry.Held d.addr place) (history.coin place)
+    (λ x past. none_either [] (d.addr == x.addr) refl) (λ x past. refl) (λ x past. refl) (λ x past. (tt, tt))
+    (λ x past. tt) (λ other. tt) refl (λ other nexts. refl)
+loose d past _ _ _ _ (leaves_bill place banking test) = search rules
 loose d past _ _ _ _ (leaves_alien accepting) = search rules
 loose d past _ _ _ _ (drops_coin paying test) = search rules
 loose d past _ _ _ _ (drops_none paying test) =
@@ -173,8 +207,9 @@ loose_passes d past addr s e m ls other is =
           goes_on = is.goes_on d past;
           no_break = is.no_break d past;
           no_end = is.no_end d.addr;
-          no_coin = λ ms.
-              ap (λ met. accepted_coins (met ++ ms)) (is.meets_is d past ∙ ap (λ b. cond b (m ∷ []) []) away);
+          told = λ lines.
+              none_told d.body (met d past) (meets d past e) (own d past e) lines
+              (is.meets_is d past ∙ ap (λ b. cond b (m ∷ []) []) away) none;
         },
         tt,
       );
@@ -184,7 +219,7 @@ loose_passes d past addr s e m ls other is =
 away_none : (addr there : ℕ) (l : Line) → addr ≢ there → cond (addr == there) (l ∷ []) [] ≡ []
 away_none addr there l other = rw (ne_eqb addr there other) refl
 
--- an exchange at another address is at most a dispense
+-- an exchange at another address is at most a dose
 away_dosed : (addr there : ℕ) (l : Line) (ls : List Line) → addr ≢ there → cond (addr == there) (l ∷ []) [] ++ ls ≡ ls
 away_dosed addr there l ls other = ap (λ front. front ++ ls) (away_none addr there l other)
 
@@ -199,12 +234,14 @@ with_end_passes d past addr e (Some end) other passes = (
     goes_on = refl;
     no_break = tt;
     no_end = (other, tt);
-    no_coin = λ ms. refl;
+    told = λ lines.
+        none_told d.body _ [] (own d (e ∷ past) (entry.Ended addr end)) lines refl
+        (away_none addr d.addr (ended end) other);
   },
   (passes, tt),
 )
 
--- what is for others is no dispense
+-- a device does nothing of what is for others
 no_dose_for_others : (body : DeviceBody) (own : ℕ) (past : List Met) (asked : Option Request) → IsForOthers asked →
     doses body own past asked ≡ []
 no_dose_for_others (Acceptor accepts values ids) own past asked others = refl
@@ -212,6 +249,10 @@ no_dose_for_others (Hopper life value) own past None others = refl
 no_dose_for_others (Hopper life value) own past (Some AddressPoll) others = refl
 no_dose_for_others (Hopper life value) own past (Some SimplePoll) others = refl
 no_dose_for_others (Hopper life value) own past (Some q) others = absurd others
+no_dose_for_others (Bill accepts values ids) own past None others = refl
+no_dose_for_others (Bill accepts values ids) own past (Some AddressPoll) others = refl
+no_dose_for_others (Bill accepts values ids) own past (Some SimplePoll) others = refl
+no_dose_for_others (Bill accepts values ids) own past (Some q) others = absurd others
 
 wire_passes : (d : DeviceSetup) (past : List Entry) (addr : ℕ) (sent piece : List ℕ) → addr ≢ d.addr →
     (IsHonestFault (pending past) sent → IsForOthers (asks_of d (heard_by_devices (pending past) sent))) →
@@ -226,7 +267,8 @@ wire_passes d past addr sent piece other others =
       goes_on = refl;
       no_break = tt;
       no_end = tt;
-      no_coin = λ ms. refl;
+      told = λ lines told.
+          doses_told d.body d.serial (met d past) heard_it lines told ∙ ap (λ ls. length (coins (ls ++ lines))) (sym only);
     }
 
 put_elsewhere : (d : DeviceSetup) (past : List Entry) (r : Record) → owner past r ≢ d.addr → HasCause d past r
@@ -246,7 +288,9 @@ put_passes d past r away = record {
   goes_on = since_elsewhere d past r (since_epoch d past) away;
   no_break = put_elsewhere d past r away;
   no_end = tt;
-  no_coin = λ ms. refl;
+  told = λ lines.
+      none_told d.body (met d past) [] (own d past (entry.Put r)) lines refl
+      (away_none (owner past r) d.addr (put r) away);
 }
 
 taken_passes : (d : DeviceSetup) (past : List Entry) (c : Command) → address_of c ≢ d.addr →
@@ -258,7 +302,9 @@ taken_passes d past c other = record {
   goes_on = refl;
   no_break = tt;
   no_end = tt;
-  no_coin = λ ms. refl;
+  told = λ lines.
+      none_told d.body (met d past) [] (own d past (entry.Taken c)) lines refl
+      (away_none (address_of c) d.addr (taken c) other);
 }
 
 -- an entry that is no line of any device, and nothing that one meets
@@ -274,7 +320,7 @@ none_aside d past s e none not_met goes_on no_break no_end no_next = record {
       goes_on = goes_on;
       no_break = no_break;
       no_end = no_end;
-      no_coin = λ ms. ap (λ met. accepted_coins (met ++ ms)) not_met;
+      told = λ lines. none_told d.body (met d past) (meets d past e) (own d past e) lines not_met none;
     },
     tt,
   );

@@ -15,7 +15,7 @@ use Rattle.cct_model.specs.Honest.{is_honest, forged_after}
 use Rattle.cct_model.specs.Legal.{with_end, Entries, LegalFrom}
 use Rattle.cct_model.specs.Line.{Line}
 use Rattle.cct_model.specs.Transcript.{met, pending}
-use Rattle.cct_laws.proofs.jobs.Brought.{Comes, takes_coin, leaves_coin, leaves_alien, drops_coin, drops_none, jams, jams_none, is_reset, AtDevice, came, took, halted, idled, made_exchange, made_put, wire_end, record_end, poll_end, Brought, of_device, faulted, refused, began_scan, began_sale, nobody, polled, sold, balanced, lost_power, lost_in_put, lost_in_sale, told_of, brought}
+use Rattle.cct_laws.proofs.jobs.Brought.{Comes, takes_coin, leaves_coin, takes_bill, leaves_bill, leaves_alien, drops_coin, drops_none, jams, jams_none, is_reset, AtDevice, came, took, halted, idled, made_exchange, made_put, wire_end, record_end, poll_end, Brought, of_device, faulted, refused, began_scan, began_sale, nobody, polled, sold, balanced, lost_power, lost_in_put, lost_in_sale, told_of, brought}
 
 -- an entry is no exchange, and tells of none that was forged
 abbrev pub TellsNoExchange : Entry → Type 0
@@ -41,6 +41,8 @@ came_plain : (d : DeviceSetup) (past : List Met) (s : Step) (e : Entry) (m : Met
     Comes d past s e m ls → TellsNoExchange e
 came_plain d past _ _ _ _ (takes_coin place accepting test) = tt
 came_plain d past _ _ _ _ (leaves_coin place accepting test) = tt
+came_plain d past _ _ _ _ (takes_bill place banking test) = tt
+came_plain d past _ _ _ _ (leaves_bill place banking test) = tt
 came_plain d past _ _ _ _ (leaves_alien accepting) = tt
 came_plain d past _ _ _ _ (drops_coin paying test) = tt
 came_plain d past _ _ _ _ (drops_none paying test) = tt

@@ -22,7 +22,7 @@ use Rattle.cct_model.specs.History.{Met}
 use Rattle.cct_model.specs.Reply.{Reply}
 use Rattle.cct_model.specs.Device.{IsSound}
 use Rattle.cct_model.specs.Setup.{IsSoundSetup}
-use Rattle.cct_model.specs.Line.{Line, dispensed, exchange, put, taken, ended, restarted}
+use Rattle.cct_model.specs.Line.{Line, accepted, dispensed, exchange, put, taken, ended, restarted}
 use Rattle.cct_model.specs.Job.{Job, free, works, job, with_line, epoch, judged_in, sends, ident_requests, Noted, noted_in, tries, tries_after, address_of}
 use Rattle.cct_model.specs.Rows.{end_of, left, rows_of, TableRow, asks_for, asks_once, waits_for_coins, puts_due, telling, after, first, rest, row, done, sent_once}
 use Rattle.cct_model.specs.Claims.{AllPast}
@@ -36,7 +36,7 @@ use Rattle.cct_laws.specs.Ids.{Ids}
 use Rattle.cct_laws.specs.DeviceJobs.{with_ended}
 use Rattle.cct_laws.specs.Law.{IsOf, lines_in}
 use Rattle.cct_laws.specs.Tries.{failed_by, failed_tries, failed_in, TriesAt}
-use Rattle.cct_laws.proofs.jobs.Brought.{Comes, takes_coin, leaves_coin, leaves_alien, drops_coin, drops_none, jams, jams_none, is_reset, AtDevice, came, took, halted, idled, made_exchange, made_put, Brought, wire_of, wire_end, record_end, begun_at_work}
+use Rattle.cct_laws.proofs.jobs.Brought.{Comes, takes_coin, leaves_coin, takes_bill, leaves_bill, leaves_alien, drops_coin, drops_none, jams, jams_none, is_reset, AtDevice, came, took, halted, idled, made_exchange, made_put, Brought, wire_of, wire_end, record_end, begun_at_work}
 use Rattle.cct_model.proofs.Doses.{AreDoses, doses_are, job_undosed}
 use Rattle.cct_laws.proofs.orders.Ids.{put_owned}
 use Rattle.cct_laws.proofs.Setups.{found_in}
@@ -331,12 +331,15 @@ with_halt : (d : DeviceSetup) (addr : ℕ) (j : Job) → HasTriesLeft d j →
 with_halt d addr free left = free_on d
 with_halt d addr (works c since) left = record { few = left.few; none_of_once = left.none_of_once }
 
--- dispenses that a hopper took, and entries that are none of the device
+-- what a device did in an exchange, and entries that are none of it
 steady_dosed : (d : DeviceSetup) (ls lines : List Line) → AreDoses ls → Steady d lines → Steady d (ls ++ lines)
 steady_dosed d [] lines are steady = steady
 steady_dosed d (dispensed count ∷ ls) lines are steady =
     let before = steady_dosed d ls lines are steady in
     steady_line d (dispensed count) (ls ++ lines) (λ older few. few) before.goes_on before
+steady_dosed d (accepted coin ∷ ls) lines are steady =
+    let before = steady_dosed d ls lines are steady in
+    steady_line d (accepted coin) (ls ++ lines) (λ older few. few) before.goes_on before
 steady_dosed d (l ∷ ls) lines are steady = absurd are
 
 steady_passed : (d : DeviceSetup) (past news : List Entry) → ArePassed d past news → Steady d (lines_of d past) →
@@ -351,6 +354,8 @@ came_steady : (d : DeviceSetup) (past : List Met) (s : Step) (e : Entry) (m : Me
     Comes d past s e m ls → failed_in (job lines) < 3 → AllPast GivenUpAt lines → AllPast GivenUpAt (ls ++ lines)
 came_steady d past _ _ _ _ lines (takes_coin place accepting test) few before = (few, before)
 came_steady d past _ _ _ _ lines (leaves_coin place accepting test) few before = (few, before)
+came_steady d past _ _ _ _ lines (takes_bill place banking test) few before = before
+came_steady d past _ _ _ _ lines (leaves_bill place banking test) few before = (few, before)
 came_steady d past _ _ _ _ lines (leaves_alien accepting) few before = (few, before)
 came_steady d past _ _ _ _ lines (drops_coin paying test) few before = (few, before)
 came_steady d past _ _ _ _ lines (drops_none paying test) few before = before

@@ -24,7 +24,7 @@ use Rattle.cct_model.specs.Records.{records}
 use Rattle.cct_model.specs.Transcript.{met, owner, lines_of, sale_own, sale_lines, sold_line, heard_by_devices, pending, got_by, doses_of}
 use Rattle.cct_laws.specs.Ids.{Ids}
 use Rattle.cct_laws.specs.Law.{IsOf}
-use Rattle.cct_laws.proofs.jobs.Brought.{Comes, takes_coin, leaves_coin, leaves_alien, drops_coin, drops_none, jams, jams_none, is_reset, row_after, wire_of, wire_end, record_end, AtDevice, came, took, halted, idled, made_exchange, made_put}
+use Rattle.cct_laws.proofs.jobs.Brought.{Comes, takes_coin, leaves_coin, takes_bill, leaves_bill, leaves_alien, drops_coin, drops_none, jams, jams_none, is_reset, row_after, wire_of, wire_end, record_end, AtDevice, came, took, halted, idled, made_exchange, made_put}
 use Rattle.cct_model.proofs.Doses.{job_undosed, epoch_undosed, order_undosed}
 use Rattle.cct_laws.proofs.orders.Ids.{above_host, put_owned}
 use Rattle.cct_laws.proofs.orders.Opening.{UsesOwn, row_own}
@@ -48,7 +48,7 @@ same_then one other last first second = record {
   orders = first.orders ∙ second.orders;
 }
 
--- the dispense that a hopper took
+-- what the device did in an exchange
 pub same_dosed : (e : DeviceSetup) (past : List Entry) (sent : List ℕ) →
     AreSame (doses_of e past sent ++ lines_of e past) (lines_of e past)
 same_dosed e past sent =
@@ -80,6 +80,10 @@ pub came_quiet : (d : DeviceSetup) (past : List Met) (s : Step) (e : Entry) (m :
 came_quiet d past _ _ _ _ (takes_coin place accepting is) =
     quiet _ _ (λ lines. refl) (λ lines. refl) (λ lines. refl) refl (λ older. refl)
 came_quiet d past _ _ _ _ (leaves_coin place accepting is) =
+    quiet _ _ (λ lines. refl) (λ lines. refl) (λ lines. refl) refl (λ older. refl)
+came_quiet d past _ _ _ _ (takes_bill place banking is) =
+    quiet _ _ (λ lines. refl) (λ lines. refl) (λ lines. refl) refl (λ older. refl)
+came_quiet d past _ _ _ _ (leaves_bill place banking is) =
     quiet _ _ (λ lines. refl) (λ lines. refl) (λ lines. refl) refl (λ older. refl)
 came_quiet d past _ _ _ _ (leaves_alien accepting) =
     quiet _ _ (λ lines. refl) (λ lines. refl) (λ lines. refl) refl (λ older. refl)

@@ -14,7 +14,7 @@ use Rattle.cct_laws.specs.Balanced.{IsBalanced}
 use Rattle.cct_laws.specs.Law.{EachEntry}
 use Rattle.cct_laws.specs.Scope.{EachTranscript}
 use Rattle.cct_laws.proofs.money.Books.{Books, books_start, books_step, books_forged}
-use Rattle.cct_laws.proofs.jobs.Brought.{Comes, takes_coin, leaves_coin, leaves_alien, drops_coin, drops_none, jams, jams_none, is_reset, AtDevice, came, took, halted, idled, made_exchange, made_put, wire_of, wire_end, record_end, poll_wire, poll_end, Brought, of_device, faulted, refused, began_scan, began_sale, nobody, polled, sold, balanced, lost_power, lost_in_put, lost_in_sale}
+use Rattle.cct_laws.proofs.jobs.Brought.{Comes, takes_coin, leaves_coin, takes_bill, leaves_bill, leaves_alien, drops_coin, drops_none, jams, jams_none, is_reset, AtDevice, came, took, halted, idled, made_exchange, made_put, wire_of, wire_end, record_end, poll_wire, poll_end, Brought, of_device, faulted, refused, began_scan, began_sale, nobody, polled, sold, balanced, lost_power, lost_in_put, lost_in_sale}
 use Rattle.cct_laws.proofs.money.Journal.{conserved}
 use Rattle.cct_laws.proofs.jobs.Seen.{each_with_end, along}
 
@@ -26,6 +26,8 @@ came_balanced : (setup : Setup) (d : DeviceSetup) (seen : List Met) (past : List
     (m : Met) (ls : List Line) → Comes d seen s e m ls → AllBalanced setup past → AllBalanced setup (e ∷ past)
 came_balanced setup d seen past _ _ _ _ (takes_coin place accepting is) before = (tt, before)
 came_balanced setup d seen past _ _ _ _ (leaves_coin place accepting is) before = (tt, before)
+came_balanced setup d seen past _ _ _ _ (takes_bill place banking is) before = (tt, before)
+came_balanced setup d seen past _ _ _ _ (leaves_bill place banking is) before = (tt, before)
 came_balanced setup d seen past _ _ _ _ (leaves_alien accepting) before = (tt, before)
 came_balanced setup d seen past _ _ _ _ (drops_coin paying is) before = (tt, before)
 came_balanced setup d seen past _ _ _ _ (drops_none paying is) before = (tt, before)

@@ -6,7 +6,7 @@ use Rattle.std.specs.List.{list_any}
 use Rattle.std.specs.Option.{option_map}
 use Rattle.std.proofs.lemmas.Bool.{and_from, or_parts, ne_eqb, not_from_false}
 use Rattle.cct_model.specs.terms.device.DeviceBody.{DeviceBody}
-use Rattle.cct_model.specs.terms.device.DeviceBody.TheVariants.{Acceptor, Hopper}
+use Rattle.cct_model.specs.terms.device.DeviceBody.TheVariants.{Acceptor, Bill, Hopper}
 use Rattle.cct_model.specs.terms.device.DeviceSetup.{DeviceSetup}
 use Rattle.cct_model.specs.terms.device.Setup.{Setup}
 use Rattle.cct_model.specs.lines.record.Record.{Record}
@@ -18,8 +18,8 @@ use Rattle.cct_model.specs.declared.judging.Judged.{Judged}
 use Rattle.cct_model.specs.declared.judging.EpochState.{EpochState}
 use Rattle.cct_model.specs.declared.judging.EpochState.TheVariants.{Idle, Running}
 use Rattle.cct_model.specs.declared.judging.OpenOrder.{OpenOrder}
-use Rattle.cct_model.specs.Device.{is_acceptor, is_hopper}
-use Rattle.cct_model.specs.Exchange.{device_at, acceptor_there, hopper_there}
+use Rattle.cct_model.specs.Device.{is_hopper, is_taker}
+use Rattle.cct_model.specs.Exchange.{device_at, hopper_there, taker_there}
 use Rattle.cct_model.specs.Line.{Line}
 use Rattle.cct_model.specs.Order.{close, life_between}
 use Rattle.cct_model.specs.Job.{puts, address_of, credits_read, mask_read, accepts_before, accepts_read, judged_in, noted_in, Noted, ident_requests}
@@ -90,7 +90,7 @@ NewOf before rows = (id : ℕ) → id_ahead rows ≡ Some id → is_open id befo
 
 -- what is put is in its range, and for the kind of the device
 abbrev IsRanged : DeviceSetup → Due → Type 0
-IsRanged d (new_epoch mask) = (is_acceptor d.body ≡ true) × (1 ≤ mask)
+IsRanged d (new_epoch mask) = (is_taker d.body ≡ true) × (1 ≤ mask)
 IsRanged d (new_order id count) = (is_hopper d.body ≡ true) × (1 ≤ id) × (1 ≤ count)
 IsRanged d (sale id price) = ⊥
 IsRanged d due = ⊤
@@ -131,14 +131,16 @@ not_none n least = not_from_false (n == 0) (ne_eqb n 0 (λ none. omega (arith, l
 
 -- the kind of the device of a job
 pub start_kind : (body : DeviceBody) (addr mask : ℕ) → suits body (command.Start addr mask) ≡ true →
-    is_acceptor body ≡ true
+    is_taker body ≡ true
 start_kind (Acceptor accepts values ids) addr mask suited = refl
 start_kind (Hopper life value) addr mask suited = absurd cc
+start_kind (Bill accepts values ids) addr mask suited = refl
 
 pub pay_kind : (body : DeviceBody) (addr id count : ℕ) → suits body (command.Pay addr id count) ≡ true →
     is_hopper body ≡ true
 pay_kind (Acceptor accepts values ids) addr id count suited = absurd cc
 pay_kind (Hopper life value) addr id count suited = refl
+pay_kind (Bill accepts values ids) addr id count suited = absurd cc
 
 -- a start that its epoch doesn't refuse
 start_lets : (d : DeviceSetup) (mask : ℕ) (state : EpochState) → start_refusal mask d state ≡ None →
@@ -157,13 +159,13 @@ runs_by (Running mask counter accepts) none = refl
 
 -- an epoch that begins
 begins : (setup : Setup) (before : List Record) (d : DeviceSetup) (addr mask accepts : ℕ) (state : EpochState)
-    (owed : Option OpenOrder) → Stands setup before d addr state owed → is_acceptor d.body ≡ true → 1 ≤ mask →
+    (owed : Option OpenOrder) → Stands setup before d addr state owed → is_taker d.body ≡ true → 1 ≤ mask →
     start_refusal mask d state ≡ None → Fits setup before (record_of.Epoch addr mask accepts)
 begins setup before d addr mask accepts state owed at kind least lets =
     let both = start_lets d mask state lets in
     and_from _ _
     (and_from _ _
-    (and_from _ _ (ap acceptor_there at.found ∙ kind)
+    (and_from _ _ (ap taker_there at.found ∙ kind)
     (not_from_false _ (ap is_running (at.epoch_is ∙ both.0))))
     (not_none mask least))
     (ap (λ found. has_values found mask) at.found ∙ ap is_none both.1)

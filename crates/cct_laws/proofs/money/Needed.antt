@@ -38,7 +38,7 @@ use Rattle.cct_laws.proofs.jobs.Brought.{wire_of, wire_end, record_end, AtDevice
 use Rattle.cct_laws.proofs.money.Follow.{DueNeeds, IfPuts, NeedsOf, runs_by}
 use Rattle.cct_laws.proofs.money.Held.{IsReading, judged_reads, same_record, RowsHoldWell, rest_well, passed_ends}
 use Rattle.cct_laws.proofs.orders.Ids.{put_owned}
-use Rattle.cct_laws.proofs.jobs.Seen.{Lost, bare, kept_here, kept_elsewhere, seen_here, seen_aside, seen_lost, seen_from, passed_same, lines_wire, lines_put, lines_taken, lines_kept, lines_kept_elsewhere, lines_with_end}
+use Rattle.cct_laws.proofs.jobs.Seen.{Lost, bare, kept_here, kept_elsewhere, seen_here, seen_aside, seen_lost, seen_from, passed_job, passed_same, lines_wire, lines_put, lines_taken, lines_kept, lines_kept_elsewhere, lines_with_end}
 use Rattle.cct_laws.proofs.jobs.Unmoved.{AreSame, same_came, same_dosed}
 
 -- what the job of lines needs
@@ -281,9 +281,9 @@ needs_step capacity setup d past news s sound own ids told needs =
     elim (seen_from capacity setup d past news s sound own ids told) [
       | seen_here at ↦ needs_there capacity setup d past news s ids own at needs
       | seen_aside aside ↦ needs_same d (lines_of d (news ++ past)) (lines_of d past) (record {
-        jobs = passed_same job (λ count lines. refl) d past news aside.passes;
-        epochs = passed_same epoch (λ count lines. refl) d past news aside.passes;
-        orders = passed_same order (λ count lines. refl) d past news aside.passes;
+        jobs = passed_job d past news aside.passes;
+        epochs = passed_same epoch (record { dosed = λ count lines. refl; stacked = λ coin lines. refl }) d past news aside.passes;
+        orders = passed_same order (record { dosed = λ count lines. refl; stacked = λ coin lines. refl }) d past news aside.passes;
       }) needs
       | seen_lost lost no_next ↦ needs_lost d past news lost
     ]

@@ -1,9 +1,8 @@
 -- What a hopper replies to each request that a job sends it.
-use Rattle.std.proofs.Common.{◌≡◌, ℕ, true, List, [], ◌∷◌, refl, ap, ◌∙◌, Option, Some, None, inl, inr, arith}
+use Rattle.std.proofs.Common.{◌≡◌, ℕ, true, List, refl, ap, ◌∙◌, Option, Some, None, inl, inr, arith}
 use Rattle.cct_model.specs.terms.device.DeviceSetup.{DeviceSetup}
 use Rattle.cct_model.specs.terms.device.DeviceBody.{DeviceBody}
-use Rattle.cct_model.specs.terms.device.DeviceBody.TheVariants.{Acceptor, Hopper}
-use Rattle.cct_model.specs.terms.request.Request.{Request}
+use Rattle.cct_model.specs.terms.device.DeviceBody.TheVariants.{Acceptor, Bill, Hopper}
 use Rattle.cct_model.specs.terms.request.Request.TheVariants.{Enable, Dispense, GetStatus, GetLife, StopNow, TestHopper}
 use Rattle.cct_model.specs.terms.request.TheConstants.{ENABLE_CODE}
 use Rattle.cct_model.specs.terms.request.ReplyForm.TheVariants as form
@@ -19,7 +18,7 @@ use Rattle.cct_msg.proofs.Exchanges.{serial_fits}
 use Rattle.cct_laws.specs.DeviceJobs.{is_for_hopper}
 use Rattle.cct_laws.proofs.Exchanges.{Replied, Answers}
 use Rattle.cct_laws.proofs.Replies.{start_of, hopper_is, replied_status, replied_stop, replied_life}
-use Rattle.cct_laws.proofs.CommonReplies.{answers_so, ident_replied}
+use Rattle.cct_laws.proofs.CommonReplies.{answers_so, each_answers, ident_replied}
 use Rattle.cct_model.proofs.Requests.{Each}
 use Rattle.cct_model.proofs.Rows.{EachRow, each_asked, Asks}
 use Rattle.cct_model.specs.Rows.{settling, rows_of}
@@ -86,11 +85,7 @@ owns_by : (d : DeviceSetup) (past : List Met) (body : DeviceBody) → IsHopper b
     Each (Replied d past) (own_requests body)
 owns_by d past (Acceptor accepts values ids) paying payer = absurd paying
 owns_by d past (Hopper life value) paying payer = (register_replied d past payer, tt)
-
-each_answers : (d : DeviceSetup) (past : List Met) (qs : List Request) → Each (Replied d past) qs →
-    Each (Answers d past) qs
-each_answers d past [] each = tt
-each_answers d past (q ∷ qs) each = (inl each.0, each_answers d past qs each.1)
+owns_by d past (Bill accepts values ids) paying payer = absurd paying
 
 settle_replied : (d : DeviceSetup) (past : List Met) → Payer d → EachRow (Asks (Answers d past)) settling
 settle_replied d past payer = (

@@ -36,7 +36,7 @@ use Rattle.cct_laws.specs.Law.{IsOf}
 use Rattle.cct_laws.specs.Recorded.{HasNoJob}
 use Rattle.cct_laws.proofs.Setups.{same_some, found_in}
 use Rattle.cct_model.proofs.Rows.{RowHolds, IsOwned, row_owned, after_next, told_no_id}
-use Rattle.cct_laws.proofs.jobs.Brought.{Comes, takes_coin, leaves_coin, leaves_alien, drops_coin, drops_none, jams, jams_none, is_reset, AtWork, row_after, wire_of, wire_end, record_end, poll_wire, poll_end, AtDevice, came, took, halted, idled, made_exchange, made_put, Selling, Brought, of_device, faulted, refused, began_scan, began_sale, nobody, polled, sold, balanced, lost_power, lost_in_put, lost_in_sale}
+use Rattle.cct_laws.proofs.jobs.Brought.{Comes, takes_coin, leaves_coin, takes_bill, leaves_bill, leaves_alien, drops_coin, drops_none, jams, jams_none, is_reset, AtWork, row_after, wire_of, wire_end, record_end, poll_wire, poll_end, AtDevice, came, took, halted, idled, made_exchange, made_put, Selling, Brought, of_device, faulted, refused, began_scan, began_sale, nobody, polled, sold, balanced, lost_power, lost_in_put, lost_in_sale}
 use Rattle.cct_laws.proofs.money.Recorded.{order_recorded, restart_frees}
 use Rattle.cct_laws.proofs.jobs.Waits.{one_id, one_id_of_sale, one_after, here_waits, BeginsNone, device_waits_less, sale_waits_less}
 use Rattle.cct_laws.proofs.orders.Used.{Unused, Grows, same_records, one_more, grows_owned, more_unused}
@@ -272,6 +272,8 @@ came_ids : (setup : Setup) (past : List Entry) (d : DeviceSetup) (s : Step) (e :
     Comes d (met d past) s e m ls → Ids setup past → Ids setup (e ∷ past)
 came_ids setup past d s e m ls (takes_coin place accepting is) ids = ids_quiet setup past _ tt refl ids
 came_ids setup past d s e m ls (leaves_coin place accepting is) ids = ids_quiet setup past _ tt refl ids
+came_ids setup past d s e m ls (takes_bill place banking is) ids = ids_quiet setup past _ tt refl ids
+came_ids setup past d s e m ls (leaves_bill place banking is) ids = ids_quiet setup past _ tt refl ids
 came_ids setup past d s e m ls (leaves_alien accepting) ids = ids_quiet setup past _ tt refl ids
 came_ids setup past d s e m ls (drops_coin paying is) ids = ids_quiet setup past _ tt refl ids
 came_ids setup past d s e m ls (drops_none paying is) ids = ids_quiet setup past _ tt refl ids

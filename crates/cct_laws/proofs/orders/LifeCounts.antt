@@ -4,7 +4,7 @@ use Rattle.std.specs.Prelude.{⊤}
 use Rattle.cct_model.specs.terms.wire.CheckKind.{CheckKind}
 use Rattle.cct_model.specs.terms.wire.CheckKind.TheVariants.{Simple, Crc}
 use Rattle.cct_model.specs.terms.device.DeviceBody.{DeviceBody}
-use Rattle.cct_model.specs.terms.device.DeviceBody.TheVariants.{Acceptor, Hopper}
+use Rattle.cct_model.specs.terms.device.DeviceBody.TheVariants.{Acceptor, Bill, Hopper}
 use Rattle.cct_model.specs.terms.device.DeviceSetup.{DeviceSetup}
 use Rattle.cct_model.specs.terms.device.Setup.{Setup}
 use Rattle.cct_model.specs.terms.request.Request.{Request}
@@ -33,12 +33,12 @@ use Rattle.cct_model.specs.Script.{IsInRange}
 use Rattle.cct_model.specs.Honest.{Honest, HonestPast}
 use Rattle.cct_model.specs.Transcript.{met, lines_of, onto}
 use Rattle.cct_laws.specs.Ids.{Ids}
-use Rattle.cct_laws.specs.DeviceJobs.{is_for_acceptor, suits}
+use Rattle.cct_laws.specs.DeviceJobs.{is_for_taker, suits}
 use Rattle.cct_laws.specs.Law.{IsOf, EachEntry}
 use Rattle.cct_laws.specs.LifeCounts.{HasFittingLife, FitsLife}
 use Rattle.cct_laws.specs.Scope.{EachTranscript}
-use Rattle.cct_laws.proofs.jobs.Brought.{Comes, takes_coin, leaves_coin, leaves_alien, drops_coin, drops_none, jams, jams_none, is_reset, AtDevice, came, took, halted, idled, made_exchange, made_put, AtWork, Brought, of_device, faulted, refused, began_scan, began_sale, nobody, polled, sold, balanced, lost_power, lost_in_put, lost_in_sale, row_after, wire_of, wire_end, record_end, poll_wire, poll_end}
-use Rattle.cct_laws.proofs.EitherKind.{both_hopper}
+use Rattle.cct_laws.proofs.jobs.Brought.{Comes, takes_coin, leaves_coin, takes_bill, leaves_bill, leaves_alien, drops_coin, drops_none, jams, jams_none, is_reset, AtDevice, came, took, halted, idled, made_exchange, made_put, AtWork, Brought, of_device, faulted, refused, began_scan, began_sale, nobody, polled, sold, balanced, lost_power, lost_in_put, lost_in_sale, row_after, wire_of, wire_end, record_end, poll_wire, poll_end}
+use Rattle.cct_laws.proofs.EitherKind.{both_hopper, for_taker}
 use Rattle.cct_laws.proofs.Keeping.{IsRanged, ranged_step, kept_step}
 use Rattle.cct_laws.proofs.orders.Paying.{pays_kept, never_odd}
 use Rattle.cct_laws.proofs.orders.Payouts.{Pays}
@@ -133,7 +133,7 @@ entries_fit past addr e None fine fit before = (fine, before)
 entries_fit past addr e (Some OddLife) fine fit before = absurd fit
 entries_fit past addr e (Some end) fine fit before = (tt, (fine, before))
 
--- an acceptor's job puts no such record
+-- a job of a device that takes money puts no such record
 judged_fit : (c : Command) (since : List Line) (state : EpochState) → JudgedHolds HasFittingLife (judged_in c since state)
 judged_fit c since state =
     judged_holds HasFittingLife (address_of c) state (credits_read since) (mask_read since) (accepts_before since)
@@ -145,18 +145,18 @@ is_reading_due reading = true
 is_reading_due epoch_end = true
 is_reading_due due = false
 
-acceptor_dues : (d : DeviceSetup) (c : Command) →
-    cond (is_for_acceptor c) (puts_only is_reading_due (rows_of d c)) true ≡ true
-acceptor_dues d (command.Ident addr) = told_only is_reading_due (ident_requests d.body)
-acceptor_dues d c = refl
+taker_dues : (d : DeviceSetup) (c : Command) →
+    cond (is_for_taker c) (puts_only is_reading_due (rows_of d c)) true ≡ true
+taker_dues d (command.Ident addr) = told_only is_reading_due (ident_requests d.body)
+taker_dues d c = refl
 
-acceptor_fit : (d : DeviceSetup) (c : Command) (since : List Line) (state : EpochState) (owed : Option OpenOrder)
-    (r : Record) → is_for_acceptor c ≡ true → row d c since state owed ≡ puts r → HasFittingLife r
-acceptor_fit d c since state owed r suited is_row =
+taker_fit : (d : DeviceSetup) (c : Command) (since : List Line) (state : EpochState) (owed : Option OpenOrder)
+    (r : Record) → is_for_taker c ≡ true → row d c since state owed ≡ puts r → HasFittingLife r
+taker_fit d c since state owed r suited is_row =
     let judged = judged_in c since state in
     let p = noted_in since owed in
     let only : puts_only is_reading_due (rows_of d c) ≡ true =
-    sym (ap (λ b. cond b (puts_only is_reading_due (rows_of d c)) true) suited) ∙ acceptor_dues d c in
+    sym (ap (λ b. cond b (puts_only is_reading_due (rows_of d c)) true) suited) ∙ taker_dues d c in
     subst (RowHolds (λ q. ⊤) HasFittingLife) is_row
     (each_put HasFittingLife is_reading_due d c (done (rows_of d c) since) judged p only due_fit)
   where
@@ -178,9 +178,13 @@ row_fit : (setup : Setup) (past : List Entry) (d : DeviceSetup) (c : Command) (s
     (IsHopper body → Pays d (met d past) (lines_of d past)) → AtWork d past c since → row_after d past c since ≡ puts r →
     HasFittingLife r
 row_fit setup past d c since r (Acceptor accepts values ids) is suited pays at_work is_row =
-    acceptor_fit d c since (epoch (lines_of d past)) (order (lines_of d past)) r suited is_row
+    taker_fit d c since (epoch (lines_of d past)) (order (lines_of d past)) r
+    (for_taker (Acceptor accepts values ids) c tt suited) is_row
 row_fit setup past d c since r (Hopper life value) is suited pays at_work is_row =
     never_odd d (met d past) (lines_of d past) c since r (pays tt) at_work.job_is is_row
+row_fit setup past d c since r (Bill accepts values ids) is suited pays at_work is_row =
+    taker_fit d c since (epoch (lines_of d past)) (order (lines_of d past)) r
+    (for_taker (Bill accepts values ids) c tt suited) is_row
 
 device_fit : (setup : Setup) (past : List Entry) (d : DeviceSetup) (c : Command) (since : List Line) (r : Record) →
     IsOf setup d → AllFit setup past → HonestPast past → AtWork d past c since → row_after d past c since ≡ puts r →
@@ -194,6 +198,8 @@ came_fit : (past : List Entry) (s : Step) (e : Entry) (d : DeviceSetup) (before 
     Comes d before s e m ls → FitsLife past e
 came_fit past _ _ d before _ _ (takes_coin place accepting test) = tt
 came_fit past _ _ d before _ _ (leaves_coin place accepting test) = tt
+came_fit past _ _ d before _ _ (takes_bill place banking test) = tt
+came_fit past _ _ d before _ _ (leaves_bill place banking test) = tt
 came_fit past _ _ d before _ _ (leaves_alien accepting) = tt
 came_fit past _ _ d before _ _ (drops_coin paying test) = tt
 came_fit past _ _ d before _ _ (drops_none paying test) = tt

@@ -204,7 +204,7 @@ rests_exchange : (d : DeviceSetup) (past : List Met) (lines : List Line) (c : Co
     Rests d (heard asked ∷ past) (exchange (Some q) got ∷ doses d.body d.serial past asked ++ lines)
 rests_exchange d past lines c work q asked got paying at row_is fate rests out =
     let dosed = doses d.body d.serial past asked in
-    let same = same_over is_paid_out (λ count lines. refl) dosed lines (doses_are d.body d.serial past asked) in
+    let same = same_over is_paid_out (record { dosed = λ count lines. refl; stacked = λ coin lines. refl }) dosed lines (doses_are d.body d.serial past asked) in
     let both = asked_rests d past lines c work q asked got paying at.job_is row_is fate rests
     (shows_none (Some q) got) refl (ap (λ before. shows_none (Some q) got || before) (sym same) ∙ out) in
     let works_on = sym (job_undosed d.body d.serial past asked lines ∙ at.job_is) in (

@@ -3,10 +3,10 @@ use Rattle.std.proofs.Common.{◌≡◌, ℕ, suc, ◌+◌, ◌-◌, ◌%◌, �
 use Rattle.std.specs.Prelude.{⊤}
 use Rattle.cct_model.specs.terms.request.TheConstants.{ENABLE_CODE}
 use Rattle.cct_model.specs.terms.device.DeviceBody.{DeviceBody}
-use Rattle.cct_model.specs.terms.device.DeviceBody.TheVariants.{Acceptor, Hopper}
+use Rattle.cct_model.specs.terms.device.DeviceBody.TheVariants.{Acceptor, Bill, Hopper}
 use Rattle.cct_model.specs.terms.device.DeviceSetup.{DeviceSetup}
 use Rattle.cct_model.specs.terms.request.Request.{Request}
-use Rattle.cct_model.specs.terms.request.Request.TheVariants.{ResetDevice, Enable, Dispense, GetStatus, GetLife, StopNow}
+use Rattle.cct_model.specs.terms.request.Request.TheVariants.{ResetDevice, Enable, Dispense, GetStatus, GetLife, StopNow, RouteBill}
 use Rattle.cct_model.specs.lines.record.Record.{Record}
 use Rattle.cct_model.specs.lines.record.Record.TheVariants as record_of
 use Rattle.cct_model.specs.declared.judging.Judged.{Judged}
@@ -131,6 +131,9 @@ many_doses (Acceptor accepts values ids) own past asked many = refl
 many_doses (Hopper life value) own past None many = refl
 many_doses (Hopper life value) own past (Some (Dispense serial count)) many = absurd cc
 many_doses (Hopper life value) own past (Some q) many = refl
+many_doses (Bill accepts values ids) own past None many = refl
+many_doses (Bill accepts values ids) own past (Some (RouteBill way)) many = absurd cc
+many_doses (Bill accepts values ids) own past (Some q) many = refl
 
 many_exchange : (d : DeviceSetup) (past : List Met) (lines : List Line) (c : Command) (work : List Line) (q : Request)
     (asked : Option Request) (got : Option Reply) → IsMany asked → job lines ≡ works c work → Pays d past lines →
@@ -441,6 +444,7 @@ hopper_doses : (body : DeviceBody) (own : ℕ) (past : List Met) (asked : Option
     doses body own past asked ≡ dispensed_by (taken_of own past asked)
 hopper_doses (Acceptor accepts values ids) own past asked paying = absurd paying
 hopper_doses (Hopper life value) own past asked paying = refl
+hopper_doses (Bill accepts values ids) own past asked paying = absurd paying
 
 left_after : (own serial count : ℕ) (past : List Met) (took : Option ℕ) →
     taken_of own past (Some (Dispense serial count)) ≡ took →

@@ -1,22 +1,23 @@
 -- What a device of a sound setup answers is bytes, whatever bytes it met.
 use Rattle.std.proofs.Common.{◌≡◌, ℕ, zero, suc, ◌+◌, ◌-◌, ◌*◌, ◌%◌, ◌<◌, ◌≤◌, ◌==◌, ◌&&◌, not, ◌++◌, rules, Bool, true, false, cond, List, [], ◌∷◌, length, take, replicate, refl, Option, Some, None, option_map, slice_get, arith, All, codes}
-use Rattle.std.specs.Prelude.{⊤, unwrap_or, flat_map}
+use Rattle.std.specs.Prelude.{⊤, is_some, unwrap_or, flat_map}
 use Rattle.std.specs.Option.{option_or}
 use Rattle.std.proofs.lemmas.Bool.Decides.{nat_tests}
 use Rattle.std.proofs.lemmas.List.Elements.{All-head, All-tail}
 use Rattle.cct_model.specs.terms.coin.Pair.{Pair}
 use Rattle.cct_model.specs.terms.device.DeviceBody.{DeviceBody}
-use Rattle.cct_model.specs.terms.device.DeviceBody.TheVariants.{Acceptor, Hopper}
+use Rattle.cct_model.specs.terms.device.DeviceBody.TheVariants.{Acceptor, Bill, Hopper}
 use Rattle.cct_model.specs.terms.device.DeviceSetup.{DeviceSetup}
 use Rattle.cct_model.specs.terms.request.Request.{Request}
-use Rattle.cct_model.specs.terms.request.Request.TheVariants.{SimplePoll, AddressPoll, MakerId, Category, ProductCode, SerialNumber, SoftwareRevision, BuildCode, CommsRevision, ResetDevice, SetMask, GetMask, SetMaster, GetMaster, ReadCredits, SetPath, GetPath, SetDefault, GetDefault, CoinId, AcceptCount, Enable, Dispense, CipherDispense, GetStatus, GetLife, StopNow, TestHopper, PumpRng, CipherKey}
+use Rattle.cct_model.specs.terms.request.Request.TheVariants.{SimplePoll, AddressPoll, MakerId, Category, ProductCode, SerialNumber, SoftwareRevision, BuildCode, CommsRevision, ResetDevice, SetMask, GetMask, SetMaster, GetMaster, ReadCredits, SetPath, GetPath, SetDefault, GetDefault, CoinId, AcceptCount, ReadBills, RouteBill, Enable, Dispense, CipherDispense, GetStatus, GetLife, StopNow, TestHopper, PumpRng, CipherKey}
 use Rattle.cct_model.specs.Message.{message}
 use Rattle.cct_model.specs.Request.{request_of}
 use Rattle.cct_model.specs.Reply.{Reply, pair_bytes, reply_data, reply_header}
 use Rattle.cct_model.specs.Reply as reply
 use Rattle.cct_model.specs.History.{Met, coin, alien, fall, jam, reset, heard, unless_reset}
 use Rattle.cct_model.specs.Setting.{Setting, mask_set, master_set, path_set, default_set, is_place, is_path, mask_in, is_normal_in, default_in, own_path_in}
-use Rattle.cct_model.specs.Acceptor.{settings_after, settings, mask_of, path_of, accepts, events, no_event, credits_of, counter, accept_count, master_of, id_at, acceptor_reply}
+use Rattle.cct_model.specs.Acceptor.{settings_after, settings, mask_of, path_of, accepts, events, no_event, credits_in, counter, accept_count, master_of, id_at, inhibit_reply, acceptor_reply}
+use Rattle.cct_model.specs.Bill.{is_way, held_with, held_after, bill_held, holds, routed, events_after, bill_events, stack_count, bill_reply}
 use Rattle.cct_model.specs.Hopper.{enabled, Payout, left, paid, unpaid, taken_count, with_met, payout_by, payout, remaining, taken_of, last_paid, last_unpaid, payouts, life_count, register_of, dispense_reply, hopper_reply}
 use Rattle.cct_model.specs.Device.{IsPrinting, IsWord, IsId, IsSoundBody, IsSound, category_of, common_reply, own_reply, reply_of}
 use Rattle.cct_model.specs.Exchange.{asked_of, asks_of, asker, replying, reply_bytes, bare_answer, answer_to, answer, to_all, to_one}
@@ -170,7 +171,62 @@ events_fit (jam ∷ past) h = events_fit past h.1
 events_fit (reset ∷ past) h = tt
 events_fit (heard asks ∷ past) h = heard_events asks (events past) (events_fit past h.1)
 
--- the credits that are read
+-- the bill that a bill acceptor holds, and its events
+held_coin : (lets_in : Bool) (place : ℕ) (before : Option ℕ) → place < 256 → IfThere IsSmall before →
+    IfThere IsSmall (held_with place lets_in before)
+held_coin true place None h k = h
+held_coin true place (Some other) h k = k
+held_coin false place before h k = k
+
+held_routed : (routes : Bool) (before : Option ℕ) → IfThere IsSmall before → IfThere IsSmall (cond routes None before)
+held_routed true before k = tt
+held_routed false before k = k
+
+held_heard : (asks : Option Request) (before : Option ℕ) → IfThere IsSmall before →
+    IfThere IsSmall (held_after asks before)
+held_heard None before k = k
+held_heard (Some ResetDevice) before k = tt
+held_heard (Some (RouteBill way)) before k = held_routed (is_way way) before k
+held_heard (Some q) before k = k
+
+held_fits : (past : List Met) → FitsAll past → IfThere IsSmall (bill_held past)
+held_fits [] h = tt
+held_fits (coin place ∷ past) h = held_coin (accepts past place) place (bill_held past) h.0 (held_fits past h.1)
+held_fits (alien ∷ past) h = held_fits past h.1
+held_fits (fall ∷ past) h = held_fits past h.1
+held_fits (jam ∷ past) h = held_fits past h.1
+held_fits (reset ∷ past) h = tt
+held_fits (heard asks ∷ past) h = held_heard asks (bill_held past) (held_fits past h.1)
+
+routed_by : (stacks returns : Bool) (place : ℕ) (before : List Pair) → place < 256 → FitsPairs before →
+    FitsPairs (cond stacks (record { a = place; b = 0 } ∷ before) (cond returns (record { a = 0; b = 1 } ∷ before) before))
+routed_by true returns place before h k = ((h, omega arith), k)
+routed_by false true place before h k = ((omega arith, omega arith), k)
+routed_by false false place before h k = k
+
+routed_fits : (way : ℕ) (held : Option ℕ) (before : List Pair) → IfThere IsSmall held → FitsPairs before →
+    FitsPairs (routed way held before)
+routed_fits way None before h k = k
+routed_fits way (Some place) before h k = routed_by (way == 1) (way == 0) place before h k
+
+heard_bills : (asks : Option Request) (held : Option ℕ) (before : List Pair) → IfThere IsSmall held →
+    FitsPairs before → FitsPairs (events_after asks held before)
+heard_bills None held before h k = k
+heard_bills (Some ResetDevice) held before h k = tt
+heard_bills (Some (RouteBill way)) held before h k = routed_fits way held before h k
+heard_bills (Some q) held before h k = k
+
+bills_fit : (past : List Met) → FitsAll past → FitsPairs (bill_events past)
+bills_fit [] h = tt
+bills_fit (coin place ∷ past) h = (coin_fits (holds past place) place 1 h.0 (omega arith), bills_fit past h.1)
+bills_fit (alien ∷ past) h = bills_fit past h.1
+bills_fit (fall ∷ past) h = bills_fit past h.1
+bills_fit (jam ∷ past) h = bills_fit past h.1
+bills_fit (reset ∷ past) h = tt
+bills_fit (heard asks ∷ past) h =
+    heard_bills asks (bill_held past) (bill_events past) (held_fits past h.1) (bills_fit past h.1)
+
+-- the events that are read
 filled : (pairs : List Pair) → FitsPairs pairs → FitsPairs (pairs ++ replicate 5 no_event)
 filled [] h =
     let one : FitsPair no_event = (omega arith, omega arith) in
@@ -237,15 +293,15 @@ says_revision : Says (reply.revision 1 4 0)
 unfolding reply_data
 says_revision = record { header = omega arith; short = omega arith; bytes = (omega arith, (omega arith, (omega arith, tt))) }
 
-says_credits : (past : List Met) → FitsAll past → Says (reply.credits (credits_of past))
+says_events : (newest : List Pair) → FitsPairs newest → Says (reply.credits (credits_in newest))
 unfolding reply_data
-says_credits past h =
-    let pairs = events past ++ replicate 5 no_event in
+says_events newest h =
+    let pairs = newest ++ replicate 5 no_event in
     let few : length (flat_map pair_bytes (take 5 pairs)) ≤ 2 * 5 = pairs_short 5 pairs in
     record {
       header = omega arith;
       short = omega (arith, few);
-      bytes = (counter_by (length (events past) == 0) (length (events past)), pairs_bytes (take 5 pairs) (pairs_taken 5 pairs (filled (events past) (events_fit past h))));
+      bytes = (counter_by (length newest == 0) (length newest), pairs_bytes (take 5 pairs) (pairs_taken 5 pairs (filled newest h)));
     }
 
 printing_bytes : (bs : List ℕ) → All IsPrinting bs → Bytes bs
@@ -264,6 +320,7 @@ says_word bs h = says_text bs h.1 (printing_bytes bs h.2)
 says_category : (body : DeviceBody) → Says (reply.text (category_of body))
 says_category (Acceptor accepts values ids) = says_text (codes "Coin Acceptor") (omega arith) (search rules)
 says_category (Hopper life value) = says_text (codes "Payout") (omega arith) (search rules)
+says_category (Bill accepts values ids) = says_text (codes "Bill Validator") (omega arith) (search rules)
 
 says_status : (events remains paid unpaid : ℕ) → events < 256 → (remains < 256) × (paid < 256) × (unpaid < 256) →
     Says (reply.status events remains paid unpaid)
@@ -312,20 +369,30 @@ master_fits : (b : Bool) → cond b 1 0 < 256
 master_fits true = omega arith
 master_fits false = omega arith
 
+inhibit_says : (count : ℕ) (past : List Met) (q : Request) → FitsAll past → IfThere Says (inhibit_reply count past q)
+inhibit_says count past (SetMask mask) h = says_ack
+inhibit_says count past GetMask h = says_mask (mask_of past) (mask_fits (settings past) (settings_fit past h))
+inhibit_says count past (SetMaster value) h = says_ack
+inhibit_says count past GetMaster h = says_master (master_of past) (master_fits (is_normal_in (settings past)))
+inhibit_says count past AcceptCount h = says_count count
+inhibit_says count past q h = tt
+
 acceptor_says : (start : ℕ) (ids : List (List ℕ)) (past : List Met) (q : Request) → All IsId ids → FitsAll past → IfThere Says (acceptor_reply start ids past q)
 unfolding acceptor_reply
-acceptor_says start ids past (SetMask mask) of_ids h = says_ack
-acceptor_says start ids past GetMask of_ids h = says_mask (mask_of past) (mask_fits (settings past) (settings_fit past h))
-acceptor_says start ids past (SetMaster value) of_ids h = says_ack
-acceptor_says start ids past GetMaster of_ids h = says_master (master_of past) (master_fits (is_normal_in (settings past)))
-acceptor_says start ids past ReadCredits of_ids h = says_credits past h
+acceptor_says start ids past ReadCredits of_ids h = says_events (events past) (events_fit past h)
 acceptor_says start ids past (SetPath place path) of_ids h = says_if (is_place place && is_path path) reply.ack reply.nak says_ack says_nak
 acceptor_says start ids past (GetPath place) of_ids h = says_if (is_place place) (reply.path (path_of past place)) reply.nak (says_path (path_of past place) (path_small past place)) says_nak
 acceptor_says start ids past (SetDefault path) of_ids h = says_if (is_path path) reply.ack reply.nak says_ack says_nak
 acceptor_says start ids past GetDefault of_ids h = says_path (default_in (settings past)) (default_fits (settings past))
 acceptor_says start ids past (CoinId place) of_ids h = says_if (is_place place) (reply.coin_id (id_at ids place)) reply.nak (id_says ids (place - 1) of_ids) says_nak
-acceptor_says start ids past AcceptCount of_ids h = says_count (accept_count start past)
-acceptor_says start ids past q of_ids h = tt
+acceptor_says start ids past q of_ids h = inhibit_says (accept_count start past) past q h
+
+bill_says : (start : ℕ) (past : List Met) (q : Request) → FitsAll past → IfThere Says (bill_reply start past q)
+unfolding bill_reply
+bill_says start past ReadBills h = says_events (bill_events past) (bills_fit past h)
+bill_says start past (RouteBill way) h =
+    says_if (is_some (bill_held past) && is_way way) reply.ack reply.nak says_ack says_nak
+bill_says start past q h = inhibit_says (stack_count start past) past q h
 
 dispense_says : (took : Option ℕ) → Says (dispense_reply took)
 dispense_says None = says_nak
@@ -352,6 +419,7 @@ own_says : (serial : ℕ) (body : DeviceBody) (past : List Met) (q : Request) �
     IfThere Says (own_reply serial body past q)
 own_says serial (Acceptor accepts values ids) past q sound h = acceptor_says accepts ids past q sound.2 h
 own_says serial (Hopper life value) past q sound h = hopper_says serial life past q h
+own_says serial (Bill accepts values ids) past q sound h = bill_says accepts past q h
 
 pub there_or : {A : Type 0} (P : A → Type 0) (first second : Option A) → IfThere P first → IfThere P second → IfThere P (option_or first second)
 there_or P None second h k = k

@@ -7,8 +7,10 @@ use Rattle.std.proofs.lemmas.Bool.Decides.{nat_tests}
 use Rattle.hex.specs.Hex.{IsBytes, decode_of, decode_pairs}
 use Rattle.hex.specs.declared.error.FromHexError.{FromHexError}
 use Rattle.hex.proofs.HexLemmas.{decode_pairs-ok}
-use Rattle.cct_model.proofs.Sound.{printing_all, plain_acceptor_sound, plain_device_sound, valued_sound, named_sound}
+use Rattle.cct_model.proofs.Sound.{printing_all, plain_acceptor_sound, plain_bills_sound, plain_device_sound, valued_sound, named_sound}
 use Rattle.cct_model.specs.terms.device.DeviceBody.TheVariants.{Hopper}
+use Rattle.cct_model.specs.terms.device.DeviceBody.{DeviceBody}
+use Rattle.cct_model.specs.terms.device.DeviceSetup.{DeviceSetup}
 use Rattle.cct_model.specs.lines.setup.SetupLine.{SetupLine}
 use Rattle.cct_model.specs.lines.setup.SetupLine.TheVariants as says
 use Rattle.cct_model.specs.lines.command.Command.TheVariants as command
@@ -16,8 +18,8 @@ use Rattle.cct_model.specs.lines.command.Step.{Step}
 use Rattle.cct_model.specs.lines.command.Step.TheVariants as step
 use Rattle.cct_model.specs.lines.entry.LineKind.{LineKind}
 use Rattle.cct_model.specs.lines.entry.LineKind.TheVariants as kind
-use Rattle.cct_model.specs.Device.{IsWord, IsId, IsSound}
-use Rattle.cct_model.specs.Grammar.{◌>>=◌, is_space, number_in, within, ranged, three_byte_in, check_in, is_printing, word_in, id_in, bytes_in, piece_in, plain_acceptor, acceptor_line, hopper_line, value_line, texts_line, alone, setup_fields, setup_line, mask_of_bytes, mask_in, address_in, step_at, coin_step, fault_step, start_step, pay_step, path_step, vend_step, choice_in, crash_step, step_fields, step_line}
+use Rattle.cct_model.specs.Device.{IsWord, IsId, IsSound, IsSoundBody}
+use Rattle.cct_model.specs.Grammar.{◌>>=◌, is_space, number_in, within, ranged, three_byte_in, check_in, is_printing, word_in, id_in, bytes_in, piece_in, plain_acceptor, plain_bills, counting_line, acceptor_line, bills_line, hopper_line, value_line, texts_line, alone, setup_fields, setup_line, mask_of_bytes, mask_in, address_in, step_at, place_step, fault_step, start_step, pay_step, path_step, route_step, vend_step, choice_in, crash_step, step_fields, step_line}
 use Rattle.cct_model.specs.Script.{word_of, IsCommand, IsFault, IsCrash}
 use Rattle.cct_model.proofs.Added.{KeepsEach}
 use Rattle.cct_terms.proofs.OfBytes.{IfThere}
@@ -155,15 +157,25 @@ KeepsSound line = KeepsEach IsSound line
 three_bytes : (field : List ℕ) (n : ℕ) → three_byte_in field ≡ Some n → n < 2 ^ 24
 three_bytes field n found = omega (arith, (ranged_in 0 16777215 field n found).1)
 
-acceptor_said : (fields : List (List ℕ)) → IfThere KeepsSound (acceptor_line fields)
-acceptor_said (a ∷ c ∷ s ∷ n ∷ []) =
+counting_said : (make : DeviceSetup → SetupLine) (plain : ℕ → DeviceBody) (fields : List (List ℕ)) →
+    ((d : DeviceSetup) → IsSound d → KeepsSound (make d)) →
+    ((accepts : ℕ) → accepts < 2 ^ 24 → IsSoundBody (plain accepts)) →
+    IfThere KeepsSound (counting_line make plain fields)
+counting_said make plain (a ∷ c ∷ s ∷ n ∷ []) keeps sound =
     bind KeepsSound (ranged 2 255 a) _ (λ addr at.
     bind KeepsSound (check_in c) _ (λ check under.
     bind KeepsSound (three_byte_in s) _ (λ serial numbered.
     bind KeepsSound (three_byte_in n) _ (λ accepts counted.
-    plain_device_sound addr check serial (plain_acceptor accepts) (ranged_in 2 255 a addr at).0 (ranged_in 2 255 a addr at).1
-    (three_bytes s serial numbered) (plain_acceptor_sound accepts (three_bytes n accepts counted))))))
-acceptor_said fields = tt
+    keeps _ (plain_device_sound addr check serial (plain accepts) (ranged_in 2 255 a addr at).0
+    (ranged_in 2 255 a addr at).1 (three_bytes s serial numbered)
+    (sound accepts (three_bytes n accepts counted)))))))
+counting_said make plain fields keeps sound = tt
+
+acceptor_said : (fields : List (List ℕ)) → IfThere KeepsSound (acceptor_line fields)
+acceptor_said fields = counting_said says.Acceptor plain_acceptor fields (λ d sound. sound) plain_acceptor_sound
+
+bills_said : (fields : List (List ℕ)) → IfThere KeepsSound (bills_line fields)
+bills_said fields = counting_said says.Bills plain_bills fields (λ d sound. sound) plain_bills_sound
 
 hopper_said : (fields : List (List ℕ)) → IfThere KeepsSound (hopper_line fields)
 hopper_said (a ∷ c ∷ s ∷ n ∷ v ∷ []) =
@@ -204,9 +216,10 @@ setup_fields_said : (word : List ℕ) (fields : List (List ℕ)) → IfSaid Keep
 setup_fields_said word fields =
     word_by KeepsSound (bytes_eq word (codes "acceptor")) _ _ (λ _. said_or KeepsSound (acceptor_line fields) kind.Form (acceptor_said fields))
     (word_by KeepsSound (bytes_eq word (codes "hopper")) _ _ (λ _. said_or KeepsSound (hopper_line fields) kind.Form (hopper_said fields))
+    (word_by KeepsSound (bytes_eq word (codes "bills")) _ _ (λ _. said_or KeepsSound (bills_line fields) kind.Form (bills_said fields))
     (word_by KeepsSound (bytes_eq word (codes "value")) _ _ (λ _. said_or KeepsSound (value_line fields) kind.Form (value_said fields))
     (word_by KeepsSound (bytes_eq word (codes "texts")) _ _ (λ _. said_or KeepsSound (texts_line fields) kind.Form (texts_said fields))
-    (word_by KeepsSound (bytes_eq word (codes "begin")) _ _ (λ _. said_or KeepsSound (alone says.Begin fields) kind.Form (alone_said KeepsSound says.Begin fields tt)) tt))))
+    (word_by KeepsSound (bytes_eq word (codes "begin")) _ _ (λ _. said_or KeepsSound (alone says.Begin fields) kind.Form (alone_said KeepsSound says.Begin fields tt)) tt)))))
 
 -- a setup line
 pub setup_said : (line : List ℕ) → IfSaid KeepsSound (setup_line line)
@@ -218,6 +231,7 @@ setup_said line =
 -- a step in range, or the end
 abbrev pub IsToday : Step → Type 0
 IsToday (step.Coin addr place) = (1 ≤ place) × (place ≤ 16)
+IsToday (step.Bill addr place) = (1 ≤ place) × (place ≤ 16)
 IsToday (step.Alien addr) = ⊤
 IsToday (step.Fall addr) = ⊤
 IsToday (step.Jam addr) = ⊤
@@ -241,10 +255,12 @@ at_said make (a ∷ []) holds = made (address_in a) (small_address a)
     made (Some addr) small = holds addr (small addr refl)
 at_said make (a ∷ b ∷ fields) holds = tt
 
-coin_said : (fields : List (List ℕ)) → IfThere IsToday (coin_step fields)
-coin_said (a ∷ p ∷ []) =
-    bind IsToday (address_in a) _ (λ addr at. bind IsToday (ranged 1 16 p) _ (λ place placed. ranged_in 1 16 p place placed))
-coin_said fields = tt
+place_said : (make : ℕ → ℕ → Step) (fields : List (List ℕ)) →
+    ((addr place : ℕ) → (1 ≤ place) × (place ≤ 16) → IsToday (make addr place)) → IfThere IsToday (place_step make fields)
+place_said make (a ∷ p ∷ []) holds =
+    bind IsToday (address_in a) _ (λ addr at.
+    bind IsToday (ranged 1 16 p) _ (λ place placed. holds addr place (ranged_in 1 16 p place placed)))
+place_said make fields holds = tt
 
 -- a mask that isn't 0 is read from two bytes
 mask_by : (none : Bool) (high low mask : ℕ) → high < 256 → low < 256 → (256 * high + low == 0) ≡ none → cond none None (Some (256 * high + low)) ≡ Some mask → (1 ≤ mask) × (mask < 65536)
@@ -291,6 +307,12 @@ path_said (a ∷ p ∷ q ∷ []) =
     (((ranged_in 0 16 p place placed).1, (ranged_in 1 8 q path sorted).0, (ranged_in 1 8 q path sorted).1), small_address a addr at))))
 path_said fields = tt
 
+route_said : (fields : List (List ℕ)) → IfThere IsToday (route_step fields)
+route_said (a ∷ w ∷ []) =
+    bind IsToday (address_in a) _ (λ addr at.
+    bind IsToday (ranged 0 1 w) _ (λ way routed. ((ranged_in 0 1 w way routed).1, small_address a addr at)))
+route_said fields = tt
+
 vend_said : (fields : List (List ℕ)) → IfThere IsToday (vend_step fields)
 vend_said (i ∷ p ∷ []) =
     bind IsToday (ranged 1 4294967295 i) _ (λ id numbered.
@@ -335,8 +357,9 @@ crash_said fields = tt
 step_fields_said : (word : List ℕ) (fields : List (List ℕ)) → IfSaid IsToday (step_fields (word ∷ fields))
 step_fields_said word fields =
     let at = λ (make : ℕ → Step) (holds : (addr : ℕ) → addr < 256 → IsToday (make addr)). said_or IsToday (step_at make fields) kind.Form (at_said make fields holds) in
-    word_by IsToday (bytes_eq word (codes "coin")) _ _ (λ _. said_or IsToday (coin_step fields) kind.Form (coin_said fields))
+    word_by IsToday (bytes_eq word (codes "coin")) _ _ (λ _. said_or IsToday (place_step step.Coin fields) kind.Form (place_said step.Coin fields (λ addr place placed. placed)))
     (word_by IsToday (bytes_eq word (codes "alien")) _ _ (λ _. at step.Alien (λ addr small. tt))
+    (word_by IsToday (bytes_eq word (codes "bill")) _ _ (λ _. said_or IsToday (place_step step.Bill fields) kind.Form (place_said step.Bill fields (λ addr place placed. placed)))
     (word_by IsToday (bytes_eq word (codes "fall")) _ _ (λ _. at step.Fall (λ addr small. tt))
     (word_by IsToday (bytes_eq word (codes "jam")) _ _ (λ _. at step.Jam (λ addr small. tt))
     (word_by IsToday (bytes_eq word (codes "reset")) _ _ (λ _. at step.Reset (λ addr small. tt))
@@ -351,10 +374,11 @@ step_fields_said word fields =
     (word_by IsToday (bytes_eq word (codes "pay")) _ _ (λ _. said_or IsToday (pay_step fields) kind.Form (pay_said fields))
     (word_by IsToday (bytes_eq word (codes "scan")) _ _ (λ _. said_or IsToday (alone (step.Command command.Scan) fields) kind.Form (alone_said IsToday (step.Command command.Scan) fields (tt, omega arith)))
     (word_by IsToday (bytes_eq word (codes "path")) _ _ (λ _. said_or IsToday (path_step fields) kind.Form (path_said fields))
+    (word_by IsToday (bytes_eq word (codes "route")) _ _ (λ _. said_or IsToday (route_step fields) kind.Form (route_said fields))
     (word_by IsToday (bytes_eq word (codes "vend")) _ _ (λ _. said_or IsToday (vend_step fields) kind.Form (vend_said fields))
     (word_by IsToday (bytes_eq word (codes "crash")) _ _ (λ _. said_or IsToday (crash_step fields) kind.Form (crash_said fields))
     (word_by IsToday (bytes_eq word (codes "balance")) _ _ (λ _. said_or IsToday (alone step.Balance fields) kind.Form (alone_said IsToday step.Balance fields tt))
-    (word_by IsToday (bytes_eq word (codes "end")) _ _ (λ _. said_or IsToday (alone step.End fields) kind.Form (alone_said IsToday step.End fields tt)) tt)))))))))))))))))))
+    (word_by IsToday (bytes_eq word (codes "end")) _ _ (λ _. said_or IsToday (alone step.End fields) kind.Form (alone_said IsToday step.End fields tt)) tt)))))))))))))))))))))
 
 -- a step line
 pub step_said : (line : List ℕ) → IfSaid IsToday (step_line line)

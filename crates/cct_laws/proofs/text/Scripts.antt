@@ -53,6 +53,7 @@ setup_read setup (Err why) fit all = tt
 setup_read setup (Ok says.Begin) fit all = all
 setup_read setup (Ok (says.Acceptor d)) fit all = opened_read setup (says.Acceptor d) _ refl fit all
 setup_read setup (Ok (says.Hopper d)) fit all = opened_read setup (says.Hopper d) _ refl fit all
+setup_read setup (Ok (says.Bills d)) fit all = opened_read setup (says.Bills d) _ refl fit all
 setup_read setup (Ok (says.Value addr place value id)) fit all = opened_read setup (says.Value addr place value id) _ refl fit all
 setup_read setup (Ok (says.Named addr texts)) fit all = opened_read setup (says.Named addr texts) _ refl fit all
 
@@ -66,6 +67,7 @@ step_read setup (Err why) today all = tt
 step_read setup (Ok step.End) today all = all
 step_read setup (Ok (step.Coin addr place)) today all = known_read _ setup (step.Coin addr place) all (today, refl, tt)
 step_read setup (Ok (step.Alien addr)) today all = known_read _ setup (step.Alien addr) all (tt, refl, tt)
+step_read setup (Ok (step.Bill addr place)) today all = known_read _ setup (step.Bill addr place) all (today, refl, tt)
 step_read setup (Ok (step.Fall addr)) today all = known_read _ setup (step.Fall addr) all (tt, refl, tt)
 step_read setup (Ok (step.Jam addr)) today all = known_read _ setup (step.Jam addr) all (tt, refl, tt)
 step_read setup (Ok (step.Reset addr)) today all = known_read _ setup (step.Reset addr) all (tt, refl, tt)

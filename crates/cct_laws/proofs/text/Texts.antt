@@ -31,7 +31,7 @@ use Rattle.cct_laws.specs.Ids.{Ids}
 use Rattle.cct_laws.specs.Law.{IsOf, HasBytes}
 use Rattle.cct_laws.proofs.Onto.{onto_each}
 use Rattle.cct_laws.proofs.Setups.{found_in}
-use Rattle.cct_laws.proofs.jobs.Brought.{Comes, takes_coin, leaves_coin, leaves_alien, drops_coin, drops_none, jams, jams_none, is_reset, AtWork, row_after, AtDevice, came, took, halted, idled, made_exchange, made_put, wire_of, wire_end, record_end, poll_wire, poll_end, Brought, of_device, faulted, refused, began_scan, began_sale, nobody, polled, sold, balanced, lost_power, lost_in_put, lost_in_sale}
+use Rattle.cct_laws.proofs.jobs.Brought.{Comes, takes_coin, leaves_coin, takes_bill, leaves_bill, leaves_alien, drops_coin, drops_none, jams, jams_none, is_reset, AtWork, row_after, AtDevice, came, took, halted, idled, made_exchange, made_put, wire_of, wire_end, record_end, poll_wire, poll_end, Brought, of_device, faulted, refused, began_scan, began_sale, nobody, polled, sold, balanced, lost_power, lost_in_put, lost_in_sale}
 use Rattle.cct_laws.proofs.jobs.Seen.{unscanned, along}
 use Rattle.cct_terms.proofs.OfBytes.{IfThere}
 use Rattle.cct_laws.proofs.Lists.{Fine, IsAsked, fine_begun, row_asked, fine_more, scan_ends}
@@ -61,6 +61,8 @@ came_told : (d : DeviceSetup) (history : List Met) (s : Step) (e : Entry) (m : M
     Comes d history s e m ls → IsTold e
 came_told d history _ _ _ _ range (takes_coin place accepting test) = omega (arith, range.1)
 came_told d history _ _ _ _ range (leaves_coin place accepting test) = omega (arith, range.1)
+came_told d history _ _ _ _ range (takes_bill place banking test) = omega (arith, range.1)
+came_told d history _ _ _ _ range (leaves_bill place banking test) = omega (arith, range.1)
 came_told d history _ _ _ _ range (leaves_alien accepting) = tt
 came_told d history _ _ _ _ range (drops_coin paying test) = tt
 came_told d history _ _ _ _ range (drops_none paying test) = tt

@@ -6,7 +6,7 @@ use Rattle.cct_model.specs.terms.coin.Coin.{Coin}
 use Rattle.cct_model.specs.terms.coin.Credits.{Credits}
 use Rattle.cct_model.specs.terms.wire.CheckKind.{CheckKind}
 use Rattle.cct_model.specs.terms.device.DeviceBody.{DeviceBody}
-use Rattle.cct_model.specs.terms.device.DeviceBody.TheVariants.{Acceptor, Hopper}
+use Rattle.cct_model.specs.terms.device.DeviceBody.TheVariants.{Acceptor, Bill, Hopper}
 use Rattle.cct_model.specs.terms.device.DeviceSetup.{DeviceSetup}
 use Rattle.cct_model.specs.terms.device.Setup.{Setup}
 use Rattle.cct_model.specs.terms.request.Request.{Request}
@@ -29,14 +29,15 @@ use Rattle.cct_model.specs.Reply as reply
 use Rattle.cct_model.specs.History.{Met, coin, alien, fall, jam, reset}
 use Rattle.cct_model.specs.Device.{IsSound}
 use Rattle.cct_model.specs.Exchange.{ask, asked, asks_of, asking, answer, got, put_by_address, by_address}
+use Rattle.cct_model.specs.Bill.{bill_held, stacked_by}
 use Rattle.cct_model.specs.Hopper.{taken_of}
 use Rattle.cct_model.specs.Line.{Line, accepted, inhibited, fell, exchange, scanned, put, taken, ended, restarted}
 use Rattle.cct_model.specs.Line as line
 use Rattle.cct_model.specs.Reading.{judge}
 use Rattle.cct_model.specs.Order.{close, life_between}
-use Rattle.cct_model.specs.Job.{Job, free, works, job, begun, with_line, credits_read, mask_reply, mask_line, mask_read, accepts_before, accepts_read, judged_by, judged_in, Row, noted_in, ident_requests, address_of}
+use Rattle.cct_model.specs.Job.{Job, free, works, job, begun, with_line, credits_read, mask_reply, mask_line, mask_read, accepts_before, accepts_read, judged_by, judged_in, Row, noted_in, credits_request, ident_requests, address_of}
 use Rattle.cct_model.specs.Rows.{row, end_of, rows_of, done}
-use Rattle.cct_model.specs.Transcript.{pending, heard_by_devices, heard_by_host, met, answers, heard_after, got_by, dispensed_by, doses, doses_of, owner, lines_of}
+use Rattle.cct_model.specs.Transcript.{pending, heard_by_devices, heard_by_host, met, answers, heard_after, got_by, dispensed_by, doses, doses_of, stacked_line, owner, lines_of}
 use Rattle.cct_model.proofs.Requests.{request_short}
 use Rattle.cct_model.specs.Script as script
 use Rattle.cct_laws.specs.Law.{EachEntry, IsCommandOfBytes}
@@ -54,6 +55,7 @@ FitsCommand c = script.IsCommand c × IsCommandOfBytes c
 -- an entry tells bytes and masks in range; a load's sums are none of a script's entries
 abbrev pub IsTold : Entry → Type 0
 IsTold (entry.Accepted addr c) = c.place < 256
+IsTold (entry.Held addr place) = place < 256
 IsTold (entry.Inhibited addr place) = place < 256
 IsTold (entry.Fault f) = IsFault f
 IsTold (entry.Taken c) = FitsCommand c
@@ -79,6 +81,7 @@ told_written (entry.Taken c) h = command_written c h
 told_written (entry.No c why) h = command_written c h
 told_written (entry.Wire addr sent piece) h = (bytes_are sent h.0, bytes_are piece h.1)
 told_written (entry.Accepted addr c) h = tt
+told_written (entry.Held addr place) h = tt
 told_written (entry.Inhibited addr place) h = tt
 told_written e h = h
 
@@ -104,15 +107,20 @@ got_by_fits d sent piece h = by_form (option_and_then form_of (asked d.kind sent
     by_form None = tt
     by_form (Some f) = got_fits d.kind d.addr f sent piece h
 
--- an exchange, and the dispense that a hopper took in it
+-- an exchange, and what the device did in it
 dosed_fit : (took : Option ℕ) (lines : List Line) → FitsLines lines → FitsLines (dispensed_by took ++ lines)
 dosed_fit None lines h = h
 dosed_fit (Some count) lines h = (tt, h)
+
+stacked_fit : (place : Option ℕ) (lines : List Line) → FitsLines lines → FitsLines (stacked_line place ++ lines)
+stacked_fit None lines h = h
+stacked_fit (Some place) lines h = (tt, h)
 
 doses_fit : (body : DeviceBody) (own : ℕ) (past : List Met) (asks : Option Request) (lines : List Line) →
     FitsLines lines → FitsLines (doses body own past asks ++ lines)
 doses_fit (Acceptor accepts values ids) own past asks lines h = h
 doses_fit (Hopper life value) own past asks lines h = dosed_fit (taken_of own past asks) lines h
+doses_fit (Bill accepts values ids) own past asks lines h = stacked_fit (stacked_by asks (bill_held past)) lines h
 
 wire_if : (b : Bool) (l : Line) (dosed lines : List Line) → FitsLine l → FitsLines (dosed ++ lines) →
     FitsLines ((cond b (l ∷ []) [] ++ dosed) ++ lines)
@@ -164,6 +172,8 @@ met_fits : (d : DeviceSetup) (past : List Entry) → AllTold past → FitsAll (m
 met_fits d [] h = tt
 met_fits d (entry.Accepted addr c ∷ past) h =
     met_if (addr == d.addr) (coin c.place) (met d past) h.0 (met_fits d past h.1)
+met_fits d (entry.Held addr place ∷ past) h =
+    met_if (addr == d.addr) (coin place) (met d past) h.0 (met_fits d past h.1)
 met_fits d (entry.Inhibited addr place ∷ past) h =
     met_if (addr == d.addr) (coin place) (met d past) h.0 (met_fits d past h.1)
 met_fits d (entry.Alien addr ∷ past) h = met_if (addr == d.addr) alien (met d past) tt (met_fits d past h.1)
@@ -308,6 +318,13 @@ ident_fits : (body : DeviceBody) → Each FitsAsk (ident_requests body)
 unfolding data_of
 ident_fits (Acceptor accepts values ids) = search rules
 ident_fits (Hopper life value) = search rules
+ident_fits (Bill accepts values ids) = search rules
+
+credits_fit : (body : DeviceBody) → FitsAsk (credits_request body)
+unfolding data_of
+credits_fit (Acceptor accepts values ids) = tt
+credits_fit (Hopper life value) = tt
+credits_fit (Bill accepts values ids) = tt
 
 close_fits : (o : OpenOrder) (life : ℕ) → IsRecord (close o life)
 unfolding close
@@ -323,9 +340,10 @@ command_asks : (d : DeviceSetup) (c : Command) (since : List Line) → FitsJob (
     EachRow (Asks FitsAsk) (rows_of d c)
 unfolding data_of
 command_asks d (command.Start addr mask) since h =
-    (tt, (tt, (tt, (tt, ((omega arith, (omega (arith, h.0.1.1), tt)), tt)))))
-command_asks d (command.Round addr) since h = (tt, (tt, (tt, (tt, (tt, tt)))))
-command_asks d (command.Stop addr) since h = ((omega arith, tt), (tt, (tt, (tt, (tt, (tt, (tt, tt)))))))
+    (tt, (credits_fit d.body, (tt, (tt, ((omega arith, (omega (arith, h.0.1.1), tt)), tt)))))
+command_asks d (command.Round addr) since h = (tt, (credits_fit d.body, (tt, (tt, (tt, tt)))))
+command_asks d (command.Stop addr) since h =
+    ((omega arith, tt), (tt, (credits_fit d.body, (tt, (tt, (tt, (tt, tt)))))))
 command_asks d (command.Pay addr id count) since h = (
   (omega arith, tt),
   (tt, (tt, ((omega arith, (omega arith, (omega arith, (omega (arith, h.0.0.2), tt)))), ((tt, tt), (tt, (tt, tt)))))),
@@ -338,6 +356,7 @@ command_asks d (command.Path addr place path) since h =
       poll_fits (place == 0) _ _ (of_path, tt) (of_place, (of_path, tt)),
       (poll_fits (place == 0) _ _ tt (of_place, tt), tt),
     )
+command_asks d (command.Route addr way) since h = ((omega (arith, h.0.0), tt), tt)
 command_asks d c since h = tt
 
 command_puts : (d : DeviceSetup) (c : Command) (since : List Line) (state : EpochState) (owed : Option OpenOrder) →
