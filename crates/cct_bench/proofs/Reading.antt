@@ -35,6 +35,7 @@ added_opens : (setup new : Setup) (said : SetupLine) → added setup said ≡ Ok
 unfolding added
 added_opens setup new (says.Acceptor d) e = ap opened e
 added_opens setup new (says.Hopper d) e = ap opened e
+added_opens setup new (says.Bills d) e = ap opened e
 added_opens setup new (says.Value addr place value id) e = ap opened e
 added_opens setup new (says.Named addr texts) e = ap opened e
 added_opens setup new says.Begin e = let same : setup ≡ new = cc e in ap (λ s. opens (at_steps s)) same
@@ -44,6 +45,7 @@ added_refuses : (setup : Setup) (said : SetupLine) (why : LineKind) → added se
 unfolding added
 added_refuses setup (says.Acceptor d) why e = ap opened e
 added_refuses setup (says.Hopper d) why e = ap opened e
+added_refuses setup (says.Bills d) why e = ap opened e
 added_refuses setup (says.Value addr place value id) why e = ap opened e
 added_refuses setup (says.Named addr texts) why e = ap opened e
 added_refuses setup says.Begin why e = cc e
@@ -107,6 +109,7 @@ step_reads setup line s says known =
 of_today : (s : Step) → is_end s ≡ false → IsToday s → IsInRange s × IsTrue (is_played s)
 of_today (step.Coin addr place) e today = (today, refl)
 of_today (step.Alien addr) e today = (tt, refl)
+of_today (step.Bill addr place) e today = (today, refl)
 of_today (step.Fall addr) e today = (tt, refl)
 of_today (step.Jam addr) e today = (tt, refl)
 of_today (step.Reset addr) e today = (tt, refl)

@@ -4,7 +4,7 @@ use Rattle.std.proofs.Common.{◌≡◌, ◌≢◌, ℕ, ◌+◌, ◌-◌, Bool,
 use Rattle.std.proofs.lemmas.Bool.{and_parts, cases_eq}
 use Rattle.std.proofs.lemmas.List.Elements.{All-head, All-tail}
 use Rattle.cct_model.specs.terms.device.DeviceBody.{DeviceBody}
-use Rattle.cct_model.specs.terms.device.DeviceBody.TheVariants.{Acceptor, Hopper}
+use Rattle.cct_model.specs.terms.device.DeviceBody.TheVariants.{Acceptor, Bill, Hopper}
 use Rattle.cct_model.specs.terms.device.DeviceSetup.{DeviceSetup}
 use Rattle.cct_model.specs.terms.device.Setup.{Setup}
 use Rattle.cct_model.specs.lines.record.Record.{Record}
@@ -16,8 +16,8 @@ use Rattle.cct_model.specs.declared.judging.EpochState.TheVariants.{Idle, Runnin
 use Rattle.cct_model.specs.declared.judging.OpenOrder.{OpenOrder}
 use Rattle.cct_model.specs.Carried.{addr_of_epoch, addr_of_order, first_with, id_of_order, with_some}
 use Rattle.cct_model.specs.Carry.{available_held, carry, epoch_at, epoch_entry, epoch_from, epoch_held, gathered, order_at, order_entry, order_from, order_held, order_with, owed_by, reserved_held}
-use Rattle.cct_model.specs.Device.{is_acceptor, is_hopper}
-use Rattle.cct_model.specs.Exchange.{acceptor_there, by_address, device_at, hopper_there}
+use Rattle.cct_model.specs.Device.{is_hopper, is_taker}
+use Rattle.cct_model.specs.Exchange.{by_address, device_at, hopper_there, taker_there}
 use Rattle.cct_model.specs.Following.{all_follow, follows, is_running}
 use Rattle.cct_model.specs.Job.{epoch_by}
 use Rattle.cct_model.specs.Money.{amount, available_beside, odd_in, owed_in, reserved_in, sum_over}
@@ -32,17 +32,17 @@ use Rattle.cct_laws.proofs.orders.Orders.{Belongs, belongs_all, named_id}
 use Rattle.cct_carry.proofs.Devices.{distinct_rising, found_by_address, sum_by_address}
 use Rattle.cct_carry.proofs.Gathered.{HasAddress, first_among, first_gathered, first_nowhere}
 
--- no epoch runs where there is no acceptor
+-- no epoch runs where no device takes money
 
 idle_runs : (state : EpochState) → state ≡ Idle → is_running state ≡ true → ⊥
 idle_runs state idle is = true≢false (sym is ∙ ap is_running idle)
 
 own_idle : (setup : Setup) (before : List Record) (r : Record) (addr : ℕ) →
-    acceptor_there (device_at setup.devices addr) ≡ false → owner_in before r ≡ addr → follows setup before r ≡ true →
+    taker_there (device_at setup.devices addr) ≡ false → owner_in before r ≡ addr → follows setup before r ≡ true →
     epoch_in addr before ≡ Idle → epoch_by r (epoch_in addr before) ≡ Idle
 own_idle setup before (record_of.Epoch a mask accepts) addr none own follow idle =
     absurd (true≢false (sym (and_parts _ _ (and_parts _ _ (and_parts _ _ follow).0).0).0
-    ∙ ap (λ x. acceptor_there (device_at setup.devices x)) own ∙ none))
+    ∙ ap (λ x. taker_there (device_at setup.devices x)) own ∙ none))
 own_idle setup before (record_of.Reading a counter lost accepts posted) addr none own follow idle =
     absurd (idle_runs (epoch_in a before) (ap (λ x. epoch_in x before) own ∙ idle) follow)
 own_idle setup before (record_of.Broken a seen counter lost accepts posted) addr none own follow idle = refl
@@ -50,7 +50,7 @@ own_idle setup before (record_of.EpochEnd a) addr none own follow idle = refl
 own_idle setup before r addr none own follow idle = idle
 
 pub idle_beside : (setup : Setup) (before : List Record) (addr : ℕ) →
-    acceptor_there (device_at setup.devices addr) ≡ false → all_follow setup before ≡ true →
+    taker_there (device_at setup.devices addr) ≡ false → all_follow setup before ≡ true →
     epoch_in addr before ≡ Idle
 idle_beside setup [] addr none follow = refl
 idle_beside setup (r ∷ before) addr none follow =
@@ -93,7 +93,7 @@ entry_addr addr (Running mask counter accepts) x is =
     ap (λ (y : CarryEpoch). y.addr) (sym (same_some (record { addr = addr; mask = mask; counter = counter; accepts = accepts }) x is))
 
 pub epoch_keys : (before : List Record) → HasAddress addr_of_epoch (epoch_at before)
-epoch_keys before d x is = by_kind (is_acceptor d.body) is
+epoch_keys before d x is = by_kind (is_taker d.body) is
   where
     by_kind : (kind : Bool) → cond kind (epoch_entry d.addr (epoch_in d.addr before)) None ≡ Some x → x.addr ≡ d.addr
     by_kind true found = entry_addr d.addr (epoch_in d.addr before) x found
@@ -107,7 +107,7 @@ pub record IsEntryOf (before : List Record) (addr : ℕ) (x : CarryOrder) : Type
 
 pub entry_of : (before : List Record) (d : DeviceSetup) (x : CarryOrder) → order_at before d ≡ Some x →
     IsEntryOf before d.addr x
-entry_of before d x is = by_kind (is_acceptor d.body) is
+entry_of before d x is = by_kind (is_taker d.body) is
   where
     by_owed : (owed : Option OpenOrder) → order_in d.addr before ≡ owed → option_map order_entry owed ≡ Some x →
         IsEntryOf before d.addr x
@@ -132,23 +132,24 @@ pub epoch_there : (setup : Setup) (before : List Record) (addr : ℕ) → all_fo
     option_and_then (epoch_at before) (device_at setup.devices addr) ≡ epoch_entry addr (epoch_in addr before)
 epoch_there setup before addr follow = by_found (device_at setup.devices addr) refl
   where
-    none : acceptor_there (device_at setup.devices addr) ≡ false → None ≡ epoch_entry addr (epoch_in addr before)
+    none : taker_there (device_at setup.devices addr) ≡ false → None ≡ epoch_entry addr (epoch_in addr before)
     none beside = sym (ap (epoch_entry addr) (idle_beside setup before addr beside follow))
 
-    by_kind : (d : DeviceSetup) (kind : Bool) → is_acceptor d.body ≡ kind → d.addr ≡ addr →
+    by_kind : (d : DeviceSetup) (kind : Bool) → is_taker d.body ≡ kind → d.addr ≡ addr →
         device_at setup.devices addr ≡ Some d →
         cond kind (epoch_entry d.addr (epoch_in d.addr before)) None ≡ epoch_entry addr (epoch_in addr before)
     by_kind d true test own is = ap (λ a. epoch_entry a (epoch_in a before)) own
-    by_kind d false test own is = none (ap acceptor_there is ∙ test)
+    by_kind d false test own is = none (ap taker_there is ∙ test)
 
     by_found : (found : Option DeviceSetup) → device_at setup.devices addr ≡ found →
         option_and_then (epoch_at before) found ≡ epoch_entry addr (epoch_in addr before)
-    by_found None is = none (ap acceptor_there is)
-    by_found (Some d) is = by_kind d (is_acceptor d.body) refl (address_there setup.devices addr d is) is
+    by_found None is = none (ap taker_there is)
+    by_found (Some d) is = by_kind d (is_taker d.body) refl (address_there setup.devices addr d is) is
 
-no_hopper : (body : DeviceBody) → is_acceptor body ≡ true → is_hopper body ≡ false
+no_hopper : (body : DeviceBody) → is_taker body ≡ true → is_hopper body ≡ false
 no_hopper (Acceptor accepts values ids) kind = refl
 no_hopper (Hopper life value) kind = absurd cc
+no_hopper (Bill accepts values ids) kind = refl
 
 pub order_there : (setup : Setup) (before : List Record) (addr : ℕ) → Belongs setup before →
     option_and_then (order_at before) (device_at setup.devices addr) ≡ option_map order_entry (order_in addr before)
@@ -157,7 +158,7 @@ order_there setup before addr belongs = by_found (device_at setup.devices addr) 
     none : hopper_there (device_at setup.devices addr) ≡ false → None ≡ option_map order_entry (order_in addr before)
     none beside = sym (ap (option_map order_entry) (unowed_beside setup before addr belongs beside))
 
-    by_kind : (d : DeviceSetup) (kind : Bool) → is_acceptor d.body ≡ kind → d.addr ≡ addr →
+    by_kind : (d : DeviceSetup) (kind : Bool) → is_taker d.body ≡ kind → d.addr ≡ addr →
         device_at setup.devices addr ≡ Some d →
         cond kind None (option_map order_entry (order_in d.addr before)) ≡ option_map order_entry (order_in addr before)
     by_kind d true test own is = none (ap hopper_there is ∙ no_hopper d.body test)
@@ -166,7 +167,7 @@ order_there setup before addr belongs = by_found (device_at setup.devices addr) 
     by_found : (found : Option DeviceSetup) → device_at setup.devices addr ≡ found →
         option_and_then (order_at before) found ≡ option_map order_entry (order_in addr before)
     by_found None is = none (ap hopper_there is)
-    by_found (Some d) is = by_kind d (is_acceptor d.body) refl (address_there setup.devices addr d is) is
+    by_found (Some d) is = by_kind d (is_taker d.body) refl (address_there setup.devices addr d is) is
 
 -- records of a sound setup that follow one another
 module _ (setup : Setup) (before : List Record) (sound : IsSoundSetup setup)

@@ -5,7 +5,7 @@ use Rattle.std.proofs.lemmas.List.Sums.{sum_by-cons}
 use Rattle.std.proofs.lemmas.Nat.{mul-le}
 use Rattle.cct_model.specs.terms.coin.Coin.{Coin}
 use Rattle.cct_model.specs.terms.device.DeviceBody.{DeviceBody}
-use Rattle.cct_model.specs.terms.device.DeviceBody.TheVariants.{Acceptor, Hopper}
+use Rattle.cct_model.specs.terms.device.DeviceBody.TheVariants.{Acceptor, Bill, Hopper}
 use Rattle.cct_model.specs.terms.device.DeviceSetup.{DeviceSetup}
 use Rattle.cct_model.specs.terms.device.Setup.{Setup}
 use Rattle.cct_model.specs.Device.{IsSound, IsSoundBody, value_at}
@@ -46,6 +46,8 @@ body_most : (body : DeviceBody) (place : ℕ) → IsSoundBody body → value_at 
 body_most (Acceptor accepts values ids) place sound =
     index_most values (place - 1) 1000000 sound.1
 body_most (Hopper life value) place sound = omega arith
+body_most (Bill accepts values ids) place sound =
+    index_most values (place - 1) 1000000 sound.1
 
 device_most : (d : DeviceSetup) (place : ℕ) → IsSound d → place_value (Some d) place ≤ 1000000
 device_most d place sound = by_none (place == 0) (body_most d.body place sound.body)
@@ -70,6 +72,7 @@ values_most (d ∷ ds) addr place sound =
 paid_most : (body : DeviceBody) → IsSoundBody body → paid_value body ≤ 1000000
 paid_most (Acceptor accepts values ids) sound = omega arith
 paid_most (Hopper life value) sound = sound.2
+paid_most (Bill accepts values ids) sound = omega arith
 
 pub hoppers_most : (ds : List DeviceSetup) (addr : ℕ) → All IsSound ds → hopper_value (device_at ds addr) ≤ 1000000
 hoppers_most [] addr sound = omega arith

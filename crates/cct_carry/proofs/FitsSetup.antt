@@ -9,8 +9,8 @@ use Rattle.cct_model.specs.lines.carry.CarryOrder.{CarryOrder}
 use Rattle.cct_model.specs.declared.judging.OpenOrder.{OpenOrder}
 use Rattle.cct_model.specs.Carried.{id_of_order, with_some}
 use Rattle.cct_model.specs.Carry.{AreApart, Fits, IsOther, carry, epoch_at, epoch_entry, gathered, order_at}
-use Rattle.cct_model.specs.Device.{is_acceptor}
-use Rattle.cct_model.specs.Exchange.{acceptor_there, by_address, device_at, hopper_there}
+use Rattle.cct_model.specs.Device.{is_taker}
+use Rattle.cct_model.specs.Exchange.{by_address, device_at, hopper_there, taker_there}
 use Rattle.cct_model.specs.Following.{all_follow}
 use Rattle.cct_model.specs.Records.{epoch_in, greatest_id, order_named}
 use Rattle.cct_model.specs.Setup.{AreDistinct, IsSoundSetup}
@@ -67,13 +67,13 @@ module _ (setup : Setup) (before : List Record) (belongs : Belongs setup before)
         later,
       )
 
--- what stands at an acceptor
-accepts_at : (before : List Record) (d : DeviceSetup) (x : CarryEpoch) → epoch_at before d ≡ Some x
-    → is_acceptor d.body ≡ true
-accepts_at before d x is = by_kind (is_acceptor d.body) refl is
+-- an epoch stands at a device that takes money
+takes_at : (before : List Record) (d : DeviceSetup) (x : CarryEpoch) → epoch_at before d ≡ Some x
+    → is_taker d.body ≡ true
+takes_at before d x is = by_kind (is_taker d.body) refl is
   where
-    by_kind : (kind : Bool) → is_acceptor d.body ≡ kind
-        → cond kind (epoch_entry d.addr (epoch_in d.addr before)) None ≡ Some x → is_acceptor d.body ≡ true
+    by_kind : (kind : Bool) → is_taker d.body ≡ kind
+        → cond kind (epoch_entry d.addr (epoch_in d.addr before)) None ≡ Some x → is_taker d.body ≡ true
     by_kind true kind found = kind
     by_kind false kind found = absurd cc
 
@@ -84,9 +84,9 @@ carry_fits setup before sound follow =
     let ds = by_address setup.devices in
     let distinct = distinct_rising ds (devices_rise setup sound) in
     record {
-      epochs = gathered_each (λ (e : CarryEpoch). acceptor_there (device_at setup.devices e.addr) ≡ true) (epoch_at before) ds distinct
-          (λ d x there is. ap (λ a. acceptor_there (device_at setup.devices a)) (epoch_keys before d x is)
-          ∙ ap acceptor_there (sym (found_by_address setup.devices d.addr) ∙ there) ∙ accepts_at before d x is);
+      epochs = gathered_each (λ (e : CarryEpoch). taker_there (device_at setup.devices e.addr) ≡ true) (epoch_at before) ds distinct
+          (λ d x there is. ap (λ a. taker_there (device_at setup.devices a)) (epoch_keys before d x is)
+          ∙ ap taker_there (sym (found_by_address setup.devices d.addr) ∙ there) ∙ takes_at before d x is);
       orders = gathered_each (λ (o : CarryOrder). hopper_there (device_at setup.devices o.addr) ≡ true) (order_at before) ds distinct
           (λ d x there is. ap (λ a. hopper_there (device_at setup.devices a)) (order_keys setup before belongs d x is)
           ∙ (belongs.owned d.addr (entry_of before d x is).order_is (entry_of before d x is).owed).hopper);

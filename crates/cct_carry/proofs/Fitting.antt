@@ -11,7 +11,7 @@ use Rattle.cct_model.specs.lines.carry.CarryEpoch.{CarryEpoch}
 use Rattle.cct_model.specs.lines.carry.CarryOrder.{CarryOrder}
 use Rattle.cct_model.specs.Carried.{OrderFits}
 use Rattle.cct_model.specs.Carry.{AreApart, Fits, IsOther, IsSafe, carry, owed_by}
-use Rattle.cct_model.specs.Exchange.{acceptor_there, device_at, hopper_there}
+use Rattle.cct_model.specs.Exchange.{device_at, hopper_there, taker_there}
 use Rattle.cct_model.specs.Following.{all_follow}
 use Rattle.cct_model.specs.Setup.{IsSoundSetup}
 use Rattle.cct_record.specs.Body.{InRange}
@@ -71,7 +71,7 @@ fits_from setup c ok =
     let ids = and_parts _ _ apart.0 in
     let kinds = and_parts _ _ ids.0 in
     record {
-      epochs = AllPass-from_list_all (λ (e : CarryEpoch). acceptor_there (device_at setup.devices e.addr)) c.epochs kinds.0;
+      epochs = AllPass-from_list_all (λ (e : CarryEpoch). taker_there (device_at setup.devices e.addr)) c.epochs kinds.0;
       orders = AllPass-from_list_all (λ (o : CarryOrder). hopper_there (device_at setup.devices o.addr)) c.orders kinds.1;
       ids = All-weaker (λ (o : CarryOrder). nat_le o.id c.last_id ≡ true) (λ o. o.id ≤ c.last_id)
           (λ o below. leb-true o.id c.last_id below) c.orders
@@ -83,7 +83,7 @@ fits_from setup c ok =
 pub fits_to : (setup : Setup) (c : Carry) → Fits setup c → fits setup c ≡ true
 fits_to setup c ok =
     and_from _ _ (and_from _ _ (and_from _ _ (and_from _ _
-    (list_all-from_AllPass (λ (e : CarryEpoch). acceptor_there (device_at setup.devices e.addr)) c.epochs ok.epochs)
+    (list_all-from_AllPass (λ (e : CarryEpoch). taker_there (device_at setup.devices e.addr)) c.epochs ok.epochs)
     (list_all-from_AllPass (λ (o : CarryOrder). hopper_there (device_at setup.devices o.addr)) c.orders ok.orders))
     (list_all-from_AllPass (λ (o : CarryOrder). nat_le o.id c.last_id) c.orders
     (All-weaker (λ (o : CarryOrder). o.id ≤ c.last_id) (λ o. nat_le o.id c.last_id ≡ true)

@@ -6,7 +6,7 @@ use Rattle.cct_model.specs.lines.record.Record.TheVariants as record_of
 use Rattle.cct_model.specs.declared.judging.OpenOrder.{OpenOrder}
 use Rattle.cct_model.specs.Setup.{IsSoundSetup}
 use Rattle.cct_model.specs.Carry.{available_held, carry, follows_carry, order_with}
-use Rattle.cct_model.specs.Exchange.{acceptor_there, device_at, hopper_there}
+use Rattle.cct_model.specs.Exchange.{device_at, hopper_there, taker_there}
 use Rattle.cct_model.specs.Following.{all_follow, count_of, follows, has_values, is_running}
 use Rattle.cct_model.specs.Money.{available_beside, available_in, coins_of}
 use Rattle.cct_model.specs.Records.{is_open, order_in, order_named}
@@ -31,7 +31,7 @@ counts_same false many held named same = refl
 pub follows_carried : (setup : Setup) (before : List Record) → IsSoundSetup setup → all_follow setup before ≡ true →
     (r : Record) → follows_carry setup (carry setup before) r ≡ follows setup before r
 follows_carried setup before sound follow (record_of.Epoch addr mask accepts) =
-    ap (λ state. acceptor_there (device_at setup.devices addr) && not (is_running state) && not (mask == 0)
+    ap (λ state. taker_there (device_at setup.devices addr) && not (is_running state) && not (mask == 0)
     && has_values (device_at setup.devices addr) mask)
     (epoch_carried setup before sound follow addr)
 follows_carried setup before sound follow (record_of.Reading addr counter lost accepts posted) =

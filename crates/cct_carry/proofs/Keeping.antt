@@ -6,7 +6,7 @@ use Rattle.std.proofs.lemmas.List.Elements.{All-head, All-nil, All-tail, All-wea
 use Rattle.cct_model.specs.terms.coin.TheConstants.{EVENTS}
 use Rattle.cct_model.specs.terms.device.TheConstants.{DEVICES}
 use Rattle.cct_model.specs.terms.device.DeviceBody.{DeviceBody}
-use Rattle.cct_model.specs.terms.device.DeviceBody.TheVariants.{Acceptor, Hopper}
+use Rattle.cct_model.specs.terms.device.DeviceBody.TheVariants.{Acceptor, Bill, Hopper}
 use Rattle.cct_model.specs.terms.device.DeviceSetup.{DeviceSetup}
 use Rattle.cct_model.specs.terms.device.Setup.{Setup}
 use Rattle.cct_model.specs.lines.record.Record.{Record}
@@ -16,8 +16,8 @@ use Rattle.cct_model.specs.lines.carry.CarryEpoch.{CarryEpoch}
 use Rattle.cct_model.specs.lines.carry.CarryOrder.{CarryOrder}
 use Rattle.cct_model.specs.Carried.{AreSmall, EpochFits, IsRightly, OrderFits, Rise, addr_of_epoch, addr_of_order, empty_carry, first_with, id_of_order, set_with, with_some}
 use Rattle.cct_model.specs.Carry.{AreApart, IsOther, IsSafe, available_held, carry_with, epoch_entry, epoch_from, epoch_held, epochs_after, follows_carry, odd_more, order_entry, order_from, order_held, order_with, orders_after, owed_by, owner_by}
-use Rattle.cct_model.specs.Device.{is_acceptor, is_hopper}
-use Rattle.cct_model.specs.Exchange.{acceptor_there, device_at, hopper_there}
+use Rattle.cct_model.specs.Device.{is_hopper, is_taker}
+use Rattle.cct_model.specs.Exchange.{device_at, hopper_there, taker_there}
 use Rattle.cct_model.specs.Following.{count_of}
 use Rattle.cct_model.specs.Job.{counted, epoch_by}
 use Rattle.cct_model.specs.Money.{amount, coins_of, coins_value}
@@ -31,14 +31,14 @@ use Rattle.cct_carry.specs.GoingOn.{CanGoOn, IsCovered, IsInReach}
 use Rattle.cct_carry.proofs.Coins.{coins_most, values_most, worth_most}
 use Rattle.cct_carry.proofs.Sets.{all_set, by_order, few_both, few_in, first_above, first_by_both, first_here, first_holds, first_key, first_past, length_set, none_has, rise_set, set_before, set_found, set_here, set_past}
 
--- an epoch at an address where an acceptor is, whose numbers fit
+-- an epoch at an address where a device takes money, whose numbers fit
 record IsEpochAt (setup : Setup) (addr : ℕ) (e : CarryEpoch) : Type 0 where
   pub here : e.addr ≡ addr
   pub fits : EpochFits e
-  pub there : acceptor_there (device_at setup.devices e.addr) ≡ true
+  pub there : taker_there (device_at setup.devices e.addr) ≡ true
 
 epoch_made : (setup : Setup) (addr mask counter accepts : ℕ) → addr < 256 → mask < 2 ^ 16 → counter < 256
-    → accepts < 2 ^ 24 → acceptor_there (device_at setup.devices addr) ≡ true
+    → accepts < 2 ^ 24 → taker_there (device_at setup.devices addr) ≡ true
     → IsEpochAt setup addr (record { addr = addr; mask = mask; counter = counter; accepts = accepts })
 epoch_made setup addr mask counter accepts addr_fits mask_fits counter_fits accepts_fits there = record {
   here = refl;
@@ -47,7 +47,7 @@ epoch_made setup addr mask counter accepts addr_fits mask_fits counter_fits acce
 }
 
 epoch_found : (setup : Setup) (addr : ℕ) (found : Option CarryEpoch) → IfSome found (λ e. addr_of_epoch e ≡ addr)
-    → IfSome found EpochFits → IfSome found (λ e. acceptor_there (device_at setup.devices e.addr) ≡ true)
+    → IfSome found EpochFits → IfSome found (λ e. taker_there (device_at setup.devices e.addr) ≡ true)
     → IfSome found (IsEpochAt setup addr)
 epoch_found setup addr None here fits there = tt
 epoch_found setup addr (Some e) here fits there = record { here = here; fits = fits; there = there }
@@ -67,7 +67,7 @@ epoch_counted : (setup : Setup) (addr counter accepts : ℕ) (found : Option Car
 epoch_counted setup addr counter accepts None fits accepts_fits held = tt
 epoch_counted setup addr counter accepts (Some e) fits accepts_fits held =
     epoch_made setup addr e.mask counter accepts (subst (λ a. a < 256) held.here held.fits.addr) held.fits.mask fits
-    accepts_fits (subst (λ a. acceptor_there (device_at setup.devices a) ≡ true) held.here held.there)
+    accepts_fits (subst (λ a. taker_there (device_at setup.devices a) ≡ true) held.here held.there)
 
 -- the epoch that a carry has at an address
 held_epoch : (setup : Setup) (many addr : ℕ) (c : Carry) → IsSafe setup many c
@@ -75,7 +75,7 @@ held_epoch : (setup : Setup) (many addr : ℕ) (c : Carry) → IsSafe setup many
 held_epoch setup many addr c safe =
     epoch_found setup addr (first_with addr_of_epoch addr c.epochs) (first_key addr_of_epoch addr c.epochs)
     (first_holds addr_of_epoch EpochFits addr c.epochs safe.rightly.epochs_fit)
-    (first_holds addr_of_epoch (λ e. acceptor_there (device_at setup.devices e.addr) ≡ true) addr c.epochs
+    (first_holds addr_of_epoch (λ e. taker_there (device_at setup.devices e.addr) ≡ true) addr c.epochs
     safe.fits.epochs)
 
 -- what is set at an address is an epoch there
@@ -111,7 +111,7 @@ next_epoch setup many c (record_of.Sold id price) safe ok fits =
 pub record EpochsSafe (setup : Setup) (epochs : List CarryEpoch) : Type 0 where
   pub rise : Rise (map addr_of_epoch epochs)
   pub fit : All EpochFits epochs
-  pub there : All (λ e. acceptor_there (device_at setup.devices e.addr) ≡ true) epochs
+  pub there : All (λ e. taker_there (device_at setup.devices e.addr) ≡ true) epochs
 
 some_weaker : {X : Type 0} (P Q : X → Type 0) (found : Option X) → ((x : X) → P x → Q x) → IfSome found P → IfSome found Q
 some_weaker P Q None weaker holds = tt
@@ -125,8 +125,8 @@ epochs_set setup addr new epochs new_is safe = record {
       (some_weaker (IsEpochAt setup addr) (λ e. addr_of_epoch e ≡ addr) new (λ e is. is.here) new_is) safe.rise;
   fit = all_set addr_of_epoch EpochFits addr new epochs
       (some_weaker (IsEpochAt setup addr) EpochFits new (λ e is. is.fits) new_is) safe.fit;
-  there = all_set addr_of_epoch (λ e. acceptor_there (device_at setup.devices e.addr) ≡ true) addr new epochs
-      (some_weaker (IsEpochAt setup addr) (λ e. acceptor_there (device_at setup.devices e.addr) ≡ true) new
+  there = all_set addr_of_epoch (λ e. taker_there (device_at setup.devices e.addr) ≡ true) addr new epochs
+      (some_weaker (IsEpochAt setup addr) (λ e. taker_there (device_at setup.devices e.addr) ≡ true) new
       (λ e is. is.there) new_is) safe.there;
 }
 
@@ -536,13 +536,14 @@ each_next setup many c r safe =
       | inr same ↦ let is = ap (λ (os : List CarryOrder). length os) same in omega arith
     ]
 
--- no device is of both kinds
-one_kind : (d : DeviceSetup) → acceptor_there (Some d) ≡ true → hopper_there (Some d) ≡ true → ⊥
-one_kind d acceptor hopper = by_body d.body acceptor hopper
+-- no device takes money and pays it
+one_kind : (d : DeviceSetup) → taker_there (Some d) ≡ true → hopper_there (Some d) ≡ true → ⊥
+one_kind d taker hopper = by_body d.body taker hopper
   where
-    by_body : (body : DeviceBody) → is_acceptor body ≡ true → is_hopper body ≡ true → ⊥
-    by_body (Acceptor accepts values ids) acceptor hopper = absurd cc
-    by_body (Hopper life value) acceptor hopper = absurd cc
+    by_body : (body : DeviceBody) → is_taker body ≡ true → is_hopper body ≡ true → ⊥
+    by_body (Acceptor accepts values ids) taker hopper = absurd cc
+    by_body (Hopper life value) taker hopper = absurd cc
+    by_body (Bill accepts values ids) taker hopper = absurd cc
 
 -- a safe carry is safe for one record more, with a record more that follows
 pub safe_next : (setup : Setup) (many : ℕ) (c : Carry) (r : Record) → IsSoundSetup setup
@@ -552,9 +553,9 @@ safe_next setup many c r sound devices safe ok fits =
     let epochs = epochs_next setup many c r safe ok fits in
     let orders = orders_next setup many c r safe ok fits in
     let adds = adds_few setup many c r sound safe fits in
-    let epochs_few = few_in addr_of_epoch acceptor_there refl setup.devices (epochs_after (owner_by c r) r c) epochs.rise epochs.there in
+    let epochs_few = few_in addr_of_epoch taker_there refl setup.devices (epochs_after (owner_by c r) r c) epochs.rise epochs.there in
     let orders_few = few_in addr_of_order hopper_there refl setup.devices (orders_after (owner_by c r) r c) orders.rise orders.there in
-    let few = few_both addr_of_epoch addr_of_order acceptor_there hopper_there refl refl one_kind setup.devices
+    let few = few_both addr_of_epoch addr_of_order taker_there hopper_there refl refl one_kind setup.devices
     (epochs_after (owner_by c r) r c) (orders_after (owner_by c r) r c) epochs.rise orders.rise epochs.there
     orders.there in
     record {
@@ -681,7 +682,7 @@ pub safe_empty : (setup : Setup) (many : ℕ) → IsSafe setup many empty_carry
 safe_empty setup many = record {
   rightly = rightly_empty many;
   fits = record {
-    epochs = All-nil (λ (e : CarryEpoch). acceptor_there (device_at setup.devices e.addr) ≡ true);
+    epochs = All-nil (λ (e : CarryEpoch). taker_there (device_at setup.devices e.addr) ≡ true);
     orders = All-nil (λ (o : CarryOrder). hopper_there (device_at setup.devices o.addr) ≡ true);
     ids = All-nil (λ (o : CarryOrder). o.id ≤ 0);
     apart = tt;

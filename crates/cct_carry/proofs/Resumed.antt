@@ -12,7 +12,7 @@ use Rattle.cct_model.specs.lines.record.Record.{Record}
 use Rattle.cct_model.specs.declared.judging.OpenOrder.{OpenOrder}
 use Rattle.cct_model.specs.Carried.{empty_carry}
 use Rattle.cct_model.specs.Carry.{carry, carry_of, epoch_at, order_at, order_held}
-use Rattle.cct_model.specs.Device.{is_acceptor}
+use Rattle.cct_model.specs.Device.{is_taker}
 use Rattle.cct_model.specs.Exchange.{by_address, device_at, hopper_there}
 use Rattle.cct_model.specs.Following.{all_follow}
 use Rattle.cct_model.specs.Records.{is_open, order_in, order_named}
@@ -31,8 +31,8 @@ either_way false x = refl
 pub carry_first : (setup : Setup) → carry setup [] ≡ empty_carry
 carry_first setup =
     ap₂ (λ epochs orders. record empty_carry { epochs = epochs; orders = orders })
-    (gathered_none (epoch_at []) (by_address setup.devices) (λ d. either_way (is_acceptor d.body) None))
-    (gathered_none (order_at []) (by_address setup.devices) (λ d. either_way (is_acceptor d.body) None))
+    (gathered_none (epoch_at []) (by_address setup.devices) (λ d. either_way (is_taker d.body) None))
+    (gathered_none (order_at []) (by_address setup.devices) (λ d. either_way (is_taker d.body) None))
 
 pub carry_of_none : (setup : Setup) → carry_of setup [] ≡ empty_carry
 carry_of_none setup = carry_first setup

@@ -9,7 +9,7 @@ use Rattle.cct_model.specs.lines.carry.CarryEpoch.{CarryEpoch}
 use Rattle.cct_model.specs.lines.carry.CarryOrder.{CarryOrder}
 use Rattle.cct_model.specs.Carried.{addr_of_epoch, addr_of_order, set_with}
 use Rattle.cct_model.specs.Carry.{carry, carry_with, epoch_at, epoch_entry, epochs_after, odd_more, order_at, order_entry, orders_after, owner_by}
-use Rattle.cct_model.specs.Device.{is_acceptor}
+use Rattle.cct_model.specs.Device.{is_taker}
 use Rattle.cct_model.specs.Exchange.{by_address, device_at}
 use Rattle.cct_model.specs.Following.{all_follow, follows}
 use Rattle.cct_model.specs.Job.{epoch_by}
@@ -80,7 +80,7 @@ module _ (setup : Setup) (before : List Record) (sound : IsSoundSetup setup) (r 
       ∙ sym (epoch_there setup (r ∷ before) addr follow)
       ∙ ap (option_and_then (epoch_at (r ∷ before))) (sym (found_by_address setup.devices addr)))
       ∙ set_gathered addr_of_epoch (epoch_at before) (epoch_at (r ∷ before)) (epoch_keys before) addr
-      (λ d other. ap (λ state. cond (is_acceptor d.body) (epoch_entry d.addr state) None)
+      (λ d other. ap (λ state. cond (is_taker d.body) (epoch_entry d.addr state) None)
       (sym (epoch_else d.addr r before (λ own. other (sym own)))))
       (by_address setup.devices) (devices_rise setup sound)
 
@@ -94,7 +94,7 @@ module _ (setup : Setup) (before : List Record) (sound : IsSoundSetup setup) (r 
       ∙ ap (option_and_then (order_at (r ∷ before))) (sym (found_by_address setup.devices addr)))
       ∙ set_gathered addr_of_order (order_at before) (order_at (r ∷ before))
       (order_keys setup before (belongs_all setup before earlier)) addr
-      (λ d other. ap (λ owed. cond (is_acceptor d.body) None (option_map order_entry owed))
+      (λ d other. ap (λ owed. cond (is_taker d.body) None (option_map order_entry owed))
       (sym (order_else d.addr r before (λ own. other (sym own)))))
       (by_address setup.devices) (devices_rise setup sound)
 

@@ -3,7 +3,7 @@
 use Rattle.std.specs.Prelude.{ℕ, List, [], ◌∷◌}
 use Rattle.std.proofs.Props.{props}
 use Rattle.cct_model.specs.terms.device.DeviceBody.{DeviceBody}
-use Rattle.cct_model.specs.terms.device.DeviceBody.TheVariants.{Acceptor, Hopper}
+use Rattle.cct_model.specs.terms.device.DeviceBody.TheVariants.{Acceptor, Bill, Hopper}
 use Rattle.cct_model.specs.terms.device.DeviceSetup.{DeviceSetup}
 use Rattle.cct_model.specs.terms.device.Setup.{Setup}
 use Rattle.cct_model.specs.lines.carry.Carry.{Carry}
@@ -16,6 +16,7 @@ use Rattle.cct_model.specs.Setup.{AreDistinct, IsSoundSetup}
 IsSoundBody-prop : (body : DeviceBody) → IsProp (IsSoundBody body)
 IsSoundBody-prop (Acceptor accepts values ids) = hlevel props
 IsSoundBody-prop (Hopper life value) = hlevel props
+IsSoundBody-prop (Bill accepts values ids) = hlevel props
 
 IsSound-prop : (d : DeviceSetup) → IsProp (IsSound d)
 IsSound-prop d = hlevel (props, IsSoundBody-prop)

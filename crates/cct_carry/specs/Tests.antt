@@ -5,7 +5,7 @@ use Rattle.cct_model.specs.terms.device.Setup.{Setup}
 use Rattle.cct_model.specs.lines.carry.Carry.{Carry}
 use Rattle.cct_model.specs.lines.carry.CarryOrder.{CarryOrder}
 use Rattle.cct_model.specs.Carry.{owed_by}
-use Rattle.cct_model.specs.Exchange.{acceptor_there, device_at, hopper_there}
+use Rattle.cct_model.specs.Exchange.{device_at, hopper_there, taker_there}
 
 -- No two orders have one id.
 abbrev pub are_apart : List CarryOrder → Bool
@@ -19,6 +19,6 @@ covers setup c = nat_le (c.paid_value + c.odd_value + c.sold + owed_by setup c.o
 -- A carry fits a setup.
 abbrev pub fits : Setup → Carry → Bool
 fits setup c =
-    list_all (λ e. acceptor_there (device_at setup.devices e.addr)) c.epochs
+    list_all (λ e. taker_there (device_at setup.devices e.addr)) c.epochs
     && list_all (λ o. hopper_there (device_at setup.devices o.addr)) c.orders
     && list_all (λ o. nat_le o.id c.last_id) c.orders && are_apart c.orders && covers setup c

@@ -2,33 +2,33 @@
 ghost use Rattle.std.specs.Prelude.{◌≡◌, ◌+◌, ◌==◌, nat_le, not, All};
 ghost use Rattle.std.specs.List.{list_all};
 ghost use Rattle.cct_model.specs.Carried.{OrderFits};
-ghost use Rattle.cct_model.specs.Exchange.{acceptor_there, device_at, hopper_there};
+ghost use Rattle.cct_model.specs.Exchange.{device_at, hopper_there, taker_there};
 ghost use Rattle.cct_model.specs.Setup.{IsSoundSetup};
 ghost use Rattle.cct_carry.specs.Tests as tests;
 
-use crate::following::{acceptor_there, hopper_there, owed};
+use crate::following::{hopper_there, owed, taker_there};
 use cct_model::{Carry, CarryEpoch, CarryOrder, Setup};
 
-/// Whether a carry fits a setup: its epochs are of acceptors and its orders of hoppers, no id is above the last one and none
-/// stands twice, and the value posted covers what was paid and sold and what is reserved.
+/// Whether a carry fits a setup: its epochs are of devices that take money and its orders of hoppers, no id is above the last
+/// one and none stands twice, and the value posted covers what was paid and sold and what is reserved.
 pub(crate) fn fits(setup: &Setup, carry: &Carry) -> bool
     requires sound { IsSoundSetup setup.now }
     requires orders { All OrderFits carry.now.orders }
     ensures { result ≡ tests.fits setup.now carry.now }
 {
     let orders = carry.orders.as_slice();
-    are_of_acceptors(setup, carry.epochs.as_slice())
+    are_of_takers(setup, carry.epochs.as_slice())
         && are_of_hoppers(setup, orders)
         && are_known(orders, carry.last_id)
         && are_apart(orders)
         && covers(setup, carry)
 }
 
-/// Whether each epoch is of an acceptor.
-fn are_of_acceptors(setup: &Setup, epochs: &[CarryEpoch]) -> bool
-    ensures { result ≡ list_all (λ e. acceptor_there (device_at setup.now.devices e.addr)) epochs.now }
+/// Whether each epoch is of a device that takes money.
+fn are_of_takers(setup: &Setup, epochs: &[CarryEpoch]) -> bool
+    ensures { result ≡ list_all (λ e. taker_there (device_at setup.now.devices e.addr)) epochs.now }
 {
-    epochs.iter().all(|epoch| acceptor_there(setup, epoch.addr))
+    epochs.iter().all(|epoch| taker_there(setup, epoch.addr))
 }
 
 /// Whether each order is of a hopper.

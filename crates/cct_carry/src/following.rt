@@ -1,7 +1,7 @@
 //! Whether a record follows those of a carry.
 ghost use Rattle.std.specs.Prelude.{◌≡◌, ℕ, ◌+◌, ◌≤◌, ◌<◌, ◌^◌, ◌==◌, ◌&&◌, nat_le, not, is_none, is_some};
 ghost use Rattle.cct_model.specs.Carry.{available_held, epoch_held, follows_carry, order_held, order_with, owed_by};
-ghost use Rattle.cct_model.specs.Exchange.{acceptor_there, device_at, hopper_there};
+ghost use Rattle.cct_model.specs.Exchange.{device_at, hopper_there, taker_there};
 ghost use Rattle.cct_model.specs.Following.{count_of, has_values, is_running};
 ghost use Rattle.cct_model.specs.Money.{coins_of};
 ghost use Rattle.cct_carry.specs.GoingOn.{IsCovered};
@@ -33,14 +33,14 @@ pub(crate) fn follows(setup: &Setup, carry: &Carry, entry: &Record) -> bool
     }
 }
 
-/// Whether an epoch with a mask may begin: at an acceptor with no running epoch, and each place of the mask, which isn't 0,
-/// has a value.
+/// Whether an epoch with a mask may begin: at a device that takes money, with no running epoch, and each place of the mask,
+/// which isn't 0, has a value.
 fn may_begin(setup: &Setup, carry: &Carry, addr: u8, mask: u16) -> bool
     ensures { result
-        ≡ (acceptor_there (device_at setup.now.devices addr) && not (is_running (epoch_held addr carry.now))
+        ≡ (taker_there (device_at setup.now.devices addr) && not (is_running (epoch_held addr carry.now))
         && not (mask == 0) && has_values (device_at setup.now.devices addr) mask) }
 {
-    acceptor_there(setup, addr)
+    taker_there(setup, addr)
         && !epoch_runs(carry, addr)
         && mask != 0
         && has_values(setup, addr, mask)
@@ -114,12 +114,12 @@ pub(crate) fn owed(setup: &Setup, orders: &[CarryOrder]) -> u64
     owed
 }
 
-/// Whether an acceptor is at an address.
-pub(crate) fn acceptor_there(setup: &Setup, addr: u8) -> bool
-    ensures { result ≡ acceptor_there (device_at setup.now.devices addr) }
+/// Whether a device that takes money is at an address.
+pub(crate) fn taker_there(setup: &Setup, addr: u8) -> bool
+    ensures { result ≡ taker_there (device_at setup.now.devices addr) }
 {
     match setup.device_at(addr) {
-        Some(device) => device.body.is_acceptor(),
+        Some(device) => device.body.takes_money(),
         None => false,
     }
 }

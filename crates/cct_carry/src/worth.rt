@@ -5,7 +5,7 @@ ghost use Rattle.cct_model.specs.Money.{place_value, coins_value, paid_value, co
 
 use cct_model::{Coin, DeviceBody, DeviceSetup, EVENTS, Setup};
 
-/// The value of the coins that the acceptor at an address took, 0 where none is there.
+/// The value of the coins or bills that the device at an address took, 0 where none is there.
 #[tactic(auto, using(crate::proofs::Coins::coins_each, crate::proofs::Coins::coins_nowhere))]
 pub fn coins_value(setup: &Setup, addr: u8, coins: &[Coin]) -> u64
     requires few { length coins.now ≤ EVENTS }
@@ -17,7 +17,7 @@ pub fn coins_value(setup: &Setup, addr: u8, coins: &[Coin]) -> u64
     }
 }
 
-/// The value of coins that a device took.
+/// The value of coins or bills that a device took.
 fn value_of(device: &DeviceSetup, coins: &[Coin]) -> u64
     requires few { length coins.now ≤ EVENTS }
     ensures { result ≡ sum_by (λ coin. place_value (Some device.now) coin.place) coins.now }
@@ -28,7 +28,7 @@ fn value_of(device: &DeviceSetup, coins: &[Coin]) -> u64
         .sum()
 }
 
-/// The value of a coin of a place, 0 where the device has no such place or the place has no value.
+/// The value of a coin or a bill of a place, 0 where the device has no such place or the place has no value.
 fn place_value(device: &DeviceSetup, place: u8) -> u32
     ensures { result ≡ place_value (Some device.now) place }
 {
@@ -36,7 +36,9 @@ fn place_value(device: &DeviceSetup, place: u8) -> u32
         return 0;
     };
     match &device.body {
-        DeviceBody::Acceptor { values, .. } => values.get(index).copied().unwrap_or(0),
+        DeviceBody::Acceptor { values, .. } | DeviceBody::Bill { values, .. } => {
+            values.get(index).copied().unwrap_or(0)
+        }
         DeviceBody::Hopper { .. } => 0,
     }
 }
@@ -52,12 +54,12 @@ pub fn coins_of(setup: &Setup, addr: u8, count: u8) -> u64
     u64::from(count) * u64::from(value)
 }
 
-/// The value of a coin that a hopper pays, 0 of an acceptor.
+/// The value of a coin that a hopper pays, 0 of another device.
 fn paid_value(body: &DeviceBody) -> u32
     ensures { result ≡ paid_value body.now }
 {
     match body {
-        DeviceBody::Acceptor { .. } => 0,
+        DeviceBody::Acceptor { .. } | DeviceBody::Bill { .. } => 0,
         DeviceBody::Hopper { value, .. } => *value,
     }
 }

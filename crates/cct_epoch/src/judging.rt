@@ -99,8 +99,8 @@ pub fn distance(old: u8, new: u8) -> u8
     }
 }
 
-/// The coins of the newest so many events, oldest first.
-fn posted(new_events: u8, pairs: &[Pair; EVENTS]) -> Coins
+/// The coins of the newest so many events, oldest first. An event whose first number is 0 is no coin.
+pub fn posted(new_events: u8, pairs: &[Pair; EVENTS]) -> Coins
     ensures { result ≡ posted_of new_events pairs.now }
 {
     let mut coins = Coins::new();

@@ -6,5 +6,5 @@ mod judging;
 mod laws;
 
 pub use cct_model::{EpochState, Judged};
-pub use judging::{distance, judge};
+pub use judging::{distance, judge, posted};
 pub use laws::the_event_counter_tells_the_events_that_came;

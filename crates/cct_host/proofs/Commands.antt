@@ -15,8 +15,8 @@ use Rattle.cct_model.specs.lines.entry.Entry.TheVariants as entry
 use Rattle.cct_model.specs.declared.judging.EpochState.{EpochState}
 use Rattle.cct_model.specs.declared.judging.EpochState.TheVariants.{Idle, Running}
 use Rattle.cct_model.specs.declared.judging.OpenOrder.{OpenOrder}
-use Rattle.cct_model.specs.Device.{is_acceptor, is_hopper}
-use Rattle.cct_model.specs.Exchange.{acceptor_there, device_at, hopper_there}
+use Rattle.cct_model.specs.Device.{is_acceptor, is_bill, is_hopper, is_taker}
+use Rattle.cct_model.specs.Exchange.{acceptor_there, bill_there, device_at, hopper_there, taker_there}
 use Rattle.cct_model.specs.Job as model
 use Rattle.cct_model.specs.Rows as table
 use Rattle.cct_model.specs.Rows.{has_waits}
@@ -131,6 +131,14 @@ acceptor_is_there : (found : Option DeviceSetup) (d : DeviceSetup) → found ≡
     → IsTrue (acceptor_there found)
 acceptor_is_there found d is kind = subst (λ f. IsTrue (acceptor_there f)) (sym is) kind
 
+taker_is_there : (found : Option DeviceSetup) (d : DeviceSetup) → found ≡ Some d → is_taker d.body ≡ true
+    → IsTrue (taker_there found)
+taker_is_there found d is kind = subst (λ f. IsTrue (taker_there f)) (sym is) kind
+
+bill_is_there : (found : Option DeviceSetup) (d : DeviceSetup) → found ≡ Some d → is_bill d.body ≡ true
+    → IsTrue (bill_there found)
+bill_is_there found d is kind = subst (λ f. IsTrue (bill_there f)) (sym is) kind
+
 hopper_is_there : (found : Option DeviceSetup) (d : DeviceSetup) → found ≡ Some d → is_hopper d.body ≡ true
     → IsTrue (hopper_there found)
 hopper_is_there found d is kind = subst (λ f. IsTrue (hopper_there f)) (sym is) kind
@@ -154,18 +162,27 @@ may_begin devices d job state owed last c no_halt of_device there free =
         → IsTrue (acceptor_there (device_at devices addr))
     at_acceptor addr there kind = acceptor_is_there _ d there (test_holds (is_acceptor d.body) WrongKind kind)
 
+    at_taker : (addr : ℕ) → device_at devices addr ≡ Some d → unless (is_taker d.body) WrongKind ≡ None
+        → IsTrue (taker_there (device_at devices addr))
+    at_taker addr there kind = taker_is_there _ d there (test_holds (is_taker d.body) WrongKind kind)
+
+    at_bill : (addr : ℕ) → device_at devices addr ≡ Some d → unless (is_bill d.body) WrongKind ≡ None
+        → IsTrue (bill_there (device_at devices addr))
+    at_bill addr there kind = bill_is_there _ d there (test_holds (is_bill d.body) WrongKind kind)
+
     at_hopper : (addr : ℕ) → device_at devices addr ≡ Some d → unless (is_hopper d.body) WrongKind ≡ None
         → IsTrue (hopper_there (device_at devices addr))
     at_hopper addr there kind = hopper_is_there _ d there (test_holds (is_hopper d.body) WrongKind kind)
 
     by_command : (c : Command) → is_halt c ≡ false → is_of_device c ≡ true → device_at devices (address_of c) ≡ Some d
         → Pass (state_fails (seen_at d job state owed last)) (state_tests c) → MayBegin c devices state (order_of owed.order)
-    by_command (command.Start addr mask) no_halt of_device there passes = at_acceptor addr there passes.1.0
+    by_command (command.Start addr mask) no_halt of_device there passes = at_taker addr there passes.1.0
     by_command (command.Path addr place path) no_halt of_device there passes = at_acceptor addr there passes.1.0
+    by_command (command.Route addr way) no_halt of_device there passes = at_bill addr there passes.1.0
     by_command (command.Round addr) no_halt of_device there passes =
-        (at_acceptor addr there passes.1.0, runs_where_free state passes.1.1.1.0)
+        (at_taker addr there passes.1.0, runs_where_free state passes.1.1.1.0)
     by_command (command.Stop addr) no_halt of_device there passes =
-        (at_acceptor addr there passes.1.0, runs_where_free state passes.1.1.1.0)
+        (at_taker addr there passes.1.0, runs_where_free state passes.1.1.1.0)
     by_command (command.Ident addr) no_halt of_device there passes = subst (λ f. IsTrue (is_some f)) (sym there) refl
     by_command (command.Pay addr id count) no_halt of_device there passes = at_hopper addr there passes.1.0
     by_command (command.Settle addr) no_halt of_device there passes =
@@ -180,6 +197,7 @@ begins_own (command.Vend id price) devices state owed before may = refl
 begins_own (command.Ident addr) devices state owed before may = refl
 begins_own (command.Round addr) devices state owed before may = refl
 begins_own (command.Path addr place path) devices state owed before may = refl
+begins_own (command.Route addr way) devices state owed before may = refl
 begins_own (command.Start addr mask) devices state owed before may = refl
 begins_own (command.Stop addr) devices state owed before may = refl
 begins_own (command.Pay addr id count) devices state owed before may = refl

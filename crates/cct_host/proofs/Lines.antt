@@ -302,6 +302,12 @@ refused_line c why (device d) past = refl
 refused_line c why scans past = refl
 refused_line c why sales past = refl
 
+held_line : (addr held : ℕ) (place : Place) (past : List Entry)
+    → lines_at place (entry.Held addr held ∷ past) ≡ lines_at place past
+held_line addr held (device d) past = refl
+held_line addr held scans past = refl
+held_line addr held sales past = refl
+
 forgery_line : (addr : ℕ) (place : Place) (past : List Entry)
     → lines_at place (entry.Forged addr ∷ past) ≡ lines_at place past
 forgery_line addr (device d) past = refl
@@ -313,6 +319,10 @@ idle_quiet past addr = no_line past _ refl (λ place. idle_line addr place past)
 
 pub fault_quiet : (past : List Entry) (f : WireFault) → IsQuiet past (entry.Fault f)
 fault_quiet past f = no_line past _ refl (λ place. fault_line f place past)
+
+-- a bill that is held isn't accepted yet
+pub held_quiet : (past : List Entry) (addr held : ℕ) → IsQuiet past (entry.Held addr held)
+held_quiet past addr held = no_line past _ refl (λ place. held_line addr held place past)
 
 pub forged_quiet : (past : List Entry) (addr : ℕ) → IsQuiet past (entry.Forged addr)
 forged_quiet past addr = no_line past _ refl (λ place. forgery_line addr place past)

@@ -11,7 +11,7 @@ use Rattle.cct_model.specs.lines.entry.End.{End}
 use Rattle.cct_model.specs.lines.entry.Entry.{Entry}
 use Rattle.cct_model.specs.lines.entry.Entry.TheVariants as entry
 use Rattle.cct_model.specs.declared.judging.EpochState.{EpochState}
-use Rattle.cct_model.specs.Device.{is_acceptor, is_hopper}
+use Rattle.cct_model.specs.Device.{is_hopper}
 use Rattle.cct_model.specs.Exchange.{device_at}
 use Rattle.cct_model.specs.Job.{address_of}
 use Rattle.cct_model.specs.Job as model
@@ -31,13 +31,9 @@ is_running (Some job) = not (is_some (end_of_job job))
 abbrev pub busy_by : Option Job → Option CommandNo
 busy_by job = unless (not (is_some job)) Busy
 
--- The tests of a command to a coin acceptor that no job is at, and then a further one.
-abbrev pub acceptor_refusal : DeviceSetup → Option Job → Option CommandNo → Option CommandNo
-acceptor_refusal d job further = option_or (unless (is_acceptor d.body) WrongKind) (option_or (busy_by job) further)
-
--- The tests of a command to a hopper that no job is at, likewise.
-abbrev pub hopper_refusal : DeviceSetup → Option Job → Option CommandNo → Option CommandNo
-hopper_refusal d job further = option_or (unless (is_hopper d.body) WrongKind) (option_or (busy_by job) further)
+-- The tests of a command to a device that its kind knows it, or doesn't, and that no job is there; and then a further one.
+abbrev pub kind_refusal : Bool → Option Job → Option CommandNo → Option CommandNo
+kind_refusal knows job further = option_or (unless knows WrongKind) (option_or (busy_by job) further)
 
 -- A command that halts a job, and begins none.
 abbrev pub is_halt : Command → Bool

@@ -112,6 +112,7 @@ impl<'s> Desks<'s> {
             Command::Round { addr } => self.command_at(addr, command),
             Command::Stop { addr } => self.command_at(addr, command),
             Command::Path { addr, .. } => self.command_at(addr, command),
+            Command::Route { addr, .. } => self.command_at(addr, command),
             Command::Pay { addr, .. } => self.command_at(addr, command),
             Command::Settle { addr } => self.command_at(addr, command),
             Command::Halt { addr } => self.command_at(addr, command),
@@ -372,6 +373,7 @@ fn address_of(command: &Command) -> u8
         Command::Scan => BROADCAST,
         Command::Ident { addr } => addr,
         Command::Path { addr, .. } => addr,
+        Command::Route { addr, .. } => addr,
         Command::Vend { .. } => HOST,
     }
 }

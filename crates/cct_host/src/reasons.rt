@@ -8,11 +8,11 @@ ghost use Rattle.cct_model.specs.Refusal.{id_refusal, order_refusal, running_ref
 ghost use Rattle.cct_jobs.specs.Jobs.{is_of_device, order_of};
 ghost use Rattle.cct_host.specs.Desk.{RefusesAbove};
 ghost use Rattle.cct_host.specs.Place as places;
-ghost use Rattle.cct_host.specs.Running.{acceptor_refusal, busy_by, halting_refusal, halts_in, hopper_refusal, refusal_beside, sale_refusal};
+ghost use Rattle.cct_host.specs.Running.{busy_by, halting_refusal, halts_in, kind_refusal, refusal_beside, sale_refusal};
 
 use crate::desk::JobDesk;
 use cct_carry::valueless;
-use cct_model::{Command, CommandNo, DeviceSetup, EpochState, Family};
+use cct_model::{Command, CommandNo, DeviceSetup, EpochState};
 
 impl JobDesk {
     /// Why a command to the device of this desk is refused, if it is: the first reason that holds, whatever room there
@@ -34,15 +34,12 @@ impl JobDesk {
     pub(crate) fn halting_refusal(&self, device: &DeviceSetup) -> Option<CommandNo>
         ensures { result ≡ halting_refusal device.now self.now.job }
     {
-        match device.body.family() {
-            Family::Acceptor => Some(CommandNo::WrongKind),
-            Family::Hopper => {
-                if self.can_halt() {
-                    None
-                } else {
-                    Some(CommandNo::NoPayout)
-                }
-            }
+        if !device.body.is_hopper() {
+            Some(CommandNo::WrongKind)
+        } else if self.can_halt() {
+            None
+        } else {
+            Some(CommandNo::NoPayout)
         }
     }
 
@@ -72,16 +69,19 @@ impl JobDesk {
     ) -> Option<CommandNo>
         ensures { result ≡ refusal_beside device.now self.now.job self.now.epoch self.now.orders last command.now }
     {
+        let body = &device.body;
         match *command {
-            Command::Start { mask, .. } => self.acceptor_refusal(
-                device,
-                self.start_refusal(device, mask),
-            ),
-            Command::Round { .. } => self.acceptor_refusal(device, self.running_refusal()),
-            Command::Stop { .. } => self.acceptor_refusal(device, self.running_refusal()),
-            Command::Path { .. } => self.acceptor_refusal(device, None),
-            Command::Pay { id, .. } => self.hopper_refusal(device, self.pay_refusal(id, last)),
-            Command::Settle { .. } => self.hopper_refusal(device, self.settle_refusal()),
+            Command::Start { mask, .. } => {
+                self.kind_refusal(body.takes_money(), self.start_refusal(device, mask))
+            }
+            Command::Round { .. } => self.kind_refusal(body.takes_money(), self.running_refusal()),
+            Command::Stop { .. } => self.kind_refusal(body.takes_money(), self.running_refusal()),
+            Command::Path { .. } => self.kind_refusal(body.is_acceptor(), None),
+            Command::Route { .. } => self.kind_refusal(body.is_bill(), self.running_refusal()),
+            Command::Pay { id, .. } => {
+                self.kind_refusal(body.is_hopper(), self.pay_refusal(id, last))
+            }
+            Command::Settle { .. } => self.kind_refusal(body.is_hopper(), self.settle_refusal()),
             Command::Halt { .. } => self.halting_refusal(device),
             Command::Ident { .. } => self.busy(),
             Command::Scan => self.busy(),
@@ -89,27 +89,15 @@ impl JobDesk {
         }
     }
 
-    /// Why a command to a coin acceptor is refused, if it is: a further reason is the last.
-    fn acceptor_refusal(
-        &self,
-        device: &DeviceSetup,
-        further: Option<CommandNo>,
-    ) -> Option<CommandNo>
-        ensures { result ≡ acceptor_refusal device.now self.now.job further }
+    /// Why a command to a device is refused that some kinds of devices know, if it is: the device is of another kind, or a
+    /// job is there; a further reason is the last.
+    fn kind_refusal(&self, knows: bool, further: Option<CommandNo>) -> Option<CommandNo>
+        ensures { result ≡ kind_refusal knows self.now.job further }
     {
-        match device.body.family() {
-            Family::Acceptor => self.busy().or(further),
-            Family::Hopper => Some(CommandNo::WrongKind),
-        }
-    }
-
-    /// Why a command to a hopper is refused, if it is: a further reason is the last.
-    fn hopper_refusal(&self, device: &DeviceSetup, further: Option<CommandNo>) -> Option<CommandNo>
-        ensures { result ≡ hopper_refusal device.now self.now.job further }
-    {
-        match device.body.family() {
-            Family::Acceptor => Some(CommandNo::WrongKind),
-            Family::Hopper => self.busy().or(further),
+        if knows {
+            self.busy().or(further)
+        } else {
+            Some(CommandNo::WrongKind)
         }
     }
 
@@ -146,7 +134,7 @@ impl JobDesk {
         }
     }
 
-    /// Why a round or a stop is refused beside the epoch: none runs.
+    /// Why a round, a stop or the routing of a bill is refused beside the epoch: none runs.
     fn running_refusal(&self) -> Option<CommandNo>
         ensures { result ≡ running_refusal self.now.epoch }
     {

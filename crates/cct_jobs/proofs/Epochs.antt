@@ -2,7 +2,7 @@
 use Rattle.std.proofs.Common.{◌≡◌, ℕ, ◌==◌, Bool, true, false, cond, List, ◌∷◌, refl, sym, ap, ap₂, subst, ◌∙◌, Option, Some, None, arith, []}
 use Rattle.cct_model.specs.terms.coin.Credits.{Credits}
 use Rattle.cct_model.specs.terms.device.DeviceSetup.{DeviceSetup}
-use Rattle.cct_model.specs.terms.request.Request.TheVariants.{AcceptCount, ReadCredits}
+use Rattle.cct_model.specs.terms.request.Request.TheVariants.{AcceptCount}
 use Rattle.cct_model.specs.declared.judging.EpochState.{EpochState}
 use Rattle.cct_model.specs.lines.record.Record.{Record}
 use Rattle.cct_model.specs.lines.record.Record.TheVariants.{Epoch, EpochEnd}
@@ -13,7 +13,7 @@ use Rattle.cct_model.specs.lines.command.Command.{Command}
 use Rattle.cct_model.specs.lines.entry.End.{End}
 use Rattle.cct_model.specs.lines.entry.End.TheVariants.{Broke, Posted, Stopped, Unquiet}
 use Rattle.cct_model.specs.Line.{Line, exchange, put}
-use Rattle.cct_model.specs.Job.{puts, Noted, noted_in, judged_in, judged_by, accepts_before, address_of, credits_read, mask_read, end_of_moving, end_of_reading}
+use Rattle.cct_model.specs.Job.{puts, Noted, noted_in, judged_in, judged_by, accepts_before, address_of, credits_read, credits_request, mask_read, end_of_moving, end_of_reading}
 use Rattle.cct_model.specs.Rows.{epoch_end, ends_as, TableRow, end_answered, end_kept, after, first, from, left, puts_due, rest, reading, if_posted}
 use Rattle.cct_model.specs.Order.{order_by}
 use Rattle.cct_model.specs.Reading.{judge}
@@ -29,7 +29,7 @@ use Rattle.cct_jobs.specs.declared.target.Target.{Target}
 use Rattle.cct_jobs.specs.declared.job.Job.{Job}
 use Rattle.cct_jobs.specs.declared.job.Need.TheVariants as need
 use Rattle.cct_jobs.specs.declared.job.Job.TheVariants.{Asks, StartPuts, RoundPuts, StopPuts, StopEnds, OrderOpens, OrderCloses, Done}
-use Rattle.cct_jobs.specs.Ahead.{ahead, reading_ahead}
+use Rattle.cct_jobs.specs.Ahead.{ahead, body_of, reading_ahead}
 use Rattle.cct_jobs.specs.Jobs.{Asking, Opening, Putting, Stands, after_put, need_of, newest_end, opened_by, round_after, runs, stop_after, target_of}
 use Rattle.cct_model.proofs.Rows.{but_first}
 use Rattle.cct_jobs.proofs.Moves.{put_moves}
@@ -42,16 +42,16 @@ use Rattle.cct_model.specs.Reply.{Reply}
 module _ {d : DeviceSetup} {device : Target} {mask failed : ℕ} {c : Command} {since : List Line} {state : EpochState}
     {owed : Option OpenOrder} (at : Asking d device (StartReads mask) failed c since state owed) (read : Credits) where
   pub start_counts : (job : Job) → job ≡ Asks device (StartCounts mask) 0 → (read.counter == 0) ≡ true
-      → Stands d job c (exchange (Some ReadCredits) (Some (reply.credits read)) ∷ since) state owed
+      → Stands d job c (exchange (Some (credits_request (body_of device.family))) (Some (reply.credits read)) ∷ since) state owed
   start_counts job begun quiet =
       stage_on at job (StartCounts mask) begun tt (reply.credits read) refl tt tt
       (ap (λ b. cond b None (Some (Unquiet read.counter))) quiet)
 
   pub start_unquiet : (read.counter == 0) ≡ false
-      → newest_end d c (exchange (Some ReadCredits) (Some (reply.credits read)) ∷ since) state ≡ Some
+      → newest_end d c (exchange (Some (credits_request (body_of device.family))) (Some (reply.credits read)) ∷ since) state ≡ Some
       (Unquiet read.counter)
   start_unquiet counts =
-      end_after at ReadCredits (reply.credits read) ∙ ap (λ b. cond b None (Some (Unquiet read.counter))) counts
+      end_after at (credits_request (body_of device.family)) (reply.credits read) ∙ ap (λ b. cond b None (Some (Unquiet read.counter))) counts
 
 -- the line of an accept counter that was read
 abbrev count_told : ℕ → Line

@@ -4,6 +4,8 @@ use Rattle.std.specs.Prelude.{◌==◌, option_and_then}
 use Rattle.cct_model.specs.terms.device.DeviceSetup.{DeviceSetup}
 use Rattle.cct_model.specs.terms.request.Request.{Request}
 use Rattle.cct_model.specs.terms.request.Request.TheVariants.{GetDefault, GetPath}
+use Rattle.cct_model.specs.terms.family.Family.{Family}
+use Rattle.cct_model.specs.terms.family.Family.TheVariants as family
 use Rattle.cct_model.specs.terms.request.ReplyForm.{ReplyForm}
 use Rattle.cct_model.specs.terms.request.ReplyForm.TheVariants as form
 use Rattle.cct_model.specs.terms.wire.CheckKind.{CheckKind}
@@ -11,13 +13,14 @@ use Rattle.cct_model.specs.Message.{Message, message}
 use Rattle.cct_model.specs.Request.{form_of}
 use Rattle.cct_model.specs.Reply.{Reply, reply_in}
 use Rattle.cct_model.specs.Exchange.{after_echo, ask, asked, got, reply_from}
-use Rattle.cct_model.specs.Job.{path_read}
+use Rattle.cct_model.specs.Job.{credits_request, path_read}
 use Rattle.cct_model.specs.Line.{exchange}
 use Rattle.cct_model.specs.Transcript.{got_by}
 use Rattle.cct_msg.specs.Forms.{FitsItsBytes, form_shown}
 use Rattle.cct_msg.proofs.Exchanges.{asked_back}
 use Rattle.cct_msg.proofs.Replies.{reply_form}
 use Rattle.cct_jobs.specs.declared.target.Target.{Target}
+use Rattle.cct_jobs.specs.Ahead.{body_of}
 use Rattle.cct_jobs.specs.Jobs.{line_heard, replied, target_of}
 
 from_cond : (b : Bool) (form : ReplyForm) (body : List ℕ) (y : Reply) → cond b (reply_in form body) None ≡ Some y
@@ -59,6 +62,13 @@ path_wanted false place = refl
 -- a path is wanted where one is read back
 pub path_form : (place : ℕ) → form_of (path_read place) ≡ Some form.Path
 path_form place = path_wanted (place == 0) place
+
+-- credits are wanted where a device is asked for them
+pub credits_form : (which : Family) → form_of (credits_request (body_of which)) ≡ Some form.Credits
+unfolding form_of
+credits_form family.Acceptor = refl
+credits_form family.Hopper = refl
+credits_form family.Bill = refl
 
 -- the line of an exchange, by what was asked and replied
 pub heard_is : (d : DeviceSetup) (device : Target) (q : Request) (sent heard : List ℕ) (y : Option Reply)

@@ -39,7 +39,7 @@ use Rattle.cct_jobs.proofs.Stages.{stage_row}
 needs_by : (d : DeviceSetup) (job : Job) (c : Command) (since : List Line) (state : EpochState)
     (owed : Option OpenOrder) → Stands d job c since state owed → Needs (need_of job) d c since state owed
 needs_by d (Asks device stage failed) c since state owed at = record {
-  request = request_of stage;
+  request = request_of device.family stage;
   row_is = stage_row at;
 }
 needs_by d (StartPuts device mask counted) c since state owed (device_is, rest_is, at) = record {
@@ -209,7 +209,7 @@ may_put_known d job c since state owed n is at on = is ∙ ap puts_in (left_know
 pub stage_asked : {d : DeviceSetup} {device : Target} {stage : Stage} {failed : ℕ} {c : Command} {since : List Line}
     {state : EpochState} (owed : Option OpenOrder) (q : Request) → Asking d device stage failed c since state owed
     → row d c since state owed ≡ sends q
-    → q ≡ request_of stage
+    → q ≡ request_of device.family stage
 stage_asked owed q at is = same_request q _ (sym is ∙ stage_row at)
 
 -- what a job sends to its device
@@ -218,9 +218,9 @@ pub sending_is : (d : DeviceSetup) (job : Job) (c : Command) (since : List Line)
     → row d c since state owed ≡ sends q
     → s ≡ record { to = d.addr; kind = d.kind; request = q }
 sending_is d (Asks device stage failed) c since state owed q s e at is =
-    let sent : s ≡ record { to = device.addr; kind = device.kind; request = request_of stage } = cc in
+    let sent : s ≡ record { to = device.addr; kind = device.kind; request = request_of device.family stage } = cc in
     sent
-    ∙ ap (λ (t : Target). record { to = t.addr; kind = t.kind; request = request_of stage }) at.device_is
+    ∙ ap (λ (t : Target). record { to = t.addr; kind = t.kind; request = request_of device.family stage }) at.device_is
     ∙ ap (λ r. record { to = d.addr; kind = d.kind; request = r }) (sym (stage_asked owed q at is))
 sending_is d (StartPuts device mask counted) c since state owed q s e at is = absurd cc
 sending_is d (RoundPuts entry end) c since state owed q s e at is = absurd cc

@@ -5,7 +5,7 @@ use Rattle.std.proofs.lemmas.Bool.Decides.{nat_tests}
 use Rattle.std.specs.Prelude.{◌==◌, slice_get}
 use Rattle.std.specs.List.{list_all}
 use Rattle.cct_model.specs.terms.device.DeviceBody.{DeviceBody}
-use Rattle.cct_model.specs.terms.device.DeviceBody.TheVariants.{Acceptor, Hopper}
+use Rattle.cct_model.specs.terms.device.DeviceBody.TheVariants.{Acceptor, Bill, Hopper}
 use Rattle.cct_model.specs.terms.family.Family.{Family}
 use Rattle.cct_model.specs.terms.family.Family.TheVariants as family
 use Rattle.cct_model.specs.terms.request.Request.{Request}
@@ -35,10 +35,12 @@ questions which = ident_requests (body_of which)
 pub same_questions : (body : DeviceBody) → questions (family_of body) ≡ ident_requests body
 same_questions (Acceptor accepts values ids) = refl
 same_questions (Hopper life value) = refl
+same_questions (Bill accepts values ids) = refl
 
 each_follows : (which : Family) → map (question_after which) (questions which) ≡ behind_each (questions which)
 each_follows family.Acceptor = refl
 each_follows family.Hopper = refl
+each_follows family.Bill = refl
 
 -- the question at the place after one is the one that follows it
 pub next_question : (which : Family) (n : ℕ) (q : Request) → slice_get (questions which) n ≡ Some q
@@ -65,6 +67,7 @@ at_number place (x ∷ xs) first (suc n) q e at =
 each_placed : (which : Family) → map (λ q. place_of q (questions which)) (questions which) ≡ numbered 0 (questions which)
 each_placed family.Acceptor = refl
 each_placed family.Hopper = refl
+each_placed family.Bill = refl
 
 pub placed : (which : Family) (n : ℕ) (q : Request) → slice_get (questions which) n ≡ Some q
     → place_of q (questions which) ≡ n
@@ -106,6 +109,7 @@ all_at test (x ∷ xs) (suc n) q e at = all_at test xs n q (and_parts (test x) (
 each_again : (which : Family) → list_all is_asked_again (questions which) ≡ true
 each_again family.Acceptor = refl
 each_again family.Hopper = refl
+each_again family.Bill = refl
 
 -- every question is asked again
 pub question_again : (which : Family) (n : ℕ) (q : Request) → slice_get (questions which) n ≡ Some q → IsAgain q

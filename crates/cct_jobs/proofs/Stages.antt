@@ -4,8 +4,11 @@ use Rattle.std.specs.Prelude.{⊤, slice_get}
 use Rattle.std.proofs.lemmas.Bool.{eqb-true}
 use Rattle.std.proofs.lemmas.Bool.Decides.{nat_tests}
 use Rattle.cct_model.specs.terms.device.DeviceSetup.{DeviceSetup}
+use Rattle.cct_model.specs.terms.coin.Credits.{Credits}
+use Rattle.cct_model.specs.terms.family.Family.{Family}
+use Rattle.cct_model.specs.terms.family.Family.TheVariants as family
 use Rattle.cct_model.specs.terms.request.Request.{Request}
-use Rattle.cct_model.specs.terms.request.Request.TheVariants.{SetMask}
+use Rattle.cct_model.specs.terms.request.Request.TheVariants.{RouteBill, SetMask}
 use Rattle.cct_model.specs.declared.judging.EpochState.{EpochState}
 use Rattle.cct_model.specs.declared.judging.OpenOrder.{OpenOrder}
 use Rattle.cct_model.specs.declared.judging.Judged.{Judged}
@@ -13,24 +16,25 @@ use Rattle.cct_model.specs.lines.command.Command.{Command}
 use Rattle.cct_model.specs.lines.entry.End.TheVariants.{NoAnswer, Told}
 use Rattle.cct_model.specs.Request.{header_of}
 use Rattle.cct_model.specs.Reply.{Reply}
+use Rattle.cct_model.specs.Reply as reply
 use Rattle.cct_model.specs.Line.{Line, exchange}
-use Rattle.cct_model.specs.Job.{sends, Noted, address_of, noted_in, judged_in, end_of_tries, tries}
+use Rattle.cct_model.specs.Job.{sends, Noted, accepts_before, accepts_read, address_of, credits_read, credits_request, noted_in, judged_in, end_of_tries, tries}
 use Rattle.cct_model.specs.Rows.{after, end_answered, end_failed, first, from, left, rest, row, telling, sent_once}
 use Rattle.cct_msg.specs.Forms.{FitsItsBytes}
 use Rattle.cct_jobs.specs.declared.job.Job.{Job}
 use Rattle.cct_jobs.specs.declared.job.Job.TheVariants.{Asks}
 use Rattle.cct_jobs.specs.declared.stage.Stage.{Stage}
-use Rattle.cct_jobs.specs.declared.stage.Stage.TheVariants.{StartSets, StopInhibits, CountsBefore, Reads, Looks, CountsAfter, IdentAsks, PathSets, PathReads, Pays}
+use Rattle.cct_jobs.specs.declared.stage.Stage.TheVariants.{StartSets, StopInhibits, CountsBefore, Reads, Looks, CountsAfter, IdentAsks, PathSets, PathReads, Routes, Pays, StartReads}
 use Rattle.cct_jobs.specs.declared.stage.ReadBy.{ReadBy}
 use Rattle.cct_jobs.specs.declared.stage.ReadBy.TheVariants.{Round, Stop}
 use Rattle.cct_jobs.specs.declared.target.Target.{Target}
-use Rattle.cct_jobs.specs.Ahead.{place_of, questions_of, stage_ahead, reading_ahead}
-use Rattle.cct_jobs.specs.Jobs.{Asking, Knows, Stands, Suits, Trying, after_failed, newest_end, question_after, request_of}
+use Rattle.cct_jobs.specs.Ahead.{body_of, place_of, questions_of, stage_ahead, reading_ahead}
+use Rattle.cct_jobs.specs.Jobs.{Asking, Knows, Stands, Suits, Trying, after_failed, newest_end, noted_credits, question_after, request_of}
 use Rattle.cct_jobs.proofs.Moves.{IsSettled, answer_ends_first, exchange_moves, exchange_stays}
 use Rattle.cct_jobs.proofs.Payouts.{MarkedFor, first_of_payout, marked_for, payout_fits, payout_knows}
 use Rattle.cct_jobs.proofs.Questions.{next_question, last_question, placed, question_again, question_within}
 use Rattle.cct_msg.proofs.Exchanges.{again_fits}
-use Rattle.cct_model.proofs.Tries.{asked_fails, path_set_again, path_read_again, tried}
+use Rattle.cct_model.proofs.Tries.{asked_fails, credits_again, path_set_again, path_read_again, tried}
 use Rattle.cct_jobs.proofs.Left.{from_stage}
 use Rattle.cct_model.proofs.RowEnds.{unanswered_ends}
 use Rattle.cct_model.proofs.Rows.{after_next, but_first, told_first, told_end}
@@ -47,7 +51,7 @@ row_knows (Pays row) since state owed knows = marked_for row since owed knows
 row_knows stage since state owed knows = tt
 
 pub first_of_stage : (stage : Stage) (device : Target) (addr : ℕ) (means : Judged) (p : Noted) → RowKnows stage p
-    → Suits stage device → first addr means p (from (stage_ahead device stage) means) ≡ sends (request_of stage)
+    → Suits stage device → first addr means p (from (stage_ahead device stage) means) ≡ sends (request_of device.family stage)
 first_of_stage (CountsBefore Round recorded) device addr means p knows suits = refl
 first_of_stage (CountsBefore Stop recorded) device addr means p knows suits = refl
 first_of_stage (Reads Round recorded before) device addr means p knows suits = refl
@@ -66,14 +70,20 @@ first_of_stage stage device addr means p knows suits = refl
 mask_fits : (mask : ℕ) → FitsItsBytes (SetMask mask)
 mask_fits mask number count e = absurd cc
 
-fits_of : (stage : Stage) (device : Target) → Suits stage device → FitsItsBytes (request_of stage)
+way_fits : (way : ℕ) → FitsItsBytes (RouteBill way)
+way_fits way number count e = absurd cc
+
+fits_of : (stage : Stage) (device : Target) → Suits stage device → FitsItsBytes (request_of device.family stage)
+fits_of (StartReads mask) device suits = again_fits _ (credits_again (body_of device.family))
 fits_of (StartSets mask) device suits = mask_fits mask
+fits_of (Reads read_by recorded before) device suits = again_fits _ (credits_again (body_of device.family))
 fits_of (IdentAsks question) device suits =
     again_fits question (question_again device.family (place_of question (questions_of device)) question suits)
 fits_of (PathSets place path) device suits = again_fits _ (path_set_again (place == 0) place path)
 fits_of (PathReads place path) device suits = again_fits _ (path_read_again (place == 0) place)
+fits_of (Routes way) device suits = way_fits way
 fits_of (Pays row) device suits = payout_fits row device suits
-fits_of stage device suits = again_fits (request_of stage) refl
+fits_of stage device suits = again_fits _ refl
 
 -- failed tries
 
@@ -99,15 +109,21 @@ tries_now : (q : Request) (failed n : ℕ) (since : List Line) → Trying q fail
     → n ≡ tries (header_of q) (exchange (Some q) None ∷ since)
 tries_now q failed n since at is = is ∙ ap suc at.counted ∙ sym (tried q since)
 
-still_knows : (stage : Stage) (since : List Line) (state : EpochState) (owed : Option OpenOrder)
-    → Knows stage since state owed → Knows stage (exchange (Some (request_of stage)) None ∷ since) state owed
-still_knows (StopInhibits recorded) since state owed knows = knows
-still_knows (CountsBefore read_by recorded) since state owed knows = knows
-still_knows (Reads read_by recorded before) since state owed knows = knows
-still_knows (Looks read_by recorded before read) since state owed knows = knows
-still_knows (CountsAfter read_by recorded before read seen) since state owed knows = knows
-still_knows (Pays row) since state owed knows = payout_knows row since owed knows
-still_knows stage since state owed knows = tt
+-- one that reads credits leaves which accept counter was read before
+before_kept : (which : Family) (since : List Line) → accepts_read (exchange (Some (credits_request (body_of which))) None ∷ since) ≡ accepts_read since
+before_kept family.Acceptor since = refl
+before_kept family.Hopper since = refl
+before_kept family.Bill since = refl
+
+still_knows : (which : Family) (stage : Stage) (since : List Line) (state : EpochState) (owed : Option OpenOrder)
+    → Knows stage since state owed → Knows stage (exchange (Some (request_of which stage)) None ∷ since) state owed
+still_knows which (StopInhibits recorded) since state owed knows = knows
+still_knows which (CountsBefore read_by recorded) since state owed knows = knows
+still_knows which (Reads read_by recorded before) since state owed knows = (knows.0, before_kept which since ∙ knows.1)
+still_knows which (Looks read_by recorded before read) since state owed knows = knows
+still_knows which (CountsAfter read_by recorded before read seen) since state owed knows = knows
+still_knows which (Pays row) since state owed knows = payout_knows row since owed knows
+still_knows which stage since state owed knows = tt
 
 module _ {d : DeviceSetup} {device : Target} {stage : Stage} {failed : ℕ} {c : Command} {since : List Line}
     {state : EpochState} {owed : Option OpenOrder} (at : Asking d device stage failed c since state owed) where
@@ -116,53 +132,53 @@ module _ {d : DeviceSetup} {device : Target} {stage : Stage} {failed : ℕ} {c :
   left_is = ap (λ rows. from rows (judged_in c since state)) at.ahead_is
 
   -- what a stage sends
-  pub stage_row : row d c since state owed ≡ sends (request_of stage)
+  pub stage_row : row d c since state owed ≡ sends (request_of device.family stage)
   stage_row =
       ap (first (address_of c) (judged_in c since state) (noted_in since owed)) left_is
       ∙ first_of_stage stage device (address_of c) (judged_in c since state) (noted_in since owed)
       (row_knows stage since state owed at.knows) at.suits
 
-  pub stage_fits : FitsItsBytes (request_of stage)
+  pub stage_fits : FitsItsBytes (request_of device.family stage)
   stage_fits = fits_of stage device at.suits
 
   -- the end that a failed try brings
   pub failed_end : sent_once (stage_ahead device stage) ≡ false
-      → newest_end d c (exchange (Some (request_of stage)) None ∷ since) state ≡ end_of_tries
-      (tries (header_of (request_of stage)) (exchange (Some (request_of stage)) None ∷ since))
+      → newest_end d c (exchange (Some (request_of device.family stage)) None ∷ since) state ≡ end_of_tries
+      (tries (header_of (request_of device.family stage)) (exchange (Some (request_of device.family stage)) None ∷ since))
   failed_end again =
-      ap (λ rows. end_failed rows (tries (header_of (request_of stage)) (exchange (Some (request_of stage)) None ∷ since)))
+      ap (λ rows. end_failed rows (tries (header_of (request_of device.family stage)) (exchange (Some (request_of device.family stage)) None ∷ since)))
       (left_is ∙ from_stage stage device (judged_in c since state))
       ∙ asked_fails (stage_ahead device stage) _ again
 
   -- it is tried again
   pub stage_again : (n : ℕ) → sent_once (stage_ahead device stage) ≡ false → after_failed failed ≡ Some n
-      → Asking d device stage n c (exchange (Some (request_of stage)) None ∷ since) state owed
+      → Asking d device stage n c (exchange (Some (request_of device.family stage)) None ∷ since) state owed
   stage_again n again more =
       let count = one_more_try failed n more at.trying.few in
-      let now = tries_now (request_of stage) failed n since at.trying count.0 in
+      let now = tries_now (request_of device.family stage) failed n since at.trying count.0 in
       let not_third : (n == 3) ≡ false = grind (arith, nat_tests, count.1) in
       record {
         device_is = at.device_is;
         is_here = at.is_here;
-        ahead_is = exchange_stays d c since (request_of stage) None _ at.ahead_is (unanswered_ends (stage_ahead device stage) ∙ again);
+        ahead_is = exchange_stays d c since (request_of device.family stage) None _ at.ahead_is (unanswered_ends (stage_ahead device stage) ∙ again);
         suits = at.suits;
-        knows = still_knows stage since state owed at.knows;
+        knows = still_knows device.family stage since state owed at.knows;
         trying = record { counted = now; few = count.1 };
         goes_on = failed_end again ∙ ap end_of_tries (sym now) ∙ ap (λ b. cond b (Some NoAnswer) None) not_third;
       }
 
   -- or ends the job after the third failed try
   pub stage_no_answer : sent_once (stage_ahead device stage) ≡ false → after_failed failed ≡ None
-      → newest_end d c (exchange (Some (request_of stage)) None ∷ since) state ≡ Some NoAnswer
+      → newest_end d c (exchange (Some (request_of device.family stage)) None ∷ since) state ≡ Some NoAnswer
   stage_no_answer again last =
       failed_end again
-      ∙ ap end_of_tries (sym (tries_now (request_of stage) failed 3 since at.trying (sym (third_try failed last))))
+      ∙ ap end_of_tries (sym (tries_now (request_of device.family stage) failed 3 since at.trying (sym (third_try failed last))))
 
   -- the rows that are left then
   pub answered_rest : IsSettled stage → (y : Reply)
-      → rest d c (exchange (Some (request_of stage)) (Some y) ∷ since) ≡ but_first (stage_ahead device stage)
+      → rest d c (exchange (Some (request_of device.family stage)) (Some y) ∷ since) ≡ but_first (stage_ahead device stage)
   answered_rest settled y =
-      exchange_moves d c since (request_of stage) (Some y) _ at.ahead_is (answer_ends_first stage device y settled at.suits)
+      exchange_moves d c since (request_of device.family stage) (Some y) _ at.ahead_is (answer_ends_first stage device y settled at.suits)
 
   -- the end that an answer brings, by the rows that are left and what was read
   pub end_after : (q : Request) (y : Reply) → newest_end d c (exchange (Some q) (Some y) ∷ since) state ≡ end_answered
@@ -171,7 +187,7 @@ module _ {d : DeviceSetup} {device : Target} {stage : Stage} {failed : ℕ} {c :
 
   -- a line leads on to the next stage, which no try has failed yet
   pub line_on : (next : Stage) (line : Line) → rest d c (line ∷ since) ≡ stage_ahead device next → Suits next device
-      → Knows next (line ∷ since) state owed → 0 ≡ tries (header_of (request_of next)) (line ∷ since)
+      → Knows next (line ∷ since) state owed → 0 ≡ tries (header_of (request_of device.family next)) (line ∷ since)
       → newest_end d c (line ∷ since) state ≡ None → Asking d device next 0 c (line ∷ since) state owed
   line_on next line rows suits knows fresh on = record {
     device_is = at.device_is;
@@ -186,13 +202,13 @@ module _ {d : DeviceSetup} {device : Target} {stage : Stage} {failed : ℕ} {c :
   -- and so does an answer
   pub stage_on : (job : Job) (next : Stage) → job ≡ Asks device next 0 → IsSettled stage → (y : Reply)
       → but_first (stage_ahead device stage) ≡ stage_ahead device next → Suits next device
-      → Knows next (exchange (Some (request_of stage)) (Some y) ∷ since) state owed
+      → Knows next (exchange (Some (request_of device.family stage)) (Some y) ∷ since) state owed
       → end_answered (from (stage_ahead device stage) (judged_in c since state)) y
-      (judged_in c (exchange (Some (request_of stage)) (Some y) ∷ since) state) ≡ None
-      → Stands d job c (exchange (Some (request_of stage)) (Some y) ∷ since) state owed
+      (judged_in c (exchange (Some (request_of device.family stage)) (Some y) ∷ since) state) ≡ None
+      → Stands d job c (exchange (Some (request_of device.family stage)) (Some y) ∷ since) state owed
   stage_on job next begun settled y rows suits knows on =
-      subst (λ j. Stands d j c (exchange (Some (request_of stage)) (Some y) ∷ since) state owed) (sym begun)
-      (line_on next _ (answered_rest settled y ∙ rows) suits knows refl (end_after (request_of stage) y ∙ on))
+      subst (λ j. Stands d j c (exchange (Some (request_of device.family stage)) (Some y) ∷ since) state owed) (sym begun)
+      (line_on next _ (answered_rest settled y ∙ rows) suits knows refl (end_after (request_of device.family stage) y ∙ on))
 
 -- what a round or a stop reads first, then and after that ends it never, and leads it on to its next row
 
@@ -224,6 +240,20 @@ pub count_next : (read_by : ReadBy) (device : Target)
     → but_first (after (reading_ahead device read_by) 2) ≡ after (reading_ahead device read_by) 3
 count_next Round device = refl
 count_next Stop device = refl
+
+-- the credits that were read, as they are judged
+pub credits_noted : (which : Family) (c : Credits) (since : List Line)
+    → credits_read (exchange (Some (credits_request (body_of which))) (Some (reply.credits c)) ∷ since) ≡ Some (noted_credits which c)
+credits_noted family.Acceptor c since = refl
+credits_noted family.Hopper c since = refl
+credits_noted family.Bill c since = refl
+
+-- and the accept counter before them
+pub before_noted : (which : Family) (c : Credits) (since : List Line)
+    → accepts_before (exchange (Some (credits_request (body_of which))) (Some (reply.credits c)) ∷ since) ≡ accepts_read since
+before_noted family.Acceptor c since = refl
+before_noted family.Hopper c since = refl
+before_noted family.Bill c since = refl
 
 -- the questions of an identification
 

@@ -1,7 +1,7 @@
 -- Where in the table of jobs a job stands: the rows that it has ahead, the one at which it stands first.
 use Rattle.std.specs.Prelude.{ℕ, suc, ◌==◌, Bool, false, List, [], ◌∷◌, if◌then◌else◌, Some}
 use Rattle.cct_model.specs.terms.device.DeviceBody.{DeviceBody}
-use Rattle.cct_model.specs.terms.device.DeviceBody.TheVariants.{Acceptor, Hopper}
+use Rattle.cct_model.specs.terms.device.DeviceBody.TheVariants.{Acceptor, Bill, Hopper}
 use Rattle.cct_model.specs.terms.device.DeviceSetup.{DeviceSetup}
 use Rattle.cct_model.specs.terms.family.Family.{Family}
 use Rattle.cct_model.specs.terms.family.Family.TheVariants as family
@@ -20,7 +20,7 @@ use Rattle.cct_jobs.specs.declared.payout.Payout.TheVariants.{Enables, Counts, D
 use Rattle.cct_jobs.specs.declared.stage.ReadBy.{ReadBy}
 use Rattle.cct_jobs.specs.declared.stage.ReadBy.TheVariants.{Round, Stop}
 use Rattle.cct_jobs.specs.declared.stage.Stage.{Stage}
-use Rattle.cct_jobs.specs.declared.stage.Stage.TheVariants.{StartResets, StartReads, StartCounts, StartSets, StopInhibits, CountsBefore, Reads, Looks, CountsAfter, IdentAsks, PathSets, PathReads, Pays}
+use Rattle.cct_jobs.specs.declared.stage.Stage.TheVariants.{StartResets, StartReads, StartCounts, StartSets, StopInhibits, CountsBefore, Reads, Looks, CountsAfter, IdentAsks, PathSets, PathReads, Routes, Pays}
 use Rattle.cct_jobs.specs.declared.job.Job.{Job}
 use Rattle.cct_jobs.specs.declared.job.Job.TheVariants.{Asks, StartPuts, RoundPuts, StopPuts, StopEnds, OrderOpens, OrderCloses, SalePuts}
 
@@ -28,6 +28,7 @@ use Rattle.cct_jobs.specs.declared.job.Job.TheVariants.{Asks, StartPuts, RoundPu
 abbrev pub body_of : Family → DeviceBody
 body_of family.Acceptor = Acceptor 0 [] []
 body_of family.Hopper = Hopper 0 0
+body_of family.Bill = Bill 0 [] []
 
 -- A device of which no more is set up than what a job knows of it; the table looks at nothing else.
 abbrev pub known : Target → DeviceSetup
@@ -88,6 +89,7 @@ stage_ahead device (IdentAsks question) =
     after (table_of device (command.Ident device.addr)) (place_of question (questions_of device))
 stage_ahead device (PathSets place path) = table_of device (command.Path device.addr place path)
 stage_ahead device (PathReads place path) = after (table_of device (command.Path device.addr place path)) 1
+stage_ahead device (Routes way) = table_of device (command.Route device.addr way)
 stage_ahead device (Pays row) = payout_ahead device row
 
 -- The rows that a job has ahead; a scan has none in the table, and neither has a job that is done.

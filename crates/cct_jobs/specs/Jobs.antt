@@ -4,13 +4,14 @@ use Rattle.std.specs.Option.{option_map}
 use Rattle.cct_model.specs.terms.wire.CheckKind.{CheckKind}
 use Rattle.cct_model.specs.terms.wire.CheckKind.TheVariants.{Simple, Crc}
 use Rattle.cct_model.specs.terms.coin.TheConstants.{COIN_PLACES}
+use Rattle.cct_model.specs.terms.coin.Credits.{Credits}
 use Rattle.cct_model.specs.terms.device.DeviceSetup.{DeviceSetup}
 use Rattle.cct_model.specs.terms.request.TheConstants.{ENABLE_CODE}
 use Rattle.cct_model.specs.terms.request.ReplyForm.{ReplyForm}
 use Rattle.cct_model.specs.terms.family.Family.{Family}
 use Rattle.cct_model.specs.terms.family.Family.TheVariants as family
 use Rattle.cct_model.specs.terms.request.Request.{Request}
-use Rattle.cct_model.specs.terms.request.Request.TheVariants.{MakerId, Category, ProductCode, SerialNumber, SoftwareRevision, BuildCode, CommsRevision, ResetDevice, SetMask, GetMask, SetMaster, GetMaster, ReadCredits, GetDefault, CoinId, AcceptCount, TestHopper, Enable, Dispense, GetStatus, GetLife, StopNow}
+use Rattle.cct_model.specs.terms.request.Request.TheVariants.{MakerId, Category, ProductCode, SerialNumber, SoftwareRevision, BuildCode, CommsRevision, ResetDevice, SetMask, GetMask, SetMaster, GetMaster, GetDefault, CoinId, AcceptCount, RouteBill, TestHopper, Enable, Dispense, GetStatus, GetLife, StopNow}
 use Rattle.cct_model.specs.lines.record.Record.{Record}
 use Rattle.cct_model.specs.lines.record.Record.TheVariants as record_of
 use Rattle.cct_model.specs.declared.judging.Judged.{Judged}
@@ -27,10 +28,10 @@ use Rattle.cct_model.specs.lines.entry.End.TheVariants.{Broke, Clean, Moved, Pos
 use Rattle.cct_model.specs.Request.{header_of, form_of}
 use Rattle.cct_model.specs.Reply.{Reply}
 use Rattle.cct_model.specs.Reply as reply
-use Rattle.cct_model.specs.Exchange.{asked, device_at, got, acceptor_there, hopper_there}
+use Rattle.cct_model.specs.Exchange.{asked, device_at, got, acceptor_there, bill_there, hopper_there, taker_there}
 use Rattle.cct_model.specs.Family.{family_of}
 use Rattle.cct_model.specs.Line.{Line, exchange}
-use Rattle.cct_model.specs.Job.{address_of, sends, puts, accepts_before, accepts_read, credits_read, mask_read, tries, path_set, path_read}
+use Rattle.cct_model.specs.Job.{address_of, sends, puts, accepts_before, accepts_read, credits_read, credits_request, mask_read, settled_events, tries, path_set, path_read}
 use Rattle.cct_model.specs.Rows.{end_kept, end_of, left, rest, row}
 use Rattle.cct_model.specs.Order.{close, is_marked, life_read}
 use Rattle.cct_model.specs.Scan.{poll_of}
@@ -43,12 +44,12 @@ use Rattle.cct_jobs.specs.declared.payout.Payout.{Payout}
 use Rattle.cct_jobs.specs.declared.payout.Payout.TheVariants.{Enables, Counts, Dispenses, Waits, Stops, Recounts}
 use Rattle.cct_jobs.specs.declared.stage.Recorded.{Recorded}
 use Rattle.cct_jobs.specs.declared.stage.Stage.{Stage}
-use Rattle.cct_jobs.specs.declared.stage.Stage.TheVariants.{StartResets, StartReads, StartCounts, StartSets, StopInhibits, CountsBefore, Reads, Looks, CountsAfter, IdentAsks, PathSets, PathReads, Pays}
+use Rattle.cct_jobs.specs.declared.stage.Stage.TheVariants.{StartResets, StartReads, StartCounts, StartSets, StopInhibits, CountsBefore, Reads, Looks, CountsAfter, IdentAsks, PathSets, PathReads, Routes, Pays}
 use Rattle.cct_jobs.specs.declared.job.Sending.{Sending}
 use Rattle.cct_jobs.specs.declared.job.Need.{Need}
 use Rattle.cct_jobs.specs.declared.job.Need.TheVariants as need
 use Rattle.cct_jobs.specs.declared.job.Job.{Job}
-use Rattle.cct_jobs.specs.Ahead.{ahead, place_of, questions_of, stage_ahead}
+use Rattle.cct_jobs.specs.Ahead.{ahead, body_of, place_of, questions_of, stage_ahead}
 use Rattle.cct_jobs.specs.declared.job.Job.TheVariants.{Asks, StartPuts, RoundPuts, StopPuts, StopEnds, OrderOpens, OrderCloses, SalePuts, ScanCallsSimple, ScanCallsCrc, ScanPollsSimple, ScanPollsCrc, Done}
 
 -- What a job knows of a device.
@@ -64,21 +65,28 @@ payout_request (Waits closing own) = GetStatus
 payout_request (Stops closing own) = StopNow
 payout_request (Recounts closing own) = GetLife
 
--- The request that a stage sends.
-abbrev pub request_of : Stage → Request
-request_of (StartResets mask) = ResetDevice
-request_of (StartReads mask) = ReadCredits
-request_of (StartCounts mask) = AcceptCount
-request_of (StartSets mask) = SetMask mask
-request_of (StopInhibits recorded) = SetMaster 0
-request_of (CountsBefore read_by recorded) = AcceptCount
-request_of (Reads read_by recorded before) = ReadCredits
-request_of (Looks read_by recorded before read) = GetMask
-request_of (CountsAfter read_by recorded before read seen) = AcceptCount
-request_of (IdentAsks question) = question
-request_of (PathSets place path) = path_set place path
-request_of (PathReads place path) = path_read place
-request_of (Pays row) = payout_request row
+-- The request that a stage sends to a device of a family.
+abbrev pub request_of : Family → Stage → Request
+request_of which (StartResets mask) = ResetDevice
+request_of which (StartReads mask) = credits_request (body_of which)
+request_of which (StartCounts mask) = AcceptCount
+request_of which (StartSets mask) = SetMask mask
+request_of which (StopInhibits recorded) = SetMaster 0
+request_of which (CountsBefore read_by recorded) = AcceptCount
+request_of which (Reads read_by recorded before) = credits_request (body_of which)
+request_of which (Looks read_by recorded before read) = GetMask
+request_of which (CountsAfter read_by recorded before read seen) = AcceptCount
+request_of which (IdentAsks question) = question
+request_of which (PathSets place path) = path_set place path
+request_of which (PathReads place path) = path_read place
+request_of which (Routes way) = RouteBill way
+request_of which (Pays row) = payout_request row
+
+-- The credits that a device of a family told, as they are judged.
+abbrev pub noted_credits : Family → Credits → Credits
+noted_credits family.Acceptor c = c
+noted_credits family.Hopper c = c
+noted_credits family.Bill c = settled_events c
 
 -- The stage is one of a start.
 abbrev pub IsOfStart : Stage → Type 0
@@ -110,7 +118,7 @@ asks_at check addr = record { to = addr; kind = check; request = poll_of addr }
 -- The request that a job sends next, or none where it puts a record or is done.
 abbrev pub sending_of : Job → Option Sending
 sending_of (Asks device stage failed) =
-    Some (record { to = device.addr; kind = device.kind; request = request_of stage })
+    Some (record { to = device.addr; kind = device.kind; request = request_of device.family stage })
 sending_of (ScanCallsSimple failed) = Some (asks_at Simple 0)
 sending_of (ScanCallsCrc failed due) = Some (asks_at Crc 0)
 sending_of (ScanPollsSimple addr due listed) = Some (asks_at Simple addr)
@@ -263,18 +271,19 @@ is_of_device command.Scan = false
 is_of_device (command.Vend id price) = false
 is_of_device c = true
 
--- The commands that begin a job: a scan, a sale, the identification of a device of the setup, a start and the setting
--- of a path at an acceptor of the setup, a round and a stop where its epoch runs, a payment at a hopper of the setup,
--- and a settlement where its order is open.
+-- The commands that begin a job: a scan, a sale, the identification of a device of the setup, a start at one that takes
+-- money, a round and a stop where its epoch runs, the setting of a path at a coin acceptor, the routing of a bill at a bill
+-- acceptor, a payment at a hopper, and a settlement where its order is open.
 abbrev pub MayBegin : Command → List DeviceSetup → EpochState → Option OpenOrder → Type 0
 MayBegin command.Scan devices state owed = ⊤
 MayBegin (command.Vend id price) devices state owed = ⊤
 MayBegin (command.Ident addr) devices state owed = IsTrue (is_some (device_at devices addr))
-MayBegin (command.Start addr mask) devices state owed = IsTrue (acceptor_there (device_at devices addr))
+MayBegin (command.Start addr mask) devices state owed = IsTrue (taker_there (device_at devices addr))
 MayBegin (command.Path addr place path) devices state owed = IsTrue (acceptor_there (device_at devices addr))
+MayBegin (command.Route addr way) devices state owed = IsTrue (bill_there (device_at devices addr))
 MayBegin (command.Round addr) devices state owed =
-    IsTrue (acceptor_there (device_at devices addr)) × IsRunning state
-MayBegin (command.Stop addr) devices state owed = IsTrue (acceptor_there (device_at devices addr)) × IsRunning state
+    IsTrue (taker_there (device_at devices addr)) × IsRunning state
+MayBegin (command.Stop addr) devices state owed = IsTrue (taker_there (device_at devices addr)) × IsRunning state
 MayBegin (command.Pay addr id count) devices state owed = IsTrue (hopper_there (device_at devices addr))
 MayBegin (command.Settle addr) devices state owed =
     IsTrue (hopper_there (device_at devices addr)) × IsTrue (is_some owed)
@@ -308,6 +317,26 @@ after_failed failed = if suc failed == 3 then None else Some (suc failed)
 abbrev pub first_own_question : Family → Request
 first_own_question family.Acceptor = GetMaster
 first_own_question family.Hopper = TestHopper
+first_own_question family.Bill = GetMaster
+
+-- The question to an acceptor that follows one which other families aren't asked, or none after the last.
+abbrev pub acceptor_question_after : Request → Option Request
+acceptor_question_after GetMaster = Some GetDefault
+acceptor_question_after GetDefault = Some AcceptCount
+acceptor_question_after AcceptCount = Some (CoinId 1)
+acceptor_question_after (CoinId place) = if nat_lt place COIN_PLACES then Some (CoinId (suc place)) else None
+acceptor_question_after q = None
+
+-- The question to a bill acceptor that follows one which other families aren't asked, or none after the last.
+abbrev pub bill_question_after : Request → Option Request
+bill_question_after GetMaster = Some AcceptCount
+bill_question_after q = None
+
+-- The question that follows one which only some families are asked, or none after the last.
+abbrev pub own_question_after : Family → Request → Option Request
+own_question_after family.Acceptor q = acceptor_question_after q
+own_question_after family.Hopper q = None
+own_question_after family.Bill q = bill_question_after q
 
 -- The question that follows one of an identification of a device of a family, or none after the last.
 abbrev pub question_after : Family → Request → Option Request
@@ -318,11 +347,7 @@ question_after family SerialNumber = Some SoftwareRevision
 question_after family SoftwareRevision = Some BuildCode
 question_after family BuildCode = Some CommsRevision
 question_after family CommsRevision = Some (first_own_question family)
-question_after family GetMaster = Some GetDefault
-question_after family GetDefault = Some AcceptCount
-question_after family AcceptCount = Some (CoinId 1)
-question_after family (CoinId place) = if nat_lt place COIN_PLACES then Some (CoinId (suc place)) else None
-question_after family q = None
+question_after family q = own_question_after family q
 
 -- The end that the newest line brought to a job, and none before its first line.
 abbrev pub newest_end : DeviceSetup → Command → List Line → EpochState → Option End
@@ -383,7 +408,7 @@ pub record Asking (d : DeviceSetup) (device : Target) (stage : Stage) (failed : 
   pub ahead_is : rest d c since ≡ stage_ahead device stage
   pub suits : Suits stage device
   pub knows : Knows stage since state owed
-  pub trying : Trying (request_of stage) failed since
+  pub trying : Trying (request_of device.family stage) failed since
   pub goes_on : newest_end d c since state ≡ None
 
 -- A job puts a record, which ends it so, or doesn't: the rows that are left beside its epoch are those that it has ahead.

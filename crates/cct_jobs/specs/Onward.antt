@@ -46,7 +46,7 @@ abbrev pub LeadsTo : Target → Stage → ℕ → Option Reply → Job → Type 
 LeadsTo device stage failed got job =
     (d : DeviceSetup) (c : Command) (since : List Line) (state : EpochState) (owed : Option OpenOrder)
     → Asking d device stage failed c since state owed
-    → Stands d job c (exchange (Some (request_of stage)) got ∷ since) state owed
+    → Stands d job c (exchange (Some (request_of device.family stage)) got ∷ since) state owed
 
 -- Wherever a job asks its device, this is what it sends.
 abbrev pub SendsToDevice : Job → Sending → Type 0

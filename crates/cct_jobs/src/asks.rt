@@ -44,24 +44,25 @@ pub(crate) fn heard(
 )
     ensures device { (d : DeviceSetup) (c : Command) (since : List Line) (state : EpochState)
         (owed : Option OpenOrder) → Asking d device stage failed c since state owed
-        → sent.now ≡ ask d.kind d.addr (request_of stage)
+        → sent.now ≡ ask d.kind d.addr (request_of device.family stage)
         → Stands d job.new c (line_heard d sent.now heard.now ∷ since) state owed }
     ensures keeps { KeepsTo (stage_ahead device stage) job.new }
 {
-    match device.reply(stage.wanted(), sent, heard) {
+    match device.reply(stage.wanted(device.family), sent, heard) {
         Some(reply) => answered(job, device, stage, &reply),
         None => *job = unanswered(device, stage, failed),
     }
 }
 
-/// The job after a failed try of its stage, which is tried three times in succession at most. The mask of a start
-/// and a dispense are never sent again.
+/// The job after a failed try of its stage, which is tried three times in succession at most. The mask of a start,
+/// the way of a held bill and a dispense are never sent again.
 fn unanswered(device: Target, stage: Stage, failed: u8) -> Job
     ensures device { LeadsTo device stage failed None result }
     ensures keeps { KeepsTo (stage_ahead device stage) result }
 {
     match stage {
         Stage::StartSets { .. } => Job::Done(End::StartUnsure),
+        Stage::Routes { .. } => Job::Done(End::RouteUnsure),
         Stage::Pays { row } => payout_unanswered(device, row, failed),
         _ => tried_again(device, stage, failed),
     }
@@ -97,7 +98,7 @@ fn tried_again(device: Target, stage: Stage, failed: u8) -> Job
 /// The stage of the job got the wanted reply, and the job goes on: each kind of job has its own way.
 #[tactic(auto, using(crate::proofs::Keeping::none_keep))]
 fn answered(job: &mut Job, device: Target, stage: Stage, reply: &Reply<'_>)
-    requires wanted { form_shown (reply_shown reply.now) ≡ form_of (request_of stage) }
+    requires wanted { form_shown (reply_shown reply.now) ≡ form_of (request_of device.family stage) }
     requires life { FitsLife (reply_shown reply.now) }
     requires accepts { FitsAccepts (reply_shown reply.now) }
     ensures device { (failed : ℕ) → LeadsTo device stage failed (Some (reply_shown reply.now)) job.new }
@@ -116,6 +117,7 @@ fn answered(job: &mut Job, device: Target, stage: Stage, reply: &Reply<'_>)
         Stage::IdentAsks { question } => ident::told(job, device, question),
         Stage::PathSets { .. } => path::answered(job, device, stage, reply),
         Stage::PathReads { .. } => path::answered(job, device, stage, reply),
+        Stage::Routes { .. } => *job = Job::Done(End::Routed),
         Stage::Pays { row } => payment::answered(job, device, row, reply),
     }
 }

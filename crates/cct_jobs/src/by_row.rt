@@ -113,7 +113,7 @@ impl Job {
             Job::Asks { device, stage, .. } => Sending {
                 to: device.addr,
                 kind: device.kind,
-                request: stage.request(),
+                request: stage.request(device.family),
             },
             Job::ScanCallsSimple { .. } => scan::poll(CheckKind::Simple, BROADCAST),
             Job::ScanCallsCrc { .. } => scan::poll(CheckKind::Crc, BROADCAST),

@@ -79,6 +79,9 @@ impl Job {
             Command::Path { addr, place, path } => {
                 first_try(target_at(setup, addr), Stage::PathSets { place, path })
             }
+            Command::Route { addr, way } => {
+                first_try(target_at(setup, addr), Stage::Routes { way })
+            }
             Command::Pay { addr, id, count } => first_try(
                 target_at(setup, addr),
                 Stage::Pays {

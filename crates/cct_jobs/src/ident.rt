@@ -3,7 +3,7 @@
 ghost use Rattle.std.specs.Prelude.{[], Option, ◌≡◌, ℕ, Some};
 ghost use Rattle.cct_model.specs.Reply.{Reply};
 ghost use Rattle.cct_jobs.specs.declared.stage.Stage.TheVariants.{IdentAsks};
-ghost use Rattle.cct_jobs.specs.Jobs.{first_own_question, question_after};
+ghost use Rattle.cct_jobs.specs.Jobs.{acceptor_question_after, first_own_question, own_question_after, question_after};
 ghost use Rattle.cct_jobs.specs.Onward.{KeepsTo, LeadsTo};
 
 use crate::asks::first_try;
@@ -24,8 +24,7 @@ pub(crate) fn told(job: &mut Job, device: Target, question: Request)
 }
 
 /// What is asked after a question: of every device its texts, its serial number and the release of the standard, and
-/// then of an acceptor its master inhibit, its default sorter path, its accept count and the identification of each
-/// coin, and of a hopper its test register.
+/// then what other families don't tell.
 fn question_after(question: Request, family: Family) -> Option<Request>
     ensures { result ≡ question_after family question }
 {
@@ -37,6 +36,31 @@ fn question_after(question: Request, family: Family) -> Option<Request>
         Request::SoftwareRevision => Some(Request::BuildCode),
         Request::BuildCode => Some(Request::CommsRevision),
         Request::CommsRevision => Some(first_own_question(family)),
+        _ => own_question_after(question, family),
+    }
+}
+
+/// What is asked after a question that only some families are asked: of an acceptor its master inhibit, its default sorter
+/// path, its accept count and the identification of each coin, of a hopper its test register, and of a bill acceptor its
+/// master inhibit and its accept count.
+fn own_question_after(question: Request, family: Family) -> Option<Request>
+    ensures { result ≡ own_question_after family question }
+{
+    match family {
+        Family::Acceptor => acceptor_question_after(question),
+        Family::Hopper => None,
+        Family::Bill => match question {
+            Request::GetMaster => Some(Request::AcceptCount),
+            _ => None,
+        },
+    }
+}
+
+/// What is asked of an acceptor after a question that only some families are asked.
+fn acceptor_question_after(question: Request) -> Option<Request>
+    ensures { result ≡ acceptor_question_after question }
+{
+    match question {
         Request::GetMaster => Some(Request::GetDefault),
         Request::GetDefault => Some(Request::AcceptCount),
         Request::AcceptCount => Some(Request::CoinId { place: 1 }),
@@ -54,5 +78,6 @@ fn first_own_question(family: Family) -> Request
     match family {
         Family::Acceptor => Request::GetMaster,
         Family::Hopper => Request::TestHopper,
+        Family::Bill => Request::GetMaster,
     }
 }

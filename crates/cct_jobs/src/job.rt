@@ -229,7 +229,8 @@ impl Job {
 
     /// The job's request was sent, and it hears this. A row whose reply isn't the wanted one is tried again, and after
     /// the third such try in succession the job ends with [`End::NoAnswer`]. The mask of a start is never sent
-    /// again: it ends the job with [`End::Started`], or with [`End::StartUnsure`] where it isn't acknowledged.
+    /// again: it ends the job with [`End::Started`], or with [`End::StartUnsure`] where it isn't acknowledged. Nor is the way
+    /// of a held bill, which ends it with [`End::Routed`] or with [`End::RouteUnsure`].
     pub fn hear(&mut self, sent: &[u8], heard: &[u8])
         requires asks { need_of self.old ≡ Need.Exchange }
         // It goes on only by the wanted reply; a row without it is tried again. But a start sends its mask once, and

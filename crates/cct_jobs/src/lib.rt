@@ -1,12 +1,13 @@
 //! The jobs of the host: the start, the round and the stop of an acceptor's epoch, the payment and the settlement of an
-//! order at a hopper, the identification of a device, the setting of a sorter path, and the scan. A job stands at one
-//! row: it sends one request, or puts one record, or is done.
+//! order at a hopper, the routing of a held bill, the identification of a device, the setting of a sorter path, and the
+//! scan. A job stands at one row: it sends one request, or puts one record, or is done.
 #![tactic(auto)]
 
 mod asks;
 mod by_row;
 mod by_value;
 mod counted;
+mod credits;
 mod first_row;
 mod ident;
 mod job;

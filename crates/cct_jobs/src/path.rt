@@ -23,7 +23,7 @@ const DEFAULT: u8 = 0;
 /// The stage of the setting of a path got the wanted reply, and the setting goes on.
 pub(crate) fn answered(job: &mut Job, device: Target, stage: Stage, reply: &Reply<'_>)
     requires row { IsOfPath stage }
-    requires wanted { form_shown (reply_shown reply.now) ≡ form_of (request_of stage) }
+    requires wanted { form_shown (reply_shown reply.now) ≡ form_of (request_of device.family stage) }
     ensures device { (failed : ℕ) → LeadsTo device stage failed (Some (reply_shown reply.now)) job.new }
     ensures keeps { KeepsTo (stage_ahead device stage) job.new }
 {

@@ -1,6 +1,7 @@
 //! The round, and the stop of an epoch: an acceptor's accept counter is read, then its credits, its inhibit mask, and its
-//! accept counter again; what they mean is put, unless a coin was accepted in between. A stop inhibits every coin before, and
-//! puts the epoch's end after (ccTalk Generic Specification 4, parts 2 and 3, headers 225, 228, 229 and 230).
+//! accept counter again; what they mean is put, unless a coin or a bill was accepted in between. A stop inhibits all before,
+//! and puts the epoch's end after (ccTalk Generic Specification 4, parts 2 and 3, headers 225, 228, 229 and 230, and 159 at
+//! a bill acceptor).
 ghost use Rattle.std.specs.Prelude.{◌≡◌, ℕ, Some};
 ghost use Rattle.cct_model.specs.terms.request.ReplyForm.TheVariants as form;
 ghost use Rattle.cct_model.specs.Reply as shown;
@@ -14,6 +15,7 @@ ghost use Rattle.cct_jobs.specs.Onward.{KeepsTo, LeadsTo};
 
 use crate::asks::first_try;
 use crate::counted::Counted;
+use crate::credits::{credits_in, noted};
 use crate::job::Job;
 use crate::stage::{ReadBy, Recorded, Stage};
 use crate::target::Target;
@@ -23,7 +25,7 @@ use cct_model::{Credits, End, Reply};
 /// The stage of the round or the stop got the wanted reply, and the job goes on.
 pub(crate) fn answered(job: &mut Job, device: Target, stage: Stage, reply: &Reply<'_>)
     requires row { IsOfReading stage }
-    requires wanted { form_shown (reply_shown reply.now) ≡ form_of (request_of stage) }
+    requires wanted { form_shown (reply_shown reply.now) ≡ form_of (request_of device.family stage) }
     requires accepts { FitsAccepts (reply_shown reply.now) }
     ensures device { (failed : ℕ) → LeadsTo device stage failed (Some (reply_shown reply.now)) job.new }
     ensures keeps { KeepsTo (stage_ahead device stage) job.new }
@@ -37,7 +39,10 @@ pub(crate) fn answered(job: &mut Job, device: Target, stage: Stage, reply: &Repl
             read_by,
             recorded,
             before,
-        } => *job = looks(device, read_by, recorded, before, credits_in(reply)),
+        } => {
+            let credits = noted(device.family, credits_in(reply));
+            *job = looks(device, read_by, recorded, before, credits);
+        }
         Stage::Looks {
             read_by,
             recorded,
@@ -123,17 +128,6 @@ fn counts_again(
             mask_seen,
         },
     )
-}
-
-/// The credits that the reply to the question for them is.
-pub(crate) fn credits_in(reply: &Reply<'_>) -> Credits
-    requires { form_shown (reply_shown reply.now) ≡ Some form.Credits }
-    ensures { reply_shown reply.now ≡ shown.credits result }
-{
-    match reply {
-        Reply::Credits(credits) => *credits,
-        _ => unreachable!(),
-    }
 }
 
 /// The inhibit mask that the reply to the question for it is.

@@ -13,8 +13,9 @@ ghost use Rattle.cct_jobs.specs.Scans.{CallsCrc, CallsSimple, Lists, Polls, Stan
 ghost use Rattle.cct_jobs.specs.Onward.{KeepsTo};
 
 use crate::job::{Job, Sending};
-use crate::target::{after_failed, wanted_reply};
+use crate::target::after_failed;
 use cct_model::{BROADCAST, CheckKind, DeviceSet, End, Listed, ReplyForm, Request};
+use cct_msg::wanted_reply;
 use cct_wire::bare_after_echo;
 
 /// The least address that a device may have.

@@ -7,12 +7,13 @@ ghost use Rattle.cct_jobs.specs.Ahead.{coins_in, stage_ahead, reading_ahead};
 ghost use Rattle.cct_jobs.specs.Jobs.{request_of};
 
 use crate::counted::Counted;
+use crate::credits::credits_request;
 use crate::path;
 use crate::payout::Payout;
-use cct_model::{Credits, ReplyForm, Request};
+use cct_model::{Credits, Family, ReplyForm, Request};
 use cct_msg::form_of;
 
-/// The request that inhibits every coin.
+/// The request that inhibits every coin or bill.
 const INHIBIT: Request = Request::SetMaster { value: 0 };
 
 /// What is recorded of an epoch that runs: its inhibit mask, the event counter of its last recorded reading, or 0, and what
@@ -52,7 +53,7 @@ pub enum Stage {
     StartSets {
         mask: u16,
     },
-    /// A stop inhibits every coin of its acceptor.
+    /// A stop inhibits every coin or bill of its acceptor.
     StopInhibits {
         recorded: Recorded,
     },
@@ -67,7 +68,7 @@ pub enum Stage {
         recorded: Recorded,
         before: Counted,
     },
-    /// It looks at the inhibit mask after these credits were read.
+    /// It looks at the inhibit mask after these credits were read, which are as they are judged.
     Looks {
         read_by: ReadBy,
         recorded: Recorded,
@@ -96,6 +97,10 @@ pub enum Stage {
         place: u8,
         path: u8,
     },
+    /// The held bill of a bill acceptor is sent its way, once.
+    Routes {
+        way: u8,
+    },
     /// A payment or a settlement asks its hopper.
     Pays {
         row: Payout,
@@ -103,34 +108,35 @@ pub enum Stage {
 }
 
 impl Stage {
-    /// The request that is sent there.
-    pub(crate) fn request(&self) -> Request
-        ensures { result ≡ request_of self.now }
+    /// The request that is sent there to a device of a family.
+    pub(crate) fn request(&self, family: Family) -> Request
+        ensures { result ≡ request_of family self.now }
     {
         match self {
             Stage::StartResets { .. } => Request::ResetDevice,
-            Stage::StartReads { .. } => Request::ReadCredits,
+            Stage::StartReads { .. } => credits_request(family),
             Stage::StartCounts { .. } => Request::AcceptCount,
             Stage::StartSets { mask } => Request::SetMask { mask: *mask },
             Stage::StopInhibits { .. } => INHIBIT,
             Stage::CountsBefore { .. } => Request::AcceptCount,
-            Stage::Reads { .. } => Request::ReadCredits,
+            Stage::Reads { .. } => credits_request(family),
             Stage::Looks { .. } => Request::GetMask,
             Stage::CountsAfter { .. } => Request::AcceptCount,
             Stage::IdentAsks { question } => *question,
             Stage::PathSets { place, path } => path::setting(*place, *path),
             Stage::PathReads { place, .. } => path::reading(*place),
+            Stage::Routes { way } => Request::RouteBill { way: *way },
             Stage::Pays { row } => row.request(),
         }
     }
 
     /// The form of the reply that is wanted to it.
-    pub(crate) fn wanted(&self) -> Option<ReplyForm>
-        ensures { result ≡ form_of (request_of self.now) }
+    pub(crate) fn wanted(&self, family: Family) -> Option<ReplyForm>
+        ensures { result ≡ form_of (request_of family self.now) }
     {
         match self {
             Stage::Pays { row } => Some(row.wanted()),
-            _ => form_of(self.request()),
+            _ => form_of(self.request(family)),
         }
     }
 
@@ -151,6 +157,7 @@ impl Stage {
             Stage::IdentAsks { .. } => 0,
             Stage::PathSets { .. } => 0,
             Stage::PathReads { .. } => 0,
+            Stage::Routes { .. } => 0,
             Stage::Pays { row } => row.may_put(),
         }
     }

@@ -1,5 +1,6 @@
 //! The start of an epoch: the acceptor is reset, its credits and then its accept counter are read, the epoch is put, and the
-//! inhibit mask is set once (ccTalk Generic Specification 4, parts 2 and 3, headers 1, 225, 229 and 231).
+//! inhibit mask is set once (ccTalk Generic Specification 4, parts 2 and 3, headers 1, 225, 229 and 231, and 159
+//! at a bill acceptor).
 ghost use Rattle.std.specs.Prelude.{◌≡◌, ℕ, Some};
 ghost use Rattle.cct_model.specs.Reply as shown;
 ghost use Rattle.cct_model.specs.Reply.{reply_shown};
@@ -12,8 +13,9 @@ ghost use Rattle.cct_jobs.specs.Onward.{KeepsTo, LeadsTo};
 
 use crate::asks::first_try;
 use crate::counted::Counted;
+use crate::credits::credits_in;
 use crate::job::Job;
-use crate::reading::{count_in, credits_in};
+use crate::reading::count_in;
 use crate::stage::Stage;
 use crate::target::Target;
 use cct_model::{Credits, End, Reply};
@@ -21,7 +23,7 @@ use cct_model::{Credits, End, Reply};
 /// The stage of the start got the wanted reply, and the start goes on.
 pub(crate) fn answered(job: &mut Job, device: Target, stage: Stage, reply: &Reply<'_>)
     requires row { IsOfStart stage }
-    requires wanted { form_shown (reply_shown reply.now) ≡ form_of (request_of stage) }
+    requires wanted { form_shown (reply_shown reply.now) ≡ form_of (request_of device.family stage) }
     requires accepts { FitsAccepts (reply_shown reply.now) }
     ensures device { (failed : ℕ) → LeadsTo device stage failed (Some (reply_shown reply.now)) job.new }
     ensures keeps { KeepsTo (stage_ahead device stage) job.new }

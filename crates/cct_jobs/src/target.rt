@@ -2,13 +2,12 @@
 ghost use Rattle.std.specs.Prelude.{◌≡◌, ◌<◌, Some, IsSome};
 ghost use Rattle.std.specs.Option.{option_map};
 ghost use Rattle.cct_model.specs.terms.device.DeviceSetup.{DeviceSetup};
-ghost use Rattle.cct_model.specs.Exchange.{device_at, got};
+ghost use Rattle.cct_model.specs.Exchange.{device_at};
 ghost use Rattle.cct_model.specs.Reply.{reply_shown};
 ghost use Rattle.cct_jobs.specs.Jobs.{after_failed, reply_wanted, target_of};
 
 use cct_model::{CheckKind, DeviceSetup, Family, Reply, ReplyForm, Setup};
-use cct_msg::read_reply;
-use cct_wire::{Heard, hear};
+use cct_msg::wanted_reply;
 
 /// How often a row is tried in succession.
 const TRIES: u8 = 3;
@@ -36,28 +35,6 @@ impl Target {
             Some(form) => wanted_reply(self.kind, self.addr, form, sent, heard),
             None => None,
         }
-    }
-}
-
-/// The reply in the form that is wanted from an address under a check, in what was heard after a request.
-#[tactic(auto, unfolding(cct_terms::specs::Exchange::got))]
-pub(crate) fn wanted_reply<'h>(
-    kind: CheckKind,
-    addr: u8,
-    form: ReplyForm,
-    sent: &[u8],
-    heard: &'h [u8],
-) -> Option<Reply<'h>>
-    ensures { option_map reply_shown result ≡ got kind addr form sent.now heard.now }
-{
-    match hear(kind, sent, heard) {
-        Heard::EchoBad { .. } => None,
-        Heard::Silence => None,
-        Heard::Broken(_) => None,
-        Heard::Message(view) => match read_reply(form, addr, &view) {
-            Ok(reply) => Some(reply),
-            Err(_) => None,
-        },
     }
 }
 

@@ -58,8 +58,8 @@ pub record Takes {T E : Type 0} (old new : Ledger) (r : Record) (result : Result
   -- It is taken exactly if it follows the records before it, and what it takes is available beside all that is
   -- reserved.
   pub exactly : Judges old r (is_ok result)
-  -- Coins that are posted have the value of their places at the acceptor; a closed order pays what fell and frees the
-  -- rest; one whose life counts don't fit stays reserved.
+  -- Coins that are posted have the value of their places at the device that took them; a closed order pays what fell and
+  -- frees the rest; one whose life counts don't fit stays reserved.
   pub taken : OnOk result (GoesOn old new r)
   pub refused : OnErr result (new ≡ old)
 

@@ -105,8 +105,8 @@ impl<'s> Ledger<'s> {
     /// the records before it, or where what it takes isn't available beside all that is reserved. A closed order pays
     /// the coins that fell and frees the others; an order whose counts of life don't fit it stays reserved.
     ///
-    /// A record of another kind is taken whether it follows or not. Each coin that it posts has the value of its place
-    /// at the acceptor of that address, and none where the place has no value or no acceptor is there.
+    /// A record of another kind is taken whether it follows or not. Each coin or bill that it posts has the value of its
+    /// place at the device of that address, and none where the place has no value or no device that takes money is there.
     pub fn apply(&mut self, entry: &Record) -> Result<(), NotAllowed>
         requires few { applied self.old < 2 ^ 32 - 1 }
         ensures takes { Takes self.old self.new entry.now result }
@@ -193,7 +193,7 @@ impl<'s> Ledger<'s> {
         }
     }
 
-    /// Posts coins that the acceptor at an address took.
+    /// Posts coins or bills that the device at an address took.
     fn post(&mut self, addr: u8, coins: &Coins)
         requires few { applied self.old < 2 ^ 32 - 1 }
         ensures setup { setup_of self.new ≡ setup_of self.old }

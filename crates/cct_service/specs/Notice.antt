@@ -25,6 +25,7 @@ job_word (Some (command.Halt addr)) = codes "halt"
 job_word (Some command.Scan) = codes "scan"
 job_word (Some (command.Ident addr)) = codes "ident"
 job_word (Some (command.Path addr place path)) = codes "path"
+job_word (Some (command.Route addr way)) = codes "route"
 job_word (Some (command.Vend id price)) = codes "vend"
 
 -- The inhibit mask of an epoch that runs as the next field, or a hyphen.

@@ -152,6 +152,7 @@ fn job_word(job: &Option<Command>) -> &'static [u8]
         Some(Command::Scan) => b"scan",
         Some(Command::Ident { .. }) => b"ident",
         Some(Command::Path { .. }) => b"path",
+        Some(Command::Route { .. }) => b"route",
         Some(Command::Vend { .. }) => b"vend",
     }
 }

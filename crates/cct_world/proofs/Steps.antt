@@ -13,6 +13,7 @@ use Rattle.cct_model.specs.lines.entry.Entry.{Entry}
 use Rattle.cct_model.specs.lines.entry.Entry.TheVariants as entry
 use Rattle.cct_model.specs.lines.entry.Totals.{Totals}
 use Rattle.cct_model.specs.Acceptor.{accepts}
+use Rattle.cct_model.specs.Bill.{holds}
 use Rattle.cct_model.specs.Exchange.{device_at}
 use Rattle.cct_model.specs.Honest.{forged_after, was_forged}
 use Rattle.cct_model.specs.Hopper.{remaining}
@@ -34,7 +35,7 @@ use Rattle.cct_host.specs.Attempt.{Attempt, HeardBy, news_of}
 use Rattle.cct_host.specs.Host as hosts
 use Rattle.cct_host.specs.Host.{PutSuits}
 use Rattle.cct_host.proofs.Commands.{address_there}
-use Rattle.cct_host.proofs.Lines.{IsQuiet, accepted_quiet, alien_quiet, fall_quiet, forged_quiet, inhibited_quiet, jam_quiet, reset_quiet}
+use Rattle.cct_host.proofs.Lines.{IsQuiet, accepted_quiet, alien_quiet, fall_quiet, forged_quiet, held_quiet, inhibited_quiet, jam_quiet, reset_quiet}
 use Rattle.cct_host.proofs.Quiet.{balance_quiet, host_quiet}
 use Rattle.cct_world.specs.Forged.{TellsForged, forged_told}
 use Rattle.cct_world.specs.Restarts.{kept_in}
@@ -51,6 +52,7 @@ pub entries_are : (capacity : ℕ) (setup : Setup) (past : List Entry) (addr : �
     → EntriesOfHappening setup past addr what news → Entries capacity setup past (step_of addr what) news
 entries_are capacity setup past addr (happening.Coin place) news are = are
 entries_are capacity setup past addr happening.Alien news are = are
+entries_are capacity setup past addr (happening.Bill place) news are = are
 entries_are capacity setup past addr happening.Fall news are = are
 entries_are capacity setup past addr happening.Jam news are = are
 entries_are capacity setup past addr happening.Reset news are = are
@@ -67,6 +69,14 @@ entry_is d addr (happening.Coin place) past is =
     ap (λ a. entry_told a (happening.Coin place) (becomes (happening.Coin place) d.serial (met d past))) (sym is)
     ∙ of_choice (λ became. entry_told d.addr (happening.Coin place) (of_inserted became)) (accepts (met d past) place) _ _
 entry_is d addr happening.Alien past is = refl
+entry_is d addr (happening.Bill place) past is =
+    ap (λ a. entry_told a (happening.Bill place) (becomes (happening.Bill place) d.serial (met d past))) (sym is)
+    ∙ by_held (holds (met d past) place)
+  where
+    by_held : (held : Bool) → entry_told d.addr (happening.Bill place) (of_effect held)
+        ≡ cond held (entry.Held d.addr place) (entry.Inhibited d.addr place)
+    by_held true = refl
+    by_held false = refl
 entry_is d addr happening.Fall past is =
     ap (λ a. entry_told a happening.Fall (becomes happening.Fall d.serial (met d past))) (sym is)
     ∙ by_left (remaining d.serial (met d past) == 0)
@@ -94,6 +104,11 @@ happening_quiet d addr (happening.Coin place) past = by_taken (accepts (met d pa
     by_taken true c = accepted_quiet past d.addr c
     by_taken false c = inhibited_quiet past d.addr place
 happening_quiet d addr happening.Alien past = alien_quiet past addr
+happening_quiet d addr (happening.Bill place) past = by_held (holds (met d past) place)
+  where
+    by_held : (held : Bool) → IsQuiet past (cond held (entry.Held d.addr place) (entry.Inhibited d.addr place))
+    by_held true = held_quiet past d.addr place
+    by_held false = inhibited_quiet past d.addr place
 happening_quiet d addr happening.Fall past = fall_quiet (remaining d.serial (met d past) == 0) past d.addr
 happening_quiet d addr happening.Jam past = jam_quiet (remaining d.serial (met d past) == 0) past d.addr
 happening_quiet d addr happening.Reset past = reset_quiet past addr
@@ -106,6 +121,8 @@ one_plain : (addr : ℕ) (what : Happening) (became : Outcome) → IsPlain (entr
 one_plain addr (happening.Coin place) (outcome.Accepted c) = (refl, refl, refl)
 one_plain addr (happening.Coin place) became = (refl, refl, refl)
 one_plain addr happening.Alien became = (refl, refl, refl)
+one_plain addr (happening.Bill place) outcome.Done = (refl, refl, refl)
+one_plain addr (happening.Bill place) became = (refl, refl, refl)
 one_plain addr happening.Fall outcome.Done = (refl, refl, refl)
 one_plain addr happening.Fall became = (refl, refl, refl)
 one_plain addr happening.Jam outcome.Done = (refl, refl, refl)

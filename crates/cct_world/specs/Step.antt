@@ -17,6 +17,8 @@ abbrev pub entry_told : ℕ → Happening → Outcome → Entry
 entry_told addr (happening.Coin place) (outcome.Accepted c) = entry.Accepted addr c
 entry_told addr (happening.Coin place) became = entry.Inhibited addr place
 entry_told addr happening.Alien became = entry.Alien addr
+entry_told addr (happening.Bill place) outcome.Done = entry.Held addr place
+entry_told addr (happening.Bill place) became = entry.Inhibited addr place
 entry_told addr happening.Fall outcome.Done = entry.Fell addr
 entry_told addr happening.Fall became = entry.NoFall addr
 entry_told addr happening.Jam outcome.Done = entry.Jammed addr

@@ -39,6 +39,7 @@ impl<D: Disk> Machine<'_, D> {
         match step {
             Step::Coin { addr, place } => self.bus.knows(*addr, Happening::Coin { place: *place }),
             Step::Alien { addr } => self.bus.knows(*addr, Happening::Alien),
+            Step::Bill { addr, place } => self.bus.knows(*addr, Happening::Bill { place: *place }),
             Step::Fall { addr } => self.bus.knows(*addr, Happening::Fall),
             Step::Jam { addr } => self.bus.knows(*addr, Happening::Jam),
             Step::Reset { addr } => self.bus.knows(*addr, Happening::Reset),
@@ -88,6 +89,9 @@ impl<D: Disk> Machine<'_, D> {
                 self.befall(*addr, Happening::Coin { place: *place }, report)
             }
             Step::Alien { addr } => self.befall(*addr, Happening::Alien, report),
+            Step::Bill { addr, place } => {
+                self.befall(*addr, Happening::Bill { place: *place }, report)
+            }
             Step::Fall { addr } => self.befall(*addr, Happening::Fall, report),
             Step::Jam { addr } => self.befall(*addr, Happening::Jam, report),
             Step::Reset { addr } => self.befall(*addr, Happening::Reset, report),
@@ -280,6 +284,11 @@ fn tell(addr: u8, what: Happening, outcome: Outcome, report: &mut ArrayVec<Entry
             Outcome::Nothing => report.push(Entry::Inhibited { addr, place }),
         },
         Happening::Alien => report.push(Entry::Alien { addr }),
+        Happening::Bill { place } => match outcome {
+            Outcome::Done => report.push(Entry::Held { addr, place }),
+            Outcome::Accepted(_) => report.push(Entry::Inhibited { addr, place }),
+            Outcome::Nothing => report.push(Entry::Inhibited { addr, place }),
+        },
         Happening::Fall => match outcome {
             Outcome::Done => report.push(Entry::Fell { addr }),
             Outcome::Accepted(_) => report.push(Entry::NoFall { addr }),

@@ -13,17 +13,17 @@ answered-requires c =
     let device = c.args.device in
     let sent = c.args.sent.now in
     let heard = c.args.heard.now in
-    let replies : replied device.kind device.addr (request_of c.args.stage) sent heard ≡ Some
+    let replies : replied device.kind device.addr (request_of device.family c.args.stage) sent heard ≡ Some
     (reply_shown c.in-Some.reply) =
     sym (ap (λ f. reply_wanted device.kind device.addr f sent heard) c.wanted.ensures)
     ∙ sym c.reply.ensures
     ∙ ap (option_map reply_shown) c.in-Some.is in
     record {
-      wanted = form_heard device.kind device.addr (request_of c.args.stage) sent heard (reply_shown c.in-Some.reply)
+      wanted = form_heard device.kind device.addr (request_of device.family c.args.stage) sent heard (reply_shown c.in-Some.reply)
           replies;
-      life = life_heard device.kind device.addr (request_of c.args.stage) sent heard (reply_shown c.in-Some.reply)
+      life = life_heard device.kind device.addr (request_of device.family c.args.stage) sent heard (reply_shown c.in-Some.reply)
           (λ i. let fits = c.type_inv.heard i in omega arith) replies;
-      accepts = accepts_heard device.kind device.addr (request_of c.args.stage) sent heard (reply_shown c.in-Some.reply)
+      accepts = accepts_heard device.kind device.addr (request_of device.family c.args.stage) sent heard (reply_shown c.in-Some.reply)
           (λ i. let fits = c.type_inv.heard i in omega arith) replies;
     }
 
@@ -33,7 +33,7 @@ returns-in-Some-clause-device c = λ d command since state owed at is_ask.
     let sent = c.args.sent.now in
     let heard = c.args.heard.now in
     let line_is =
-    heard_is d device (request_of c.args.stage) sent heard (Some (reply_shown c.in-Some.reply)) at.device_is
+    heard_is d device (request_of device.family c.args.stage) sent heard (Some (reply_shown c.in-Some.reply)) at.device_is
     (stage_fits at) is_ask
     (sym (ap (option_map reply_shown) c.in-Some.is) ∙ c.reply.ensures
     ∙ ap (λ f. reply_wanted device.kind device.addr f sent heard) c.wanted.ensures) in
@@ -45,7 +45,7 @@ returns-in-None-clause-device c = λ d command since state owed at is_ask.
     let device = c.args.device in
     let sent = c.args.sent.now in
     let heard = c.args.heard.now in
-    let line_is = heard_is d device (request_of c.args.stage) sent heard None at.device_is
+    let line_is = heard_is d device (request_of device.family c.args.stage) sent heard None at.device_is
     (stage_fits at) is_ask
     (sym (ap (option_map reply_shown) c.in-None.is) ∙ c.reply.ensures
     ∙ ap (λ f. reply_wanted device.kind device.addr f sent heard) c.wanted.ensures) in

@@ -1,7 +1,7 @@
 use Rattle.std.proofs.Common.{◌∙◌, ◌<◌, ◌^◌, ap, false, refl, subst, sym}
 use Rattle.cct_model.specs.lines.command.Command.TheVariants as command
 use Rattle.cct_model.specs.terms.request.Request.TheVariants.{MakerId}
-use Rattle.cct_jobs.specs.declared.stage.Stage.TheVariants.{StartResets, StopInhibits, CountsBefore, IdentAsks, PathSets, Pays}
+use Rattle.cct_jobs.specs.declared.stage.Stage.TheVariants.{StartResets, StopInhibits, CountsBefore, IdentAsks, PathSets, Routes, Pays}
 use Rattle.cct_jobs.specs.declared.payout.Closing.TheVariants.{Settlement}
 use Rattle.cct_jobs.specs.declared.payout.Payout.TheVariants.{Enables, Waits}
 use Rattle.cct_jobs.specs.declared.stage.ReadBy.TheVariants.{Round}
@@ -64,6 +64,17 @@ pub returns-in-Path-clause-rows : goal.returns-in-Path-clause-rows
 returns-in-Path-clause-rows c = λ d there here.
     begun_ahead c.args.setup.now.devices c.in-Path.addr d c.target_at-in-Path.result c.args.command.now (command.Path c.in-Path.addr c.in-Path.place c.in-Path.path) _ c.in-Path.is refl
     there c.target_at-in-Path.ensures (ap ahead c.first_try-in-Path.ensures)
+
+pub returns-in-Route-clause-device : goal.returns-in-Route-clause-device
+returns-in-Route-clause-device c = λ d there serial here.
+    first_stage c.args.setup.now.devices c.in-Route.addr d c.target_at-in-Route.result (Routes c.in-Route.way) c.args.command.now
+    (command.Route c.in-Route.addr c.in-Route.way) c.args.epoch.now _ c.first_try-in-Route.result c.first_try-in-Route.ensures c.in-Route.is refl there c.target_at-in-Route.ensures
+    refl (λ is. tt) tt
+
+pub returns-in-Route-clause-rows : goal.returns-in-Route-clause-rows
+returns-in-Route-clause-rows c = λ d there here.
+    begun_ahead c.args.setup.now.devices c.in-Route.addr d c.target_at-in-Route.result c.args.command.now (command.Route c.in-Route.addr c.in-Route.way) _ c.in-Route.is refl
+    there c.target_at-in-Route.ensures (ap ahead c.first_try-in-Route.ensures)
 
 pub returns-in-Pay-clause-device : goal.returns-in-Pay-clause-device
 returns-in-Pay-clause-device c = λ d there serial here.
