@@ -1,7 +1,7 @@
 //! The forms of all lines of a script: the table of `docs/SCRIPT.md`.
 
 use crate::rule::Rule;
-use cct_lines::{COIN_PLACES, MOST_HEARD, MOST_SENT, PATHS};
+use cct_lines::{COIN_PLACES, MOST_HEARD, MOST_SENT, PATHS, RETURN_CODE, STACK_CODE};
 use std::fmt;
 
 /// A part of a script.
@@ -96,6 +96,8 @@ const PLACE_OR_ALL: Field = Field("PLACE", Rule::Number(0, MOST_PLACE));
 
 const PATH: Field = Field("PATH", Rule::Number(1, PATHS as u64));
 
+const WAY: Field = Field("WAY", Rule::Number(RETURN_CODE as u64, STACK_CODE as u64));
+
 const ID: Field = Field("ID", Rule::Id);
 
 const MASK: Field = Field("MASK", Rule::Mask);
@@ -137,6 +139,7 @@ const AT: &[Field] = &[A];
 pub(crate) const FORMS: &[Form] = &[
     Form(Part::Setup, "acceptor", &[DEVICE, CHECK, SERIAL, ACCEPTS]),
     Form(Part::Setup, "hopper", &[DEVICE, CHECK, SERIAL, LIFE, VALUE]),
+    Form(Part::Setup, "bills", &[DEVICE, CHECK, SERIAL, ACCEPTS]),
     Form(Part::Setup, "value", &[DEVICE, PLACE, VALUE, ID]),
     Form(
         Part::Setup,
@@ -146,6 +149,7 @@ pub(crate) const FORMS: &[Form] = &[
     Form(Part::Setup, "begin", &[]),
     Form(Part::Steps, "coin", &[A, PLACE]),
     Form(Part::Steps, "alien", AT),
+    Form(Part::Steps, "bill", &[A, PLACE]),
     Form(Part::Steps, "fall", AT),
     Form(Part::Steps, "jam", AT),
     Form(Part::Steps, "reset", AT),
@@ -161,6 +165,7 @@ pub(crate) const FORMS: &[Form] = &[
     Form(Part::Steps, "vend", &[SALE, PRICE]),
     Form(Part::Steps, "ident", AT),
     Form(Part::Steps, "path", &[A, PLACE_OR_ALL, PATH]),
+    Form(Part::Steps, "route", &[A, WAY]),
     Form(Part::Steps, "scan", &[]),
     Form(Part::Steps, "next", AT),
     Form(Part::Steps, "crash", &[CHOICE]),

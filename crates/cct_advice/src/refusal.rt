@@ -71,14 +71,16 @@ impl Refusal<'_> {
         let (word, rest) = first_field(self.line);
         let addr = Shown(first_field(rest.unwrap_or(b"")).0);
         match word {
-            b"acceptor" | b"hopper" => write!(
+            b"acceptor" | b"hopper" | b"bills" => write!(
                 f,
                 "address {addr} is an earlier device's, or {DEVICES} devices were given before"
             ),
-            b"value" | b"coin" | b"alien" => write!(
+            b"value" => write!(
                 f,
-                "no acceptor was given before at address {addr}"
+                "no acceptor of coins or bills was given before at address {addr}"
             ),
+            b"coin" | b"alien" => write!(f, "no coin acceptor was given before at address {addr}"),
+            b"bill" => write!(f, "no bill acceptor was given before at address {addr}"),
             b"fall" | b"jam" => write!(f, "no hopper was given before at address {addr}"),
             _ => write!(f, "no device was given before at address {addr}"),
         }

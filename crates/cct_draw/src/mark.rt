@@ -7,6 +7,7 @@ use cct_lines::Record;
 #[derive(Clone, Copy)]
 pub enum LaneKind {
     Unknown,
+    /// An acceptor of coins, or one of which it isn't known whether it takes coins or bills.
     Acceptor,
     Hopper,
     BillValidator,
@@ -46,7 +47,9 @@ pub enum Heard {
 pub enum Happening {
     /// An acceptor took a coin of this place, which fell by this sorter path.
     Accepted { place: u8, path: u8 },
-    /// An acceptor gave a coin of this place back.
+    /// A bill acceptor holds a bill of this place.
+    Held { place: u8 },
+    /// An acceptor gave a coin or a bill of this place back.
     Inhibited { place: u8 },
     /// An object that is no coin fell into an acceptor.
     Alien,
@@ -152,6 +155,7 @@ impl Happening {
             Happening::Accepted { .. } | Happening::Inhibited { .. } | Happening::Alien => {
                 LaneKind::Acceptor
             }
+            Happening::Held { .. } => LaneKind::BillValidator,
             Happening::Fell | Happening::NoFall | Happening::Jammed | Happening::NoJam => {
                 LaneKind::Hopper
             }

@@ -31,6 +31,7 @@ path.silence,path.cleared{stroke:#666;stroke-dasharray:1 4}\
 path.damage,path.fault,path.lost{stroke:#c00;stroke-dasharray:6 3}\
 path.crash{stroke:#333;stroke-width:20}\
 path.in{fill:#283;stroke:#283}\
+path.held{fill:#cec;stroke:#283}\
 path.out{fill:#d70;stroke:#d70}\
 path.back{stroke:#283;fill:#fff}\
 path.none{stroke:#888;fill:#fff}\

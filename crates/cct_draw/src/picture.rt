@@ -66,11 +66,12 @@ impl Picture {
         }
     }
 
-    /// Learns what the device at an address is, where that is known.
+    /// Learns what the device at an address is, where that is known. A bill validator is an acceptor too, so it stays one.
     pub fn learn(&mut self, addr: u8, kind: LaneKind) {
-        match kind {
-            LaneKind::Unknown => {}
-            _ => self.kinds[usize::from(addr)] = kind,
+        let known = &mut self.kinds[usize::from(addr)];
+        match (*known, kind) {
+            (_, LaneKind::Unknown) | (LaneKind::BillValidator, LaneKind::Acceptor) => {}
+            _ => *known = kind,
         }
     }
 

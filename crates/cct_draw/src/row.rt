@@ -143,6 +143,7 @@ fn draw_happening<K: Sink>(pen: &mut Pen<'_, K>, lane: u32, what: Happening, tim
 fn shape_of(what: Happening) -> Shape {
     match what {
         Happening::Accepted { .. } => Shape::Accepted,
+        Happening::Held { .. } => Shape::Held,
         Happening::Inhibited { .. } => Shape::Inhibited,
         Happening::Alien => Shape::Alien,
         Happening::Fell => Shape::Fell,

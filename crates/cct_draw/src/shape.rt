@@ -9,6 +9,7 @@ pub(crate) const CROSS: &[u8] = b"m-4-4l8 8m0-8l-8 8";
 #[derive(Clone, Copy)]
 pub(crate) enum Shape {
     Accepted,
+    Held,
     Inhibited,
     Alien,
     Fell,
@@ -29,6 +30,7 @@ impl Shape {
     pub(crate) fn class(self) -> &'static [u8] {
         match self {
             Shape::Accepted => b"in",
+            Shape::Held => b"held",
             Shape::Inhibited | Shape::Alien => b"back",
             Shape::Fell => b"out",
             Shape::NoFall | Shape::NoJam => b"none",
@@ -55,6 +57,7 @@ impl Shape {
             Shape::Accepted | Shape::Inhibited => {
                 b"m-5 0a5 5 0 1 0 10 0a5 5 0 1 0-10 0zm5-13v7m-3-3l3 3l3-3"
             }
+            Shape::Held => b"m-8-4h16v9h-16zm8-9v7m-3-3l3 3l3-3",
             Shape::Alien => b"m-5-5h10v10h-10zm5-8v7m-3-3l3 3l3-3",
             Shape::Fell | Shape::NoFall => {
                 b"m-5 0a5 5 0 1 0 10 0a5 5 0 1 0-10 0zm5 6v7m-3-3l3 3l3-3"

@@ -20,7 +20,8 @@ pub(crate) fn kind_name(kind: LaneKind) -> &'static [u8] {
 fn happening_name(what: Happening) -> &'static [u8] {
     match what {
         Happening::Accepted { .. } => b"coin in",
-        Happening::Inhibited { .. } => b"coin given back",
+        Happening::Held { .. } => b"bill held",
+        Happening::Inhibited { .. } => b"given back",
         Happening::Alien => b"alien object",
         Happening::Fell => b"coin out",
         Happening::NoFall => b"no coin left to fall",
@@ -30,14 +31,16 @@ fn happening_name(what: Happening) -> &'static [u8] {
     }
 }
 
-/// Writes what happened in a device, and the place and the path of a coin.
+/// Writes what happened in a device, and the place and the path of a coin or a bill.
 pub(crate) fn write_happening<K: Sink>(pen: &mut Pen<'_, K>, what: Happening) {
     pen.push(happening_name(what));
     match what {
         Happening::Accepted { place, path } => {
             push_pair(pen, b": place ", place, b", path ", path, b"");
         }
-        Happening::Inhibited { place } => push_numbered(pen, b": place ", place, b""),
+        Happening::Held { place } | Happening::Inhibited { place } => {
+            push_numbered(pen, b": place ", place, b"");
+        }
         _ => {}
     }
 }

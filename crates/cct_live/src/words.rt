@@ -103,7 +103,7 @@ fn setup_word<'w>(alloc: Global) -> Arg<'w> {
         .required(true)
         .action(ArgAction::Set)
         .help(
-            "File with lines acceptor, hopper, value, texts (docs/SCRIPT.md), up to a line begin or to its end",
+            "File with lines acceptor, hopper, bills, value, texts (docs/SCRIPT.md), up to a line begin or to its end",
         )
 }
 

@@ -1,6 +1,5 @@
 //! What is kept of a watched acceptor: its last reading, and the span that waits to be said.
 ghost use Rattle.std.specs.Prelude.{◌≡◌, ◌+◌, ◌<◌, ◌≤◌, ◌++◌, [], None, length};
-ghost use Rattle.cct_model.specs.Reading.{posted_of};
 ghost use Rattle.cct_monitor.specs.Machine.{acceptor_on, acceptor_says, after_setting, doubt_new, doubt_waiting, fits, no_tap, sure_waiting, waiting_new};
 ghost use Rattle.cct_monitor.specs.Spans.{are_near};
 ghost use Rattle.cct_monitor.specs.declared.shown.Shown.TheVariants.{Read};
@@ -8,8 +7,8 @@ ghost use Rattle.cct_monitor.specs.declared.shown.Shown.TheVariants.{Read};
 use crate::said::Said;
 use crate::shown::Shown;
 use arrayvec::ArrayVec;
-use cct_epoch::distance;
-use cct_model::{Coin, Coins, Credits, EVENTS, Pair};
+use cct_epoch::{distance, posted};
+use cct_model::{Credits, EVENTS};
 
 /// The last reading of an acceptor.
 #[derive(Clone, Copy, Debug, PartialEq, Eq)]
@@ -219,23 +218,4 @@ fn doubted(addr: u8, span: WaitingSpan) -> Said
         first: span.first,
         last: span.last,
     }
-}
-
-/// The coins of the newest so many events, oldest first.
-fn posted(new_events: u8, pairs: &[Pair; EVENTS]) -> Coins
-    ensures { result ≡ posted_of new_events pairs.now }
-{
-    let mut coins = Coins::new();
-    let mut left = (new_events as usize).min(EVENTS);
-    while left > 0 {
-        left -= 1;
-        let pair = pairs[left];
-        if pair.a != 0 {
-            coins.push(Coin {
-                place: pair.a,
-                path: pair.b,
-            });
-        }
-    }
-    coins
 }

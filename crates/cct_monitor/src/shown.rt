@@ -1,14 +1,12 @@
 //! What a tap shows of a watched device.
 ghost use Rattle.std.specs.Prelude.{◌≡◌};
 ghost use Rattle.std.specs.Option.{option_map};
-ghost use Rattle.cct_model.specs.Exchange.{got};
 ghost use Rattle.cct_model.specs.Reply.{reply_shown};
 ghost use Rattle.cct_monitor.specs.Taps.{life_shown, read_in, mask_in, life_in, shown, tap_of};
 
 use crate::asking::asked_at;
 use cct_model::{CheckKind, Credits, Reply, ReplyForm, Request};
-use cct_msg::read_reply;
-use cct_wire::{Heard, hear};
+use cct_msg::wanted_reply;
 
 /// What a tap shows of an acceptor.
 #[derive(Clone, Copy, Debug, PartialEq, Eq)]
@@ -28,8 +26,14 @@ pub(crate) fn shown_at(kind: CheckKind, addr: u8, sent: &[u8], heard: &[u8]) -> 
     ensures { result ≡ shown kind addr (tap_of sent.now heard.now) }
 {
     match asked_at(kind, addr, sent) {
-        Some(Request::ReadCredits) => read_in(reply(kind, addr, ReplyForm::Credits, sent, heard)),
-        Some(Request::GetMask) => mask_in(reply(kind, addr, ReplyForm::Mask, sent, heard)),
+        Some(Request::ReadCredits) => read_in(wanted_reply(
+            kind,
+            addr,
+            ReplyForm::Credits,
+            sent,
+            heard,
+        )),
+        Some(Request::GetMask) => mask_in(wanted_reply(kind, addr, ReplyForm::Mask, sent, heard)),
         Some(Request::SetMask { .. }) => Shown::Set,
         Some(Request::ResetDevice) => Shown::Set,
         _ => Shown::Nothing,
@@ -41,7 +45,7 @@ pub(crate) fn life_at(kind: CheckKind, addr: u8, sent: &[u8], heard: &[u8]) -> O
     ensures { result ≡ life_shown kind addr (tap_of sent.now heard.now) }
 {
     match asked_at(kind, addr, sent) {
-        Some(Request::GetLife) => life_in(reply(kind, addr, ReplyForm::Life, sent, heard)),
+        Some(Request::GetLife) => life_in(wanted_reply(kind, addr, ReplyForm::Life, sent, heard)),
         _ => None,
     }
 }
@@ -73,27 +77,5 @@ fn life_in(reply: Option<Reply<'_>>) -> Option<u32>
     match reply {
         Some(Reply::Life { count }) => Some(count),
         _ => None,
-    }
-}
-
-/// The reply of a form that the host got from an address, in what was heard after what was sent, or none.
-#[tactic(auto, unfolding(cct_terms::specs::Exchange::got))]
-fn reply<'h>(
-    kind: CheckKind,
-    addr: u8,
-    form: ReplyForm,
-    sent: &[u8],
-    heard: &'h [u8],
-) -> Option<Reply<'h>>
-    ensures { option_map reply_shown result ≡ got kind addr form sent.now heard.now }
-{
-    match hear(kind, sent, heard) {
-        Heard::EchoBad { .. } => None,
-        Heard::Silence => None,
-        Heard::Broken(_) => None,
-        Heard::Message(view) => match read_reply(form, addr, &view) {
-            Ok(reply) => Some(reply),
-            Err(_) => None,
-        },
     }
 }

@@ -1,15 +1,19 @@
 -- A line with another number of fields than its word wants has no form.
 use Rattle.std.proofs.Common.{◌≡◌, ◌≢◌, ℕ, List, [], ◌∷◌, length, None, refl}
-use Rattle.cct_lines.specs.Grammar.{acceptor_line, hopper_line, value_line, texts_line, is_space, alone, step_at}
-use Rattle.cct_lines.specs.Grammar.{coin_step, fault_step, start_step, pay_step, path_step, vend_step, crash_step}
+use Rattle.cct_lines.specs.terms.device.DeviceBody.{DeviceBody}
+use Rattle.cct_lines.specs.terms.device.DeviceSetup.{DeviceSetup}
+use Rattle.cct_lines.specs.declared.setup.SetupLine.{SetupLine}
 use Rattle.cct_lines.specs.declared.command.Step.{Step}
+use Rattle.cct_lines.specs.Grammar.{counting_line, hopper_line, value_line, texts_line, is_space, alone, step_at}
+use Rattle.cct_lines.specs.Grammar.{place_step, fault_step, start_step, pay_step, path_step, route_step, vend_step, crash_step}
 use Rattle.std.specs.List.{slice_split}
 use Rattle.cct_script.specs.Live.{do_form}
 use Rattle.cct_script.proofs.Splits.{split_some}
 
-pub no_acceptor : (fields : List (List ℕ)) → length fields ≢ 4 → acceptor_line fields ≡ None
-no_acceptor (a ∷ b ∷ c ∷ d ∷ []) other = absurd (other refl)
-no_acceptor fields other = refl
+pub no_counting : (make : DeviceSetup → SetupLine) (plain : ℕ → DeviceBody) (fields : List (List ℕ)) → length fields ≢ 4 →
+    counting_line make plain fields ≡ None
+no_counting make plain (a ∷ b ∷ c ∷ d ∷ []) other = absurd (other refl)
+no_counting make plain fields other = refl
 
 pub no_hopper : (fields : List (List ℕ)) → length fields ≢ 5 → hopper_line fields ≡ None
 no_hopper (a ∷ b ∷ c ∷ d ∷ e ∷ []) other = absurd (other refl)
@@ -31,9 +35,9 @@ pub no_do : (fields : List (List ℕ)) → length fields ≢ 1 → do_form field
 no_do (a ∷ []) other = absurd (other refl)
 no_do fields other = refl
 
-pub no_coin : (fields : List (List ℕ)) → length fields ≢ 2 → coin_step fields ≡ None
-no_coin (a ∷ b ∷ []) other = absurd (other refl)
-no_coin fields other = refl
+pub no_place : (make : ℕ → ℕ → Step) (fields : List (List ℕ)) → length fields ≢ 2 → place_step make fields ≡ None
+no_place make (a ∷ b ∷ []) other = absurd (other refl)
+no_place make fields other = refl
 
 pub no_fault : (fields : List (List ℕ)) → length fields ≢ 2 → fault_step fields ≡ None
 no_fault (a ∷ b ∷ []) other = absurd (other refl)
@@ -50,6 +54,10 @@ no_pay fields other = refl
 pub no_path : (fields : List (List ℕ)) → length fields ≢ 3 → path_step fields ≡ None
 no_path (a ∷ b ∷ c ∷ []) other = absurd (other refl)
 no_path fields other = refl
+
+pub no_route : (fields : List (List ℕ)) → length fields ≢ 2 → route_step fields ≡ None
+no_route (a ∷ b ∷ []) other = absurd (other refl)
+no_route fields other = refl
 
 pub no_vend : (fields : List (List ℕ)) → length fields ≢ 2 → vend_step fields ≡ None
 no_vend (a ∷ b ∷ []) other = absurd (other refl)

@@ -16,6 +16,7 @@ use Rattle.cct_lines.proofs.Sound.{named_sound, valued_sound}
 keeps_sound : (line : SetupLine) → IsSetupLine line → KeepsEach IsSound line
 keeps_sound (says.Acceptor d) wanted = wanted.0
 keeps_sound (says.Hopper d) wanted = wanted.0
+keeps_sound (says.Bills d) wanted = wanted.0
 keeps_sound (says.Value addr place value id) wanted =
     λ d e sound was. valued_sound d e place value id d.body wanted.4 wanted.5 sound sound.body was
 keeps_sound (says.Named addr texts) wanted =

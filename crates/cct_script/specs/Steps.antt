@@ -8,8 +8,8 @@ use Rattle.cct_lines.specs.declared.command.Step.TheVariants as step
 use Rattle.cct_lines.specs.declared.command.WireFault.TheVariants as fault
 use Rattle.cct_lines.specs.declared.entry.LineKind.{LineKind}
 use Rattle.cct_lines.specs.declared.entry.LineKind.TheVariants as kind
-use Rattle.cct_lines.specs.Grammar.{alone, coin_step, crash_step, fault_step, path_step, pay_step, piece_in}
-use Rattle.cct_lines.specs.Grammar.{start_step, step_at, vend_step}
+use Rattle.cct_lines.specs.Grammar.{alone, crash_step, fault_step, path_step, pay_step, piece_in, place_step}
+use Rattle.cct_lines.specs.Grammar.{route_step, start_step, step_at, vend_step}
 use Rattle.cct_lines.specs.terms.wire.TheConstants.{MOST_HEARD, MOST_SENT}
 use Rattle.cct_lines.specs.Script.{IsInRange}
 
@@ -37,6 +37,7 @@ with_bytes s field = None
 unfoldable pub other_step : List ℕ → List (List ℕ) → Result Step LineKind
 other_step word fields =
     if bytes_eq word (codes "path") then ok_or (path_step fields) kind.Form
+    else if bytes_eq word (codes "route") then ok_or (route_step fields) kind.Form
     else if bytes_eq word (codes "vend") then ok_or (vend_step fields) kind.Form
     else if bytes_eq word (codes "crash") then ok_or (crash_step fields) kind.Form
     else if bytes_eq word (codes "balance") then ok_or (alone step.Balance fields) kind.Form
@@ -66,8 +67,9 @@ epoch_step word fields =
 -- What happens to a device; then the others.
 unfoldable pub device_step : List ℕ → List (List ℕ) → Result Step LineKind
 device_step word fields =
-    if bytes_eq word (codes "coin") then ok_or (coin_step fields) kind.Form
+    if bytes_eq word (codes "coin") then ok_or (place_step step.Coin fields) kind.Form
     else if bytes_eq word (codes "alien") then ok_or (step_at step.Alien fields) kind.Form
+    else if bytes_eq word (codes "bill") then ok_or (place_step step.Bill fields) kind.Form
     else if bytes_eq word (codes "fall") then ok_or (step_at step.Fall fields) kind.Form
     else if bytes_eq word (codes "jam") then ok_or (step_at step.Jam fields) kind.Form
     else if bytes_eq word (codes "reset") then ok_or (step_at step.Reset fields) kind.Form

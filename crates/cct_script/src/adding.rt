@@ -1,5 +1,6 @@
 //! What a setup line adds to a setup.
-ghost use Rattle.std.specs.Prelude.{◌≡◌, ◌≤◌, MatchResult};
+ghost use Rattle.std.specs.Prelude.{◌≡◌, ◌≢◌, ◌≤◌, ◌-◌, Ok, Err, MatchResult, slice_index};
+ghost use Rattle.std.specs.List.{slice_set};
 ghost use Rattle.cct_lines.specs.Exchange.{device_at};
 ghost use Rattle.cct_lines.specs.Setup.{IsSoundSetup};
 ghost use Rattle.cct_lines.specs.SetupLine.{IsSetupLine};
@@ -11,7 +12,7 @@ use std::alloc::AllocError;
 
 /// Adds to a setup what a setup line says, `Begin` nothing. `Device` where the address of a new device is another's,
 /// where the setup has `DEVICES` devices, where a value is for no acceptor, or where texts are for no device; `Again` where
-/// the coin place has a value, or the device was given texts. Nothing is changed then.
+/// the place has a value, or the device was given texts. Nothing is changed then.
 #[tactic(auto, unfolding(cct_lines::specs::Grammar::added))]
 pub fn add(setup: &mut Setup, line: &SetupLine) -> Result<(), LineKind>
     requires { IsSetupLine line.now }
@@ -21,6 +22,7 @@ pub fn add(setup: &mut Setup, line: &SetupLine) -> Result<(), LineKind>
     match line {
         SetupLine::Acceptor(device) => add_device(setup, device),
         SetupLine::Hopper(device) => add_device(setup, device),
+        SetupLine::Bills(device) => add_device(setup, device),
         SetupLine::Value {
             addr,
             place,
@@ -51,7 +53,7 @@ fn add_device(setup: &mut Setup, device: &DeviceSetup) -> Result<(), LineKind>
     Ok(())
 }
 
-/// Gives the coin of a place of an acceptor its value and its identification.
+/// Gives a place of an acceptor, of coins or of bills, its value and its identification.
 fn add_value(
     setup: &mut Setup,
     addr: u8,
@@ -75,7 +77,7 @@ fn add_value(
     }
 }
 
-/// Gives the coin of a place of this acceptor its value and its identification.
+/// Gives a place of this acceptor, of coins or of bills, its value and its identification.
 fn give_value(device: &mut DeviceSetup, place: u8, value: u32, id: [u8; 6]) -> Result<(), LineKind>
     requires low { 1 ≤ place }
     requires high { place ≤ COIN_PLACES }
@@ -89,12 +91,7 @@ fn give_value(device: &mut DeviceSetup, place: u8, value: u32, id: [u8; 6]) -> R
             mut values,
             mut ids,
         } => {
-            let at = usize::from(place - 1);
-            if values[at] != 0 {
-                return Err(LineKind::Again);
-            }
-            values[at] = value;
-            ids[at] = id;
+            put_at(place, value, id, &mut values, &mut ids)?;
             device.body = DeviceBody::Acceptor {
                 accepts,
                 values,
@@ -103,7 +100,45 @@ fn give_value(device: &mut DeviceSetup, place: u8, value: u32, id: [u8; 6]) -> R
             Ok(())
         }
         DeviceBody::Hopper { .. } => Err(LineKind::Device),
+        DeviceBody::Bill {
+            accepts,
+            mut values,
+            mut ids,
+        } => {
+            put_at(place, value, id, &mut values, &mut ids)?;
+            device.body = DeviceBody::Bill {
+                accepts,
+                values,
+                ids,
+            };
+            Ok(())
+        }
     }
+}
+
+/// Puts a value and an identification at a place of those of all places, where the place has no value.
+fn put_at(
+    place: u8,
+    value: u32,
+    id: [u8; 6],
+    values: &mut [u32; COIN_PLACES],
+    ids: &mut [[u8; 6]; COIN_PLACES],
+) -> Result<(), LineKind>
+    requires low { 1 ≤ place }
+    requires high { place ≤ COIN_PLACES }
+    ensures { MatchResult result
+        (λ _. (slice_index values.old (place - 1) ≡ 0)
+        × (values.new ≡ slice_set values.old (place - 1) value)
+        × (ids.new ≡ slice_set ids.old (place - 1) id))
+        (λ why. (slice_index values.old (place - 1) ≢ 0) × (why ≡ LineKind.Again)) }
+{
+    let at = usize::from(place - 1);
+    if values[at] != 0 {
+        return Err(LineKind::Again);
+    }
+    values[at] = value;
+    ids[at] = id;
+    Ok(())
 }
 
 /// Gives a device its texts.

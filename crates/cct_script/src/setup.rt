@@ -1,9 +1,12 @@
 //! The setup lines of a script (`docs/SCRIPT.md`).
-ghost use Rattle.std.specs.Prelude.{◌≡◌, ◌≤◌, ◌<◌, ◌^◌, IfOk};
+ghost use Rattle.std.specs.Prelude.{◌≡◌, ◌≤◌, ◌<◌, ◌^◌, ℕ, Some, None, IfOk, IfSome, MatchOption};
 ghost use Rattle.cct_lines.specs.Device.{IsSound, IsSoundBody};
 ghost use Rattle.cct_lines.specs.SetupLine.{IsSetupLine};
-ghost use Rattle.cct_lines.specs.Grammar.{ranged, three_byte_in, plain_texts, plain_acceptor, plain_device};
-ghost use Rattle.cct_lines.specs.Grammar.{acceptor_line, hopper_line, value_line, texts_line, setup_line};
+ghost use Rattle.cct_lines.specs.declared.setup.SetupLine.{SetupLine};
+ghost use Rattle.cct_lines.specs.terms.device.DeviceBody.{DeviceBody};
+ghost use Rattle.cct_lines.specs.terms.device.DeviceSetup.{DeviceSetup};
+ghost use Rattle.cct_lines.specs.Grammar.{ranged, three_byte_in, plain_texts, plain_acceptor, plain_bills, plain_device};
+ghost use Rattle.cct_lines.specs.Grammar.{counting_line, acceptor_line, bills_line, hopper_line, value_line, texts_line, setup_line};
 ghost use Rattle.cct_script.specs.Fields.{Reads, fields_after};
 
 use crate::fields::{alone, first_field, five, four};
@@ -14,6 +17,8 @@ use cct_lines::{COIN_PLACES, CheckKind, DeviceBody, DeviceSetup, LineKind, Setup
 const ACCEPTOR: &[u8] = b"acceptor";
 
 const HOPPER: &[u8] = b"hopper";
+
+const BILLS: &[u8] = b"bills";
 
 const VALUE: &[u8] = b"value";
 
@@ -35,7 +40,7 @@ fn three_byte_in(field: &[u8]) -> Option<u32>
     ranged_u32(0, 16_777_215, field)
 }
 
-/// The value of a coin that a field spells, 1 to 1,000,000.
+/// The value of a coin or a bill that a field spells, 1 to 1,000,000.
 fn worth_in(field: &[u8]) -> Option<u32>
     ensures { Reads result (ranged 1 1000000 field.now) (λ value. (1 ≤ value) × (value ≤ 1000000)) }
 {
@@ -67,6 +72,19 @@ fn plain_acceptor(accepts: u32) -> DeviceBody
     }
 }
 
+/// A bill acceptor of which a script says no more: its places have no values.
+#[tactic(auto, using(cct_lines::proofs::Sound::plain_bills_sound))]
+fn plain_bills(accepts: u32) -> DeviceBody
+    ensures says { result ≡ plain_bills accepts }
+    ensures sound { accepts < 2 ^ 24 → IsSoundBody result }
+{
+    DeviceBody::Bill {
+        accepts,
+        values: [0; COIN_PLACES],
+        ids: [*b"......"; COIN_PLACES],
+    }
+}
+
 /// A device of which a script says no more.
 #[tactic(auto, using(cct_lines::proofs::Sound::plain_device_sound))]
 fn plain_device(addr: u8, kind: CheckKind, serial: u32, body: DeviceBody) -> DeviceSetup
@@ -83,18 +101,59 @@ fn plain_device(addr: u8, kind: CheckKind, serial: u32, body: DeviceBody) -> Dev
     }
 }
 
+/// What the line of a device with an accept counter says, whichever device it is.
+struct Counting {
+    addr: u8,
+    check: CheckKind,
+    serial: u32,
+    accepts: u32,
+}
+
+/// `WORD A CHECK SERIAL ACCEPTS`
+#[tactic(auto, using(crate::proofs::Forms::no_counting))]
+fn counting_line(rest: Option<&[u8]>) -> Option<Counting>
+    ensures says { MatchOption result
+        ((make : DeviceSetup → SetupLine) → (plain : ℕ → DeviceBody) → counting_line make plain (fields_after rest.entry) ≡ None)
+        (λ said. (make : DeviceSetup → SetupLine) → (plain : ℕ → DeviceBody) →
+        counting_line make plain (fields_after rest.entry)
+        ≡ Some (make (plain_device said.addr said.check said.serial (plain said.accepts)))) }
+    ensures ranged { IfSome result (λ said. (2 ≤ said.addr) × (said.serial < 2 ^ 24) × (said.accepts < 2 ^ 24)) }
+{
+    let (addr, check, serial, accepts) = four(rest)?;
+    Some(Counting {
+        addr: address_in(addr)?,
+        check: check_in(check)?,
+        serial: three_byte_in(serial)?,
+        accepts: three_byte_in(accepts)?,
+    })
+}
+
 /// `acceptor A CHECK SERIAL ACCEPTS`
-#[tactic(auto, using(crate::proofs::Forms::no_acceptor))]
 fn acceptor_line(rest: Option<&[u8]>) -> Option<SetupLine>
     ensures { Reads result (acceptor_line (fields_after rest.entry)) IsSetupLine }
 {
-    let (addr, check, serial, accepts) = four(rest)?;
-    let addr = address_in(addr)?;
-    let check = check_in(check)?;
-    let serial = three_byte_in(serial)?;
-    let accepts = three_byte_in(accepts)?;
+    let Counting {
+        addr,
+        check,
+        serial,
+        accepts,
+    } = counting_line(rest)?;
     let body = plain_acceptor(accepts);
     Some(SetupLine::Acceptor(plain_device(addr, check, serial, body)))
+}
+
+/// `bills A CHECK SERIAL ACCEPTS`
+fn bills_line(rest: Option<&[u8]>) -> Option<SetupLine>
+    ensures { Reads result (bills_line (fields_after rest.entry)) IsSetupLine }
+{
+    let Counting {
+        addr,
+        check,
+        serial,
+        accepts,
+    } = counting_line(rest)?;
+    let body = plain_bills(accepts);
+    Some(SetupLine::Bills(plain_device(addr, check, serial, body)))
 }
 
 /// `hopper A CHECK SERIAL LIFE VALUE`
@@ -162,6 +221,7 @@ pub fn read_setup_line(line: &[u8]) -> Result<SetupLine, LineKind>
     match word {
         _ if word == ACCEPTOR => acceptor_line(rest).ok_or(LineKind::Form),
         _ if word == HOPPER => hopper_line(rest).ok_or(LineKind::Form),
+        _ if word == BILLS => bills_line(rest).ok_or(LineKind::Form),
         _ if word == VALUE => value_line(rest).ok_or(LineKind::Form),
         _ if word == TEXTS => texts_line(rest).ok_or(LineKind::Form),
         _ if word == BEGIN => alone(SetupLine::Begin, rest).ok_or(LineKind::Form),

@@ -8,13 +8,16 @@ ghost use Rattle.cct_script.specs.Steps.{ReadsInto, device_step, epoch_step, ord
 
 use crate::fields::first_field;
 use crate::step_fields::{
-    addr, coin_into, crash_into, fault_into, nothing, path_into, pay_into, start_into, vend_into,
+    addr, bill_into, coin_into, crash_into, fault_into, nothing, path_into, pay_into, route_into,
+    start_into, vend_into,
 };
 use cct_lines::{Command, LineKind, Step};
 
 const COIN: &[u8] = b"coin";
 
 const ALIEN: &[u8] = b"alien";
+
+const BILL: &[u8] = b"bill";
 
 const FALL: &[u8] = b"fall";
 
@@ -44,6 +47,8 @@ const SCAN: &[u8] = b"scan";
 
 const PATH: &[u8] = b"path";
 
+const ROUTE: &[u8] = b"route";
+
 const VEND: &[u8] = b"vend";
 
 const CRASH: &[u8] = b"crash";
@@ -52,8 +57,8 @@ const BALANCE: &[u8] = b"balance";
 
 const END: &[u8] = b"end";
 
-/// Puts into `step` what the word of a step line says that is `coin`, `alien`, `fall`, `jam` or `reset`: what happens to
-/// a device; or another word.
+/// Puts into `step` what the word of a step line says that is `coin`, `alien`, `bill`, `fall`, `jam` or `reset`: what
+/// happens to a device; or another word.
 #[tactic(auto, unfolding(crate::specs::Steps::device_step))]
 fn device_step(word: &[u8], rest: Option<&[u8]>, step: &mut Step) -> Result<(), LineKind>
     ensures { ReadsInto result step.new (device_step word.now (fields_after rest.entry)) }
@@ -61,6 +66,7 @@ fn device_step(word: &[u8], rest: Option<&[u8]>, step: &mut Step) -> Result<(), 
     match word {
         _ if word == COIN => coin_into(rest, step).ok_or(LineKind::Form)?,
         _ if word == ALIEN => *step = Step::Alien { addr: addr(rest)? },
+        _ if word == BILL => bill_into(rest, step).ok_or(LineKind::Form)?,
         _ if word == FALL => *step = Step::Fall { addr: addr(rest)? },
         _ if word == JAM => *step = Step::Jam { addr: addr(rest)? },
         _ if word == RESET => *step = Step::Reset { addr: addr(rest)? },
@@ -116,7 +122,7 @@ fn order_step(word: &[u8], rest: Option<&[u8]>, step: &mut Step) -> Result<(), L
     Ok(())
 }
 
-/// Puts into `step` what the word of a step line says that is `path`, `vend`, `crash`, `balance` or `end`: another
+/// Puts into `step` what the word of a step line says that is `path`, `route`, `vend`, `crash`, `balance` or `end`: another
 /// command, a power cut, or what the operator reads; any other word is none.
 #[tactic(auto, unfolding(crate::specs::Steps::other_step))]
 fn other_step(word: &[u8], rest: Option<&[u8]>, step: &mut Step) -> Result<(), LineKind>
@@ -124,6 +130,7 @@ fn other_step(word: &[u8], rest: Option<&[u8]>, step: &mut Step) -> Result<(), L
 {
     match word {
         _ if word == PATH => path_into(rest, step).ok_or(LineKind::Form)?,
+        _ if word == ROUTE => route_into(rest, step).ok_or(LineKind::Form)?,
         _ if word == VEND => vend_into(rest, step).ok_or(LineKind::Form)?,
         _ if word == CRASH => crash_into(rest, step).ok_or(LineKind::Form)?,
         _ if word == BALANCE => {

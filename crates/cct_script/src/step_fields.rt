@@ -1,8 +1,9 @@
 //! What stands after the words of step lines (`docs/SCRIPT.md`), read into the room for a step.
-ghost use Rattle.std.specs.Prelude.{◌≡◌, ◌≤◌, ℕ, Some, None, MatchResult};
+ghost use Rattle.std.specs.Prelude.{◌≡◌, ◌≤◌, ℕ, Some, None, IfSome, MatchOption, MatchResult};
 ghost use Rattle.cct_lines.specs.declared.command.Step.{Step};
-ghost use Rattle.cct_lines.specs.Grammar.{address_in, alone, choice_in, coin_step, step_at, fault_step, start_step};
-ghost use Rattle.cct_lines.specs.Grammar.{pay_step, path_step, vend_step, crash_step};
+ghost use Rattle.cct_lines.specs.declared.command.Step.TheVariants as steps;
+ghost use Rattle.cct_lines.specs.Grammar.{address_in, alone, choice_in, place_step, step_at, fault_step, start_step};
+ghost use Rattle.cct_lines.specs.Grammar.{pay_step, path_step, route_step, vend_step, crash_step};
 ghost use Rattle.cct_lines.specs.Script.{IsInRange};
 ghost use Rattle.cct_script.specs.Fields.{Sets, fields_after};
 ghost use Rattle.cct_script.specs.Steps.{with_bytes};
@@ -11,7 +12,8 @@ use crate::fields::{one, three, two};
 use crate::numbers::{ranged, ranged_u8, ranged_u32};
 use crate::words::{mask_in, piece_into};
 use cct_lines::{
-    COIN_PLACES, Command, CrashAt, LineKind, MOST_HEARD, MOST_SENT, PATHS, Piece, Step, WireFault,
+    COIN_PLACES, Command, CrashAt, LineKind, MOST_HEARD, MOST_SENT, PATHS, Piece, RETURN_CODE,
+    STACK_CODE, Step, WireFault,
 };
 
 const BY_DEVICES: &[u8] = b"devices";
@@ -60,15 +62,35 @@ pub(crate) fn nothing(rest: Option<&[u8]>) -> Result<(), LineKind>
     }
 }
 
-/// `coin A PLACE`
-#[tactic(auto, using(crate::proofs::Forms::no_coin))]
-pub(crate) fn coin_into(rest: Option<&[u8]>, step: &mut Step) -> Option<()>
-    ensures { Sets result step.new (coin_step (fields_after rest.entry)) IsInRange }
+/// `WORD A PLACE`: an address and a place there.
+#[tactic(auto, using(crate::proofs::Forms::no_place))]
+fn place(rest: Option<&[u8]>) -> Option<(u8, u8)>
+    ensures says { MatchOption result
+        ((make : ℕ → ℕ → Step) → place_step make (fields_after rest.entry) ≡ None)
+        (λ at. (make : ℕ → ℕ → Step) → place_step make (fields_after rest.entry) ≡ Some (make at.0 at.1)) }
+    ensures ranged { IfSome result (λ at. (1 ≤ at.1) × (at.1 ≤ COIN_PLACES)) }
 {
     let (addr, place) = two(rest)?;
     let addr = address_in(addr)?;
     let place = ranged_u8(1, COIN_PLACES as u8, place)?;
+    Some((addr, place))
+}
+
+/// `coin A PLACE`
+pub(crate) fn coin_into(rest: Option<&[u8]>, step: &mut Step) -> Option<()>
+    ensures { Sets result step.new (place_step steps.Coin (fields_after rest.entry)) IsInRange }
+{
+    let (addr, place) = place(rest)?;
     *step = Step::Coin { addr, place };
+    Some(())
+}
+
+/// `bill A PLACE`
+pub(crate) fn bill_into(rest: Option<&[u8]>, step: &mut Step) -> Option<()>
+    ensures { Sets result step.new (place_step steps.Bill (fields_after rest.entry)) IsInRange }
+{
+    let (addr, place) = place(rest)?;
+    *step = Step::Bill { addr, place };
     Some(())
 }
 
@@ -137,6 +159,18 @@ pub(crate) fn path_into(rest: Option<&[u8]>, step: &mut Step) -> Option<()>
     let place = ranged_u8(0, COIN_PLACES as u8, place)?;
     let path = ranged_u8(1, PATHS, path)?;
     *step = Step::Command(Command::Path { addr, place, path });
+    Some(())
+}
+
+/// `route A WAY`
+#[tactic(auto, using(crate::proofs::Forms::no_route))]
+pub(crate) fn route_into(rest: Option<&[u8]>, step: &mut Step) -> Option<()>
+    ensures { Sets result step.new (route_step (fields_after rest.entry)) IsInRange }
+{
+    let (addr, way) = two(rest)?;
+    let addr = address_in(addr)?;
+    let way = ranged_u8(RETURN_CODE, STACK_CODE, way)?;
+    *step = Step::Command(Command::Route { addr, way });
     Some(())
 }
 

@@ -80,6 +80,7 @@ fn device_mark(entry: &Entry, line: &[u8]) -> Mark {
                 path: coin.path,
             },
         ),
+        Entry::Held { addr, place } => (*addr, Happening::Held { place: *place }),
         Entry::Inhibited { addr, place } => (*addr, Happening::Inhibited { place: *place }),
         Entry::Alien { addr } => (*addr, Happening::Alien),
         Entry::Fell { addr } => (*addr, Happening::Fell),

@@ -14,6 +14,7 @@ abbrev pub family_told : List ℕ → Option Family
 family_told text =
     if bytes_eq text (codes "Coin Acceptor") then Some family.Acceptor
     else if bytes_eq text (codes "Payout") then Some family.Hopper
+    else if bytes_eq text (codes "Bill Validator") then Some family.Bill
     else None
 
 -- A device is a hopper, and this is another serial number than the setup's.

@@ -1,4 +1,4 @@
--- Two devices of one kind under the CRC.
+-- Two devices under the CRC that have the same replies: both hoppers, or both acceptors, of coins or of bills.
 use Rattle.std.specs.Prelude.{ℕ, ◌&&◌, Bool, true, false, List, [], ◌∷◌, if◌then◌else◌, Option, Some, None}
 use Rattle.cct_terms.specs.declared.wire.CheckKind.{CheckKind}
 use Rattle.cct_terms.specs.declared.wire.CheckKind.TheVariants.{Simple, Crc}
@@ -16,7 +16,7 @@ same true b = b
 same false true = false
 same false false = true
 
--- Two devices are of one kind, and both under the CRC.
+-- Two devices have the same replies, and are both under the CRC.
 abbrev pub are_twins : DeviceSetup → DeviceSetup → Bool
 are_twins d e = is_crc d.kind && is_crc e.kind && same (is_hopper d.body) (is_hopper e.body)
 
@@ -30,7 +30,7 @@ abbrev pub two_or : ℕ → Option ℕ → Option (ℕ × ℕ) → Option (ℕ �
 two_or addr (Some other) rest = Some (addr, other)
 two_or addr None rest = rest
 
--- The addresses of the first two devices of a list that are of one kind, and both under the CRC.
+-- The addresses of the first two devices of a list that have the same replies, and are both under the CRC.
 abbrev pub crc_twins : List DeviceSetup → Option (ℕ × ℕ)
 crc_twins [] = None
 crc_twins (d ∷ devices) = two_or d.addr (twin_of d devices) (crc_twins devices)

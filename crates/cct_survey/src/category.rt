@@ -14,6 +14,9 @@ const ACCEPTOR: &[u8] = b"Coin Acceptor";
 /// The category of a hopper (ccTalk Generic Specification 4, part 3).
 const PAYOUT: &[u8] = b"Payout";
 
+/// The category of a bill acceptor (ccTalk Generic Specification 4, part 3).
+const BILLS: &[u8] = b"Bill Validator";
+
 /// The text by which a device says what it is.
 #[derive(Clone, Debug, Default, Drop, PartialEq, Eq)]
 pub struct Category {
@@ -50,7 +53,8 @@ impl Category {
         self.text.as_slice()
     }
 
-    /// The family that has this category: `Coin Acceptor` or `Payout`, letter by letter. No other text is one of a family.
+    /// The family that has this category: `Coin Acceptor`, `Payout` or `Bill Validator`, letter by letter. No other
+    /// text is one of a family.
     pub fn family(&self) -> Option<Family>
         ensures { result ≡ family_told self.now }
     {
@@ -59,6 +63,8 @@ impl Category {
             Some(Family::Acceptor)
         } else if text == PAYOUT {
             Some(Family::Hopper)
+        } else if text == BILLS {
+            Some(Family::Bill)
         } else {
             None
         }

@@ -3,7 +3,8 @@ ghost use Rattle.std.specs.Prelude.{◌≡◌};
 ghost use Rattle.cct_survey.specs.Asking.{Inquires};
 
 use crate::lines::{
-    note_category, note_hopper, note_silent, put_acceptor, put_begin, put_hopper, put_value,
+    note_bills, note_category, note_hopper, note_silent, put_acceptor, put_begin, put_bills,
+    put_hopper, put_value,
 };
 use crate::question::{category_of, coin_id_of, serial_of};
 use crate::room::Room;
@@ -13,17 +14,14 @@ use cct_lines::{COIN_PLACES, CheckKind, Family};
 use cct_text::TextLine;
 use cct_wire::Link;
 
-/// The last of the addresses that the standard gives to coin acceptors and hoppers, 2 to 17 (ccTalk Generic Specification 4,
-/// part 3, appendix on categories and addresses).
-const LAST_USUAL: u8 = 17;
-
-/// Searches a line for devices, and writes a setup of them: a line for each coin acceptor and each hopper, a `value` line
-/// for each coin whose identification tells its value, and `begin`. What it can't tell goes to `notes`, a line each; and of
+/// Searches a line for devices, and writes a setup of them: a line for each acceptor of coins or bills and each hopper,
+/// a `value` line for each coin whose identification tells its value, and `begin`. What it can't tell goes to `notes`, a line each; and of
 /// a device of another kind, or without a serial number, nothing else is written.
 ///
-/// All devices are polled under both checks. Each address that answers is asked, and beside them 2 to 17, since some devices
-/// don't know that poll. Each message is sent three times at most. A hopper doesn't tell the value of its coins, so 0 stands
-/// there, which is none: nothing reads such a setup before a person has written the value.
+/// All devices are polled under both checks. Each address that answers is asked, and beside them 2 to 17 and 40 to 47, since
+/// some devices don't know that poll. Each message is sent three times at most. A hopper doesn't tell the value of its coins,
+/// so 0 stands there, which is none: nothing reads such a setup before a person has written the value. A bill acceptor isn't
+/// asked for its bills, so they have no `value` lines.
 pub fn draft<L: Link, K: Sink, N: Sink>(
     link: &mut L,
     out: &mut K,
@@ -37,11 +35,17 @@ pub fn draft<L: Link, K: Sink, N: Sink>(
     let heard = addresses_heard(link, &mut room);
     for addr in 2..=255 {
         let was_heard = heard.has(addr);
-        if was_heard || addr <= LAST_USUAL {
+        if was_heard || is_usual(addr) {
             draft_address(addr, was_heard, link, &mut room, &mut line, out, notes)?;
         }
     }
     put_begin(&mut line, out)
+}
+
+/// Whether an address is one of those that the standard gives to coin acceptors and hoppers, up to 17, or to bill acceptors,
+/// 40 to 47 (ccTalk Generic Specification 4, part 3, appendix on categories and addresses).
+fn is_usual(addr: u8) -> bool {
+    matches!(addr, 2..=17 | 40..=47)
 }
 
 /// Writes the lines of the device at an address, if one is there.
@@ -89,6 +93,10 @@ fn draft_device<L: Link, K: Sink, N: Sink>(
         (Some(Family::Hopper), Some(serial)) => {
             put_hopper(kind, addr, serial, line, out)?;
             note_hopper(addr, line, notes)
+        }
+        (Some(Family::Bill), Some(serial)) => {
+            put_bills(kind, addr, serial, line, out)?;
+            note_bills(addr, line, notes)
         }
         _ => note_category(addr, &category, line, notes),
     }

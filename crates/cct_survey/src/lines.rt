@@ -19,7 +19,32 @@ pub(crate) fn put_acceptor<K: Sink>(
     line: &mut TextLine,
     out: &mut K,
 ) -> Result<(), Failed> {
-    begin_device(b"acceptor ", kind, addr, serial, line);
+    put_counting(b"acceptor ", kind, addr, serial, line, out)
+}
+
+/// `bills A CHECK SERIAL 0`
+pub(crate) fn put_bills<K: Sink>(
+    kind: CheckKind,
+    addr: u8,
+    serial: u32,
+    line: &mut TextLine,
+    out: &mut K,
+) -> Result<(), Failed> {
+    put_counting(b"bills ", kind, addr, serial, line, out)
+}
+
+/// The line of a device with an accept counter, at 0.
+fn put_counting<K: Sink>(
+    word: &[u8],
+    kind: CheckKind,
+    addr: u8,
+    serial: u32,
+    line: &mut TextLine,
+    out: &mut K,
+) -> Result<(), Failed>
+    requires { length word.now ≤ 20 }
+{
+    begin_device(word, kind, addr, serial, line);
     line.push(b" 0\n");
     out.put(line.as_slice())
 }
@@ -110,6 +135,21 @@ pub(crate) fn note_hopper<N: Sink>(
         addr,
         b"hopper ",
         b": write the value of its coins for the last 0\n",
+        line,
+        notes,
+    )
+}
+
+/// Notes that the values of the bills of a bill acceptor are to be written.
+pub(crate) fn note_bills<N: Sink>(
+    addr: u8,
+    line: &mut TextLine,
+    notes: &mut N,
+) -> Result<(), Failed> {
+    note(
+        addr,
+        b"bills ",
+        b": write a value line for each of its bills\n",
         line,
         notes,
     )

@@ -10,34 +10,12 @@ ghost use Rattle.cct_survey.specs.Asking.{Asked, Asks, answers_to_all, category_
 
 use crate::category::Category;
 use crate::room::Room;
-use cct_msg::{encode_request, read_reply};
+use cct_msg::{encode_request, wanted_reply};
 use cct_terms::{BROADCAST, CheckKind, Reply, ReplyForm, Request};
-use cct_wire::{Heard, Link, bare_after_echo, hear};
+use cct_wire::{Link, bare_after_echo};
 
 /// How often a question is asked at most.
 pub(crate) const TRIES: u8 = 3;
-
-/// The reply in the form that is wanted from an address under a check, in what was heard after a request.
-#[tactic(auto, unfolding(cct_terms::specs::Exchange::got))]
-fn wanted_reply<'h>(
-    kind: CheckKind,
-    addr: u8,
-    form: ReplyForm,
-    sent: &[u8],
-    heard: &'h [u8],
-) -> Option<Reply<'h>>
-    ensures { option_map reply_shown result ≡ got kind addr form sent.now heard.now }
-{
-    match hear(kind, sent, heard) {
-        Heard::EchoBad { .. } => None,
-        Heard::Silence => None,
-        Heard::Broken(_) => None,
-        Heard::Message(view) => match read_reply(form, addr, &view) {
-            Ok(reply) => Some(reply),
-            Err(_) => None,
-        },
-    }
-}
 
 /// Asks a request of an address until the reply in the form that is wanted is heard, or so many times.
 fn question<L: Link>(

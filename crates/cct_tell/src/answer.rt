@@ -1,6 +1,7 @@
 //! What the host heard.
 
 use crate::asked::{Asked, Message};
+use crate::event::Taker;
 use crate::fault::{Fault, check_name};
 use crate::lists::Addresses;
 use crate::register::Registers;
@@ -29,10 +30,11 @@ pub enum Answer<'e> {
     Addresses(&'e [u8]),
     /// Bytes that are no message under the check of the request.
     Broken(FrameFault),
-    /// The reply that was wanted, NAK or BUSY.
+    /// The reply that was wanted, NAK or BUSY, of a device that takes coins or bills as far as the request tells.
     Reply {
         kind: CheckKind,
         from: u8,
+        taker: Taker,
         reply: Reply<'e>,
     },
     /// A reply to `Test hopper` of two or three registers, which the readers don't know.
@@ -115,7 +117,12 @@ fn reply_answer<'e>(
         Err(NotWanted::Busy) => Reply::Busy,
         Err(NotWanted::Other) => return other_answer(kind, from, request, view),
     };
-    Answer::Reply { kind, from, reply }
+    Answer::Reply {
+        kind,
+        from,
+        taker: Taker::of(request),
+        reply,
+    }
 }
 
 /// The form in which a reply to this request is wanted: an ACK where none is known.
@@ -197,8 +204,13 @@ impl fmt::Display for Answer<'_> {
                 let why = Fault(fault);
                 write!(f, "the host heard no message: {why}")
             }
-            Answer::Reply { kind, from, reply } => {
-                let says = Says(reply);
+            Answer::Reply {
+                kind,
+                from,
+                taker,
+                reply,
+            } => {
+                let says = Says(reply, taker);
                 let check = check_name(kind);
                 write!(f, "{from} to host: {says}; {check} good")
             }

@@ -25,6 +25,10 @@ const NO_ANSWER: &[u8] = b"noanswer";
 
 const TOLD: &[u8] = b"told";
 
+const ROUTED: &[u8] = b"routed";
+
+const ROUTE_UNSURE: &[u8] = b"routeunsure";
+
 const SOLD: &[u8] = b"sold";
 
 const UNQUIET: &[u8] = b"unquiet";
@@ -143,6 +147,8 @@ fn other_end(word: &[u8]) -> Option<End> {
         _ if word == ODD_LIFE => Some(End::OddLife),
         _ if word == NO_ANSWER => Some(End::NoAnswer),
         _ if word == TOLD => Some(End::Told),
+        _ if word == ROUTED => Some(End::Routed),
+        _ if word == ROUTE_UNSURE => Some(End::RouteUnsure),
         _ => None,
     }
 }

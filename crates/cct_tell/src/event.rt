@@ -1,6 +1,7 @@
 //! The events of a credit buffer.
 
 use cct_lines::Pair;
+use cct_msg::Request;
 use std::fmt;
 
 /// The error codes of a coin acceptor and their names, but for 128 to 159 (ccTalk Generic Specification 4, part 3, its
@@ -53,17 +54,47 @@ static ERRORS: [(u8, &str); 44] = [
     (255, "unspecified alarm code"),
 ];
 
-/// An event as people read it: a credit by place and path, an error by its text, or none.
+/// What the device takes whose events are read: the same pair says another thing of a bill than of a coin.
+#[derive(Clone, Copy)]
+pub enum Taker {
+    Coins,
+    Bills,
+}
+
+impl Taker {
+    /// What the device takes to which this request is sent, as far as the request tells: coins where it doesn't.
+    pub(crate) fn of(request: Option<Request>) -> Taker {
+        match request {
+            Some(Request::ReadBills) => Taker::Bills,
+            _ => Taker::Coins,
+        }
+    }
+}
+
+/// An event as people read it: a coin by place and path, a bill by place and where it is, an error by its text, or none.
 #[derive(Drop)]
-pub(crate) struct Event(pub Pair);
+pub(crate) struct Event(pub Pair, pub Taker);
 
 impl fmt::Display for Event {
     fn fmt<W: fmt::Write>(&self, f: &mut fmt::Formatter<W>) -> fmt::Result {
-        match self.0 {
-            Pair { a: 0, b: 0 } => f.write_str("no event"),
-            Pair { a: 0, b: code } => write_error(code, f),
-            Pair { a: place, b: path } => write!(f, "place {place} by path {path}"),
+        match (self.1, self.0) {
+            (_, Pair { a: 0, b: 0 }) => f.write_str("no event"),
+            (Taker::Coins, Pair { a: 0, b: code }) => write_error(code, f),
+            (Taker::Coins, Pair { a: place, b: path }) => write!(f, "place {place} by path {path}"),
+            (Taker::Bills, pair) => write_bill(pair, f),
         }
+    }
+}
+
+/// Writes the event of a bill acceptor (`docs/SCRIPT.md`, "Bill acceptors").
+fn write_bill<W: fmt::Write>(pair: Pair, f: &mut fmt::Formatter<W>) -> fmt::Result {
+    match pair {
+        Pair { a: 0, b: 1 } => f.write_str("a held bill given back"),
+        Pair { a: 0, b: 2 } => f.write_str("a bill not taken in"),
+        Pair { a: 0, b: code } => write!(f, "error {code}"),
+        Pair { a: place, b: 0 } => write!(f, "place {place} stacked"),
+        Pair { a: place, b: 1 } => write!(f, "place {place} held"),
+        Pair { a: place, b: code } => write!(f, "place {place} with {code}"),
     }
 }
 

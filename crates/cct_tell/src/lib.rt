@@ -23,6 +23,7 @@ mod told;
 
 pub use answer::Answer;
 pub use asked::Asked;
+pub use event::Taker;
 pub use exchange::Exchange;
 pub use header::{DeviceKind, kind_for, name_of};
 pub use line::read_line;

@@ -23,6 +23,8 @@ const FAULT: &[u8] = b"fault";
 
 const ACCEPTED: &[u8] = b"accepted";
 
+const HELD: &[u8] = b"held";
+
 const INHIBITED: &[u8] = b"inhibited";
 
 const ALIEN: &[u8] = b"alien";
@@ -125,6 +127,7 @@ fn fault_line(line: &[u8]) -> Option<Entry> {
 fn device_line(word: &[u8], rest: &[&[u8]]) -> Option<Entry> {
     match word {
         _ if word == ACCEPTED => accepted_line(rest),
+        _ if word == HELD => held_line(rest),
         _ if word == INHIBITED => inhibited_line(rest),
         _ if word == ALIEN => Some(Entry::Alien {
             addr: one_byte(rest)?,
@@ -164,6 +167,12 @@ fn accepted_line(rest: &[&[u8]]) -> Option<Entry> {
         addr,
         coin: Coin { place, path },
     })
+}
+
+/// The line `held A PLACE`.
+fn held_line(rest: &[&[u8]]) -> Option<Entry> {
+    let (addr, place) = two_bytes(rest)?;
+    Some(Entry::Held { addr, place })
 }
 
 /// The line `inhibited A PLACE`.

@@ -46,7 +46,7 @@ impl fmt::Display for Addresses<'_> {
     }
 }
 
-/// Coins, each by its place and path, joined by commas.
+/// Coins or bills, each by its place and path, joined by commas.
 #[derive(Drop)]
 pub(crate) struct CoinList<'c>(pub &'c [Coin]);
 
@@ -62,25 +62,25 @@ impl fmt::Display for CoinList<'_> {
     }
 }
 
-/// The coin places of an inhibit mask, those that are to be accepted.
+/// The places of an inhibit mask, of coins or of bills, those that are to be accepted.
 #[derive(Drop)]
 pub(crate) struct Places(pub u16);
 
 impl fmt::Display for Places {
     fn fmt<W: fmt::Write>(&self, f: &mut fmt::Formatter<W>) -> fmt::Result {
         match self.0 {
-            0 => f.write_str("no coin place"),
-            u16::MAX => f.write_str("all 16 coin places"),
+            0 => f.write_str("no place"),
+            u16::MAX => f.write_str("all 16 places"),
             mask => write_places(mask, f),
         }
     }
 }
 
-/// Writes the coin places of a mask, joined by commas.
+/// Writes the places of a mask, joined by commas.
 fn write_places<W: fmt::Write>(mask: u16, f: &mut fmt::Formatter<W>) -> fmt::Result {
     let mut before = match mask.count_ones() {
-        1 => "coin place ",
-        _ => "coin places ",
+        1 => "place ",
+        _ => "places ",
     };
     for place in 1..=COIN_PLACES as u8 {
         if has_place(mask, place) {

@@ -99,7 +99,8 @@ fn write_end<W: fmt::Write>(record: &Record, f: &mut fmt::Formatter<W>) -> fmt::
     }
 }
 
-/// Writes the coins that a record posts, and how many more it tells to be lost, by the accept counter that was read.
+/// Writes the coins or bills that a record posts, and how many more it tells to be lost, by the accept counter that was
+/// read.
 fn write_coins<W: fmt::Write>(
     posted: &Coins,
     accepts: u32,
@@ -115,12 +116,12 @@ fn write_coins<W: fmt::Write>(
     }
 }
 
-/// Writes the coins that a record posts.
+/// Writes the coins or bills that a record posts.
 fn write_posted<W: fmt::Write>(posted: &Coins, f: &mut fmt::Formatter<W>) -> fmt::Result {
     let coins = CoinList(posted.as_slice());
     match posted.as_slice().len() {
-        0 => f.write_str("no coin is posted"),
-        1 => write!(f, "1 coin came in and is posted, {coins}"),
-        count => write!(f, "{count} coins came in and are posted, {coins}"),
+        0 => f.write_str("none is posted"),
+        1 => write!(f, "1 came in and is posted, {coins}"),
+        count => write!(f, "{count} came in and are posted, {coins}"),
     }
 }

@@ -1,7 +1,7 @@
 //! What a reply says.
 
-use crate::event::Event;
-use crate::lists::{Count, Places};
+use crate::event::{Event, Taker};
+use crate::lists::Places;
 use crate::register::Registers;
 use cct_lines::{Credits, EVENTS, Pair};
 use cct_msg::Reply;
@@ -10,9 +10,9 @@ use std::fmt;
 /// An empty place of a credit buffer.
 const NO_EVENT: Pair = Pair { a: 0, b: 0 };
 
-/// A reply as people read it.
+/// A reply as people read it, by what the device that gives it takes.
 #[derive(Drop)]
-pub(crate) struct Says<'r>(pub Reply<'r>);
+pub(crate) struct Says<'r>(pub Reply<'r>, pub Taker);
 
 impl fmt::Display for Says<'_> {
     fn fmt<W: fmt::Write>(&self, f: &mut fmt::Formatter<W>) -> fmt::Result {
@@ -34,36 +34,37 @@ impl fmt::Display for Says<'_> {
             | Reply::Life { .. }
             | Reply::Remaining { .. }
             | Reply::Register { .. } => write_hopper(self.0, f),
+            Reply::Credits(credits) => write_credits(credits, self.1, f),
             _ => write_acceptor(self.0, f),
         }
     }
 }
 
-/// Writes a reply that an acceptor alone gives.
+/// Writes another reply that an acceptor alone gives, of coins or of bills.
 fn write_acceptor<W: fmt::Write>(reply: Reply<'_>, f: &mut fmt::Formatter<W>) -> fmt::Result {
     match reply {
-        Reply::Credits(credits) => write_credits(credits, f),
         Reply::Mask { mask } => {
             let places = Places(mask);
             write!(f, "accepts {places}")
         }
-        Reply::Master { value: 0 } => f.write_str("every coin inhibited"),
+        Reply::Master { value: 0 } => f.write_str("everything inhibited"),
         Reply::Master { .. } => f.write_str("normal operation"),
         Reply::Path { path } => write!(f, "path {path}"),
         Reply::CoinId { id } => {
             let id = id.escape_ascii();
             write!(f, "coin \"{id}\"")
         }
-        Reply::Accepts { count } => {
-            let coins = Count(u64::from(count), "coin");
-            write!(f, "{coins} accepted so far")
-        }
+        Reply::Accepts { count } => write!(f, "{count} accepted so far"),
         _ => Ok(()),
     }
 }
 
 /// Writes an event counter, and after it the events, newest first.
-fn write_credits<W: fmt::Write>(credits: Credits, f: &mut fmt::Formatter<W>) -> fmt::Result {
+fn write_credits<W: fmt::Write>(
+    credits: Credits,
+    taker: Taker,
+    f: &mut fmt::Formatter<W>,
+) -> fmt::Result {
     let counter = credits.counter;
     write!(f, "event counter {counter}")?;
     let count = event_count(&credits.pairs);
@@ -75,7 +76,7 @@ fn write_credits<W: fmt::Write>(credits: Credits, f: &mut fmt::Formatter<W>) -> 
         if index == count {
             break;
         }
-        let event = Event(*pair);
+        let event = Event(*pair, taker);
         write!(f, "{before}{event}")?;
         before = ", ";
     }

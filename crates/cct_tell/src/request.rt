@@ -1,7 +1,7 @@
 //! What a request says after its name.
 
 use crate::lists::{Count, Places};
-use cct_lines::ENABLE_CODE;
+use cct_lines::{ENABLE_CODE, RETURN_CODE, STACK_CODE};
 use cct_msg::Request;
 use std::fmt;
 
@@ -24,7 +24,7 @@ impl fmt::Display for Values<'_> {
     }
 }
 
-/// Writes the values of a request to an acceptor.
+/// Writes the values of a request to an acceptor, of coins or of bills.
 fn write_acceptor<W: fmt::Write>(request: &Request, f: &mut fmt::Formatter<W>) -> fmt::Result {
     match *request {
         Request::SetMask { mask } => {
@@ -32,8 +32,18 @@ fn write_acceptor<W: fmt::Write>(request: &Request, f: &mut fmt::Formatter<W>) -
             write!(f, ": accept {places}")
         }
         Request::SetMaster { value } if value & 1 == 1 => f.write_str(": normal operation"),
-        Request::SetMaster { .. } => f.write_str(": every coin inhibited"),
+        Request::SetMaster { .. } => f.write_str(": everything inhibited"),
+        Request::RouteBill { way } => write_way(way, f),
         _ => write_place(request, f),
+    }
+}
+
+/// Writes where a bill is to go.
+fn write_way<W: fmt::Write>(way: u8, f: &mut fmt::Formatter<W>) -> fmt::Result {
+    match way {
+        STACK_CODE => f.write_str(": into the stacker"),
+        RETURN_CODE => f.write_str(": back out"),
+        _ => write!(f, ": by way {way}"),
     }
 }
 

@@ -2,7 +2,7 @@
 
 use crate::answer::{Answer, REPLY};
 use crate::asked::Asked;
-use crate::event::Event;
+use crate::event::{Event, Taker};
 use crate::fault::Fault;
 use crate::header::name_of;
 use crate::lists::{Addresses, Hex};
@@ -98,7 +98,7 @@ impl fmt::Display for Short<'_> {
                 let addresses = Addresses(addresses);
                 write!(f, "{addresses}")
             }
-            Answer::Reply { reply, .. } => write_short(reply, f),
+            Answer::Reply { taker, reply, .. } => write_short(reply, taker, f),
             Answer::Registers { registers, .. } => {
                 let registers = Registers(registers);
                 write!(f, "{registers}")
@@ -151,22 +151,30 @@ fn write_unwanted<W: fmt::Write>(view: FrameView<'_>, f: &mut fmt::Formatter<W>)
 }
 
 /// Writes a reply that was wanted, but for the refusals.
-fn write_short<W: fmt::Write>(reply: Reply<'_>, f: &mut fmt::Formatter<W>) -> fmt::Result {
+fn write_short<W: fmt::Write>(
+    reply: Reply<'_>,
+    taker: Taker,
+    f: &mut fmt::Formatter<W>,
+) -> fmt::Result {
     match reply {
         Reply::Nak | Reply::Busy => Ok(()),
         Reply::Mask { mask } => write!(f, "mask {mask:04x}"),
-        Reply::Credits(credits) => write_newest(credits, f),
+        Reply::Credits(credits) => write_newest(credits, taker, f),
         _ => {
-            let says = Says(reply);
+            let says = Says(reply, taker);
             write!(f, "{says}")
         }
     }
 }
 
 /// Writes an event counter, and the newest event alone.
-fn write_newest<W: fmt::Write>(credits: Credits, f: &mut fmt::Formatter<W>) -> fmt::Result {
+fn write_newest<W: fmt::Write>(
+    credits: Credits,
+    taker: Taker,
+    f: &mut fmt::Formatter<W>,
+) -> fmt::Result {
     let counter = credits.counter;
     let [newest, ..] = credits.pairs;
-    let event = Event(newest);
+    let event = Event(newest, taker);
     write!(f, "counter {counter}, {event}")
 }

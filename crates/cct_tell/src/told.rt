@@ -83,13 +83,16 @@ pub fn alarm_of(end: End) -> Option<&'static str> {
         ),
         End::Unquiet { .. } => Some("objects fell in after the reset: no epoch began"),
         End::Broke => Some(
-            "the epoch is over; if the record tells coins that are lost, the cash box is to be counted",
+            "the epoch is over; if the record tells that some are lost, the cash box is to be counted",
         ),
         End::Moved => Some(
-            "a coin was accepted while the acceptor was being read, so nothing was put: it is to be read again; after a stop it is inhibited, and its epoch still runs",
+            "the accept counter went on while the acceptor was being read, so nothing was put: it is to be read again; after a stop it is inhibited, and its epoch still runs",
         ),
         End::OddLife => Some(
             "more coins fell than the order has: what the hopper paid is to be counted",
+        ),
+        End::RouteUnsure => Some(
+            "the route was not acknowledged: the bill may be where it was, and a round comes next",
         ),
         End::NoAnswer => Some("three tries in succession got no wanted reply"),
         _ => None,
@@ -133,7 +136,6 @@ fn write_total<W: fmt::Write>(entry: &Entry, f: &mut fmt::Formatter<W>) -> fmt::
             unpaid,
             sold,
         } => {
-            let posted = Count(*posted, "coin");
             let paid = Count(*paid, "coin");
             write!(
                 f,

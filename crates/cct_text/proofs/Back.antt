@@ -189,6 +189,8 @@ command_back (command.Ident addr) rest h =
     let make : ℕ → Option Ordered = λ a. Some (command.Ident a, rest) in one_back make addr
 command_back (command.Path addr place path) rest h =
     let make : ℕ → ℕ → ℕ → Option Ordered = λ a p q. Some (command.Path a p q, rest) in three_back make addr place path
+command_back (command.Route addr way) rest h =
+    let make : ℕ → ℕ → Option Ordered = λ a w. Some (command.Route a w, rest) in two_back make addr way
 command_back (command.Vend id price) rest h =
     let make : ℕ → ℕ → Option Ordered = λ i p. Some (command.Vend i p, rest) in two_back make id price
 
@@ -203,6 +205,7 @@ command_above command.Scan h = (refl, tt)
 command_above (command.Ident addr) h = (refl, (number_field addr, tt))
 command_above (command.Path addr place path) h =
     (refl, (number_field addr, (number_field place, (number_field path, tt))))
+command_above (command.Route addr way) h = (refl, (number_field addr, (number_field way, tt)))
 command_above (command.Vend id price) h = (refl, (number_field id, (number_field price, tt)))
 
 -- reasons

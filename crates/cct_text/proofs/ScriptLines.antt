@@ -6,6 +6,7 @@ use Rattle.std.specs.Option.{ok_or}
 use Rattle.std.proofs.lemmas.Bool.Decides.{nat_tests}
 use Rattle.hex.proofs.HexLemmas.{decode_of-encode_lower}
 use Rattle.cct_terms.specs.declared.coin.TheConstants.{COIN_PLACES, PATHS}
+use Rattle.cct_terms.specs.declared.request.TheConstants.{RETURN_CODE, STACK_CODE}
 use Rattle.cct_lines.specs.declared.command.Command.{Command}
 use Rattle.cct_lines.specs.declared.command.Command.TheVariants as command
 use Rattle.cct_lines.specs.declared.command.Step.{Step}
@@ -134,6 +135,9 @@ fields_give (command.Path addr place path) h r =
     let at_place = range_spelt 0 COIN_PLACES place (omega arith) r.0 in
     let by_path = range_spelt 1 PATHS path r.1 r.2 in
     rw (address_spelt addr h.0, at_place, by_path) refl
+fields_give (command.Route addr way) h r =
+    let by_way = range_spelt RETURN_CODE STACK_CODE way (omega arith) r in
+    rw (address_spelt addr h.0, by_way) refl
 fields_give (command.Vend id price) h r =
     let number = range_spelt 1 4294967295 id r.0 (omega (arith, h.0)) in
     let worth = range_spelt 1 1000000000 price r.1 r.2 in
@@ -176,4 +180,5 @@ taken_is command.Scan = refl
 taken_is (command.Ident addr) = word_before (codes "ok") (codes "ident") (number_text addr ∷ [])
 taken_is (command.Path addr place path) =
     word_before (codes "ok") (codes "path") (number_text addr ∷ number_text place ∷ number_text path ∷ [])
+taken_is (command.Route addr way) = word_before (codes "ok") (codes "route") (number_text addr ∷ number_text way ∷ [])
 taken_is (command.Vend id price) = word_before (codes "ok") (codes "vend") (number_text id ∷ number_text price ∷ [])

@@ -34,6 +34,8 @@ end_back addr (end_of.Listed listed) h =
 end_back addr end_of.Told h = one_back (λ a. Some (entry.Ended a end_of.Told)) addr
 end_back addr (end_of.PathSet place path) h =
     three_back (λ a p q. Some (entry.Ended a (end_of.PathSet p q))) addr place path
+end_back addr end_of.Routed h = one_back (λ a. Some (entry.Ended a end_of.Routed)) addr
+end_back addr end_of.RouteUnsure h = one_back (λ a. Some (entry.Ended a end_of.RouteUnsure)) addr
 end_back addr end_of.Sold h = ap (λ a. Some (entry.Ended a end_of.Sold)) (sym h)
 
 end_above : (addr : ℕ) (end : End) → IsEnd addr end → EachAbove 32 (end_fields addr end)
@@ -52,12 +54,15 @@ end_above addr (end_of.Listed listed) h = (refl, (listed_field_above listed, tt)
 end_above addr end_of.Told h = (refl, (number_field addr, tt))
 end_above addr (end_of.PathSet place path) h =
     (refl, (number_field addr, (number_field place, (number_field path, tt))))
+end_above addr end_of.Routed h = (refl, (number_field addr, tt))
+end_above addr end_of.RouteUnsure h = (refl, (number_field addr, tt))
 end_above addr end_of.Sold h = (refl, tt)
 
 -- entries
 pub entry_back : (e : Entry) → IsWritten e → read_fields (fields_of e) ≡ Some e
 entry_back (entry.Accepted addr coin) h =
     three_back (λ a p q. Some (entry.Accepted a (record { place = p; path = q }))) addr coin.place coin.path
+entry_back (entry.Held addr place) h = two_back (λ a p. Some (entry.Held a p)) addr place
 entry_back (entry.Inhibited addr place) h = two_back (λ a p. Some (entry.Inhibited a p)) addr place
 entry_back (entry.Alien addr) h = one_back (λ a. Some (entry.Alien a)) addr
 entry_back (entry.Fell addr) h = one_back (λ a. Some (entry.Fell a)) addr
@@ -111,6 +116,7 @@ entry_back (entry.Sum what amount) h = absurd h
 entry_above : (e : Entry) → IsWritten e → EachAbove 32 (fields_of e)
 entry_above (entry.Accepted addr coin) h =
     (refl, (number_field addr, (number_field coin.place, (number_field coin.path, tt))))
+entry_above (entry.Held addr place) h = (refl, (number_field addr, (number_field place, tt)))
 entry_above (entry.Inhibited addr place) h = (refl, (number_field addr, (number_field place, tt)))
 entry_above (entry.Alien addr) h = (refl, (number_field addr, tt))
 entry_above (entry.Fell addr) h = (refl, (number_field addr, tt))

@@ -195,6 +195,7 @@ command_by word rest =
     else if bytes_eq word (codes "scan") then Some (command.Scan, rest)
     else if bytes_eq word (codes "ident") then by_one command.Ident rest
     else if bytes_eq word (codes "path") then by_three command.Path rest
+    else if bytes_eq word (codes "route") then by_two command.Route rest
     else if bytes_eq word (codes "vend") then by_two command.Vend rest
     else None
 
@@ -312,6 +313,7 @@ listed_by _ = None
 abbrev pub device_entry : List ℕ → List (List ℕ) → Option Entry
 device_entry word rest =
     if bytes_eq word (codes "accepted") then of_three (λ addr place path. entry.Accepted addr (record { place = place; path = path })) rest
+    else if bytes_eq word (codes "held") then of_two entry.Held rest
     else if bytes_eq word (codes "inhibited") then of_two entry.Inhibited rest
     else if bytes_eq word (codes "alien") then of_one entry.Alien rest
     else if bytes_eq word (codes "fell") then of_one entry.Fell rest
@@ -354,6 +356,8 @@ end_entry word rest =
     else if bytes_eq word (codes "listed") then listed_by rest
     else if bytes_eq word (codes "told") then of_one (λ addr. entry.Ended addr end_of.Told) rest
     else if bytes_eq word (codes "pathset") then of_three (λ addr place path. entry.Ended addr (end_of.PathSet place path)) rest
+    else if bytes_eq word (codes "routed") then of_one (λ addr. entry.Ended addr end_of.Routed) rest
+    else if bytes_eq word (codes "routeunsure") then of_one (λ addr. entry.Ended addr end_of.RouteUnsure) rest
     else if bytes_eq word (codes "sold") then of_none (entry.Ended 1 end_of.Sold) rest
     else None
 

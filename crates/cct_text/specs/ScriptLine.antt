@@ -28,4 +28,5 @@ IsTyped (command.Halt addr) = IsByte addr
 IsTyped command.Scan = ⊤
 IsTyped (command.Ident addr) = IsByte addr
 IsTyped (command.Path addr place path) = IsByte addr × IsByte place × IsByte path
+IsTyped (command.Route addr way) = IsByte addr × IsByte way
 IsTyped (command.Vend id price) = IsWord id × IsWord price

@@ -5,7 +5,7 @@ ghost use Rattle.cct_lines.specs.Text.{command_fields, reason_fields, fields_of}
 ghost use Rattle.cct_text.specs.Joined.{each_after};
 ghost use Rattle.cct_text.specs.Adding.{Adds, HasFields};
 
-use crate::fields::{write_address, write_mask, write_numbers, write_piece};
+use crate::fields::{write_address, write_mask, write_numbers, write_pair, write_piece};
 use crate::text::TextLine;
 use cct_lines::{Command, CommandNo, MOST_TEXT, WireFault};
 
@@ -32,6 +32,7 @@ pub(crate) fn write_command(line: &mut TextLine, command: &Command)
             b" path",
             &[u64::from(*addr), u64::from(*place), u64::from(*path)],
         ),
+        Command::Route { addr, way } => write_pair(line, b" route", *addr, *way),
         Command::Vend { id, price } => {
             write_numbers(line, b" vend", &[u64::from(*id), u64::from(*price)]);
         }

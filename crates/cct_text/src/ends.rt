@@ -34,6 +34,8 @@ pub(crate) fn write_end(line: &mut TextLine, addr: u8, end: &End)
             write_pair(line, b"pathset", addr, *place);
             write_number(line, u64::from(*path));
         }
+        End::Routed => write_address(line, b"routed", addr),
+        End::RouteUnsure => write_address(line, b"routeunsure", addr),
         End::Sold => line.push(b"sold"),
     }
 }

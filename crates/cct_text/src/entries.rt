@@ -33,6 +33,7 @@ fn write_fields(line: &mut TextLine, entry: &Entry)
 {
     match entry {
         Entry::Accepted { addr, coin } => write_accepted(line, *addr, *coin),
+        Entry::Held { addr, place } => write_pair(line, b"held", *addr, *place),
         Entry::Inhibited { addr, place } => write_pair(line, b"inhibited", *addr, *place),
         Entry::Alien { addr } => write_address(line, b"alien", *addr),
         Entry::Fell { addr } => write_address(line, b"fell", *addr),

@@ -13,6 +13,11 @@ unfolding added
 returns-in-Hopper-clause-sound c =
     kept_sound _ _ (says.Hopper c.in-Hopper.device) _ (rw c.in-Hopper.is at c.requires) c.add_device-in-Hopper.ensures
 
+pub returns-in-Bills-clause-sound : goal.returns-in-Bills-clause-sound
+unfolding added
+returns-in-Bills-clause-sound c =
+    kept_sound _ _ (says.Bills c.in-Bills.device) _ (rw c.in-Bills.is at c.requires) c.add_device-in-Bills.ensures
+
 pub returns-in-Value-clause-sound : goal.returns-in-Value-clause-sound
 unfolding added
 returns-in-Value-clause-sound c =
