@@ -8,7 +8,7 @@ from wire import CHECKS, HOST, POLLS, SIZES, hexed, is_message, spell
 # one address of the plan; the other words in capitals are fields, drawn as FIELDS says. `put A` is a `next A` that puts a
 # record if all goes well: power cuts come there. A new word has a row here, and its step in judge.py.
 PLANS = (
-    (8, 'acceptor', 'start A MASK, 3* next A, put A, next A'),
+    (8, 'taker', 'start A MASK, 3* next A, put A, next A'),
     (16, 'acceptor', '?* coin A PLACE, round A, 4* next A, put A'),
     (8, 'acceptor', 'round A, 4* next A, put A'),
     # A coin comes within a round.
@@ -24,6 +24,21 @@ PLANS = (
     (2, 'acceptor', 'reset A, round A, 4* next A, put A, start A MASK, 3* next A, put A, next A'),
     (1, 'acceptor', 'round A, 2* next A, reset A, 2* next A, put A, start A MASK, 3* next A, put A, next A'),
     (2, 'acceptor', 'path A WAY PATH, 2* next A'),
+    # Of three bills one is held, and stacked or given back.
+    (16, 'bills', '3* bill A PLACE, round A, 4* next A, put A, route A TO, next A, round A, 4* next A, put A'),
+    (8, 'bills', 'bill A PLACE, route A TO, next A, bill A PLACE, route A TO, next A'),
+    (3, 'bills', 'bill A PLACE, route A TO, route A TO, next A, route A TO, next A'),
+    (8, 'bills', 'round A, 4* next A, put A'),
+    (6, 'bills', '?* bill A PLACE'),
+    # A bill is put in within a round.
+    (3, 'bills', 'round A, next A, ?* bill A PLACE, 2* next A, bill A PLACE, next A, put A, route A TO, next A'),
+    # The event counter goes round, in some readings.
+    (0.4, 'bills', '124* bill A PLACE, route A TO, next A, round A, 4* next A, put A, bill A PLACE, route A TO, next A, '
+                   'round A, 4* next A, put A, bill A PLACE, route A TO, next A, round A, 4* next A, put A'),
+    (3, 'bills', 'bill A PLACE, stop A, 5* next A, route A TO, next A, 2* put A, start A MASK, 3* next A, put A, next A'),
+    (2, 'bills', 'bill A PLACE, reset A, route A TO, next A, round A, 4* next A, put A, '
+                 'start A MASK, 3* next A, put A, next A'),
+    (1, 'bills', 'bill A PLACE, round A, 2* next A, reset A, 2* next A, put A, start A MASK, 3* next A, put A, next A'),
     (14, 'hopper', 'pay A ID COUNT, 2* next A, put A, next A, ?* fall A, 2* next A, put A'),
     (3, 'hopper', 'pay A ID COUNT, 2* next A, put A, next A, fall A, halt A, 3* next A, put A'),
     (3, 'hopper', 'pay A ID COUNT, 2* next A, put A, next A, fall A, jam A, 2* next A, put A'),
@@ -50,15 +65,18 @@ PLANS = (
     (1, 'any', 'halt A'),
     (1, 'any', 'ident A'),
     (1, 'any', 'path A WAY PATH'),
+    (1, 'any', 'route A TO'),
 )
-# The plan of each acceptor with which a script begins.
-FIRST = 'start A MASK, 5* next A, 5* coin A PLACE, round A, 5* next A'
+# The plan with which a script begins, at each device that takes money.
+FIRST = {'acceptor': 'start A MASK, 5* next A, 5* coin A PLACE, round A, 5* next A',
+         'bills': 'start A MASK, 5* next A, 5* bill A PLACE, route A TO, next A, round A, 5* next A'}
 # How each field is drawn, by a Drawer for an address.
 FIELDS = {
     'A': lambda drawer, addr: addr,
     'PLACE': lambda drawer, addr: drawer.rng.randint(1, 16),
     'WAY': lambda drawer, addr: drawer.rng.randint(0, 16),
     'PATH': lambda drawer, addr: drawer.rng.randint(1, 8),
+    'TO': lambda drawer, addr: drawer.rng.choice((0, 1, 1, 1)),
     'MASK': lambda drawer, addr: drawer.mask(addr),
     'ID': lambda drawer, addr: drawer.next_id(),
     'COUNT': lambda drawer, addr: drawer.rng.choice((1, 1, 1, 2, 2, 2, 2, 3, 3, 3, 4, 4, 5, 6, 255)),
@@ -78,16 +96,21 @@ SPOILED = 0.15
 REFUSED = (
     ('', 'word'), ('begin', 'word'), ('COIN 2 5', 'word'), ('hopper 3 simple 1 0 10', 'word'), ('crashes 0', 'word'),
     ('coin 2 17', 'form'), ('coin 02 5', 'form'), ('coin  2 5', 'form'), ('next 256', 'form'), ('start 2 0000', 'form'),
-    ('fault host 0', 'form'), ('fault devices ' + 261 * '55', 'form'), ('fault whole ' + 521 * '55', 'form'),
+    ('bill 2 17', 'form'), ('route 2 2', 'form'), ('fault host 0', 'form'), ('fault devices ' + 261 * '55', 'form'),
+    ('fault whole ' + 521 * '55', 'form'),
     ('fault clear', 'form'), ('pay 3 0 1', 'form'), ('pay 3 1 256', 'form'), ('vend 1 0', 'form'), ('crash 2 5 0', 'form'),
     ('crash 18446744073709551616', 'form'), ('balance 2', 'form'), ('end ', 'form'), ('coin 1 5', 'device'),
-    ('fall 0', 'device'), ('jam 1', 'device'), ('reset 1', 'device'), ('alien 0', 'device'), (1201 * 'x', 'long'))
+    ('bill 1 5', 'device'), ('fall 0', 'device'), ('jam 1', 'device'), ('reset 1', 'device'), ('alien 0', 'device'), (1201 * 'x', 'long'))
 # Requests whose exchanges are damaged or forged, header and data: those of the host to each kind of device, and those that
 # change it.
 ASKED = {'acceptor': ((1, ''), (225, ''), (229, ''), (230, ''), (225, ''), (229, ''), (230, ''), (228, '00'), (231, '0100')),
+         'bills': ((1, ''), (225, ''), (159, ''), (230, ''), (154, '01'), (154, '00'), (228, '00'), (231, '0100')),
          'hopper': ((164, 'a5'), (168, ''), (166, ''), (168, ''), (166, ''), (172, ''), (163, ''), (254, ''))}
 CHANGING = {'acceptor': ((1, ''), (231, 'ffff'), (231, '0000'), (228, '00'), (228, '01'), (189, '03'), (210, '0102')),
+            'bills': ((1, ''), (231, 'ffff'), (231, '0000'), (228, '00'), (228, '01'), (154, '00'), (154, '01')),
             'hopper': ((1, ''), (164, 'a5'), (164, '00'), (172, ''), (167, '01020303'))}
+# The kinds by their letters.
+KINDS = {'a': 'acceptor', 'b': 'bills', 'h': 'hopper'}
 
 
 class Drawer:
@@ -109,14 +132,14 @@ class Drawer:
 
     def draw_setup(self):
         """One to six devices, mostly at low addresses, with their values and texts."""
-        for letter in self.rng.choice(('a', 'h', 'ah', 'ah', 'ah', 'aah', 'aahh', 'aahh', 'aaahhh')):
-            kind = 'acceptor' if letter == 'a' else 'hopper'
+        for letter in self.rng.choice(('a', 'b', 'h', 'ah', 'ah', 'bh', 'bh', 'abh', 'aahh', 'abbhh', 'aabbhh')):
+            kind = KINDS[letter]
             addr = self.rng.choice([addr for addr in (*range(2, 12), 151, 159, 254, 255) if addr not in self.devices])
             self.devices[addr] = kind, self.rng.choice(CHECKS)
             serial, count = self.rng.choice((0, 197121, 16777215)), self.rng.choice((0, 100, 16777214))
             value = f' {self.rng.choice((1, 1, 10, 10, 10, 50, 1000000))}' if kind == 'hopper' else ''
             self.setup.append(f'{kind} {addr} {self.devices[addr][1]} {serial} {count}{value}')
-            rate = self.rng.choice((0.7, 1, 1)) if kind == 'acceptor' else 0
+            rate = self.rng.choice((0.7, 1, 1)) if kind in FIRST else 0
             self.setup += [f'value {addr} {place} {self.rng.choice((5, 10, 100, 200, 1000000))} {self.text(6, 6)}'
                            for place in range(1, 17) if self.chance(rate)]
             if self.chance(0.3):
@@ -129,8 +152,9 @@ class Drawer:
     def draw_steps(self, wanted):
         """So many lines of plans. Up to four plans are under way at a time, mostly at most one with a job at an address."""
         steps, under_way, most = [], [], self.rng.randint(1, 4)
-        for addr in self.those('acceptor'):
-            steps += self.lines(addr, FIRST)
+        for kind, plan in FIRST.items():
+            for addr in self.those(kind):
+                steps += self.lines(addr, plan)
         while len(steps) < wanted:
             addr, lines = self.plan()
             jobs = [there for there, left in under_way if f'next {there}' in left]
@@ -145,14 +169,14 @@ class Drawer:
                     under_way.remove(plan)
         return steps + ['end']
 
-    def those(self, kind):
-        """The addresses of one kind of devices."""
-        return [addr for addr in self.devices if self.devices[addr][0] == kind]
+    def those(self, *kinds):
+        """The addresses of the devices of some kinds."""
+        return [addr for addr in self.devices if self.devices[addr][0] in kinds]
 
     def plan(self):
         """A plan, as its address and its lines. Now and then a fault comes before an attempt, or a power cut in its place."""
-        there = {'acceptor': self.those('acceptor'), 'hopper': self.those('hopper'), 'device': list(self.devices),
-                 'all': [0], 'sale': [1], 'any': [0, 1, 7, 9, *self.devices]}
+        there = {**{kind: self.those(kind) for kind in KINDS.values()}, 'taker': self.those(*FIRST),
+                 'device': list(self.devices), 'all': [0], 'sale': [1], 'any': [0, 1, 7, 9, *self.devices]}
         rows = [row for row in PLANS if there[row[1]]]
         _, where, text = self.rng.choices(rows, [weight for weight, _, _ in rows])[0]
         addr = self.rng.choice(there[where])

@@ -14,8 +14,12 @@ def expect(holds, why):
 
 # ---- The records
 
+# By each kind of device that takes money, the request for its last events.
+READS = {'acceptor': 229, 'bills': 159}
+
+
 class Device:
-    """A device of the setup: its kind, its check, its serial number, and what its coins are worth."""
+    """A device of the setup: its kind, its check, its serial number, and what its coins or bills are worth."""
 
     def __init__(self, kind, check, serial, start, value='0'):
         self.kind, self.check, self.serial, self.value, self.values = kind, check, int(serial), int(value), {}
@@ -200,6 +204,14 @@ class Job:
         if not marked and isinstance(self.row, Ask) and self.row.header == 166:
             self.go(Halt())
 
+    def events(self):
+        """The event counter and the last five pairs. A pair (a, 1) of a bill acceptor is no money yet: its bill is held."""
+        told = yield from self.asks(READS[self.device.kind])
+        if self.device.kind == 'bills':
+            pairs = [told[at:at + 2] for at in range(1, 11, 2)]
+            told = told[:1] + b''.join(b'\0\1' if pair[1] == 1 else pair for pair in pairs)
+        return told
+
     def asks(self, header, data=b''):
         return tried(self.device.check, self.addr, header, data)
 
@@ -208,7 +220,7 @@ class Job:
 
     def start(self, a, mask):
         yield from self.asks(1)
-        credits = yield from self.asks(229)
+        credits = yield from self.events()
         if credits[0]:
             return f'unquiet {a} {credits[0]}'
         accepts = number((yield from self.asks(225)))
@@ -218,7 +230,7 @@ class Job:
 
     def reading(self):
         before = number((yield from self.asks(225)))
-        credits = yield from self.asks(229)
+        credits = yield from self.events()
         seen = number((yield from self.asks(230)))
         now = number((yield from self.asks(225)))
         return judged(self.addr, self.books.epochs[self.addr], before, credits, seen, now)
@@ -243,6 +255,10 @@ class Job:
                 return f'broke {a}'
         yield f'epochend {a}'
         return f'stopped {a}'
+
+    def route(self, a, way):
+        heard = yield from self.once(154, bytes([int(way)]))
+        return f'routeunsure {a}' if heard is None else f'routed {a}'
 
     def pay(self, a, order, count):
         self.id, self.reserved = int(order), int(count) * self.device.value
@@ -281,10 +297,10 @@ class Job:
         return 'sold'
 
     def ident(self, a):
-        is_hopper = self.device.kind == 'hopper'
-        for header in (246, 245, 244, 242, 241, 192, 4) + ((163,) if is_hopper else (227, 188, 225)):
+        own = {'hopper': (163,), 'bills': (227, 225), 'acceptor': (227, 188, 225)}
+        for header in (246, 245, 244, 242, 241, 192, 4) + own[self.device.kind]:
             yield from self.asks(header)
-        for place in () if is_hopper else range(1, 17):
+        for place in range(1, 17) if self.device.kind == 'acceptor' else ():
             yield from self.asks(184, bytes([place]))
         return f'told {a}'
 

@@ -1,17 +1,18 @@
 """Judges what the program wrote and reported. The Laws are the promises of README.md, read off the lines alone; the Judge
 holds each line against its step, and those of the host against what it does (host.py)."""
-from host import Ask, Books, Device, Job, Wrong, expect, places_of
+from host import READS, Ask, Books, Device, Job, Wrong, expect, places_of
 from wire import hexed, is_forged
 
 
 # ---- The promises
 
 class Track:
-    """What came to a device. Of an acceptor: its accepted coins; how many of them there were at its last readings; how many
-    coins its last item counts; whether the mask of its epoch is set. Of a hopper: its order, and what fell for it."""
+    """What came to a device. Of an acceptor: its accepted coins or stacked bills, and the place of a bill that it holds; how
+    many coins there were at its last readings; how many coins its last item counts; whether the mask of its epoch is set. Of
+    a hopper: its order, and what fell for it."""
 
     def __init__(self):
-        self.coins, self.mark, self.is_set = [], 0, False
+        self.coins, self.mark, self.is_set, self.held = [], 0, False, None
         self.at_count, self.at_count_before, self.at_credits, self.at_mask = 0, 0, 0, 0
         self.order, self.count, self.dispensed, self.fell = None, 0, False, 0
 
@@ -35,6 +36,24 @@ class Laws:
             track.coins.append(coin)
             self.holds(track.is_set, 'a coin is accepted, though no epoch set its mask since the reset')
 
+    def bill(self, addr, place, is_held):
+        """A bill was put in. At most one is held at a time, and none without an epoch."""
+        track = self.at(addr)
+        if is_held:
+            self.holds(track.is_set and not track.held, 'a bill is held, though no epoch runs or another bill is held')
+            track.held = place
+
+    def route(self, addr, way):
+        """A bill that is held is stacked, or given back."""
+        track = self.at(addr)
+        if way and track.held:
+            self.object(addr, f'{track.held}/0')
+        track.held = None
+
+    def reset(self, addr):
+        """A reset clears the mask, and gives a held bill back."""
+        self.at(addr).is_set, self.at(addr).held = False, None
+
     def fell(self, addr):
         self.at(addr).fell += 1
         self.holds(self.at(addr).order and self.at(addr).fell <= self.at(addr).count, 'a coin falls for no open order')
@@ -44,12 +63,17 @@ class Laws:
         track = self.at(ask.addr)
         if ask.header == 225 and data is not None:
             track.at_count = len(track.coins)
-        if ask.header == 229 and data is not None:
+        if ask.header in READS.values() and data is not None:
             track.at_credits, track.at_count_before = len(track.coins), track.at_count
         if ask.header == 230 and data is not None:
             track.at_mask = len(track.coins)
         if ask.header == 231 and arrived:
             track.is_set = True
+        if ask.header == 154 and arrived:
+            self.holds(data is None or track.held, 'a bill is routed, though none is held')
+            self.route(ask.addr, ask.data[0])
+        if ask.header == 1 and arrived:
+            self.reset(ask.addr)
         if ask.header == 167:
             expect(track.order and not track.dispensed, 'a dispense is sent twice, or without an open order')
             expect(ask.data[3] == track.count, 'a dispense has another count than its order')
@@ -138,6 +162,9 @@ class Judge:
     def step_acceptor(self, addr, *fields):
         self.books.devices[int(addr)] = Device('acceptor', *fields)
 
+    def step_bills(self, addr, *fields):
+        self.books.devices[int(addr)] = Device('bills', *fields)
+
     def step_hopper(self, addr, *fields):
         self.books.devices[int(addr)] = Device('hopper', *fields)
 
@@ -153,6 +180,10 @@ class Judge:
         line = self.wants(f'inhibited {addr} {place}', *(f'accepted {addr} {place} {path}' for path in range(1, 9)))
         self.laws.object(addr, '/'.join(line.split(' ')[2:]) if line.startswith('accepted') else None)
 
+    def step_bill(self, addr, place):
+        line = self.wants(f'held {addr} {place}', f'inhibited {addr} {place}')
+        self.laws.bill(addr, place, line.startswith('held'))
+
     def step_alien(self, addr):
         self.wants(f'alien {addr}')
         self.laws.object(addr, None)
@@ -166,7 +197,7 @@ class Judge:
 
     def step_reset(self, addr):
         self.wants(f'reset {addr}')
-        self.laws.at(addr).is_set = False
+        self.laws.reset(addr)
 
     def step_fault(self, where, piece):
         self.wants(f'fault {where} {piece.lower()}')
@@ -197,12 +228,13 @@ class Judge:
 
     def reason_of_device(self, addr, word):
         """Why a command is refused whatever was done so far, or None."""
-        kinds = {'pay': 'hopper', 'settle': 'hopper', 'halt': 'hopper', 'start': 'acceptor', 'round': 'acceptor',
-                 'stop': 'acceptor', 'path': 'acceptor', 'ident': ''}
+        hoppers, takers = ('hopper',), tuple(READS)
+        kinds = {'pay': hoppers, 'settle': hoppers, 'halt': hoppers, 'start': takers, 'round': takers, 'stop': takers,
+                 'path': ('acceptor',), 'route': ('bills',), 'ident': hoppers + takers}
         device = self.books.devices.get(addr)
         if word not in kinds:
             return None
-        return 'nodevice' if device is None else 'wrongkind' if kinds[word] not in ('', device.kind) else None
+        return 'nodevice' if device is None else 'wrongkind' if device.kind not in kinds[word] else None
 
     def reason(self, addr, word, *fields):
         """Why a command is refused by what was done so far, or None."""
@@ -214,7 +246,7 @@ class Judge:
         if word == 'start':
             bare = [place for place in places_of(fields[1]) if place not in self.books.devices[addr].values]
             return 'epochruns' if epoch else f'novalue {bare[0]}' if bare else None
-        if word in ('round', 'stop'):
+        if word in ('round', 'stop', 'route'):
             return None if epoch else 'noepoch'
         if word == 'settle':
             return None if order else 'noorder'
@@ -289,7 +321,7 @@ class Judge:
             self.take_in(job.row)
 
 
-for WORD in ('round', 'stop', 'pay', 'settle', 'halt', 'vend', 'ident', 'path', 'scan'):
+for WORD in ('round', 'stop', 'route', 'pay', 'settle', 'halt', 'vend', 'ident', 'path', 'scan'):
     setattr(Judge, 'step_' + WORD, lambda self, *fields, word=WORD: self.command(word, *fields))
 
 

@@ -4,7 +4,8 @@ CHECKS = ('simple', 'crc')
 HOST = 1
 # The sizes of the data of the wanted reply to each header that the host sends; None is any, for a text.
 SIZES = {254: 0, 246: None, 245: None, 244: None, 242: 3, 241: None, 192: None, 4: 3, 1: 0, 231: 0, 230: 2, 229: 11, 228: 0,
-         227: 1, 225: 3, 210: 0, 209: 1, 189: 0, 188: 1, 184: 6, 172: 1, 168: 3, 167: 0, 166: 4, 164: 0, 163: 1}
+         227: 1, 225: 3, 210: 0, 209: 1, 189: 0, 188: 1, 184: 6, 172: 1, 168: 3, 167: 0, 166: 4, 164: 0, 163: 1,
+         159: 11, 154: 0}
 
 
 def crc16(data):

@@ -82,8 +82,9 @@ fn picture_of_all_bytes(alloc: Global) -> Result<Picture, AllocError> {
     Ok(picture)
 }
 
-/// A picture with the signs of one coin that came in, of a break, and of two coins that went out.
-fn picture_of_three_coins(alloc: Global) -> Result<Picture, AllocError> {
+/// A picture with the signs of one coin that came in, of a break, of a bill that is held and one that was given back, and of
+/// two coins that went out.
+fn picture_of_coins_and_bills(alloc: Global) -> Result<Picture, AllocError> {
     let mut posted = Coins::new();
     posted.push(Coin { place: 5, path: 1 });
     let marks = [
@@ -115,6 +116,14 @@ fn picture_of_three_coins(alloc: Global) -> Result<Picture, AllocError> {
         Mark::Fault {
             at: FaultAt::Devices,
             bytes: Label::new(b"-"),
+        },
+        Mark::Happened {
+            addr: 41,
+            what: Happening::Held { place: 1 },
+        },
+        Mark::Happened {
+            addr: 41,
+            what: Happening::Inhibited { place: 2 },
         },
         Mark::Happened {
             addr: 40,
@@ -223,8 +232,10 @@ fn has_texts(alloc: Global, picture: &Picture, texts: &[&[u8]]) -> Result<bool, 
 #[test]
 fn a_picture_says_what_its_marks_are(rt: HostRuntime) -> Result<(), Fail> {
     let alloc = rt.alloc();
-    let wanted: [&[u8]; 9] = [
+    let wanted: [&[u8]; 12] = [
         b">coin in: place 5, path 1<",
+        b">bill held: place 1<",
+        b">given back: place 2<",
         b">put: posted of 2: 5/1, 6 lost<",
         b">put: break, posted of 2: none, 3 lost<",
         b">power cut; the host starts again over 2 records<",
@@ -233,8 +244,9 @@ fn a_picture_says_what_its_marks_are(rt: HostRuntime) -> Result<(), Fail> {
         b">fault: the devices will hear nothing<",
         b">acceptor 2<",
         b">hopper 40<",
+        b">bill validator 41<",
     ];
-    assert!(rt; has_texts(alloc, &picture_of_three_coins(alloc)?, &wanted)?);
+    assert!(rt; has_texts(alloc, &picture_of_coins_and_bills(alloc)?, &wanted)?);
     Ok(())
 }
 
@@ -308,13 +320,13 @@ fn a_longer_text_is_cut_with_two_dots(rt: HostRuntime) -> Result<(), Fail> {
 #[test]
 fn a_failed_put_ends_a_picture(rt: HostRuntime) -> Result<(), Fail> {
     let alloc = rt.alloc();
-    let picture = picture_of_three_coins(alloc)?;
-    // the frame, the head of the page, seven rows, the end of the page, and that of the picture
-    for fails in 1..=11u64 {
+    let picture = picture_of_coins_and_bills(alloc)?;
+    // the frame, the head of the page, nine rows, the end of the page, and that of the picture
+    for fails in 1..=13u64 {
         let (answer, _) = write(alloc, &picture, fails)?;
         assert!(rt; answer.is_err());
     }
-    let (answer, _) = write(alloc, &picture, 12)?;
+    let (answer, _) = write(alloc, &picture, 14)?;
     assert!(rt; answer.is_ok());
     Ok(())
 }

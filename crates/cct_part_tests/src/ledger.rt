@@ -4,7 +4,7 @@ ghost use Rattle.std.specs.Prelude.{◌≡◌, ◌≤◌, true};
 ghost use Rattle.cct_model.specs.Carried.{IsRightly};
 ghost use Rattle.cct_model.specs.Carry.{Fits};
 ghost use Rattle.cct_model.specs.Device.{IsSound, IsSoundBody, IsWord};
-ghost use Rattle.cct_model.specs.Exchange.{acceptor_there, device_at, hopper_there};
+ghost use Rattle.cct_model.specs.Exchange.{device_at, hopper_there, taker_there};
 ghost use Rattle.cct_model.specs.Money.{hopper_value};
 ghost use Rattle.cct_model.specs.Setup.{IsSoundSetup};
 ghost use Rattle.cct_model.specs.terms.device.Setup.{Setup};
@@ -127,7 +127,7 @@ fn setup(coin: u32, paid: u32) -> Setup
     requires low { 1 ≤ paid }
     requires high { paid ≤ 1000000 }
     ensures sound { IsSoundSetup result }
-    ensures acceptor { acceptor_there (device_at result.devices 2) ≡ true }
+    ensures taker { taker_there (device_at result.devices 2) ≡ true }
     ensures hopper { hopper_there (device_at result.devices 3) ≡ true }
     ensures worth { hopper_value (device_at result.devices 3) ≡ paid }
 {
@@ -174,7 +174,7 @@ fn five_coins() -> Coins {
 /// The carry of the first records.
 fn carry_of_first() -> Carry
     ensures rightly { IsRightly 9 result }
-    ensures fits { (setup : Setup) → acceptor_there (device_at setup.devices 2) ≡ true
+    ensures fits { (setup : Setup) → taker_there (device_at setup.devices 2) ≡ true
         → hopper_there (device_at setup.devices 3) ≡ true → hopper_value (device_at setup.devices 3) ≡ 10
         → Fits setup result }
 {

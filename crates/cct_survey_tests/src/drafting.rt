@@ -16,7 +16,8 @@ value 2 1 5 EU005A
 value 2 5 100 EU100A
 value 2 6 20 EU.20A
 hopper 3 crc 197121 7 10
-acceptor 40 simple 16777215 0
+bills 40 simple 16777215 0
+acceptor 50 crc 9 0
 begin
 ";
 
@@ -26,8 +27,16 @@ acceptor 2 simple 1 0
 value 2 1 5 EU005A
 value 2 5 100 EU100A
 hopper 3 crc 197121 0 0
-acceptor 40 simple 16777215 0
+bills 40 simple 16777215 0
+acceptor 50 crc 9 0
 begin
+";
+
+/// What it doesn't say.
+const NOTES: &[u8] = b"\
+value 2 6: EU.20A tells no value
+hopper 3: write the value of its coins for the last 0
+bills 40: write a value line for each of its bills
 ";
 
 /// The same with the value of the hopper's coins.
@@ -36,7 +45,8 @@ acceptor 2 simple 1 0
 value 2 1 5 EU005A
 value 2 5 100 EU100A
 hopper 3 crc 197121 0 10
-acceptor 40 simple 16777215 0
+bills 40 simple 16777215 0
+acceptor 50 crc 9 0
 begin
 ";
 
@@ -48,10 +58,7 @@ fn a_setup_is_drafted(rt: HostRuntime) -> Result<(), Fail> {
     let mut notes = MemSink::new(rt.alloc(), 1000, Vec::new(rt.alloc()))?;
     assert!(rt; draft(&mut bus, &mut out, &mut notes).is_ok());
     assert_eq!(rt; out.bytes(), DRAFT);
-    assert_eq!(rt;
-        notes.bytes(),
-        b"value 2 6: EU.20A tells no value\nhopper 3: write the value of its coins for the last 0\n".as_slice()
-    );
+    assert_eq!(rt; notes.bytes(), NOTES);
     Ok(())
 }
 

@@ -1,7 +1,7 @@
 use Rattle.std.proofs.Common.{◌≡◌, ◌==◌, cond, List, [], ◌∷◌, ◌++◌, Option, Some, None, ap, ◌∙◌}
 use Rattle.cct_model.specs.terms.device.DeviceSetup.{DeviceSetup}
-use Rattle.cct_model.specs.Device.{is_acceptor, is_hopper}
-use Rattle.cct_model.specs.Exchange.{acceptor_there, device_at, hopper_there}
+use Rattle.cct_model.specs.Device.{is_hopper, is_taker}
+use Rattle.cct_model.specs.Exchange.{device_at, hopper_there, taker_there}
 use Rattle.cct_model.specs.Money.{hopper_value, paid_value}
 use Rattle.cct_part_tests.proofs.ledger.setup.Goals as goal
 
@@ -20,11 +20,11 @@ module _ {none one two : List DeviceSetup} (a h : DeviceSetup) (empty : none ≡
       ap (λ ds. device_at ds 3) both ∙ ap (λ n. cond (n == 3) (Some a) (cond (h.addr == 3) (Some h) None)) at_two
       ∙ ap (λ n. cond (n == 3) (Some h) None) at_three
 
-pub returns-clause-acceptor : goal.returns-clause-acceptor
-returns-clause-acceptor c =
-    ap acceptor_there
+pub returns-clause-taker : goal.returns-clause-taker
+returns-clause-taker c =
+    ap taker_there
     (found_two c.device-acceptor.result c.device-hopper.result c.new-devices.ensures c.push.ensures c.push-2.ensures c.device-acceptor.ensures.addr
-    c.device-hopper.ensures.addr) ∙ ap is_acceptor c.device-acceptor.ensures.body
+    c.device-hopper.ensures.addr) ∙ ap is_taker c.device-acceptor.ensures.body
 
 pub returns-clause-hopper : goal.returns-clause-hopper
 returns-clause-hopper c =
