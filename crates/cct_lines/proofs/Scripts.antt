@@ -112,11 +112,17 @@ greatest_steps :
     ∷ codes "scan"
     ∷ codes "vend 4294967295 1000000000"
     ∷ codes "crash 2 4 0"
+    ∷ codes "stock 255 4294967295"
+    ∷ codes "change 4000000000 10000"
+    ∷ codes "serve"
     ∷ [])
     ≡ Ok (step.Coin 255 16)
     ∷ Ok (step.Command command.Scan)
     ∷ Ok (step.Command (command.Vend 4294967295 1000000000))
     ∷ Ok (step.Crash (Some (record { addr = 2; calls = 4 })) 0)
+    ∷ Ok (step.Stock 255 4294967295)
+    ∷ Ok (step.Change 4000000000 10000)
+    ∷ Ok step.Serve
     ∷ []
 unfolding step_line ranged
 greatest_steps = refl
@@ -130,8 +136,14 @@ other_forms_refused :
     ∷ codes "start 2 10"
     ∷ codes "route 4 2"
     ∷ codes "bill 4 17"
+    ∷ codes "stock 3 4294967296"
+    ∷ codes "change 4000000001 10000"
+    ∷ codes "change 1 10001"
+    ∷ codes "change 0 1"
+    ∷ codes "change 1 0"
+    ∷ codes "serve 3"
     ∷ [])
-    ≡ replicate 7 (Err kind.Form)
+    ≡ replicate 13 (Err kind.Form)
 unfolding step_line ranged mask_in piece_in decode_pairs
 other_forms_refused = refl
 

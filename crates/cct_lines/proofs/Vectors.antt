@@ -8,6 +8,7 @@ use Rattle.cct_lines.specs.declared.command.CommandNo.TheVariants as refusal
 use Rattle.cct_lines.specs.declared.command.WireFault.TheVariants as fault
 use Rattle.cct_lines.specs.declared.record.Record.TheVariants as record_of
 use Rattle.cct_lines.specs.declared.entry.End.TheVariants as end_of
+use Rattle.cct_lines.specs.declared.entry.Said.TheVariants as said_of
 use Rattle.cct_lines.specs.declared.entry.SumOf.TheVariants as sum_of
 use Rattle.cct_lines.specs.declared.entry.Entry.TheVariants as entry
 use Rattle.cct_lines.specs.Text.{number_text, line_of}
@@ -102,6 +103,17 @@ others :
     ∷ entry.UpgradeCurrent
     ∷ entry.UpgradeRoom 32768
     ∷ entry.UpgradeEpoch 2
+    ∷ entry.Stock 3 4294967295
+    ∷ entry.ChangeOk 60 70
+    ∷ entry.ChangeNo
+    ∷ entry.ServeIdle
+    ∷ entry.ServeWait 3
+    ∷ entry.ServeOdd 60
+    ∷ entry.Served 70
+    ∷ entry.Short 10 60
+    ∷ entry.Said (said_of.Sure 2 1 3 (record { place = 5; path = 1 } ∷ []))
+    ∷ entry.Said (said_of.Doubt 2 3 5)
+    ∷ entry.Said (said_of.Fell 3 1 2 4)
     ∷ entry.Total 1 2 3 4 5
     ∷ entry.Load 42 1000
     ∷ [])
@@ -128,6 +140,17 @@ others :
     ∷ codes "upgrade current"
     ∷ codes "upgrade room 32768"
     ∷ codes "upgrade epoch 2"
+    ∷ codes "stock 3 4294967295"
+    ∷ codes "change ok 60 70"
+    ∷ codes "change no busy"
+    ∷ codes "serve idle"
+    ∷ codes "serve wait 3"
+    ∷ codes "serve odd 60"
+    ∷ codes "served 70"
+    ∷ codes "short 10 60"
+    ∷ codes "sure 2 1 3 5/1"
+    ∷ codes "doubt 2 3 5"
+    ∷ codes "fell 3 1 2 4"
     ∷ codes "total 1 2 3 4 5"
     ∷ codes "load 42 1000"
     ∷ [])

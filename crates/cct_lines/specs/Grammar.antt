@@ -18,6 +18,7 @@ use Rattle.cct_lines.specs.terms.device.DeviceSetup.{DeviceSetup}
 use Rattle.cct_lines.specs.terms.device.Setup.{Setup}
 use Rattle.cct_lines.specs.declared.setup.SetupLine.{SetupLine}
 use Rattle.cct_lines.specs.declared.setup.SetupLine.TheVariants as says
+use Rattle.cct_lines.specs.declared.command.TheConstants.{GREATEST_AMOUNT, GREATEST_FIRST}
 use Rattle.cct_lines.specs.declared.command.Command.TheVariants as command
 use Rattle.cct_lines.specs.declared.command.WireFault.TheVariants as fault
 use Rattle.cct_lines.specs.declared.command.Step.{Step}
@@ -260,6 +261,22 @@ vend_step (i ∷ p ∷ []) = do
   Some (step.Command (command.Vend id price))
 vend_step fields = None
 
+-- `stock A COUNT`
+abbrev pub stock_step : List (List ℕ) → Option Step
+stock_step (a ∷ n ∷ []) = do
+  addr ← address_in a
+  count ← ranged 0 4294967295 n
+  Some (step.Stock addr count)
+stock_step fields = None
+
+-- `change FIRST AMOUNT`
+abbrev pub change_step : List (List ℕ) → Option Step
+change_step (i ∷ n ∷ []) = do
+  first ← ranged 1 GREATEST_FIRST i
+  amount ← ranged 1 GREATEST_AMOUNT n
+  Some (step.Change first amount)
+change_step fields = None
+
 -- The choice of a power cut.
 abbrev pub choice_in : List ℕ → Option ℕ
 choice_in field = ranged 0 18446744073709551615 field
@@ -299,6 +316,9 @@ step_fields (word ∷ fields) =
     else if bytes_eq word (codes "vend") then ok_or (vend_step fields) kind.Form
     else if bytes_eq word (codes "crash") then ok_or (crash_step fields) kind.Form
     else if bytes_eq word (codes "balance") then ok_or (alone step.Balance fields) kind.Form
+    else if bytes_eq word (codes "stock") then ok_or (stock_step fields) kind.Form
+    else if bytes_eq word (codes "change") then ok_or (change_step fields) kind.Form
+    else if bytes_eq word (codes "serve") then ok_or (alone step.Serve fields) kind.Form
     else if bytes_eq word (codes "end") then ok_or (alone step.End fields) kind.Form
     else Err kind.Word
 

@@ -9,6 +9,7 @@ use Rattle.cct_lines.specs.terms.family.Happening.TheVariants as happening
 use Rattle.cct_lines.specs.declared.entry.TheConstants.{MOST_LINE, MOST_LINES}
 use Rattle.cct_lines.specs.declared.setup.SetupLine.{SetupLine}
 use Rattle.cct_lines.specs.declared.setup.SetupLine.TheVariants as says
+use Rattle.cct_lines.specs.declared.command.TheConstants.{GREATEST_AMOUNT, GREATEST_FIRST}
 use Rattle.cct_lines.specs.declared.command.Command.{Command}
 use Rattle.cct_lines.specs.declared.command.Command.TheVariants as command
 use Rattle.cct_lines.specs.declared.command.CrashAt.{CrashAt}
@@ -18,7 +19,7 @@ use Rattle.cct_lines.specs.declared.command.Step.{Step}
 use Rattle.cct_lines.specs.declared.command.Step.TheVariants as step
 use Rattle.cct_lines.specs.declared.entry.LineKind.{LineKind}
 use Rattle.cct_lines.specs.declared.entry.LineKind.TheVariants as kind
-use Rattle.cct_lines.specs.Exchange.{device_at, known_there}
+use Rattle.cct_lines.specs.Exchange.{device_at, hopper_there, known_there}
 use Rattle.cct_lines.specs.Grammar.{is_space, setup_line, step_line, added}
 
 -- The byte is a line feed.
@@ -58,7 +59,8 @@ read_setup_line setup (Err why) = refuses why
 read_setup_line setup (Ok says.Begin) = opens (at_steps setup)
 read_setup_line setup (Ok line) = opened (added setup line)
 
--- Where a step befalls a device, the setup has that device, and its family knows this.
+-- Where a step befalls a device, the setup has that device, and its family knows this; and where it tells a stock, that
+-- device is a hopper.
 abbrev pub is_known : Setup → Step → Bool
 is_known setup (step.Coin addr place) = known_there (happening.Coin place) (device_at setup.devices addr)
 is_known setup (step.Alien addr) = known_there happening.Alien (device_at setup.devices addr)
@@ -66,6 +68,7 @@ is_known setup (step.Bill addr place) = known_there (happening.Bill place) (devi
 is_known setup (step.Fall addr) = known_there happening.Fall (device_at setup.devices addr)
 is_known setup (step.Jam addr) = known_there happening.Jam (device_at setup.devices addr)
 is_known setup (step.Reset addr) = known_there happening.Reset (device_at setup.devices addr)
+is_known setup (step.Stock addr count) = hopper_there (device_at setup.devices addr)
 is_known setup s = true
 
 -- A step of a script: one that names a device that isn't there is refused.
@@ -195,4 +198,6 @@ IsInRange (step.Bill addr place) = (1 ≤ place) × (place ≤ COIN_PLACES)
 IsInRange (step.Fault f) = IsFault f
 IsInRange (step.Command c) = IsCommand c
 IsInRange (step.Crash at choice) = IsCrash at
+IsInRange (step.Change first amount) =
+    (1 ≤ first) × (first ≤ GREATEST_FIRST) × (1 ≤ amount) × (amount ≤ GREATEST_AMOUNT)
 IsInRange s = ⊤

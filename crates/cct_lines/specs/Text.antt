@@ -16,6 +16,8 @@ use Rattle.cct_lines.specs.declared.entry.End.{End}
 use Rattle.cct_lines.specs.declared.entry.End.TheVariants as end_of
 use Rattle.cct_lines.specs.declared.entry.LineKind.{LineKind}
 use Rattle.cct_lines.specs.declared.entry.LineKind.TheVariants as kind
+use Rattle.cct_lines.specs.declared.entry.Said.{Said}
+use Rattle.cct_lines.specs.declared.entry.Said.TheVariants as said_of
 use Rattle.cct_lines.specs.declared.entry.SumOf.{SumOf}
 use Rattle.cct_lines.specs.declared.entry.SumOf.TheVariants as sum_of
 use Rattle.cct_lines.specs.declared.entry.Entry.{Entry}
@@ -167,6 +169,15 @@ sum_field sum_of.Lost = codes "lost"
 sum_field sum_of.Fell = codes "fell"
 sum_field sum_of.Closed = codes "closed"
 
+-- The fields of what a monitor says.
+abbrev pub said_fields : Said → List (List ℕ)
+said_fields (said_of.Sure addr first last coins) =
+    codes "sure" ∷ number_text addr ∷ number_text first ∷ number_text last ∷ coins_field coins ∷ []
+said_fields (said_of.Doubt addr first last) =
+    codes "doubt" ∷ number_text addr ∷ number_text first ∷ number_text last ∷ []
+said_fields (said_of.Fell addr first last count) =
+    codes "fell" ∷ number_text addr ∷ number_text first ∷ number_text last ∷ number_text count ∷ []
+
 -- The fields of an entry's line.
 abbrev pub fields_of : Entry → List (List ℕ)
 fields_of (entry.Accepted addr coin) =
@@ -192,6 +203,16 @@ fields_of (entry.Ended addr end) = end_fields addr end
 fields_of (entry.Balance totals) =
     codes "balance" ∷ number_text totals.available ∷ number_text totals.reserved ∷ number_text totals.paid
     ∷ number_text totals.sold ∷ []
+fields_of (entry.Stock addr count) = codes "stock" ∷ number_text addr ∷ number_text count ∷ []
+fields_of (entry.ChangeOk first amount) =
+    codes "change" ∷ codes "ok" ∷ number_text first ∷ number_text amount ∷ []
+fields_of entry.ChangeNo = codes "change" ∷ codes "no" ∷ codes "busy" ∷ []
+fields_of entry.ServeIdle = codes "serve" ∷ codes "idle" ∷ []
+fields_of (entry.ServeWait addr) = codes "serve" ∷ codes "wait" ∷ number_text addr ∷ []
+fields_of (entry.ServeOdd id) = codes "serve" ∷ codes "odd" ∷ number_text id ∷ []
+fields_of (entry.Served amount) = codes "served" ∷ number_text amount ∷ []
+fields_of (entry.Short paid rest) = codes "short" ∷ number_text paid ∷ number_text rest ∷ []
+fields_of (entry.Said said) = said_fields said
 fields_of (entry.Line number why) = codes "refused" ∷ number_text number ∷ kind_field why ∷ []
 fields_of entry.Words = codes "words" ∷ []
 fields_of (entry.DiskSize len) = codes "disksize" ∷ number_text len ∷ []

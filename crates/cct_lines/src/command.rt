@@ -6,6 +6,12 @@ use crate::Piece;
 use std::alloc::AllocError;
 use thiserror::Error;
 
+/// The greatest amount of a session of change.
+pub const GREATEST_AMOUNT: u32 = 10_000;
+
+/// The greatest id of the first payment of a session of change.
+pub const GREATEST_FIRST: u32 = 4_000_000_000;
+
 /// A command of the operator to the host.
 #[derive(Clone, Copy, Debug, PartialEq, Eq)]
 pub enum Command {
@@ -131,6 +137,13 @@ pub enum Step {
     Crash { at: Option<CrashAt>, choice: u64 },
     /// The operator reads the balance.
     Balance,
+    /// The operator says that `count` coins are in hopper `addr`.
+    Stock { addr: u8, count: u32 },
+    /// The operator begins a session of change: `amount`, 1 to 10,000, is to be paid by the hoppers, and its first payment
+    /// has the id `first`, 1 to 4,000,000,000.
+    Change { first: u32, amount: u32 },
+    /// The operator lets the session of change go on.
+    Serve,
     /// The end of the script. It is no step of a run.
     End,
 }

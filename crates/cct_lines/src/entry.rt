@@ -1,7 +1,7 @@
 //! The entries of a transcript.
 ghost use Rattle.std.specs.Prelude.{◌≡◌};
 
-use crate::{Coin, Command, CommandNo, DeviceSet, Piece, Record, Sent, WireFault};
+use crate::{Coin, Coins, Command, CommandNo, DeviceSet, Piece, Record, Sent, WireFault};
 use thiserror::Error;
 
 /// The most bytes of a line of a script, without its line feed.
@@ -114,6 +114,49 @@ pub enum SumOf {
     Closed,
 }
 
+/// What a monitor says of the watched device at `addr`: `first` and `last` are the numbers of two taps, from 1. All three
+/// are of a span: two readings of an acceptor's credits with none between them, or two life counts of a hopper.
+#[derive(Clone, Debug, Drop, PartialEq, Eq)]
+pub enum Said {
+    /// The acceptor accepted these coins between its two readings, oldest first: those among as many of the newest events
+    /// as the two event counters tell, at most five (ccTalk Generic Specification 4, part 2, header 229).
+    Sure {
+        addr: u8,
+        first: u32,
+        last: u32,
+        coins: Coins,
+    },
+    /// Which coins the acceptor accepted between its two readings isn't sure: a reset or another inhibit mask may have
+    /// come between them, or more events than the credit buffer keeps.
+    Doubt {
+        addr: u8,
+        first: u32,
+        last: u32,
+    },
+    /// So many coins fell out of the hopper between its two life counts, where fewer than 2^24 fell (ccTalk Generic
+    /// Specification 4, part 3, header 168).
+    Fell {
+        addr: u8,
+        first: u32,
+        last: u32,
+        count: u32,
+    },
+}
+
+impl Default for Said {
+    ghost use Rattle.cct_lines.specs.declared.entry.Said.TheVariants.{Doubt};
+
+    ghost is_default = { λ said. said ≡ Doubt 0 0 0 };
+
+    fn default() -> Self {
+        Said::Doubt {
+            addr: 0,
+            first: 0,
+            last: 0,
+        }
+    }
+}
+
 /// One entry of a transcript, which is one line of text (`docs/TRANSCRIPT.md`).
 #[derive(Debug, Drop)]
 pub enum Entry {
@@ -196,6 +239,39 @@ pub enum Entry {
     },
     /// What the operator has.
     Balance(Totals),
+    /// So many coins are in a hopper, as the operator says.
+    Stock {
+        addr: u8,
+        count: u32,
+    },
+    /// A session of change began.
+    ChangeOk {
+        first: u32,
+        amount: u32,
+    },
+    /// A session of change runs, so none began.
+    ChangeNo,
+    /// No session of change runs.
+    ServeIdle,
+    /// The session of change waits for its payment at this hopper.
+    ServeWait {
+        addr: u8,
+    },
+    /// The session of change ended, since the life counts of this order don't fit it.
+    ServeOdd {
+        id: u32,
+    },
+    /// The session of change ended: its whole amount was paid.
+    Served {
+        amount: u32,
+    },
+    /// The session of change ended with so much of its amount paid, and the rest not.
+    Short {
+        paid: u32,
+        rest: u32,
+    },
+    /// What a monitor says of a watched device.
+    Said(Said),
     /// A line of the script was refused; lines are numbered from 1.
     Line {
         number: u32,

@@ -17,8 +17,10 @@ pub use cct_terms::{
     MOST_SENT, Name, PATHS, Pair, Piece, RETURN_CODE, Reply, ReplyForm, Request, STACK_CODE, Sent,
     Setup, Texts, has_place,
 };
-pub use command::{Command, CommandNo, CrashAt, Step, WireFault};
+pub use command::{Command, CommandNo, CrashAt, GREATEST_AMOUNT, GREATEST_FIRST, Step, WireFault};
 pub use device_set::DeviceSet;
-pub use entry::{End, Entry, LineKind, Listed, MOST_LINE, MOST_LINES, MOST_TEXT, SumOf, Totals};
+pub use entry::{
+    End, Entry, LineKind, Listed, MOST_LINE, MOST_LINES, MOST_TEXT, Said, SumOf, Totals,
+};
 pub use record::Record;
 pub use setup::SetupLine;

@@ -24,3 +24,4 @@ mod Bills
 mod ForgedWires
 mod Moving
 mod Day
+pub mod Changes

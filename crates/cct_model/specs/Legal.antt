@@ -7,6 +7,7 @@ use Rattle.cct_model.specs.terms.device.Setup.{Setup}
 use Rattle.cct_model.specs.terms.family.Happening.{Happening}
 use Rattle.cct_model.specs.terms.family.Happening.TheVariants as happening
 use Rattle.cct_model.specs.lines.command.Command.{Command}
+use Rattle.cct_model.specs.lines.command.Command.TheVariants as command
 use Rattle.cct_model.specs.lines.command.CommandNo.{CommandNo}
 use Rattle.cct_model.specs.lines.command.CrashAt.{CrashAt}
 use Rattle.cct_model.specs.lines.command.Step.{Step}
@@ -27,6 +28,7 @@ use Rattle.cct_model.specs.Rows.{row, row_of_sale, end_of, end_of_sale}
 use Rattle.cct_model.specs.Records.{records}
 use Rattle.cct_model.specs.Money.{totals}
 use Rattle.cct_model.specs.Refusal.{refusal}
+use Rattle.cct_model.specs.Script.{IsCommand}
 use Rattle.cct_model.specs.Scan.{scan_row, end_of_scan, poll_of}
 use Rattle.cct_model.specs.Honest.{forged_after, without_forged}
 use Rattle.cct_model.specs.Transcript.{met, lines_of, scan_lines, scan_line, sale_lines, heard_after, got_by, onto}
@@ -200,9 +202,29 @@ abbrev pub EntriesOfHappening : Setup → List Entry → ℕ → Happening → L
 EntriesOfHappening setup past addr what news =
     OfKnowing what (device_at setup.devices addr) (λ d. news ≡ happening_entry addr d past what ∷ [])
 
+-- The entries of a `change`, newest first: a session of change begins, or one runs already.
+abbrev pub ChangeEntries : ℕ → ℕ → List Entry → Type 0
+ChangeEntries first amount news = (news ≡ entry.ChangeOk first amount ∷ []) ⊎ (news ≡ entry.ChangeNo ∷ [])
+
+-- The entries of a `serve`, newest first, whatever is known at the desk: no session runs, one waits, or one ends; or a
+-- payment is given to the host, which takes it, or refuses it, and then the session ends short.
+pub data ServeEntries (capacity : ℕ) (setup : Setup) (past : List Entry) : List Entry → Type 0 where
+  is_idle : ServeEntries capacity setup past (entry.ServeIdle ∷ [])
+  waits : (addr : ℕ) → ServeEntries capacity setup past (entry.ServeWait addr ∷ [])
+  is_odd : (id : ℕ) → ServeEntries capacity setup past (entry.ServeOdd id ∷ [])
+  is_served : (amount : ℕ) → ServeEntries capacity setup past (entry.Served amount ∷ [])
+  falls_short : (paid rest : ℕ) → ServeEntries capacity setup past (entry.Short paid rest ∷ [])
+  pays : (addr id count : ℕ) → addr < 256 → IsCommand (command.Pay addr id count) →
+      refusal capacity setup past (command.Pay addr id count) ≡ None →
+      ServeEntries capacity setup past (entry.Taken (command.Pay addr id count) ∷ [])
+  is_refused : (addr id count : ℕ) (why : CommandNo) (paid rest : ℕ) → addr < 256 →
+      IsCommand (command.Pay addr id count) → refusal capacity setup past (command.Pay addr id count) ≡ Some why →
+      ServeEntries capacity setup past (entry.Short paid rest ∷ entry.No (command.Pay addr id count) why ∷ [])
+
 -- The entries of a step after all that came before, newest first, over a journal that takes so many records. The choice of a
 -- power cut is a disk's: here either outcome is one that it may have, where the gate was written and not yet synced.
--- The end of a script is no step of a run.
+-- What is known of a session of change is that of the operator's desk: here a `change` and a `serve` give what they give at
+-- some desk. The end of a script is no step of a run.
 abbrev pub Entries : ℕ → Setup → List Entry → Step → List Entry → Type 0
 Entries capacity setup past (step.Coin addr place) news = EntriesOfHappening setup past addr (happening.Coin place) news
 Entries capacity setup past (step.Alien addr) news = EntriesOfHappening setup past addr happening.Alien news
@@ -215,6 +237,9 @@ Entries capacity setup past (step.Command c) news = news ≡ command_entry c (re
 Entries capacity setup past (step.Next addr) news = EntriesOnWire setup past addr news
 Entries capacity setup past (step.Crash at choice) news = EntriesOfRestart setup past at news
 Entries capacity setup past step.Balance news = news ≡ entry.Balance (totals setup past) ∷ []
+Entries capacity setup past (step.Stock addr count) news = news ≡ entry.Stock addr count ∷ []
+Entries capacity setup past (step.Change first amount) news = ChangeEntries first amount news
+Entries capacity setup past step.Serve news = ServeEntries capacity setup past news
 Entries capacity setup past step.End news = ⊥
 
 -- A step that the program plays: all but the end of a script.

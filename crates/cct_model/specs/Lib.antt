@@ -33,6 +33,9 @@ pub mod Refusal
 pub mod Following
 pub mod Carry
 pub mod Honest
+pub mod Plan
+pub mod Change
 pub mod Legal
+pub mod AtDesk
 pub mod Claims
 pub mod Paid

@@ -3,14 +3,16 @@
 //! a line are, which this crate passes on with their plain types.
 #![tactic(auto)]
 
+mod change;
 mod judging;
 
 pub use cct_lines::{
     BROADCAST, Bytes, COIN_PLACES, Carry, CarryEpoch, CarryEpochs, CarryOrder, CarryOrders,
     CheckKind, Coin, Coins, Command, CommandNo, CrashAt, Credits, DEVICES, DeviceBody, DeviceSet,
-    DeviceSetup, Devices, ENABLE_CODE, EVENTS, End, Entry, Family, HOST, Happening, LineKind,
-    Listed, MOST_HEARD, MOST_LINE, MOST_LINES, MOST_NAME, MOST_SENT, MOST_TEXT, Name, PATHS, Pair,
-    Piece, RETURN_CODE, Record, Reply, ReplyForm, Request, STACK_CODE, Sent, Setup, SetupLine,
-    Step, SumOf, Texts, Totals, WireFault, has_place,
+    DeviceSetup, Devices, ENABLE_CODE, EVENTS, End, Entry, Family, GREATEST_AMOUNT, GREATEST_FIRST,
+    HOST, Happening, LineKind, Listed, MOST_HEARD, MOST_LINE, MOST_LINES, MOST_NAME, MOST_SENT,
+    MOST_TEXT, Name, PATHS, Pair, Piece, RETURN_CODE, Record, Reply, ReplyForm, Request,
+    STACK_CODE, Said, Sent, Setup, SetupLine, Step, SumOf, Texts, Totals, WireFault, has_place,
 };
+pub use change::{Due, Payment, Phase, Session, Tray};
 pub use judging::{EpochState, Judged, OpenOrder};
