@@ -3,9 +3,9 @@ use Rattle.std.proofs.Common.{◌≡◌, ◌≢◌, ℕ, suc, ◌+◌, ◌-◌, 
 use Rattle.std.proofs.Math.Seq.{drop-cons}
 use Rattle.std.proofs.lemmas.Bool.{cond_both, eqb-true}
 use Rattle.std.proofs.lemmas.List.{drop_all}
-use Rattle.cct_plan.specs.declared.tray.Tray.{Tray}
+use Rattle.cct_model.specs.declared.change.Tray.{Tray}
 use Rattle.cct_plan.specs.declared.filling.TheConstants.{FAR}
-use Rattle.cct_plan.specs.Plan.{IsChosen}
+use Rattle.cct_model.specs.Plan.{IsChosen}
 use Rattle.cct_plan.specs.Row.{IsLeast, IsMet, IsGreatest, least_in, Tells}
 use Rattle.cct_plan.proofs.Chosen.{is_met, paid_behind, chosen_with, chosen_of_none}
 

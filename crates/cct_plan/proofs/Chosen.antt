@@ -1,9 +1,9 @@
 -- The chosen plan, tray by tray.
 use Rattle.std.proofs.Common.{◌≡◌, ◌≢◌, ℕ, ◌+◌, ◌-◌, ◌*◌, ◌≤◌, inl, inr, arith, subst, sum, List, [], ◌∷◌, refl}
 use Rattle.std.proofs.lemmas.Bool.{cases_order}
-use Rattle.cct_plan.specs.declared.tray.Tray.{Tray}
+use Rattle.cct_model.specs.declared.change.Tray.{Tray}
 use Rattle.cct_plan.specs.declared.filling.TheConstants.{FAR}
-use Rattle.cct_plan.specs.Plan.{most_of, AreWithin, IsPlan, IsFewest, ComesFirst, IsChosen}
+use Rattle.cct_model.specs.Plan.{most_of, AreWithin, IsPlan, IsFewest, ComesFirst, IsChosen}
 use Rattle.cct_plan.specs.Row.{IsLeast, Meets, IsMet, IsGreatest}
 use Rattle.cct_plan.proofs.Stepping.{plan_with, plan_behind, sum-cons}
 

@@ -1,8 +1,9 @@
 -- What the least number of a table says of all plans.
 use Rattle.std.proofs.Common.{◌≡◌, ◌≢◌, ℕ, ◌-◌, ◌*◌, ◌≤◌, ap, arith, subst, sum, List, [], ◌∷◌, length, drop, Option, Some, None, ◌⊎◌, inl, inr}
-use Rattle.cct_plan.specs.declared.tray.Tray.{Tray}
+use Rattle.cct_model.specs.declared.change.Tray.{Tray}
 use Rattle.cct_plan.specs.declared.filling.TheConstants.{FAR}
-use Rattle.cct_plan.specs.Plan.{AreWithin, HasNoPlan, NoneFewer, Asked}
+use Rattle.cct_model.specs.Plan.{AreWithin, HasNoPlan, NoneFewer}
+use Rattle.cct_plan.specs.Certificate.{Asked}
 use Rattle.cct_plan.specs.Row.{IsLeast, least_in, Tells, asked_in, TellsAsked}
 use Rattle.cct_plan.proofs.Stepping.{sum-cons}
 

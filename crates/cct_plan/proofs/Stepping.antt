@@ -2,9 +2,9 @@
 use Rattle.std.proofs.Common.{◌≡◌, ℕ, suc, zero, ◌+◌, ◌-◌, ◌*◌, ◌<◌, ◌≤◌, inl, inr, sym, arith, subst, sum, ◌⊎◌, List, [], ◌∷◌, length, drop, slice_index, refl, if◌then◌else◌, ◌==◌}
 use Rattle.std.proofs.lemmas.Bool.{cases_lt, cond_both, eqb-true, eqb-false}
 use Rattle.std.proofs.lemmas.List.Sums.{sum_by-cons}
-use Rattle.cct_plan.specs.declared.tray.Tray.{Tray}
+use Rattle.cct_model.specs.declared.change.Tray.{Tray}
 use Rattle.cct_plan.specs.declared.filling.TheConstants.{FAR, ROW}
-use Rattle.cct_plan.specs.Plan.{most_of, IsPlan}
+use Rattle.cct_model.specs.Plan.{most_of, IsPlan}
 use Rattle.cct_plan.specs.Row.{IsLeastUpTo, IsLeast, least_in, Tells}
 
 -- A count of a tray, and a plan of what it leaves by the other trays, are a plan.

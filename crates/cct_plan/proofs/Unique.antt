@@ -1,7 +1,7 @@
 -- At most one plan is chosen.
 use Rattle.std.proofs.Common.{◌≡◌, ℕ, inl, inr, sym, ap, ◌∙◌, arith, List, [], ◌∷◌, refl}
-use Rattle.cct_plan.specs.declared.tray.Tray.{Tray}
-use Rattle.cct_plan.specs.Plan.{ComesFirst, IsChosen}
+use Rattle.cct_model.specs.declared.change.Tray.{Tray}
+use Rattle.cct_model.specs.Plan.{ComesFirst, IsChosen}
 
 -- Of two lists each comes first only where they are the same.
 both_first : (cs os : List ℕ) → ComesFirst cs os → ComesFirst os cs → cs ≡ os

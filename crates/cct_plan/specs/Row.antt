@@ -1,8 +1,9 @@
 -- What a row of the table holds: for each amount the least number of coins, or FAR where there is no plan.
 use Rattle.std.specs.Prelude.{◌≡◌, ℕ, suc, zero, ◌+◌, ◌-◌, ◌*◌, ◌≤◌, ◌==◌, nat_lt, min, sum, ◌⊎◌, List, length, drop, slice_index, if◌then◌else◌, Option, Some, None, ⊤}
-use Rattle.cct_plan.specs.declared.tray.Tray.{Tray}
+use Rattle.cct_model.specs.declared.change.Tray.{Tray}
 use Rattle.cct_plan.specs.declared.filling.TheConstants.{FAR, ROW}
-use Rattle.cct_plan.specs.Plan.{most_of, IsPlan, Asked}
+use Rattle.cct_model.specs.Plan.{most_of, IsPlan}
+use Rattle.cct_plan.specs.Certificate.{Asked}
 
 -- The number for an amount where so many coins more of a tray, worth this step together, may be taken at once.
 abbrev pub wider : List ℕ → ℕ → ℕ → ℕ → ℕ → ℕ

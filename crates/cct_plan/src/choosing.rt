@@ -1,12 +1,13 @@
 //! Reading the chosen plan off the table.
 ghost use Rattle.std.specs.Prelude.{◌≡◌, ◌≢◌, ℕ, ◌+◌, ◌-◌, ◌*◌, ◌<◌, ◌≤◌, ◌↔◌, IsTrue, List, [], length};
 ghost use Rattle.std.specs.Bool.{OnTrue, OnFalse};
-ghost use Rattle.cct_plan.specs.Plan.{IsChosen, HasNoPlan, NoneFewer};
+ghost use Rattle.cct_model.specs.Plan.{IsChosen, HasNoPlan, NoneFewer};
 ghost use Rattle.cct_plan.specs.Row.{least_in, Tells, IsLeast, IsGreatest, Meets, IsMet};
 
 use crate::filling::{FAR, ROW, tabulate, told};
-use crate::tray::{TRAYS, Tray};
+use crate::tray::{TRAYS, most, worth};
 use arrayvec::ArrayVec;
+use cct_model::Tray;
 
 /// Fills the table for these trays and this amount, and sets the counts to the chosen plan, or to none where there is no
 /// plan. The answer is whether there is one.
@@ -69,7 +70,7 @@ fn choose(cells: &[u16], trays: &[Tray], amount: usize, counts: &mut ArrayVec<u8
             told(cells, later + 1, rest) as usize,
         );
         counts.push(count as u8);
-        rest -= tray.worth(count);
+        rest -= worth(tray, count);
     }
 }
 
@@ -80,7 +81,7 @@ fn greatest(cells: &[u16], later: usize, tray: &Tray, amount: usize, least: usiz
     requires met { IsMet tray.now (least_in cells.now later) amount least }
     ensures { IsGreatest tray.now (least_in cells.now later) amount least result }
 {
-    let mut count = tray.most();
+    let mut count = most(tray);
     while !meets(cells, later, tray, amount, least, count) {
         count -= 1;
     }
@@ -101,6 +102,6 @@ fn meets(
     requires few { count ≤ 255 }
     ensures { IsTrue result ↔ Meets tray.now (least_in cells.now later) amount least count }
 {
-    let worth = tray.worth(count);
-    worth <= amount && count + told(cells, later, amount - worth) as usize == least
+    let paid = worth(tray, count);
+    paid <= amount && count + told(cells, later, amount - paid) as usize == least
 }

@@ -1,9 +1,10 @@
 //! Filling the table, row by row.
 ghost use Rattle.std.specs.Prelude.{◌≡◌, ℕ, ◌+◌, ◌*◌, ◌<◌, ◌≤◌, length, slice_index};
-ghost use Rattle.cct_plan.specs.Plan.{most_of};
+ghost use Rattle.cct_model.specs.Plan.{most_of};
 ghost use Rattle.cct_plan.specs.Row.{wider, IsLeastUpTo, least_in, Tells};
 
-use crate::tray::Tray;
+use crate::tray::{most, worth};
+use cct_model::Tray;
 
 /// The amounts of a row: 0 to 10,000.
 pub(crate) const ROW: usize = 10_001;
@@ -66,11 +67,11 @@ fn fill(cells: &mut [u16], base: usize, amount: usize, tray: &Tray)
         (λ b. slice_index cells.old (base + b)) a (slice_index cells.new (base + a)) }
     ensures before { (i : ℕ) → i < base → slice_index cells.new i ≡ slice_index cells.old i }
 {
-    let most = tray.most();
+    let all = most(tray);
     let mut taken = 0;
-    while taken < most {
-        let more = (taken + 1).min(most - taken);
-        widen(cells, base, amount, tray.worth(more), more);
+    while taken < all {
+        let more = (taken + 1).min(all - taken);
+        widen(cells, base, amount, worth(tray, more), more);
         taken += more;
     }
 }

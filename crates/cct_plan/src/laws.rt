@@ -1,7 +1,7 @@
 //! What the definition of a chosen plan says by itself.
 ghost use Rattle.std.specs.Prelude.{◌≡◌, ℕ, List};
-ghost use Rattle.cct_plan.specs.declared.tray.Tray.{Tray};
-ghost use Rattle.cct_plan.specs.Plan.{IsChosen};
+ghost use Rattle.cct_model.specs.declared.change.Tray.{Tray};
+ghost use Rattle.cct_model.specs.Plan.{IsChosen};
 
 /// At most one plan of an amount is the chosen one.
 pub fn one_plan_is_chosen()

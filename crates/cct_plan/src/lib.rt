@@ -8,6 +8,7 @@ mod laws;
 mod table;
 mod tray;
 
+pub use cct_model::{GREATEST_AMOUNT, Tray};
 pub use laws::one_plan_is_chosen;
 pub use table::Table;
-pub use tray::{GREATEST_AMOUNT, TRAYS, Tray};
+pub use tray::TRAYS;

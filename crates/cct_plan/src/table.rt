@@ -1,13 +1,15 @@
 //! The table of least numbers of coins.
 ghost use Rattle.std.specs.Prelude.{◌≡◌, ◌≤◌, ◌↔◌, IsTrue, IfOk, List, [], length, Some, None};
 ghost use Rattle.std.specs.Bool.{OnTrue, OnFalse};
-ghost use Rattle.cct_plan.specs.Plan.{IsChosen, HasNoPlan, Proves};
-ghost use Rattle.cct_plan.specs.declared.tray.TheConstants.{GREATEST_AMOUNT};
+ghost use Rattle.cct_model.specs.Plan.{IsChosen, HasNoPlan};
+ghost use Rattle.cct_plan.specs.Certificate.{Proves};
+ghost use Rattle.cct_model.specs.lines.command.TheConstants.{GREATEST_AMOUNT};
 
 use crate::choosing::{has_none_fewer, set_out};
 use crate::filling::{FAR, ROW};
-use crate::tray::{TRAYS, Tray};
+use crate::tray::TRAYS;
 use arrayvec::ArrayVec;
+use cct_model::Tray;
 use std::alloc::{AllocError, Global};
 use std::marker::Model;
 
@@ -27,7 +29,7 @@ impl Model for Table {
     ghost use Rattle.std.specs.Prelude.{◌≡◌, ◌*◌, ◌≤◌, length, Option, vec_len};
     ghost use Rattle.cct_plan.specs.declared.tray.TheConstants.{TRAYS};
     ghost use Rattle.cct_plan.specs.declared.filling.TheConstants.{ROW};
-    ghost use Rattle.cct_plan.specs.Plan.{Asked};
+    ghost use Rattle.cct_plan.specs.Certificate.{Asked};
     ghost use Rattle.cct_plan.specs.Row.{asked_in, TellsAsked};
 
     ghost Value = { Option Asked };

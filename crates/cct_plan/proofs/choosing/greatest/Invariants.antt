@@ -1,5 +1,5 @@
 use Rattle.std.proofs.Common.{ℕ, ◌≤◌}
-use Rattle.cct_plan.specs.Plan.{most_of}
+use Rattle.cct_model.specs.Plan.{most_of}
 use Rattle.cct_plan.specs.Row.{least_in, Meets}
 use Rattle.cct_plan.proofs.choosing.greatest.Given as goal
 

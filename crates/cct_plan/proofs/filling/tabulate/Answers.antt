@@ -1,5 +1,5 @@
 use Rattle.std.proofs.Common.{◌≡◌, ℕ, ◌-◌, ◌<◌, List, ◌∷◌, length, get_or, drop, arith, add-one, drop-cons, suc}
-use Rattle.cct_plan.specs.declared.tray.Tray.{Tray}
+use Rattle.cct_model.specs.declared.change.Tray.{Tray}
 use Rattle.cct_plan.proofs.Stepping.{tells_more}
 use Rattle.cct_plan.proofs.filling.tabulate.Goals as goal
 

@@ -1,0 +1,4 @@
+pub mod Told
+pub mod InOrder
+pub mod Plans
+pub mod Going

@@ -1,0 +1,3 @@
+pub mod Trays
+pub mod Seeing
+pub mod Serving
