@@ -25,7 +25,8 @@ use Rattle.cct_laws.specs.Ids.{Ids}
 use Rattle.cct_laws.specs.DeviceJobs.{WorksAt}
 use Rattle.cct_laws.specs.Law.{IsOf, EachEntry, IsAnswered}
 use Rattle.cct_laws.proofs.jobs.Asked.{asked_at, undisturbed_at, undisturbed_accepting}
-use Rattle.cct_laws.proofs.jobs.Brought.{AtDevice, came, took, halted, idled, made_exchange, made_put, row_after, wire_of, wire_end, record_end, poll_wire, poll_end, Brought, of_device, faulted, refused, began_scan, began_sale, nobody, polled, sold, balanced, lost_power, lost_in_put, lost_in_sale}
+use Rattle.cct_laws.proofs.jobs.AtDesk.{desk_apart}
+use Rattle.cct_laws.proofs.jobs.Brought.{AtDevice, came, took, halted, idled, made_exchange, made_put, row_after, wire_of, wire_end, record_end, poll_wire, poll_end, Brought, of_device, faulted, refused, began_scan, began_sale, nobody, polled, sold, balanced, of_desk, ended_short, lost_power, lost_in_put, lost_in_sale}
 use Rattle.cct_model.proofs.Doses.{AreDoses}
 use Rattle.cct_laws.proofs.Exchanges.{heard_under, heard_is}
 use Rattle.cct_laws.proofs.Echoes.{echo_off}
@@ -49,7 +50,7 @@ echo_there : (capacity : ℕ) (setup : Setup) (d : DeviceSetup) (past news : Lis
     AtDevice capacity setup d past s news → EachEntry EchoFailsByFault past → EachEntry EchoFailsByFault (news ++ past)
 echo_there capacity setup d past _ _ (came s e m ls comes) before =
     (((loose d (met d past) s e m ls comes).no_exchange d past).1, before)
-echo_there capacity setup d past _ _ (took c suited here is_free is_taken is_owed lets) before = (tt, before)
+echo_there capacity setup d past _ _ (took s c gives suited here is_free is_taken is_owed lets) before = (tt, before)
 echo_there capacity setup d past _ _ (halted paying can) before = (tt, before)
 echo_there capacity setup d past _ _ (idled is_free) before = (tt, before)
 echo_there capacity setup d past _ _ (made_exchange c since q at_work is_row) before =
@@ -72,6 +73,9 @@ echo_step capacity setup past _ _ (polled c since check addr none is_job is_row)
     (clear_echo setup past (ask check addr (poll_of addr))) (λ older end. tt) before
 echo_step capacity setup past _ _ (sold id price since none selling) before = (tt, (tt, before))
 echo_step capacity setup past _ _ balanced before = (tt, before)
+echo_step capacity setup past _ _ (of_desk s e is) before = ((desk_apart s e is).no_echo past, before)
+echo_step capacity setup past _ _ (ended_short addr id count why paid rest small range was) before =
+    (tt, (tt, before))
 echo_step capacity setup past _ _ (lost_power at choice) before = (tt, before)
 echo_step capacity setup past _ _ (lost_in_put at choice d c since r own at_work is_row) before = (tt, (tt, before))
 echo_step capacity setup past _ _ (lost_in_sale at choice id price since none selling) before = (tt, (tt, before))
@@ -110,7 +114,7 @@ fails_there : (excused : Option Request → Bool) (capacity : ℕ) (setup : Setu
     EachEntry (FailsByFaultBut excused d) past → EachEntry (FailsByFaultBut excused d) (news ++ past)
 fails_there excused capacity setup d past _ _ sound own heard ranged (came s e m ls comes) before =
     (less_fails excused d past e ((loose d (met d past) s e m ls comes).no_exchange d past).0, before)
-fails_there excused capacity setup d past _ _ sound own heard ranged (took c suited here is_free is_taken is_owed lets)
+fails_there excused capacity setup d past _ _ sound own heard ranged (took s c gives suited here is_free is_taken is_owed lets)
     before = (tt, before)
 fails_there excused capacity setup d past _ _ sound own heard ranged (halted paying can) before = (tt, before)
 fails_there excused capacity setup d past _ _ sound own heard ranged (idled is_free) before = (tt, before)

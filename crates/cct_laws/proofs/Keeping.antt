@@ -52,9 +52,9 @@ ranged_there : (capacity : ℕ) (setup : Setup) (d : DeviceSetup) (past news : L
 ranged_there capacity setup d past _ _ ids own range (came s e m ls comes) ranged =
     let is = loose d (met d past) s e m ls comes in
     subst (IsRanged d) (sym (ap job (loose_line d past s e m ls is) ∙ is.same_job (lines_of d past))) ranged
-ranged_there capacity setup d past _ _ ids own range (took c suited here is_free is_taken is_owed lets) ranged =
+ranged_there capacity setup d past _ _ ids own range (took s c gives suited here is_free is_taken is_owed lets) ranged =
     subst (IsRanged d) (sym (ap job (lines_taken d past c here) ∙ begun_at_work d.body c (lines_of d past) suited))
-    (range, suited)
+    (gives.in_range range, suited)
 ranged_there capacity setup d past _ _ ids own range (halted paying can) ranged =
     subst (IsRanged d) (sym (ap job (lines_taken d past (command.Halt d.addr) refl)))
     (ranged_line d (taken (command.Halt d.addr)) (job (lines_of d past)) ranged)
@@ -173,9 +173,9 @@ kept_there : (capacity : ℕ) (setup : Setup) (d : DeviceSetup) (P : Fact) (past
 kept_there capacity setup d P past _ _ sound own ids kept range ranged (came s e m ls comes) honest holds =
     came_as d P past s e m ls (loose d (met d past) s e m ls comes)
     (came_kept d P (since_epoch d past) (met d past) (lines_of d past) s e m ls kept range comes holds)
-kept_there capacity setup d P past _ _ sound own ids kept range ranged (took c suited here is_free is_taken is_owed lets) honest holds =
+kept_there capacity setup d P past _ _ sound own ids kept range ranged (took s c gives suited here is_free is_taken is_owed lets) honest holds =
     subst (P (since_epoch d past) (met d past)) (sym (lines_taken d past c here))
-    (kept.takes (since_epoch d past) (met d past) (lines_of d past) c is_free here range suited is_taken is_owed holds)
+    (kept.takes (since_epoch d past) (met d past) (lines_of d past) c is_free here (gives.in_range range) suited is_taken is_owed holds)
 kept_there capacity setup d P past _ _ sound own ids kept range ranged (halted paying can) honest holds =
     subst (P (since_epoch d past) (met d past)) (sym (lines_taken d past (command.Halt d.addr) refl))
     (kept.halts (since_epoch d past) (met d past) (lines_of d past) paying can holds)

@@ -2,6 +2,7 @@ pub mod acceptor
 pub mod Alike
 pub mod AsTold
 pub mod CommonReplies
+pub mod Desks
 pub mod Echoes
 pub mod EitherKind
 pub mod Exchanges
@@ -15,6 +16,7 @@ pub mod money
 pub mod Onto
 pub mod OnWire
 pub mod orders
+pub mod Plans
 pub mod Replies
 pub mod Rising
 pub mod Setups

@@ -1,5 +1,6 @@
 -- What jobs do: their rows, tries and ends, and what each step brings.
 pub mod Asked
+pub mod AtDesk
 pub mod Brought
 pub mod Counted
 pub mod Ending

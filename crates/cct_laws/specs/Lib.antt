@@ -1,5 +1,6 @@
 pub mod Balanced
 pub mod Coins
+pub mod Desks
 pub mod DeviceJobs
 pub mod Ending
 pub mod Faults

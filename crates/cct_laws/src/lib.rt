@@ -49,7 +49,9 @@ ghost use Rattle.cct_model.specs.Device.{IsAcceptor, IsTaker};
 ghost use Rattle.cct_model.specs.Exchange.{ask, by_address};
 ghost use Rattle.cct_model.specs.Job.{works, job, epoch, sends, puts, Noted};
 ghost use Rattle.cct_model.specs.Rows.{row, row_at};
-ghost use Rattle.cct_model.specs.Legal.{EntriesOfRestart, Legal, LegalFrom, due_at};
+ghost use Rattle.cct_model.specs.AtDesk.{AtDeskFrom, EntriesAtDesk, LeavesDesk, LegalAtDesk};
+ghost use Rattle.cct_model.specs.Change.{Desk};
+ghost use Rattle.cct_model.specs.Legal.{Entries, EntriesOfRestart, Legal, LegalFrom, due_at};
 ghost use Rattle.cct_model.specs.Line.{Line};
 ghost use Rattle.cct_model.specs.Reading.{coins_among};
 ghost use Rattle.cct_model.specs.Script.{IsInRange, script};
@@ -67,6 +69,7 @@ ghost use Rattle.cct_model.specs.Refusal.{held, last_id, refusal};
 ghost use Rattle.cct_model.specs.Following.{all_follow, follows, is_allowed};
 ghost use Rattle.cct_model.specs.Paid.{Paid, OfOrder, AreFresh, dispenses, fallen};
 ghost use Rattle.cct_laws.specs.Honesty.{DamagesHonestly};
+ghost use Rattle.cct_laws.specs.Desks.{IsRightDesk};
 ghost use Rattle.cct_laws.specs.DeviceJobs.{IsRefused};
 ghost use Rattle.cct_laws.specs.Balanced.{IsBalanced, IsConserved};
 ghost use Rattle.cct_laws.specs.Coins.{all_fallen, all_paid};
@@ -286,19 +289,40 @@ pub fn by_address_devices_are_the_same_rising()
     ensures rising { (setup : Setup) → IsSoundSetup setup → AreRising (by_address setup.devices) }
 {}
 
-/// Steps tell their legal transcript, as long as none of them is a power cut that names a put. If one list of steps
-/// continues another, the legal transcript of the shorter begins that of the longer; and of the transcripts of two
-/// fronts of one list one begins the other. Both are over the same setup and a journal of the same capacity. It says
-/// nothing of a power cut that names a put: there the disk may keep the record or not.
+/// Steps tell their legal transcript at the desk of the operator, as long as none of them is a power cut that names a
+/// put. If one list of steps continues another, the legal transcript of the shorter begins that of the longer; and of the
+/// transcripts of two fronts of one list one begins the other. Both are over the same setup and a journal of the same
+/// capacity. It says nothing of a power cut that names a put: there the disk may keep the record or not. And it says
+/// nothing of what is legal at some desk: there a `change` may begin a session or find one that runs.
 pub fn steps_tell_their_transcript()
     ensures longer { (capacity : ℕ) (setup : Setup) (played rest : List Step) (shorter longer : List Entry)
-        → All NamesNoPut played → Legal capacity setup played shorter → Legal capacity setup (played ++ rest) longer
+        → All NamesNoPut played → LegalAtDesk capacity setup played shorter → LegalAtDesk capacity setup (played ++ rest) longer
         → Begins shorter longer }
     ensures fronts { (capacity : ℕ) (setup : Setup) (steps played unplayed others more : List Step)
         (first second : List Entry)
         → All NamesNoPut steps → steps ≡ played ++ unplayed → steps ≡ others ++ more
-        → Legal capacity setup played first → Legal capacity setup others second
+        → LegalAtDesk capacity setup played first → LegalAtDesk capacity setup others second
         → Begins first second ⊎ Begins second first }
+{}
+
+/// What is legal at the desk of the operator is legal, where the setup is sound and the steps are in range: so every law of
+/// legal transcripts holds of those that a machine with a desk tells. A desk is right whose payments have ids of at least 1
+/// and whose trays stand at addresses that are bytes. One at which nothing was done is right, each step keeps it so, and at
+/// a right desk each step has entries that are legal. It says nothing of what is legal and not so at the desk: a session
+/// that begins while another runs, or one that pays what no plan tells.
+pub fn what_is_legal_at_the_desk_is_legal()
+    ensures whole { (capacity : ℕ) (setup : Setup) (steps : List Step) (transcript : List Entry)
+        → IsSoundSetup setup → All IsInRange steps → LegalAtDesk capacity setup steps transcript
+        → Legal capacity setup steps transcript }
+    ensures leaves { (capacity : ℕ) (setup : Setup) (steps : List Step) (transcript : List Entry) (last : Desk)
+        → IsSoundSetup setup → All IsInRange steps → LeavesDesk capacity setup steps transcript last
+        → Legal capacity setup steps transcript × IsRightDesk last }
+    ensures goes_on { (capacity : ℕ) (setup : Setup) (past : List Entry) (desk : Desk) (steps : List Step)
+        (end : List Entry) (last : Desk)
+        → All IsInRange steps → IsRightDesk desk → AtDeskFrom capacity setup past desk steps end last
+        → LegalFrom capacity setup past steps end × IsRightDesk last }
+    ensures each { (capacity : ℕ) (setup : Setup) (past : List Entry) (desk : Desk) (s : Step) (news : List Entry)
+        → IsRightDesk desk → EntriesAtDesk capacity setup past desk s news → Entries capacity setup past s news }
 {}
 
 /// A text tells its legal transcript: two legal transcripts of one setup with the same text are the same. The setup is

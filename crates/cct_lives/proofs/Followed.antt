@@ -22,7 +22,7 @@ use Rattle.cct_model.specs.Script.{IsInRange}
 use Rattle.cct_model.specs.Transcript.{heard_after, met}
 use Rattle.cct_laws.specs.Law.{HasBytes}
 use Rattle.cct_laws.proofs.OnWire.{next_unforged, forged_off, on_wire}
-use Rattle.cct_laws.proofs.jobs.Brought.{Comes, takes_coin, leaves_coin, takes_bill, leaves_bill, leaves_alien, drops_coin, drops_none, jams, jams_none, is_reset, AtDevice, came, took, halted, idled, made_exchange, made_put, wire_end, record_end, poll_end, Brought, of_device, faulted, refused, began_scan, began_sale, nobody, polled, sold, balanced, lost_power, lost_in_put, lost_in_sale, told_of, brought}
+use Rattle.cct_laws.proofs.jobs.Brought.{IsOfDesk, tells_stock, begins_change, keeps_change, serves_none, serves_later, serves_odd, serves_all, serves_short, Comes, takes_coin, leaves_coin, takes_bill, leaves_bill, leaves_alien, drops_coin, drops_none, jams, jams_none, is_reset, AtDevice, came, took, halted, idled, made_exchange, made_put, wire_end, record_end, poll_end, Brought, of_device, faulted, refused, began_scan, began_sale, nobody, polled, sold, balanced, of_desk, ended_short, lost_power, lost_in_put, lost_in_sale, told_of, brought}
 use Rattle.cct_laws.proofs.jobs.Telling.{forged_or_not}
 use Rattle.cct_lives.specs.LiveStep.{LiveStep}
 use Rattle.cct_lives.specs.LiveStep as live
@@ -84,7 +84,7 @@ came_shown d past _ _ _ _ is_reset = refl
 there_shown : (capacity : ℕ) (setup : Setup) (d : DeviceSetup) (past news : List Entry) (s : Step) →
     AtDevice capacity setup d past s news → AreShown news
 there_shown capacity setup d past _ _ (came s e m ls comes) = came_shown d (met d past) s e m ls comes
-there_shown capacity setup d past _ _ (took c suited here is_free is_taken is_owed lets) = refl
+there_shown capacity setup d past _ _ (took s c gives suited here is_free is_taken is_owed lets) = refl
 there_shown capacity setup d past _ _ (halted paying can) = refl
 there_shown capacity setup d past _ _ (idled is_free) = refl
 there_shown capacity setup d past _ _ (made_exchange c since q at_work is_row) =
@@ -96,6 +96,16 @@ there_shown capacity setup d past _ _ (made_put c since r at_work is_row) =
 abbrev SetsNone : Step → Type 0
 SetsNone (step.Fault f) = ⊥
 SetsNone s = ⊤
+
+desk_shown : (s : Step) (e : Entry) → IsOfDesk s e → AreShown (e ∷ [])
+desk_shown _ _ (tells_stock addr count) = refl
+desk_shown _ _ (begins_change first amount) = refl
+desk_shown _ _ (keeps_change first amount) = refl
+desk_shown _ _ serves_none = refl
+desk_shown _ _ (serves_later addr) = refl
+desk_shown _ _ (serves_odd id) = refl
+desk_shown _ _ (serves_all amount) = refl
+desk_shown _ _ (serves_short paid rest) = refl
 
 brought_shown : (capacity : ℕ) (setup : Setup) (past news : List Entry) (s : Step) → SetsNone s →
     Brought capacity setup past s news → AreShown news
@@ -109,6 +119,8 @@ brought_shown capacity setup past _ _ none (polled c since check addr nobody_the
     end_shown BROADCAST _ (poll_end setup past since check addr) refl
 brought_shown capacity setup past _ _ none (sold id price since nobody_there selling) = refl
 brought_shown capacity setup past _ _ none balanced = refl
+brought_shown capacity setup past _ _ none (of_desk s e is) = desk_shown s e is
+brought_shown capacity setup past _ _ none (ended_short addr id count why paid rest small range was) = refl
 brought_shown capacity setup past _ _ none (lost_power at choice) = refl
 brought_shown capacity setup past _ _ none (lost_in_put at choice d c since r own at_work is_row) = refl
 brought_shown capacity setup past _ _ none (lost_in_sale at choice id price since nobody_there selling) = refl

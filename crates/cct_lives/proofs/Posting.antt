@@ -294,7 +294,7 @@ orderly_there capacity setup d past _ _ sound own ids (came s e m ls comes) orde
     let is = loose d (met d past) s e m ls comes in
     subst (Orderly d) (sym (loose_line d past s e m ls is))
     (subst (ObeysJob d) (sym (is.same_job (lines_of d past))) orderly)
-orderly_there capacity setup d past _ _ sound own ids (took c suited here is_free is_taken is_owed lets) orderly =
+orderly_there capacity setup d past _ _ sound own ids (took s c gives suited here is_free is_taken is_owed lets) orderly =
     subst (Orderly d) (sym (lines_taken d past c here)) (begins_orderly d c (lines_of d past) suited)
 orderly_there capacity setup d past _ _ sound own ids (halted paying can) orderly =
     subst (Orderly d) (sym (lines_taken d past (command.Halt d.addr) refl))
@@ -356,7 +356,7 @@ came_posts d before past _ _ _ _ is_reset = tt
 posts_there : (capacity : ℕ) (setup : Setup) (d : DeviceSetup) (past news : List Entry) (s : Step) →
     AtDevice capacity setup d past s news → Orderly d (lines_of d past) → EachFront (PostAt d) news past
 posts_there capacity setup d past _ _ (came s e m ls comes) orderly = (came_posts d (met d past) past s e m ls comes, tt)
-posts_there capacity setup d past _ _ (took c suited here is_free is_taken is_owed lets) orderly = (tt, tt)
+posts_there capacity setup d past _ _ (took s c gives suited here is_free is_taken is_owed lets) orderly = (tt, tt)
 posts_there capacity setup d past _ _ (halted paying can) orderly = (tt, tt)
 posts_there capacity setup d past _ _ (idled is_free) orderly = (tt, tt)
 posts_there capacity setup d past _ _ (made_exchange c since q at_work is_row) orderly =

@@ -317,7 +317,7 @@ ready_there : (capacity : ℕ) (setup : Setup) (d : DeviceSetup) (past news : Li
 ready_there capacity setup d past _ _ sound own ids (came s e m ls comes) ready =
     subst (Ready d) (sym (loose_line d past s e m ls (loose d (met d past) s e m ls comes)))
     (came_ready d (met d past) s e m ls (lines_of d past) comes ready)
-ready_there capacity setup d past _ _ sound own ids (took c suited here is_free is_taken is_owed lets) ready =
+ready_there capacity setup d past _ _ sound own ids (took s c gives suited here is_free is_taken is_owed lets) ready =
     let lines = lines_of d past in
     subst (Ready d) (sym (lines_taken d past c here)) (
       ready.0,
@@ -394,7 +394,7 @@ sent_there : (capacity : ℕ) (setup : Setup) (d : DeviceSetup) (past news : Lis
     EachEntry (SentAt d) past → EachEntry (SentAt d) (news ++ past)
 sent_there capacity setup d past _ _ sound own (came s e m ls comes) ready before =
     (came_sent d (met d past) past s e m ls comes, before)
-sent_there capacity setup d past _ _ sound own (took c suited here is_free is_taken is_owed lets) ready before =
+sent_there capacity setup d past _ _ sound own (took s c gives suited here is_free is_taken is_owed lets) ready before =
     (tt, before)
 sent_there capacity setup d past _ _ sound own (halted paying can) ready before = (tt, before)
 sent_there capacity setup d past _ _ sound own (idled is_free) ready before = (tt, before)

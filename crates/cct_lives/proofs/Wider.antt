@@ -9,6 +9,7 @@ use Rattle.cct_model.specs.lines.command.Command.TheVariants as command
 use Rattle.cct_model.specs.lines.command.CommandNo.{CommandNo}
 use Rattle.cct_model.specs.lines.command.CommandNo.TheVariants.{JournalFull}
 use Rattle.cct_model.specs.lines.command.Step.{Step}
+use Rattle.cct_model.specs.lines.command.Step.TheVariants as step
 use Rattle.cct_model.specs.lines.entry.Entry.{Entry}
 use Rattle.cct_model.specs.lines.entry.Entry.TheVariants as entry
 use Rattle.cct_model.specs.Exchange.{device_at}
@@ -19,7 +20,7 @@ use Rattle.cct_model.specs.Refusal.{Test, with_room, first_of, full_refusal, hel
 use Rattle.cct_model.specs.Script.{IsInRange}
 use Rattle.cct_model.specs.Setup.{IsSoundSetup}
 use Rattle.cct_laws.specs.Ids.{Ids}
-use Rattle.cct_laws.proofs.jobs.Brought.{AtDevice, came, took, halted, idled, made_exchange, made_put, Brought, of_device, faulted, refused, began_scan, began_sale, nobody, polled, sold, balanced, lost_power, lost_in_put, lost_in_sale}
+use Rattle.cct_laws.proofs.jobs.Brought.{AtDevice, came, took, halted, idled, made_exchange, made_put, Brought, of_device, faulted, refused, began_scan, began_sale, nobody, polled, sold, balanced, of_desk, ended_short, lost_power, lost_in_put, lost_in_sale}
 use Rattle.cct_laws.proofs.jobs.Seen.{along_from}
 use Rattle.cct_laws.proofs.jobs.Tests.{Pass, all_pass}
 use Rattle.cct_laws.proofs.money.Books.{Books, books_step, books_forged}
@@ -68,8 +69,8 @@ module _ (small large : ℕ) (less : small ≤ large) (setup : Setup) (past : Li
   there_wider : (d : DeviceSetup) (s : Step) (news : List Entry) → AtDevice small setup d past s news →
       AtDevice large setup d past s news
   there_wider d _ _ (came s e m ls comes) = came s e m ls comes
-  there_wider d _ _ (took c suited here is_free is_taken is_owed lets) =
-      took c suited here is_free is_taken is_owed (refusal_wider c lets)
+  there_wider d _ _ (took s c gives suited here is_free is_taken is_owed lets) =
+      took s c gives suited here is_free is_taken is_owed (refusal_wider c lets)
   there_wider d _ _ (halted paying can) = halted paying can
   there_wider d _ _ (idled is_free) = idled is_free
   there_wider d _ _ (made_exchange c since q at_work is_row) = made_exchange c since q at_work is_row
@@ -78,6 +79,8 @@ module _ (small large : ℕ) (less : small ≤ large) (setup : Setup) (past : Li
   -- what a step brought is brought over the other journal too, but for a command that is refused
   data Wider : Step → List Entry → Type 0 where
     as_refused : (s : Step) (c : Command) (why : CommandNo) → Wider s (entry.No c why ∷ [])
+    as_ended : (c : Command) (why : CommandNo) (paid rest : ℕ) →
+        Wider step.Serve (entry.Short paid rest ∷ entry.No c why ∷ [])
     as_brought : (s : Step) (news : List Entry) → Brought large setup past s news → Wider s news
 
   wider : (s : Step) (news : List Entry) → Brought small setup past s news → Wider s news
@@ -91,6 +94,9 @@ module _ (small large : ℕ) (less : small ≤ large) (setup : Setup) (past : Li
   wider _ _ (polled c since check addr none is_job is_row) = as_brought _ _ (polled c since check addr none is_job is_row)
   wider _ _ (sold id price since none selling) = as_brought _ _ (sold id price since none selling)
   wider _ _ balanced = as_brought _ _ balanced
+  wider _ _ (of_desk s e is) = as_brought s (e ∷ []) (of_desk s e is)
+  wider _ _ (ended_short addr id count why paid rest small range was) =
+      as_ended (command.Pay addr id count) why paid rest
   wider _ _ (lost_power at choice) = as_brought _ _ (lost_power at choice)
   wider _ _ (lost_in_put at choice d c since r own at_work is_row) =
       as_brought _ _ (lost_in_put at choice d c since r own at_work is_row)
@@ -105,11 +111,21 @@ books_refused capacity setup past c why books = record {
   counts = record { follow = books.counts.follow; covered = books.counts.covered; room = books.counts.room };
 }
 
+-- and an end of a session that follows puts nothing either
+books_ended : (capacity : ℕ) (setup : Setup) (past : List Entry) (paid rest : ℕ) → Books capacity setup past →
+    Books capacity setup (entry.Short paid rest ∷ past)
+books_ended capacity setup past paid rest books = record {
+  base = record { sells = books.base.sells; ranged = books.base.ranged; needs = books.base.needs };
+  counts = record { follow = books.counts.follow; covered = books.counts.covered; room = books.counts.room };
+}
+
 books_wider : (small large : ℕ) (less : small ≤ large) (setup : Setup) (past : List Entry) (s : Step) (news : List Entry) →
     IsSoundSetup setup → IsInRange s → Ids setup past → Wider small large less setup past s news → Books large setup past →
     Books large setup (news ++ past)
 books_wider small large less setup past _ _ sound range ids (as_refused s c why) books =
     books_refused large setup past c why books
+books_wider small large less setup past _ _ sound range ids (as_ended c why paid rest) books =
+    books_ended large setup (entry.No c why ∷ past) paid rest (books_refused large setup past c why books)
 books_wider small large less setup past _ _ sound range ids (as_brought s news told) books =
     books_step large setup past news s sound range ids told books
 

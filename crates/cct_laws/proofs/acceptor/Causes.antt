@@ -39,7 +39,7 @@ causes_there : (capacity : ℕ) (setup : Setup) (d : DeviceSetup) (past news : L
     HaveCauses d past → HaveCauses d (news ++ past)
 causes_there capacity setup d past _ _ taking ranged (came s e m ls comes) masks before =
     ((loose d (met d past) s e m ls comes).no_break d past, before)
-causes_there capacity setup d past _ _ taking ranged (took c suited here is_free is_taken is_owed lets) masks before =
+causes_there capacity setup d past _ _ taking ranged (took s c gives suited here is_free is_taken is_owed lets) masks before =
     (tt, before)
 causes_there capacity setup d past _ _ taking ranged (halted paying can) masks before = (tt, before)
 causes_there capacity setup d past _ _ taking ranged (idled is_free) masks before = (tt, before)

@@ -1,6 +1,6 @@
 -- What one step of a machine brought: the one view of a legal step by which each law goes by cases. That an exchange was
 -- forged, which the last entry of a `next` may tell, is no part of it (`Telling.antt`).
-use Rattle.std.proofs.Common.{◌≡◌, inl, inr, ℕ, zero, suc, ◌==◌, cond, true, false, Bool, List, [], ◌∷◌, ◌++◌, refl, ap, sym, ◌∙◌, subst, Option, Some, None, MatchBool, eqb-true}
+use Rattle.std.proofs.Common.{◌≡◌, ◌<◌, inl, inr, ℕ, zero, suc, ◌==◌, cond, true, false, Bool, List, [], ◌∷◌, ◌++◌, refl, ap, sym, ◌∙◌, subst, Option, Some, None, MatchBool, eqb-true}
 use Rattle.std.specs.Prelude.{⊤, not}
 use Rattle.cct_model.specs.declared.judging.EpochState.{EpochState}
 use Rattle.cct_model.specs.declared.judging.EpochState.TheVariants.{Idle, Running}
@@ -41,14 +41,16 @@ use Rattle.cct_model.specs.Order.{order}
 use Rattle.cct_model.specs.Job.{Job, free, works, job, begun, with_line, epoch, Row, sends, puts, no_row, address_of, noted_in}
 use Rattle.cct_model.specs.Rows.{TableRow, row, row_of_sale, left_of_sale, end_of, first, end_of_sale, end_kept, after, done, rows_of_sale, can_halt}
 use Rattle.cct_model.specs.Money.{totals}
+use Rattle.cct_model.specs.Script.{IsCommand, IsInRange}
 use Rattle.cct_model.specs.Scan.{scan_row, end_of_scan, poll_of}
 use Rattle.cct_model.specs.Refusal.{unless, is_busy, epoch_refusal, value_refusal, start_refusal, order_refusal, state_fails, view_of, lines_for, last_id, refusal, state_tests}
 use Rattle.cct_model.specs.Honest.{without_forged}
-use Rattle.cct_model.specs.Legal.{happening_entry, step_of, command_entry, with_end, RowEntries, NextEntries, PollEntries, ScanEntries, SaleRowEntries, SaleEntries, BareNext, OfKnowing, OfNext, record_due, due_of, due_of_sale, due_there, due_at, bare_restart, keeping_restart, RestartEntries, EntriesOfRestart, Entries}
+use Rattle.cct_model.specs.Legal.{ServeEntries, is_idle, waits, is_odd, is_served, falls_short, pays, is_refused, ChangeEntries, happening_entry, step_of, command_entry, with_end, RowEntries, NextEntries, PollEntries, ScanEntries, SaleRowEntries, SaleEntries, BareNext, OfKnowing, OfNext, record_due, due_of, due_of_sale, due_there, due_at, bare_restart, keeping_restart, RestartEntries, EntriesOfRestart, Entries}
 use Rattle.cct_model.specs.Transcript.{met, owner, lines_of, scan_lines, scan_line, sale_lines, heard_after, heard_by_devices, pending, got_by, doses_of}
 use Rattle.cct_laws.specs.DeviceJobs.{is_for_acceptor, is_for_bills, is_for_hopper, suits, IsTaken}
 use Rattle.cct_laws.specs.KeptHopper.{IsOwed}
-use Rattle.cct_laws.specs.Law.{IsOf}
+use Rattle.cct_laws.specs.Ending.{nexts_after}
+use Rattle.cct_laws.specs.Law.{HasBytes, IsCommandOfBytes, IsOf}
 use Rattle.cct_model.proofs.Doses.{job_undosed}
 use Rattle.cct_laws.proofs.Setups.{address_found}
 use Rattle.cct_laws.proofs.jobs.Tests.{Pass, tests_pass, test_holds}
@@ -108,14 +110,28 @@ abbrev pub poll_end : Setup → List Entry → List Line → CheckKind → ℕ �
 poll_end setup past since check addr =
     let sent = ask check addr (poll_of addr) in end_of_scan (scan_line sent (heard_after setup past sent) ∷ since)
 
+-- a step gives the host a command: one of its own, or the payment of a session of change
+pub record Gives (s : Step) (c : Command) : Type 0 where
+  pub in_range : IsInRange s → IsCommand c
+  pub bytes : HasBytes s → IsCommandOfBytes c
+  pub no_next : (addr nexts : ℕ) → nexts_after addr s nexts ≡ nexts
+
+own_command : (c : Command) → Gives (step.Command c) c
+own_command c = record { in_range = λ range. range; bytes = λ bytes. bytes; no_next = λ addr nexts. refl }
+
+session_pays : (addr id count : ℕ) → addr < 256 → IsCommand (command.Pay addr id count) →
+    Gives step.Serve (command.Pay addr id count)
+session_pays addr id count small range =
+    record { in_range = λ any. range; bytes = λ any. small; no_next = λ other nexts. refl }
+
 -- what a step brought at a device: something came, a command was taken, a payment was halted, it was idle, or its job
 -- made an exchange or a put
 pub data AtDevice (capacity : ℕ) (setup : Setup) (d : DeviceSetup) (past : List Entry) : Step → List Entry → Type 0 where
   came : (s : Step) (e : Entry) (m : Met) (ls : List Line) → Comes d (met d past) s e m ls →
       AtDevice capacity setup d past s (e ∷ [])
-  took : (c : Command) → suits d.body c ≡ true → address_of c ≡ d.addr → job (lines_of d past) ≡ free →
-      IsTaken d c (epoch (lines_of d past)) → IsOwed c (order (lines_of d past)) → refusal capacity setup past c ≡ None →
-      AtDevice capacity setup d past (step.Command c) (entry.Taken c ∷ [])
+  took : (s : Step) (c : Command) → Gives s c → suits d.body c ≡ true → address_of c ≡ d.addr →
+      job (lines_of d past) ≡ free → IsTaken d c (epoch (lines_of d past)) → IsOwed c (order (lines_of d past)) →
+      refusal capacity setup past c ≡ None → AtDevice capacity setup d past s (entry.Taken c ∷ [])
   halted : IsHopper d.body → can_halt d (job (lines_of d past)) ≡ true →
       AtDevice capacity setup d past (step.Command (command.Halt d.addr)) (entry.Taken (command.Halt d.addr) ∷ [])
   idled : job (lines_of d past) ≡ free → AtDevice capacity setup d past (step.Next d.addr) (entry.Idle d.addr ∷ [])
@@ -138,8 +154,20 @@ pub data Due (setup : Setup) (past : List Entry) : Record → Type 0 where
   from_sale : (id price : ℕ) (since : List Line) → device_at setup.devices HOST ≡ None → Selling past id price since →
       Due setup past (record_of.Sold id price)
 
+-- what is told of the desk of the operator alone
+pub data IsOfDesk : Step → Entry → Type 0 where
+  tells_stock : (addr count : ℕ) → IsOfDesk (step.Stock addr count) (entry.Stock addr count)
+  begins_change : (first amount : ℕ) → IsOfDesk (step.Change first amount) (entry.ChangeOk first amount)
+  keeps_change : (first amount : ℕ) → IsOfDesk (step.Change first amount) entry.ChangeNo
+  serves_none : IsOfDesk step.Serve entry.ServeIdle
+  serves_later : (addr : ℕ) → IsOfDesk step.Serve (entry.ServeWait addr)
+  serves_odd : (id : ℕ) → IsOfDesk step.Serve (entry.ServeOdd id)
+  serves_all : (amount : ℕ) → IsOfDesk step.Serve (entry.Served amount)
+  serves_short : (paid rest : ℕ) → IsOfDesk step.Serve (entry.Short paid rest)
+
 -- what a step brought: something at a device of the setup; or a fault was set, a command was refused, a scan or a sale was
--- begun or went on, nobody was there, the balance was read; or the power was cut, within a put or not
+-- begun or went on, nobody was there, the balance was read; or it told of the desk of the operator, or a payment of a
+-- session of change was refused; or the power was cut, within a put or not
 pub data Brought (capacity : ℕ) (setup : Setup) (past : List Entry) : Step → List Entry → Type 0 where
   of_device : (d : DeviceSetup) (s : Step) (news : List Entry) → IsOf setup d → AtDevice capacity setup d past s news →
       Brought capacity setup past s news
@@ -159,6 +187,10 @@ pub data Brought (capacity : ℕ) (setup : Setup) (past : List Entry) : Step →
   sold : (id price : ℕ) (since : List Line) → device_at setup.devices HOST ≡ None → Selling past id price since →
       Brought capacity setup past (step.Next HOST) (entry.Ended HOST Sold ∷ entry.Put (record_of.Sold id price) ∷ [])
   balanced : Brought capacity setup past step.Balance (entry.Balance (totals setup past) ∷ [])
+  of_desk : (s : Step) (e : Entry) → IsOfDesk s e → Brought capacity setup past s (e ∷ [])
+  ended_short : (addr id count : ℕ) (why : CommandNo) (paid rest : ℕ) → addr < 256 →
+      IsCommand (command.Pay addr id count) → refusal capacity setup past (command.Pay addr id count) ≡ Some why →
+      Brought capacity setup past step.Serve (entry.Short paid rest ∷ entry.No (command.Pay addr id count) why ∷ [])
   lost_power : (at : Option CrashAt) (choice : ℕ) → Brought capacity setup past (step.Crash at choice) (bare_restart past)
   lost_in_put : (at : CrashAt) (choice : ℕ) (d : DeviceSetup) (c : Command) (since : List Line) (r : Record) →
       IsOf setup d → AtWork d past c since → row_after d past c since ≡ puts r →
@@ -389,15 +421,31 @@ owed_by d lines last (command.Settle addr) passes = passes.1.1.1.0
 owed_by d lines last c passes = tt
 
 -- a command that begins a job at a device
-began_at : (capacity : ℕ) (setup : Setup) (past : List Entry) (c : Command) (d : DeviceSetup) →
+began_at : (capacity : ℕ) (setup : Setup) (past : List Entry) (s : Step) (c : Command) (d : DeviceSetup) → Gives s c →
     device_at setup.devices (address_of c) ≡ Some d → refusal capacity setup past c ≡ None → suits d.body c ≡ true →
     unless (not (is_busy (job (lines_of d past)))) Busy ≡ None → PassesAt d (lines_of d past) (last_id setup past) c →
-    Brought capacity setup past (step.Command c) (entry.Taken c ∷ [])
-began_at capacity setup past c d was none suited is_free passes =
-    of_device d (step.Command c) (entry.Taken c ∷ []) (of_found setup (address_of c) d was)
-    (took c suited (sym (address_found setup (address_of c) d was)) (free_if (job (lines_of d past)) is_free)
+    Brought capacity setup past s (entry.Taken c ∷ [])
+began_at capacity setup past s c d gives was none suited is_free passes =
+    of_device d s (entry.Taken c ∷ []) (of_found setup (address_of c) d was)
+    (took s c gives suited (sym (address_found setup (address_of c) d was)) (free_if (job (lines_of d past)) is_free)
     (taken_by d (lines_of d past) (last_id setup past) c passes)
     (owed_by d (lines_of d past) (last_id setup past) c passes) none)
+
+-- a payment, whichever step gave it
+paid_at : (capacity : ℕ) (setup : Setup) (past : List Entry) (s : Step) (addr id count : ℕ) (found : Option DeviceSetup) →
+    Gives s (command.Pay addr id count) → device_at setup.devices addr ≡ found →
+    refusal capacity setup past (command.Pay addr id count) ≡ None →
+    Pass (state_fails (view_of found (lines_for past (command.Pay addr id count) found) (last_id setup past)))
+    (state_tests (command.Pay addr id count)) →
+    Brought capacity setup past s (entry.Taken (command.Pay addr id count) ∷ [])
+unfolding PassesAt
+paid_at capacity setup past s addr id count None gives was none passes =
+    let device : unless false NoDevice ≡ None = passes.0 in
+    absurd cc
+paid_at capacity setup past s addr id count (Some d) gives was none passes =
+    began_at capacity setup past s (command.Pay addr id count) d gives was none
+    (suits_hopper d.body (command.Pay addr id count) (test_holds (is_hopper d.body) WrongKind passes.1.0) refl)
+    passes.1.1.0 passes
 
 taken_at : (capacity : ℕ) (setup : Setup) (past : List Entry) (c : Command) (found : Option DeviceSetup) →
     device_at setup.devices (address_of c) ≡ found → refusal capacity setup past c ≡ None →
@@ -415,23 +463,22 @@ taken_at capacity setup past (command.Halt addr) (Some d) was none passes =
     (halted (paying_by d.body (test_holds (is_hopper d.body) WrongKind passes.1.0))
     (test_holds (can_halt d (job (lines_of d past))) NoPayout passes.1.1.0))
 taken_at capacity setup past (command.Ident addr) (Some d) was none passes =
-    began_at capacity setup past (command.Ident addr) d was none (suits_ident d.body addr) passes.1.0 passes
-taken_at capacity setup past (command.Pay addr id count) (Some d) was none passes =
-    began_at capacity setup past (command.Pay addr id count) d was none
-    (suits_hopper d.body (command.Pay addr id count) (test_holds (is_hopper d.body) WrongKind passes.1.0) refl)
-    passes.1.1.0 passes
+    began_at capacity setup past (step.Command (command.Ident addr)) (command.Ident addr) d (own_command (command.Ident addr)) was none (suits_ident d.body addr) passes.1.0 passes
+taken_at capacity setup past (command.Pay addr id count) found was none passes =
+    paid_at capacity setup past (step.Command (command.Pay addr id count)) addr id count found
+    (own_command (command.Pay addr id count)) was none passes
 taken_at capacity setup past (command.Settle addr) (Some d) was none passes =
-    began_at capacity setup past (command.Settle addr) d was none
+    began_at capacity setup past (step.Command (command.Settle addr)) (command.Settle addr) d (own_command (command.Settle addr)) was none
     (suits_hopper d.body (command.Settle addr) (test_holds (is_hopper d.body) WrongKind passes.1.0) refl) passes.1.1.0 passes
 taken_at capacity setup past (command.Path addr place path) (Some d) was none passes =
-    began_at capacity setup past (command.Path addr place path) d was none
+    began_at capacity setup past (step.Command (command.Path addr place path)) (command.Path addr place path) d (own_command (command.Path addr place path)) was none
     (suits_acceptor d.body (command.Path addr place path) (test_holds (is_acceptor d.body) WrongKind passes.1.0) refl)
     passes.1.1.0 passes
 taken_at capacity setup past (command.Route addr way) (Some d) was none passes =
-    began_at capacity setup past (command.Route addr way) d was none
+    began_at capacity setup past (step.Command (command.Route addr way)) (command.Route addr way) d (own_command (command.Route addr way)) was none
     (suits_bills d.body (command.Route addr way) (test_holds (is_bill d.body) WrongKind passes.1.0) refl) passes.1.1.0 passes
 taken_at capacity setup past c (Some d) was none passes =
-    began_at capacity setup past c d was none
+    began_at capacity setup past (step.Command c) c d (own_command c) was none
     (suits_taker d.body c (test_holds (is_taker d.body) WrongKind passes.1.0) refl refl) passes.1.1.0 passes
 
 command_brought : (capacity : ℕ) (setup : Setup) (past : List Entry) (c : Command) (why : Option CommandNo) →
@@ -440,6 +487,33 @@ command_brought capacity setup past c None was =
     taken_at capacity setup past c (device_at setup.devices (address_of c)) refl was
     (tests_pass capacity setup past c was).state
 command_brought capacity setup past c (Some why) was = refused c why was
+
+-- a serve
+pub serve_brought : (capacity : ℕ) (setup : Setup) (past news : List Entry) → ServeEntries capacity setup past news →
+    Brought capacity setup past step.Serve news
+serve_brought capacity setup past _ is_idle = of_desk step.Serve entry.ServeIdle serves_none
+serve_brought capacity setup past _ (waits addr) = of_desk step.Serve (entry.ServeWait addr) (serves_later addr)
+serve_brought capacity setup past _ (is_odd id) = of_desk step.Serve (entry.ServeOdd id) (serves_odd id)
+serve_brought capacity setup past _ (is_served amount) = of_desk step.Serve (entry.Served amount) (serves_all amount)
+serve_brought capacity setup past _ (falls_short paid rest) =
+    of_desk step.Serve (entry.Short paid rest) (serves_short paid rest)
+serve_brought capacity setup past _ (pays addr id count small range none) =
+    paid_at capacity setup past step.Serve addr id count (device_at setup.devices addr)
+    (session_pays addr id count small range) refl none
+    (tests_pass capacity setup past (command.Pay addr id count) none).state
+serve_brought capacity setup past _ (is_refused addr id count why paid rest small range was) =
+    ended_short addr id count why paid rest small range was
+
+-- a change
+change_brought : (capacity : ℕ) (setup : Setup) (past news : List Entry) (first amount : ℕ) →
+    ChangeEntries first amount news → Brought capacity setup past (step.Change first amount) news
+change_brought capacity setup past news first amount told =
+    elim told [
+      | inl begins ↦ subst (Brought capacity setup past (step.Change first amount)) (sym begins)
+          (of_desk (step.Change first amount) (entry.ChangeOk first amount) (begins_change first amount))
+      | inr keeps ↦ subst (Brought capacity setup past (step.Change first amount)) (sym keeps)
+          (of_desk (step.Change first amount) entry.ChangeNo (keeps_change first amount))
+    ]
 
 -- a next
 row_brought : (capacity : ℕ) (setup : Setup) (d : DeviceSetup) (past news : List Entry) (c : Command)
@@ -655,4 +729,10 @@ brought capacity setup past news (step.Next addr) told =
 brought capacity setup past news (step.Crash at choice) told = restart_brought capacity setup past news at choice told
 brought capacity setup past news step.Balance told =
     subst (Brought capacity setup past step.Balance) (sym told) balanced
+brought capacity setup past news (step.Stock addr count) told =
+    subst (Brought capacity setup past (step.Stock addr count)) (sym told)
+    (of_desk (step.Stock addr count) (entry.Stock addr count) (tells_stock addr count))
+brought capacity setup past news (step.Change first amount) told =
+    change_brought capacity setup past news first amount told
+brought capacity setup past news step.Serve told = serve_brought capacity setup past news told
 brought capacity setup past news step.End told = absurd told

@@ -400,7 +400,7 @@ job_there capacity setup d c nexts past _ _ played ids at alone finds (came s e 
     (other_needs (is_payment c) d.addr s (suc nexts) (is.no_next d.addr (suc nexts)))
     (ap job (loose_line d past s e m ls is) ∙ is.same_job (lines_of d past)) (is.no_end d.addr) at
 job_there capacity setup d c nexts past _ _ played ids at alone finds
-    (took x suited here is_free is_taken is_owed lets) = absurd (no_free c at.since (sym at.job_is ∙ is_free))
+    (took s x gives suited here is_free is_taken is_owed lets) = absurd (no_free c at.since (sym at.job_is ∙ is_free))
 job_there capacity setup d c nexts past _ _ played ids at alone finds (halted paying can) =
     let pays = halted_pays d c at.since (subst (λ j. can_halt d j ≡ true) at.job_is can) in
     rw (eq-eqb d.addr d.addr refl, pays) (halt_there d c (suc nexts) past at)

@@ -120,7 +120,7 @@ told_there capacity setup d past _ _ own ids (came s e m ls comes) told =
     ap (λ ms. accepted_of d.body (ms ++ met d past)) (loose_met d past s e m ls is)
     ∙ came_told d (met d past) (lines_of d past) s e m ls comes told
     ∙ sym (ap (λ lines. length (coins lines)) (loose_line d past s e m ls is))
-told_there capacity setup d past _ _ own ids (took c suited here is_free is_taken is_owed lets) told =
+told_there capacity setup d past _ _ own ids (took s c gives suited here is_free is_taken is_owed lets) told =
     told_lines d past (entry.Taken c) (taken c ∷ lines_of d past) refl (lines_taken d past c here) refl told
 told_there capacity setup d past _ _ own ids (halted paying can) told =
     told_lines d past (entry.Taken (command.Halt d.addr)) (taken (command.Halt d.addr) ∷ lines_of d past) refl
@@ -345,7 +345,7 @@ counts_there capacity setup d c past _ _ played taking ids at alone (came s e m 
     } in
     (((λ none. not_moved d past e (is.no_end d.addr)), tt), λ none. after)
 counts_there capacity setup d c past _ _ played taking ids at alone
-    (took x suited here is_free is_taken is_owed lets) = absurd (no_free c at.since (sym at.job_is ∙ is_free))
+    (took s x gives suited here is_free is_taken is_owed lets) = absurd (no_free c at.since (sym at.job_is ∙ is_free))
 counts_there capacity setup d c past _ _ played taking ids at alone (halted paying can) =
     let l = taken (command.Halt d.addr) in
     let lines_are = lines_taken d past (command.Halt d.addr) refl in (

@@ -20,7 +20,8 @@ use Rattle.cct_model.specs.Legal.{with_end, Legal}
 use Rattle.cct_model.specs.Transcript.{scan_lines, scan_line, onto}
 use Rattle.cct_laws.specs.Ids.{Ids}
 use Rattle.cct_laws.specs.Tries.{HasFewTries, HasThreeTries, ScanTriesAt}
-use Rattle.cct_laws.proofs.jobs.Brought.{Brought, of_device, faulted, refused, began_scan, began_sale, nobody, polled, sold, balanced, lost_power, lost_in_put, lost_in_sale}
+use Rattle.cct_laws.proofs.jobs.AtDesk.{desk_apart}
+use Rattle.cct_laws.proofs.jobs.Brought.{Brought, of_device, faulted, refused, began_scan, began_sale, nobody, polled, sold, balanced, of_desk, ended_short, lost_power, lost_in_put, lost_in_sale}
 use Rattle.cct_laws.proofs.jobs.Seen.{unscanned, along}
 use Rattle.cct_laws.proofs.jobs.Telling.{any_steps}
 
@@ -134,6 +135,9 @@ polls_step capacity setup sound past _ _ any ids (polled c since check addr none
     wire_kept past c since _ _ is_job polls
 polls_step capacity setup sound past _ _ any ids (sold id price since none selling) polls = polls
 polls_step capacity setup sound past _ _ any ids balanced polls = polls
+polls_step capacity setup sound past _ _ any ids (of_desk s e is) polls =
+    subst Polls (sym (ap (λ front. front ++ scan_lines past) (desk_apart s e is).no_scan)) polls
+polls_step capacity setup sound past _ _ any ids (ended_short addr id count why paid rest small range was) polls = polls
 polls_step capacity setup sound past _ _ any ids (lost_power at choice) polls = restart_kept past polls
 polls_step capacity setup sound past _ _ any ids (lost_in_put at choice d c since r own at_work is_row) polls =
     restart_kept past polls

@@ -39,8 +39,9 @@ use Rattle.cct_laws.specs.Law.{IsOf, EachEntry}
 use Rattle.cct_laws.specs.SinceEpoch.{since_record, since_epoch, HasCause, HasCauseAt}
 use Rattle.cct_laws.specs.Ids.{Ids}
 use Rattle.cct_laws.specs.Takers.{accepted_of}
-use Rattle.cct_laws.proofs.jobs.Brought.{Comes, takes_coin, leaves_coin, takes_bill, leaves_bill, leaves_alien, drops_coin, drops_none, jams, jams_none, is_reset, AtWork, AtDevice, came, took, halted, idled, made_exchange, made_put, row_after, wire_of, wire_end, record_end, poll_wire, poll_end, Brought, of_device, faulted, refused, began_scan, began_sale, nobody, polled, sold, balanced, lost_power, lost_in_put, lost_in_sale}
+use Rattle.cct_laws.proofs.jobs.Brought.{Comes, takes_coin, leaves_coin, takes_bill, leaves_bill, leaves_alien, drops_coin, drops_none, jams, jams_none, is_reset, AtWork, AtDevice, came, took, halted, idled, made_exchange, made_put, row_after, wire_of, wire_end, record_end, poll_wire, poll_end, Brought, of_device, faulted, refused, began_scan, began_sale, nobody, polled, sold, balanced, of_desk, ended_short, lost_power, lost_in_put, lost_in_sale}
 use Rattle.cct_model.proofs.Doses.{AreDoses, IsAside, doses_are, same_over}
+use Rattle.cct_laws.proofs.jobs.AtDesk.{desk_apart}
 use Rattle.cct_laws.proofs.jobs.Telling.{Telling, GoesOverForged, over_telling, each_brought}
 use Rattle.cct_laws.proofs.orders.Ids.{ids_start, ids_step, ids_forged, put_owned}
 use Rattle.cct_laws.proofs.HeardBytes.{ask_to, asked_elsewhere, poll_others}
@@ -336,8 +337,8 @@ elsewhere : (capacity : ℕ) (setup : Setup) (d e : DeviceSetup) (past news : Li
     IsOf setup e → e.addr ≢ d.addr → e.addr ≢ 0 → AtDevice capacity setup e past s news → Aside d past s news
 elsewhere capacity setup d e past _ _ ids own other some (came s n m ls comes) =
     loose_passes d past e.addr s n m ls other (loose e (met e past) s n m ls comes)
-elsewhere capacity setup d e past _ _ ids own other some (took c suited here is_free is_taken is_owed lets) =
-    record { passes = (taken_passes d past c (λ same. other (sym here ∙ same)), tt); no_next = λ n. refl }
+elsewhere capacity setup d e past _ _ ids own other some (took s c gives suited here is_free is_taken is_owed lets) =
+    record { passes = (taken_passes d past c (λ same. other (sym here ∙ same)), tt); no_next = gives.no_next d.addr }
 elsewhere capacity setup d e past _ _ ids own other some (halted paying can) =
     record { passes = (taken_passes d past (command.Halt e.addr) other, tt); no_next = λ n. refl }
 elsewhere capacity setup d e past _ _ ids own other some (idled is_free) =
@@ -446,6 +447,17 @@ seen_from capacity setup d past _ _ sound is_of ids (sold id price since none se
     })
 seen_from capacity setup d past _ _ sound is_of ids balanced =
     seen_aside (none_aside d past step.Balance _ refl refl refl tt tt (λ n. refl))
+seen_from capacity setup d past _ _ sound is_of ids (of_desk s e is) =
+    let apart = desk_apart s e is in
+    seen_aside (none_aside d past s e (apart.own_is d past) (apart.meets_is d past) (apart.goes_on d past)
+    (apart.no_break d past) (apart.no_end d.addr) (apart.no_next d.addr))
+seen_from capacity setup d past _ _ sound is_of ids (ended_short addr id count why paid rest small range was) =
+    let refuses : Aside d past step.Serve (entry.No (command.Pay addr id count) why ∷ []) =
+    none_aside d past step.Serve (entry.No (command.Pay addr id count) why) refl refl refl tt tt (λ n. refl) in
+    let ends : Aside d (entry.No (command.Pay addr id count) why ∷ past) step.Serve (entry.Short paid rest ∷ []) =
+    none_aside d (entry.No (command.Pay addr id count) why ∷ past) step.Serve (entry.Short paid rest) refl refl refl tt tt
+    (λ n. refl) in
+    seen_aside (record { passes = (ends.passes.0, refuses.passes); no_next = λ n. refl })
 seen_from capacity setup d past _ _ sound is_of ids (lost_power at choice) = seen_lost bare (λ n. refl)
 seen_from capacity setup d past _ _ sound is_of ids (lost_in_put at choice e c since r own at_work is_row) =
     seen_lost (kept_seen setup d e past c since r ids own at_work is_row (same_or_other setup d e e.addr is_of own)) (λ n. refl)
@@ -500,7 +512,7 @@ pub unscanned : (capacity : ℕ) (setup : Setup) (d : DeviceSetup) (past news : 
     IsOf setup d → AtDevice capacity setup d past s news → scan_lines (news ++ past) ≡ scan_lines past
 unscanned capacity setup d past _ _ sound is_of (came s e m ls comes) =
     ap (λ front. front ++ scan_lines past) (loose d (met d past) s e m ls comes).no_scan
-unscanned capacity setup d past _ _ sound is_of (took c suited here is_free is_taken is_owed lets) =
+unscanned capacity setup d past _ _ sound is_of (took s c gives suited here is_free is_taken is_owed lets) =
     ap (λ ls. ls ++ scan_lines past) (none_there (address_of c) (taken c)
     (λ zero. not_zero setup d sound is_of (sym here ∙ zero)))
 unscanned capacity setup d past _ _ sound is_of (halted paying can) =

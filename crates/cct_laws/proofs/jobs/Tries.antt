@@ -374,7 +374,7 @@ steady_there capacity setup d past _ _ sound own ids (came s e m ls comes) stead
       each = came_steady d (met d past) s e m ls (lines_of d past) comes steady.goes_on.few steady.each;
       goes_on = subst (HasTriesLeft d) (sym (is.same_job (lines_of d past))) steady.goes_on;
     })
-steady_there capacity setup d past _ _ sound own ids (took c suited here is_free is_taken is_owed lets) steady =
+steady_there capacity setup d past _ _ sound own ids (took s c gives suited here is_free is_taken is_owed lets) steady =
     rw (lines_taken d past c here) (steady_line d (taken c) (lines_of d past) (λ older few. few)
     (rw (begun_at_work d.body c (lines_of d past) suited)
     (record { few = omega arith; none_of_once = none_tried [] (λ header. refl) (rest d c []) })) steady)

@@ -149,7 +149,7 @@ pub same_elsewhere : (capacity : ℕ) (setup : Setup) (d e : DeviceSetup) (past 
     AreSame (lines_of e (news ++ past)) (lines_of e past)
 same_elsewhere capacity setup d e past _ _ ids own other (came s x m ls comes) =
     same_lines _ _ (came_away e past d.addr s x m ls other (loose d (met d past) s x m ls comes))
-same_elsewhere capacity setup d e past _ _ ids own other (took c suited here is_free is_taken is_owed lets) =
+same_elsewhere capacity setup d e past _ _ ids own other (took s c gives suited here is_free is_taken is_owed lets) =
     same_taken e past c (λ same. other (sym here ∙ same))
 same_elsewhere capacity setup d e past _ _ ids own other (halted paying can) =
     same_taken e past (command.Halt d.addr) other
@@ -186,7 +186,7 @@ pub unsold : (capacity : ℕ) (setup : Setup) (d : DeviceSetup) (past news : Lis
     d.addr ≢ HOST → AtDevice capacity setup d past s news → sale_lines (news ++ past) ≡ sale_lines past
 unsold capacity setup d past _ _ other (came s x m ls comes) =
     ap (λ front. front ++ sale_lines past) (came_quiet d (met d past) s x m ls comes).no_sale
-unsold capacity setup d past _ _ other (took c suited here is_free is_taken is_owed lets) =
+unsold capacity setup d past _ _ other (took s c gives suited here is_free is_taken is_owed lets) =
     line_away (address_of c) HOST (taken c) (sale_lines past) (λ same. other (sym here ∙ same))
 unsold capacity setup d past _ _ other (halted paying can) =
     line_away d.addr HOST (taken (command.Halt d.addr)) (sale_lines past) other

@@ -14,7 +14,8 @@ use Rattle.cct_laws.specs.Balanced.{IsBalanced}
 use Rattle.cct_laws.specs.Law.{EachEntry}
 use Rattle.cct_laws.specs.Scope.{EachTranscript}
 use Rattle.cct_laws.proofs.money.Books.{Books, books_start, books_step, books_forged}
-use Rattle.cct_laws.proofs.jobs.Brought.{Comes, takes_coin, leaves_coin, takes_bill, leaves_bill, leaves_alien, drops_coin, drops_none, jams, jams_none, is_reset, AtDevice, came, took, halted, idled, made_exchange, made_put, wire_of, wire_end, record_end, poll_wire, poll_end, Brought, of_device, faulted, refused, began_scan, began_sale, nobody, polled, sold, balanced, lost_power, lost_in_put, lost_in_sale}
+use Rattle.cct_laws.proofs.jobs.AtDesk.{desk_apart}
+use Rattle.cct_laws.proofs.jobs.Brought.{Comes, takes_coin, leaves_coin, takes_bill, leaves_bill, leaves_alien, drops_coin, drops_none, jams, jams_none, is_reset, AtDevice, came, took, halted, idled, made_exchange, made_put, wire_of, wire_end, record_end, poll_wire, poll_end, Brought, of_device, faulted, refused, began_scan, began_sale, nobody, polled, sold, balanced, of_desk, ended_short, lost_power, lost_in_put, lost_in_sale}
 use Rattle.cct_laws.proofs.money.Journal.{conserved}
 use Rattle.cct_laws.proofs.jobs.Seen.{each_with_end, along}
 
@@ -39,7 +40,7 @@ there_balanced : (capacity : ℕ) (setup : Setup) (d : DeviceSetup) (past news :
     AtDevice capacity setup d past s news → AllBalanced setup past → AllBalanced setup (news ++ past)
 there_balanced capacity setup d past _ _ (came s e m ls comes) before =
     came_balanced setup d _ past s e m ls comes before
-there_balanced capacity setup d past _ _ (took c suited here is_free is_taken is_owed lets) before = (tt, before)
+there_balanced capacity setup d past _ _ (took s c gives suited here is_free is_taken is_owed lets) before = (tt, before)
 there_balanced capacity setup d past _ _ (halted paying can) before = (tt, before)
 there_balanced capacity setup d past _ _ (idled is_free) before = (tt, before)
 there_balanced capacity setup d past _ _ (made_exchange c since q at_work is_row) before =
@@ -64,6 +65,9 @@ step_balanced capacity setup past _ _ (polled c since check addr none is_job is_
     (poll_end setup past since check addr) tt (λ older found. tt) before
 step_balanced capacity setup past _ _ (sold id price since none selling) books before = (tt, (tt, before))
 step_balanced capacity setup past _ _ balanced books before = (conserved setup past books.counts.covered, before)
+step_balanced capacity setup past _ _ (of_desk s e is) books before = ((desk_apart s e is).balanced setup past, before)
+step_balanced capacity setup past _ _ (ended_short addr id count why paid rest small range was) books before =
+    (tt, (tt, before))
 step_balanced capacity setup past _ _ (lost_power at choice) books before = (tt, before)
 step_balanced capacity setup past _ _ (lost_in_put at choice d c since r own at_work is_row) books before =
     (tt, (tt, before))

@@ -28,7 +28,8 @@ use Rattle.cct_laws.specs.Ids.{Ids}
 use Rattle.cct_laws.specs.Law.{IsOf}
 use Rattle.cct_laws.proofs.money.AllHeld.{holds_restarted, held_restarted, held_kept}
 use Rattle.cct_laws.proofs.money.Reserved.{spent_by}
-use Rattle.cct_laws.proofs.jobs.Brought.{wire_of, wire_end, record_end, poll_wire, poll_end, AtDevice, came, took, halted, idled, made_exchange, made_put, Selling, Due, from_job, from_sale, Brought, of_device, faulted, refused, began_scan, began_sale, nobody, polled, sold, balanced, lost_power, lost_in_put, lost_in_sale}
+use Rattle.cct_laws.proofs.jobs.AtDesk.{desk_apart}
+use Rattle.cct_laws.proofs.jobs.Brought.{wire_of, wire_end, record_end, poll_wire, poll_end, AtDevice, came, took, halted, idled, made_exchange, made_put, Selling, Due, from_job, from_sale, Brought, of_device, faulted, refused, began_scan, began_sale, nobody, polled, sold, balanced, of_desk, ended_short, lost_power, lost_in_put, lost_in_sale}
 use Rattle.cct_laws.proofs.money.Covered.{spoken_in, sold_spoken}
 use Rattle.cct_laws.proofs.money.Follow.{Follows, follows_by}
 use Rattle.cct_laws.proofs.orders.Ids.{ids_start, put_owned}
@@ -119,12 +120,12 @@ counts_there capacity setup d past _ _ sound ids own books (came s x m ls comes)
           (came s x m ls comes)
     ])
     (ap (λ front. job (front ++ sale_lines past)) is_quiet.no_sale) (is_quiet.no_record past) books.counts
-counts_there capacity setup d past _ _ sound ids own books (took c suited here is_free is_taken is_owed lets) =
+counts_there capacity setup d past _ _ sound ids own books (took s c gives suited here is_free is_taken is_owed lets) =
     counts_moved capacity setup d past (entry.Taken c ∷ past) (spent_by setup c) (need_for (Some d) c) sound own
     books.counts (paid_taken capacity setup past c lets books.counts)
     (full_taken capacity setup d past c lets own here books.counts)
-    (moves_taken capacity setup d past c sound ids own books.counts.follow suited here is_free is_owed
-    (took c suited here is_free is_taken is_owed lets))
+    (moves_taken capacity setup d past s c sound ids own books.counts.follow suited here is_free is_owed
+    (took s c gives suited here is_free is_taken is_owed lets))
 counts_there capacity setup d past _ _ sound ids own books (halted paying can) =
     counts_moved capacity setup d past (entry.Taken (command.Halt d.addr) ∷ past) 0 0 sound own books.counts
     (as_is _ _ books.counts.covered) (as_is _ _ books.counts.room)
@@ -237,6 +238,14 @@ counts_step capacity setup past _ _ sound ids (sold id price since none selling)
 counts_step capacity setup past _ _ sound ids balanced books =
     counts_same capacity setup past (entry.Balance (totals setup past) ∷ past) sound (λ e own. same_lines _ _ refl) refl
     refl books.counts
+counts_step capacity setup past _ _ sound ids (of_desk s x is) books =
+    let apart = desk_apart s x is in
+    counts_same capacity setup past (x ∷ past) sound
+    (λ e own. same_lines _ _ (ap (λ front. front ++ lines_of e past) (apart.own_is e past)))
+    (ap (λ front. job (front ++ sale_lines past)) apart.no_sale) (apart.no_record past) books.counts
+counts_step capacity setup past _ _ sound ids (ended_short addr id count why paid rest small range was) books =
+    counts_same capacity setup past (entry.Short paid rest ∷ entry.No (command.Pay addr id count) why ∷ past) sound
+    (λ e own. same_lines _ _ refl) refl refl books.counts
 counts_step capacity setup past _ _ sound ids (lost_power at choice) books =
     let n = length (records past) in
     let fewer = held_restarted setup past n in

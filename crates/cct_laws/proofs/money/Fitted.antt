@@ -24,7 +24,8 @@ use Rattle.cct_model.specs.Script.{IsCommand, IsInRange}
 use Rattle.cct_model.specs.Transcript.{lines_of, sale_own, sale_lines}
 use Rattle.cct_laws.specs.Ids.{waiting, Ids}
 use Rattle.cct_laws.specs.Law.{IsOf}
-use Rattle.cct_laws.proofs.jobs.Brought.{AtWork, row_after, poll_wire, poll_end, Selling, Due, from_job, from_sale, Brought, of_device, faulted, refused, began_scan, began_sale, nobody, polled, sold, balanced, lost_power, lost_in_put, lost_in_sale}
+use Rattle.cct_laws.proofs.jobs.AtDesk.{desk_apart}
+use Rattle.cct_laws.proofs.jobs.Brought.{AtWork, row_after, poll_wire, poll_end, Selling, Due, from_job, from_sale, Brought, of_device, faulted, refused, began_scan, began_sale, nobody, polled, sold, balanced, of_desk, ended_short, lost_power, lost_in_put, lost_in_sale}
 use Rattle.cct_laws.proofs.Keeping.{IsRanged, ranged_step, works_at}
 use Rattle.cct_laws.proofs.money.Needed.{NeedsIn, needs_as, needs_at, needs_step}
 use Rattle.cct_laws.proofs.money.Recorded.{epoch_recorded, order_recorded, restart_frees}
@@ -113,6 +114,10 @@ sells_step capacity setup past _ _ sound range (polled c since check addr none i
     sells
 sells_step capacity setup past _ _ sound range (sold id price since none selling) sells = tt
 sells_step capacity setup past _ _ sound range balanced sells = sells
+sells_step capacity setup past _ _ sound range (of_desk s e is) sells =
+    subst IsSold (sym (ap (λ front. job (front ++ sale_lines past)) (desk_apart s e is).no_sale)) sells
+sells_step capacity setup past _ _ sound range (ended_short addr id count why paid rest small fits was) sells =
+    sells
 sells_step capacity setup past _ _ sound range (lost_power at choice) sells = tt
 sells_step capacity setup past _ _ sound range (lost_in_put at choice d c since r own at_work is_row) sells =
     subst IsSold (sym (restart_frees (keeping_restart past r ++ past) tt).sale) tt

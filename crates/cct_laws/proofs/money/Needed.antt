@@ -242,7 +242,7 @@ needs_there : (capacity : ℕ) (setup : Setup) (d : DeviceSetup) (past news : Li
     NeedsIn d (lines_of d (news ++ past))
 needs_there capacity setup d past _ _ ids own (came s x m ls comes) needs =
     needs_same d (lines_of d (x ∷ past)) (lines_of d past) (same_came d past s x m ls comes) needs
-needs_there capacity setup d past _ _ ids own (took c suited here is_free is_taken is_owed lets) needs =
+needs_there capacity setup d past _ _ ids own (took s c gives suited here is_free is_taken is_owed lets) needs =
     subst (NeedsIn d) (sym (lines_taken d past c here))
     (needs_as d (taken c ∷ lines_of d past) (works c []) (begun_at_work d.body c (lines_of d past) suited)
     (subst (λ rows. NeedsOf d rows (epoch (lines_of d past)) (order (lines_of d past))) (sym (after_none (rows_of d c)))

@@ -111,19 +111,19 @@ one_less : (many later now : ℕ) → suc later ≤ now → suc many + later ≤
 one_less many later now le = omega (arith, le)
 
 -- a command is taken
-pub moves_taken : (capacity : ℕ) (setup : Setup) (d : DeviceSetup) (past : List Entry) (c : Command) →
+pub moves_taken : (capacity : ℕ) (setup : Setup) (d : DeviceSetup) (past : List Entry) (s : Step) (c : Command) →
     IsSoundSetup setup → Ids setup past → IsOf setup d → all_follow setup (records past) ≡ true →
     suits d.body c ≡ true → address_of c ≡ d.addr → job (lines_of d past) ≡ free → IsOwed c (order (lines_of d past)) →
-    AtDevice capacity setup d past (step.Command c) (entry.Taken c ∷ []) →
+    AtDevice capacity setup d past s (entry.Taken c ∷ []) →
     Moves setup d past (entry.Taken c ∷ past) (spent_by setup c) (need_for (Some d) c)
-moves_taken capacity setup d past c sound ids own follow suited here is_free is_owed at =
+moves_taken capacity setup d past s c sound ids own follow suited here is_free is_owed at =
     let begun : job (taken c ∷ lines_of d past) ≡ works c [] = begun_at_work d.body c (lines_of d past) suited in
     let reserves : reserved_by setup d (job (lines_of d (entry.Taken c ∷ past))) ≡ reserved_by setup d (works c []) =
     ap (λ ls. reserved_by setup d (job ls)) (lines_taken d past c here) ∙ ap (reserved_by setup d) begun in
     let spends = work_taken setup d c in
     let fewer : reserved_by setup d (job (lines_of d (entry.Taken c ∷ past)))
     ≤ reserved_by setup d (job (lines_of d past)) + spent_by setup c = omega (arith, reserves, spends) in
-    moves_by capacity setup d past (entry.Taken c ∷ []) (step.Command c) (spent_by setup c) (need_for (Some d) c) sound ids own at
+    moves_by capacity setup d past (entry.Taken c ∷ []) s (spent_by setup c) (need_for (Some d) c) sound ids own at
     follow
     (same_spends (spoken_in setup (records past)) (reserved_by setup d (job (lines_of d (entry.Taken c ∷ past))))
     (reserved_by setup d (job (lines_of d past))) (spent_by setup c) (posted_in setup (records past)) fewer)

@@ -13,7 +13,8 @@ use Rattle.cct_model.specs.Records.{records}
 use Rattle.cct_model.specs.Transcript.{met}
 use Rattle.cct_laws.specs.Ids.{Ids}
 use Rattle.cct_laws.specs.Law.{IsOf}
-use Rattle.cct_laws.proofs.jobs.Brought.{wire_of, wire_end, record_end, poll_wire, poll_end, AtDevice, came, took, halted, idled, made_exchange, made_put, Brought, of_device, faulted, refused, began_scan, began_sale, nobody, polled, sold, balanced, lost_power, lost_in_put, lost_in_sale}
+use Rattle.cct_laws.proofs.jobs.AtDesk.{desk_apart}
+use Rattle.cct_laws.proofs.jobs.Brought.{wire_of, wire_end, record_end, poll_wire, poll_end, AtDevice, came, took, halted, idled, made_exchange, made_put, Brought, of_device, faulted, refused, began_scan, began_sale, nobody, polled, sold, balanced, of_desk, ended_short, lost_power, lost_in_put, lost_in_sale}
 use Rattle.cct_laws.proofs.orders.Ids.{row_new, sale_unused}
 use Rattle.cct_laws.proofs.jobs.Unmoved.{came_quiet}
 use Rattle.cct_laws.proofs.orders.Used.{Grows, same_records, one_more}
@@ -29,7 +30,7 @@ device_grows : (capacity : ℕ) (setup : Setup) (past : List Entry) (d : DeviceS
     Grows (records past) (records (news ++ past))
 device_grows capacity setup past d _ _ own (came s e m ls comes) ids =
     subst (Grows (records past)) (sym ((came_quiet d (met d past) s e m ls comes).no_record past)) same_records
-device_grows capacity setup past d _ _ own (took c suited here is_free is_taken owed passes) ids = same_records
+device_grows capacity setup past d _ _ own (took s c gives suited here is_free is_taken owed passes) ids = same_records
 device_grows capacity setup past d _ _ own (halted paying can) ids = same_records
 device_grows capacity setup past d _ _ own (idled is_free) ids = same_records
 device_grows capacity setup past d _ _ own (made_exchange c since q work is) ids =
@@ -52,6 +53,10 @@ step_grows capacity setup past _ _ ids (polled c since check addr none is next) 
 step_grows capacity setup past _ _ ids (sold id price since none selling) =
     one_more (record_of.Sold id price) (sale_unused setup past id price since ids selling)
 step_grows capacity setup past _ _ ids balanced = same_records
+step_grows capacity setup past _ _ ids (of_desk s e is) =
+    subst (Grows (records past)) (sym ((desk_apart s e is).no_record past)) same_records
+step_grows capacity setup past _ _ ids (ended_short addr id count why paid rest small range was) =
+    same_records
 step_grows capacity setup past _ _ ids (lost_power at choice) = same_records
 step_grows capacity setup past _ _ ids (lost_in_put at choice d c since r own work is) =
     one_more r (row_new setup past d c since r own ids work is).is_new

@@ -36,7 +36,8 @@ use Rattle.cct_laws.specs.Law.{IsOf}
 use Rattle.cct_laws.specs.Recorded.{HasNoJob}
 use Rattle.cct_laws.proofs.Setups.{same_some, found_in}
 use Rattle.cct_model.proofs.Rows.{RowHolds, IsOwned, row_owned, after_next, told_no_id}
-use Rattle.cct_laws.proofs.jobs.Brought.{Comes, takes_coin, leaves_coin, takes_bill, leaves_bill, leaves_alien, drops_coin, drops_none, jams, jams_none, is_reset, AtWork, row_after, wire_of, wire_end, record_end, poll_wire, poll_end, AtDevice, came, took, halted, idled, made_exchange, made_put, Selling, Brought, of_device, faulted, refused, began_scan, began_sale, nobody, polled, sold, balanced, lost_power, lost_in_put, lost_in_sale}
+use Rattle.cct_laws.proofs.jobs.AtDesk.{desk_apart}
+use Rattle.cct_laws.proofs.jobs.Brought.{Comes, takes_coin, leaves_coin, takes_bill, leaves_bill, leaves_alien, drops_coin, drops_none, jams, jams_none, is_reset, AtWork, row_after, wire_of, wire_end, record_end, poll_wire, poll_end, AtDevice, came, took, halted, idled, made_exchange, made_put, Selling, Brought, of_device, faulted, refused, began_scan, began_sale, nobody, polled, sold, balanced, of_desk, ended_short, lost_power, lost_in_put, lost_in_sale}
 use Rattle.cct_laws.proofs.money.Recorded.{order_recorded, restart_frees}
 use Rattle.cct_laws.proofs.jobs.Waits.{one_id, one_id_of_sale, one_after, here_waits, BeginsNone, device_waits_less, sale_waits_less}
 use Rattle.cct_laws.proofs.orders.Used.{Unused, Grows, same_records, one_more, grows_owned, more_unused}
@@ -295,7 +296,7 @@ device_ids : (capacity : ℕ) (setup : Setup) (past : List Entry) (d : DeviceSet
     (news : List Entry) → IsSoundSetup setup → IsOf setup d → AtDevice capacity setup d past s news → Ids setup past →
     Ids setup (news ++ past)
 device_ids capacity setup past d _ _ sound own (came s e m ls comes) ids = came_ids setup past d s e m ls comes ids
-device_ids capacity setup past d s news sound own (took c suited here is_free is_taken owed passes) ids =
+device_ids capacity setup past d _ _ sound own (took s c gives suited here is_free is_taken owed passes) ids =
     took_ids capacity setup past c passes ids
 device_ids capacity setup past d s news sound own (halted paying can) ids =
     ids_quiet setup past (entry.Taken (command.Halt d.addr)) (λ e. refl, refl) refl ids
@@ -336,6 +337,12 @@ ids_step capacity setup past news s sound (sold id price since none selling) ids
     ids_sold setup past id price since selling ids
 ids_step capacity setup past news s sound balanced ids =
     ids_quiet setup past (entry.Balance (totals setup past)) tt refl ids
+ids_step capacity setup past news s sound (of_desk _ e is) ids =
+    ids_quiet setup past e (desk_apart _ e is).begins_none ((desk_apart _ e is).no_record past) ids
+ids_step capacity setup past news s sound (ended_short addr id count why paid rest small range was) ids =
+    let refusal_told = entry.No (command.Pay addr id count) why ∷ past in
+    ids_quiet setup refusal_told (entry.Short paid rest) tt refl
+    (ids_quiet setup past (entry.No (command.Pay addr id count) why) tt refl ids)
 ids_step capacity setup past news s sound (lost_power at choice) ids =
     ids_quiet setup past (entry.Crash (length (records past))) tt refl ids
 ids_step capacity setup past news s sound (lost_in_put at choice d c since r own work is) ids =

@@ -37,7 +37,8 @@ use Rattle.cct_laws.specs.DeviceJobs.{is_for_taker, suits}
 use Rattle.cct_laws.specs.Law.{IsOf, EachEntry}
 use Rattle.cct_laws.specs.LifeCounts.{HasFittingLife, FitsLife}
 use Rattle.cct_laws.specs.Scope.{EachTranscript}
-use Rattle.cct_laws.proofs.jobs.Brought.{Comes, takes_coin, leaves_coin, takes_bill, leaves_bill, leaves_alien, drops_coin, drops_none, jams, jams_none, is_reset, AtDevice, came, took, halted, idled, made_exchange, made_put, AtWork, Brought, of_device, faulted, refused, began_scan, began_sale, nobody, polled, sold, balanced, lost_power, lost_in_put, lost_in_sale, row_after, wire_of, wire_end, record_end, poll_wire, poll_end}
+use Rattle.cct_laws.proofs.jobs.AtDesk.{desk_apart}
+use Rattle.cct_laws.proofs.jobs.Brought.{Comes, takes_coin, leaves_coin, takes_bill, leaves_bill, leaves_alien, drops_coin, drops_none, jams, jams_none, is_reset, AtDevice, came, took, halted, idled, made_exchange, made_put, AtWork, Brought, of_device, faulted, refused, began_scan, began_sale, nobody, polled, sold, balanced, of_desk, ended_short, lost_power, lost_in_put, lost_in_sale, row_after, wire_of, wire_end, record_end, poll_wire, poll_end}
 use Rattle.cct_laws.proofs.EitherKind.{both_hopper, for_taker}
 use Rattle.cct_laws.proofs.Keeping.{IsRanged, ranged_step, kept_step}
 use Rattle.cct_laws.proofs.orders.Paying.{pays_kept, never_odd}
@@ -212,7 +213,7 @@ there_fit : (capacity : ℕ) (setup : Setup) (d : DeviceSetup) (past news : List
     EachEntry FitsLife (news ++ past)
 there_fit capacity setup d past _ _ own all honest (came s e m ls comes) before =
     (came_fit past s e d (met d past) m ls comes, before)
-there_fit capacity setup d past _ _ own all honest (took c suited here is_free is_taken is_owed lets) before = (tt, before)
+there_fit capacity setup d past _ _ own all honest (took s c gives suited here is_free is_taken is_owed lets) before = (tt, before)
 there_fit capacity setup d past _ _ own all honest (halted paying can) before = (tt, before)
 there_fit capacity setup d past _ _ own all honest (idled is_free) before = (tt, before)
 there_fit capacity setup d past _ _ own all honest (made_exchange c since q at_work is_row) before =
@@ -235,6 +236,9 @@ life_fit capacity setup past _ _ all honest (polled c since check addr none is_j
     entries_fit past 0 (poll_wire setup past check addr) (poll_end setup past since check addr) tt (scan_fit _) before
 life_fit capacity setup past _ _ all honest (sold id price since none selling) before = (tt, (tt, before))
 life_fit capacity setup past _ _ all honest balanced before = (tt, before)
+life_fit capacity setup past _ _ all honest (of_desk s e is) before = ((desk_apart s e is).fits_life past, before)
+life_fit capacity setup past _ _ all honest (ended_short addr id count why paid rest small range was) before =
+    (tt, (tt, before))
 life_fit capacity setup past _ _ all honest (lost_power at choice) before = (tt, before)
 life_fit capacity setup past _ _ all honest (lost_in_put at choice d c since r own at_work is_row) before =
     (device_fit setup past d c since r own all honest at_work is_row, (tt, before))

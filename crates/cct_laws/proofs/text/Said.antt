@@ -13,14 +13,15 @@ use Rattle.cct_model.specs.terms.device.DeviceBody.{DeviceBody}
 use Rattle.cct_model.specs.terms.device.DeviceSetup.{DeviceSetup}
 use Rattle.cct_model.specs.lines.setup.SetupLine.{SetupLine}
 use Rattle.cct_model.specs.lines.setup.SetupLine.TheVariants as says
+use Rattle.cct_model.specs.lines.command.TheConstants.{GREATEST_AMOUNT, GREATEST_FIRST}
 use Rattle.cct_model.specs.lines.command.Command.TheVariants as command
 use Rattle.cct_model.specs.lines.command.Step.{Step}
 use Rattle.cct_model.specs.lines.command.Step.TheVariants as step
 use Rattle.cct_model.specs.lines.entry.LineKind.{LineKind}
 use Rattle.cct_model.specs.lines.entry.LineKind.TheVariants as kind
 use Rattle.cct_model.specs.Device.{IsWord, IsId, IsSound, IsSoundBody}
-use Rattle.cct_model.specs.Grammar.{◌>>=◌, is_space, number_in, within, ranged, three_byte_in, check_in, is_printing, word_in, id_in, bytes_in, piece_in, plain_acceptor, plain_bills, counting_line, acceptor_line, bills_line, hopper_line, value_line, texts_line, alone, setup_fields, setup_line, mask_of_bytes, mask_in, address_in, step_at, place_step, fault_step, start_step, pay_step, path_step, route_step, vend_step, choice_in, crash_step, step_fields, step_line}
-use Rattle.cct_model.specs.Script.{word_of, IsCommand, IsFault, IsCrash}
+use Rattle.cct_model.specs.Grammar.{◌>>=◌, is_space, number_in, within, ranged, three_byte_in, check_in, is_printing, word_in, id_in, bytes_in, piece_in, plain_acceptor, plain_bills, counting_line, acceptor_line, bills_line, hopper_line, value_line, texts_line, alone, setup_fields, setup_line, mask_of_bytes, mask_in, address_in, step_at, place_step, fault_step, start_step, pay_step, path_step, route_step, vend_step, choice_in, crash_step, stock_step, change_step, step_fields, step_line}
+use Rattle.cct_model.specs.Script.{word_of, IsCommand, IsInRange, IsFault, IsCrash}
 use Rattle.cct_model.proofs.Added.{KeepsEach}
 use Rattle.cct_terms.proofs.OfBytes.{IfThere}
 use Rattle.cct_laws.specs.Law.{IsCommandOfBytes, HasBytes}
@@ -241,6 +242,9 @@ IsToday (step.Next addr) = addr < 256
 IsToday (step.Command c) = IsCommand c × IsCommandOfBytes c
 IsToday (step.Crash at choice) = IsCrash at
 IsToday step.Balance = ⊤
+IsToday (step.Stock addr count) = ⊤
+IsToday (step.Change first amount) = IsInRange (step.Change first amount)
+IsToday step.Serve = ⊤
 IsToday step.End = ⊤
 
 small_address : (field : List ℕ) (addr : ℕ) → address_in field ≡ Some addr → addr < 256
@@ -354,6 +358,21 @@ crash_said (a ∷ n ∷ x ∷ []) =
     bind IsToday (choice_in x) _ (λ choice any. (ranged_in 0 4 n calls few).1)))
 crash_said fields = tt
 
+stock_said : (fields : List (List ℕ)) → IfThere IsToday (stock_step fields)
+stock_said (a ∷ n ∷ []) =
+    bind IsToday (address_in a) _ (λ addr at.
+    bind IsToday (ranged 0 4294967295 n) _ (λ count few. tt))
+stock_said fields = tt
+
+change_said : (fields : List (List ℕ)) → IfThere IsToday (change_step fields)
+change_said (i ∷ n ∷ []) =
+    bind IsToday (ranged 1 GREATEST_FIRST i) _ (λ first early.
+    bind IsToday (ranged 1 GREATEST_AMOUNT n) _ (λ amount small.
+    let is_first = ranged_in 1 GREATEST_FIRST i first early in
+    let is_amount = ranged_in 1 GREATEST_AMOUNT n amount small in
+    (is_first.0, is_first.1, is_amount.0, is_amount.1)))
+change_said fields = tt
+
 step_fields_said : (word : List ℕ) (fields : List (List ℕ)) → IfSaid IsToday (step_fields (word ∷ fields))
 step_fields_said word fields =
     let at = λ (make : ℕ → Step) (holds : (addr : ℕ) → addr < 256 → IsToday (make addr)). said_or IsToday (step_at make fields) kind.Form (at_said make fields holds) in
@@ -378,7 +397,10 @@ step_fields_said word fields =
     (word_by IsToday (bytes_eq word (codes "vend")) _ _ (λ _. said_or IsToday (vend_step fields) kind.Form (vend_said fields))
     (word_by IsToday (bytes_eq word (codes "crash")) _ _ (λ _. said_or IsToday (crash_step fields) kind.Form (crash_said fields))
     (word_by IsToday (bytes_eq word (codes "balance")) _ _ (λ _. said_or IsToday (alone step.Balance fields) kind.Form (alone_said IsToday step.Balance fields tt))
-    (word_by IsToday (bytes_eq word (codes "end")) _ _ (λ _. said_or IsToday (alone step.End fields) kind.Form (alone_said IsToday step.End fields tt)) tt)))))))))))))))))))))
+    (word_by IsToday (bytes_eq word (codes "stock")) _ _ (λ _. said_or IsToday (stock_step fields) kind.Form (stock_said fields))
+    (word_by IsToday (bytes_eq word (codes "change")) _ _ (λ _. said_or IsToday (change_step fields) kind.Form (change_said fields))
+    (word_by IsToday (bytes_eq word (codes "serve")) _ _ (λ _. said_or IsToday (alone step.Serve fields) kind.Form (alone_said IsToday step.Serve fields tt))
+    (word_by IsToday (bytes_eq word (codes "end")) _ _ (λ _. said_or IsToday (alone step.End fields) kind.Form (alone_said IsToday step.End fields tt)) tt))))))))))))))))))))))))
 
 -- a step line
 pub step_said : (line : List ℕ) → IfSaid IsToday (step_line line)

@@ -13,6 +13,7 @@ use Rattle.cct_model.specs.lines.entry.LineKind.{LineKind}
 use Rattle.cct_model.specs.lines.entry.LineKind.TheVariants as kind
 use Rattle.cct_model.specs.Device.{IsSound}
 use Rattle.cct_model.specs.Grammar.{setup_line, step_line, added}
+use Rattle.cct_model.specs.AtDesk.{LegalAtDesk}
 use Rattle.cct_model.specs.Legal.{Legal, is_played}
 use Rattle.cct_model.specs.Script.{Stage, at_setup, at_steps, at_end, setup_at, Read, opens, plays, refuses, opened, read_setup_line, read_step_line, read_form, most_lines, most_bytes, is_over, read_line, Script, stage_after, goes_on, script_from, no_devices, script, is_line_feed, IsInRange}
 use Rattle.cct_model.proofs.Added.{AreAll, KeepsEach, added_keeps}
@@ -22,6 +23,7 @@ use Rattle.cct_model.specs.Setup.{IsSoundSetup}
 use Rattle.cct_laws.specs.Law.{HasBytes, AreOfToday}
 use Rattle.cct_laws.specs.Right.{IsRight}
 use Rattle.cct_laws.specs.Scope.{EachTranscript}
+use Rattle.cct_laws.proofs.Desks.{legal_at_desk}
 use Rattle.cct_laws.proofs.acceptor.Coinless.{each_in_order, each_covers, each_tallies}
 use Rattle.cct_laws.proofs.AsTold.{legal_as_told}
 use Rattle.cct_laws.proofs.orders.Payments.{legal_paid, legal_fresh}
@@ -77,6 +79,10 @@ step_read setup (Ok (step.Command c)) today all = known_read true setup (step.Co
 step_read setup (Ok (step.Crash at choice)) today all =
     known_read true setup (step.Crash at choice) all (today, refl, tt)
 step_read setup (Ok step.Balance) today all = known_read true setup step.Balance all (tt, refl, tt)
+step_read setup (Ok (step.Stock addr count)) today all = known_read _ setup (step.Stock addr count) all (tt, refl, tt)
+step_read setup (Ok (step.Change first amount)) today all =
+    known_read true setup (step.Change first amount) all (today, refl, tt)
+step_read setup (Ok step.Serve) today all = known_read true setup step.Serve all (tt, refl, tt)
 
 -- a line
 form_read : (stage : Stage) (line : List ℕ) → AreAll IsSound (setup_at stage) → IsRead (read_form stage line)
@@ -152,6 +158,14 @@ legal_right capacity setup steps transcript sound in_range legal = record {
   paid = λ d own paying honest. legal_paid capacity setup steps transcript d sound own paying in_range legal honest;
   as_told = legal_as_told capacity setup steps transcript legal;
 }
+
+-- what a script played at the desk up to a step is legal
+pub front_legal : (capacity : ℕ) (bytes : List ℕ) (played rest : List Step) (transcript : List Entry) →
+    (script bytes).steps ≡ played ++ rest → LegalAtDesk capacity (script bytes).setup played transcript →
+    Legal capacity (script bytes).setup played transcript
+front_legal capacity bytes played rest transcript fronts legal =
+    legal_at_desk capacity (script bytes).setup played transcript (setup_sound bytes)
+    (front_of_today bytes played rest fronts).in_range legal
 
 -- so is that of a script that was played up to a step
 pub played_right : (capacity : ℕ) (bytes : List ℕ) (played rest : List Step) (transcript : List Entry) →

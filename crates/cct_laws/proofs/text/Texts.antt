@@ -31,7 +31,8 @@ use Rattle.cct_laws.specs.Ids.{Ids}
 use Rattle.cct_laws.specs.Law.{IsOf, HasBytes}
 use Rattle.cct_laws.proofs.Onto.{onto_each}
 use Rattle.cct_laws.proofs.Setups.{found_in}
-use Rattle.cct_laws.proofs.jobs.Brought.{Comes, takes_coin, leaves_coin, takes_bill, leaves_bill, leaves_alien, drops_coin, drops_none, jams, jams_none, is_reset, AtWork, row_after, AtDevice, came, took, halted, idled, made_exchange, made_put, wire_of, wire_end, record_end, poll_wire, poll_end, Brought, of_device, faulted, refused, began_scan, began_sale, nobody, polled, sold, balanced, lost_power, lost_in_put, lost_in_sale}
+use Rattle.cct_laws.proofs.jobs.AtDesk.{desk_apart}
+use Rattle.cct_laws.proofs.jobs.Brought.{IsOfDesk, tells_stock, begins_change, keeps_change, serves_none, serves_later, serves_odd, serves_all, serves_short, Comes, takes_coin, leaves_coin, takes_bill, leaves_bill, leaves_alien, drops_coin, drops_none, jams, jams_none, is_reset, AtWork, row_after, AtDevice, came, took, halted, idled, made_exchange, made_put, wire_of, wire_end, record_end, poll_wire, poll_end, Brought, of_device, faulted, refused, began_scan, began_sale, nobody, polled, sold, balanced, of_desk, ended_short, lost_power, lost_in_put, lost_in_sale}
 use Rattle.cct_laws.proofs.jobs.Seen.{unscanned, along}
 use Rattle.cct_terms.proofs.OfBytes.{IfThere}
 use Rattle.cct_laws.proofs.Lists.{Fine, IsAsked, fine_begun, row_asked, fine_more, scan_ends}
@@ -87,8 +88,8 @@ told_there : (capacity : ℕ) (setup : Setup) (d : DeviceSetup) (past news : Lis
     AllTold (news ++ past)
 told_there capacity setup d past _ _ sound own range bytes (came s e m ls comes) told =
     (came_told d (met d past) s e m ls range comes, told)
-told_there capacity setup d past _ _ sound own range bytes (took c suited here is_free is_taken is_owed lets) told =
-    ((range, bytes), told)
+told_there capacity setup d past _ _ sound own range bytes (took s c gives suited here is_free is_taken is_owed lets) told =
+    ((gives.in_range range, gives.bytes bytes), told)
 told_there capacity setup d past _ _ sound own range bytes (halted paying can) told = ((range, bytes), told)
 told_there capacity setup d past _ _ sound own range bytes (idled is_free) told = (tt, told)
 told_there capacity setup d past _ _ sound own range bytes (made_exchange c since q at_work is_row) told =
@@ -140,6 +141,17 @@ poll_good setup past c since check addr sound is_job is_row good =
           (poll_end setup past since check addr) line_is is_job more;
     }
 
+-- what is told of the desk of the operator
+desk_told : (s : Step) (e : Entry) → IsOfDesk s e → IsTold e
+desk_told _ _ (tells_stock addr count) = tt
+desk_told _ _ (begins_change first amount) = tt
+desk_told _ _ (keeps_change first amount) = tt
+desk_told _ _ serves_none = tt
+desk_told _ _ (serves_later addr) = tt
+desk_told _ _ (serves_odd id) = tt
+desk_told _ _ (serves_all amount) = tt
+desk_told _ _ (serves_short paid rest) = tt
+
 -- what a step says is in range, and of bytes
 abbrev pub Says : Step → Type 0
 Says s = IsInRange s × HasBytes s
@@ -172,6 +184,12 @@ good_step capacity setup sound past _ _ says ids (polled c since check addr none
 good_step capacity setup sound past _ _ says ids (sold id price since none selling) good =
     record { told = (refl, (tt, good.told)); scan = good.scan }
 good_step capacity setup sound past _ _ says ids balanced good = record { told = (tt, good.told); scan = good.scan }
+good_step capacity setup sound past _ _ says ids (of_desk s e is) good = record {
+  told = (desk_told s e is, good.told);
+  scan = subst (λ ls. FineJob (job (ls ++ scan_lines past))) (sym (desk_apart s e is).no_scan) good.scan;
+}
+good_step capacity setup sound past _ _ says ids (ended_short addr id count why paid rest small range was) good =
+    record { told = (tt, ((range, small), good.told)); scan = good.scan }
 good_step capacity setup sound past _ _ says ids (lost_power at choice) good =
     record { told = (tt, good.told); scan = tt }
 good_step capacity setup sound past _ _ says ids (lost_in_put at choice d c since r own at_work is_row) good =

@@ -1,0 +1,10 @@
+pub mod Counted
+pub mod Fresh
+pub mod Legal
+pub mod News
+pub mod Runs
+pub mod Serving
+pub mod Sessions
+pub mod Told
+pub mod Trays
+pub mod Worked

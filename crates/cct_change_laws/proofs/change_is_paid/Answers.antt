@@ -1,0 +1,12 @@
+use Rattle.cct_change_laws.proofs.Runs.{change_paid, moment_found, moment_within, told_odd, told_served, told_short}
+use Rattle.cct_change_laws.proofs.change_is_paid.Goals as goal
+
+pub returns : goal.returns
+returns c = record {
+  within = moment_within;
+  served = told_served;
+  short = told_short;
+  never_odd = told_odd;
+  whole = change_paid;
+  moments = moment_found;
+}
