@@ -5,8 +5,9 @@ use Rattle.cct_lines.specs.terms.device.DeviceSetup.{DeviceSetup}
 use Rattle.cct_lines.specs.declared.setup.SetupLine.{SetupLine}
 use Rattle.cct_lines.specs.declared.command.Step.{Step}
 use Rattle.cct_lines.specs.Grammar.{counting_line, hopper_line, value_line, texts_line, is_space, alone, step_at}
-use Rattle.cct_lines.specs.Grammar.{place_step, fault_step, start_step, pay_step, path_step, route_step, vend_step, crash_step}
+use Rattle.cct_lines.specs.Grammar.{place_step, fault_step, start_step, pay_step, path_step, route_step, vend_step, stock_step, change_step, crash_step}
 use Rattle.std.specs.List.{slice_split}
+use Rattle.cct_script.specs.Capture.{tap_form, watch_form}
 use Rattle.cct_script.specs.Live.{do_form}
 use Rattle.cct_script.proofs.Splits.{split_some}
 
@@ -62,6 +63,22 @@ no_route fields other = refl
 pub no_vend : (fields : List (List ℕ)) → length fields ≢ 2 → vend_step fields ≡ None
 no_vend (a ∷ b ∷ []) other = absurd (other refl)
 no_vend fields other = refl
+
+pub no_stock : (fields : List (List ℕ)) → length fields ≢ 2 → stock_step fields ≡ None
+no_stock (a ∷ b ∷ []) other = absurd (other refl)
+no_stock fields other = refl
+
+pub no_change : (fields : List (List ℕ)) → length fields ≢ 2 → change_step fields ≡ None
+no_change (a ∷ b ∷ []) other = absurd (other refl)
+no_change fields other = refl
+
+pub no_watch : (fields : List (List ℕ)) → length fields ≢ 3 → watch_form fields ≡ None
+no_watch (a ∷ b ∷ c ∷ []) other = absurd (other refl)
+no_watch fields other = refl
+
+pub no_tap : (fields : List (List ℕ)) → length fields ≢ 2 → tap_form fields ≡ None
+no_tap (a ∷ b ∷ []) other = absurd (other refl)
+no_tap fields other = refl
 
 pub no_crash : (fields : List (List ℕ)) → length fields ≢ 1 → length fields ≢ 3 → crash_step fields ≡ None
 no_crash (a ∷ []) other others = absurd (other refl)

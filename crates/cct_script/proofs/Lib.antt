@@ -7,3 +7,5 @@ pub mod Sound
 pub mod Window
 pub mod Giving
 pub mod Passing
+pub mod Continuing
+pub mod Sources

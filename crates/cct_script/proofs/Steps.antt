@@ -5,12 +5,12 @@ use Rattle.std.specs.List.{slice_split}
 use Rattle.cct_lines.specs.Grammar.{is_space, step_fields, step_line}
 use Rattle.cct_lines.specs.declared.command.Step.{Step}
 use Rattle.cct_lines.specs.declared.entry.LineKind.{LineKind}
-use Rattle.cct_script.specs.Steps.{device_step, epoch_step, order_step, other_step, said_into}
+use Rattle.cct_script.specs.Steps.{device_step, epoch_step, order_step, other_step, desk_step, said_into}
 
 -- the groups one after another are the whole definition
 pub groups : (line word : List ℕ) (fields : List (List ℕ)) → slice_split is_space line ≡ word ∷ fields →
     step_line line ≡ device_step word fields
-unfolding step_line device_step epoch_step order_step other_step
+unfolding step_line device_step epoch_step order_step other_step desk_step
 groups line word fields split = ap step_fields split
 
 -- what is said into the room for a step, by the answer

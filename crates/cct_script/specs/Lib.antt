@@ -6,3 +6,6 @@ pub mod Giving
 pub mod Taking
 pub mod Endless
 pub mod Live
+pub mod Capture
+pub mod Source
+pub mod Scripts

@@ -8,8 +8,8 @@ use Rattle.cct_lines.specs.declared.command.Step.TheVariants as step
 use Rattle.cct_lines.specs.declared.command.WireFault.TheVariants as fault
 use Rattle.cct_lines.specs.declared.entry.LineKind.{LineKind}
 use Rattle.cct_lines.specs.declared.entry.LineKind.TheVariants as kind
-use Rattle.cct_lines.specs.Grammar.{alone, crash_step, fault_step, path_step, pay_step, piece_in, place_step}
-use Rattle.cct_lines.specs.Grammar.{route_step, start_step, step_at, vend_step}
+use Rattle.cct_lines.specs.Grammar.{alone, change_step, crash_step, fault_step, path_step, pay_step, piece_in, place_step}
+use Rattle.cct_lines.specs.Grammar.{route_step, start_step, step_at, stock_step, vend_step}
 use Rattle.cct_lines.specs.terms.wire.TheConstants.{MOST_HEARD, MOST_SENT}
 use Rattle.cct_lines.specs.Script.{IsInRange}
 
@@ -33,16 +33,24 @@ with_bytes (step.Fault (fault.WholeHeard old)) field =
     option_map (λ bytes. step.Fault (fault.WholeHeard bytes)) (piece_in MOST_HEARD field)
 with_bytes s field = None
 
--- The other commands, a power cut, and what the operator reads.
+-- What the operator reads, says of a hopper's stock, and wants of a session of change; and the end.
+unfoldable pub desk_step : List ℕ → List (List ℕ) → Result Step LineKind
+desk_step word fields =
+    if bytes_eq word (codes "balance") then ok_or (alone step.Balance fields) kind.Form
+    else if bytes_eq word (codes "stock") then ok_or (stock_step fields) kind.Form
+    else if bytes_eq word (codes "change") then ok_or (change_step fields) kind.Form
+    else if bytes_eq word (codes "serve") then ok_or (alone step.Serve fields) kind.Form
+    else if bytes_eq word (codes "end") then ok_or (alone step.End fields) kind.Form
+    else Err kind.Word
+
+-- The other commands, and a power cut; then the others.
 unfoldable pub other_step : List ℕ → List (List ℕ) → Result Step LineKind
 other_step word fields =
     if bytes_eq word (codes "path") then ok_or (path_step fields) kind.Form
     else if bytes_eq word (codes "route") then ok_or (route_step fields) kind.Form
     else if bytes_eq word (codes "vend") then ok_or (vend_step fields) kind.Form
     else if bytes_eq word (codes "crash") then ok_or (crash_step fields) kind.Form
-    else if bytes_eq word (codes "balance") then ok_or (alone step.Balance fields) kind.Form
-    else if bytes_eq word (codes "end") then ok_or (alone step.End fields) kind.Form
-    else Err kind.Word
+    else desk_step word fields
 
 -- The commands to a hopper, and those that ask of devices; then the others.
 unfoldable pub order_step : List ℕ → List (List ℕ) → Result Step LineKind

@@ -6,6 +6,7 @@
 mod adding;
 mod buffer;
 mod bytes;
+mod capture;
 mod endless;
 mod fields;
 mod lines;
@@ -15,9 +16,11 @@ mod numbers;
 mod setup;
 mod step;
 mod step_fields;
+mod stops;
 mod words;
 
 pub use adding::add;
+pub use capture::{CaptureLine, read_capture_line};
 pub use cct_lines::SetupLine;
 pub use endless::{EndlessLines, MOST_PASSED, NextLine};
 pub use lines::{Line, Lines, LinesNo};
@@ -26,4 +29,5 @@ pub use machine::{SetupNo, read_setup};
 pub use numbers::ranged;
 pub use setup::read_setup_line;
 pub use step::{read_step_into, read_step_line};
+pub use stops::{ScriptStop, before_end, behind_end};
 pub use words::piece_in;

@@ -4,12 +4,12 @@ ghost use Rattle.cct_lines.specs.Grammar.{step_line};
 ghost use Rattle.cct_lines.specs.Script.{IsInRange};
 ghost use Rattle.cct_lines.specs.declared.command.Step.TheVariants as steps;
 ghost use Rattle.cct_script.specs.Fields.{fields_after};
-ghost use Rattle.cct_script.specs.Steps.{ReadsInto, device_step, epoch_step, order_step, other_step};
+ghost use Rattle.cct_script.specs.Steps.{ReadsInto, desk_step, device_step, epoch_step, order_step, other_step};
 
 use crate::fields::first_field;
 use crate::step_fields::{
-    addr, bill_into, coin_into, crash_into, fault_into, nothing, path_into, pay_into, route_into,
-    start_into, vend_into,
+    addr, bill_into, change_into, coin_into, crash_into, fault_into, nothing, path_into, pay_into,
+    route_into, start_into, stock_into, vend_into,
 };
 use cct_lines::{Command, LineKind, Step};
 
@@ -54,6 +54,12 @@ const VEND: &[u8] = b"vend";
 const CRASH: &[u8] = b"crash";
 
 const BALANCE: &[u8] = b"balance";
+
+const STOCK: &[u8] = b"stock";
+
+const CHANGE: &[u8] = b"change";
+
+const SERVE: &[u8] = b"serve";
 
 const END: &[u8] = b"end";
 
@@ -122,8 +128,8 @@ fn order_step(word: &[u8], rest: Option<&[u8]>, step: &mut Step) -> Result<(), L
     Ok(())
 }
 
-/// Puts into `step` what the word of a step line says that is `path`, `route`, `vend`, `crash`, `balance` or `end`: another
-/// command, a power cut, or what the operator reads; any other word is none.
+/// Puts into `step` what the word of a step line says that is `path`, `route`, `vend` or `crash`: another command, or a
+/// power cut; or another word.
 #[tactic(auto, unfolding(crate::specs::Steps::other_step))]
 fn other_step(word: &[u8], rest: Option<&[u8]>, step: &mut Step) -> Result<(), LineKind>
     ensures { ReadsInto result step.new (other_step word.now (fields_after rest.entry)) }
@@ -133,9 +139,27 @@ fn other_step(word: &[u8], rest: Option<&[u8]>, step: &mut Step) -> Result<(), L
         _ if word == ROUTE => route_into(rest, step).ok_or(LineKind::Form)?,
         _ if word == VEND => vend_into(rest, step).ok_or(LineKind::Form)?,
         _ if word == CRASH => crash_into(rest, step).ok_or(LineKind::Form)?,
+        _ => return desk_step(word, rest, step),
+    }
+    Ok(())
+}
+
+/// Puts into `step` what the word of a step line says that is `balance`, `stock`, `change`, `serve` or `end`: what the
+/// operator reads, says of a stock or wants of a session of change, or the end; any other word is none.
+#[tactic(auto, unfolding(crate::specs::Steps::desk_step))]
+fn desk_step(word: &[u8], rest: Option<&[u8]>, step: &mut Step) -> Result<(), LineKind>
+    ensures { ReadsInto result step.new (desk_step word.now (fields_after rest.entry)) }
+{
+    match word {
         _ if word == BALANCE => {
             nothing(rest)?;
             *step = Step::Balance;
+        }
+        _ if word == STOCK => stock_into(rest, step).ok_or(LineKind::Form)?,
+        _ if word == CHANGE => change_into(rest, step).ok_or(LineKind::Form)?,
+        _ if word == SERVE => {
+            nothing(rest)?;
+            *step = Step::Serve;
         }
         _ if word == END => {
             nothing(rest)?;

@@ -3,7 +3,7 @@ ghost use Rattle.std.specs.Prelude.{◌≡◌, ◌≤◌, ℕ, Some, None, IfSom
 ghost use Rattle.cct_lines.specs.declared.command.Step.{Step};
 ghost use Rattle.cct_lines.specs.declared.command.Step.TheVariants as steps;
 ghost use Rattle.cct_lines.specs.Grammar.{address_in, alone, choice_in, place_step, step_at, fault_step, start_step};
-ghost use Rattle.cct_lines.specs.Grammar.{pay_step, path_step, route_step, vend_step, crash_step};
+ghost use Rattle.cct_lines.specs.Grammar.{pay_step, path_step, route_step, vend_step, stock_step, change_step, crash_step};
 ghost use Rattle.cct_lines.specs.Script.{IsInRange};
 ghost use Rattle.cct_script.specs.Fields.{Sets, fields_after};
 ghost use Rattle.cct_script.specs.Steps.{with_bytes};
@@ -12,8 +12,8 @@ use crate::fields::{one, three, two};
 use crate::numbers::{ranged, ranged_u8, ranged_u32};
 use crate::words::{mask_in, piece_into};
 use cct_lines::{
-    COIN_PLACES, Command, CrashAt, LineKind, MOST_HEARD, MOST_SENT, PATHS, Piece, RETURN_CODE,
-    STACK_CODE, Step, WireFault,
+    COIN_PLACES, Command, CrashAt, GREATEST_AMOUNT, GREATEST_FIRST, LineKind, MOST_HEARD,
+    MOST_SENT, PATHS, Piece, RETURN_CODE, STACK_CODE, Step, WireFault,
 };
 
 const BY_DEVICES: &[u8] = b"devices";
@@ -183,6 +183,30 @@ pub(crate) fn vend_into(rest: Option<&[u8]>, step: &mut Step) -> Option<()>
     let id = ranged_u32(1, u32::MAX, id)?;
     let price = ranged_u32(1, 1_000_000_000, price)?;
     *step = Step::Command(Command::Vend { id, price });
+    Some(())
+}
+
+/// `stock A COUNT`
+#[tactic(auto, using(crate::proofs::Forms::no_stock))]
+pub(crate) fn stock_into(rest: Option<&[u8]>, step: &mut Step) -> Option<()>
+    ensures { Sets result step.new (stock_step (fields_after rest.entry)) IsInRange }
+{
+    let (addr, count) = two(rest)?;
+    let addr = address_in(addr)?;
+    let count = ranged_u32(0, u32::MAX, count)?;
+    *step = Step::Stock { addr, count };
+    Some(())
+}
+
+/// `change FIRST AMOUNT`
+#[tactic(auto, using(crate::proofs::Forms::no_change))]
+pub(crate) fn change_into(rest: Option<&[u8]>, step: &mut Step) -> Option<()>
+    ensures { Sets result step.new (change_step (fields_after rest.entry)) IsInRange }
+{
+    let (first, amount) = two(rest)?;
+    let first = ranged_u32(1, GREATEST_FIRST, first)?;
+    let amount = ranged_u32(1, GREATEST_AMOUNT, amount)?;
+    *step = Step::Change { first, amount };
     Some(())
 }
 

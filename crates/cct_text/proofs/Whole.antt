@@ -6,13 +6,15 @@ use Rattle.std.proofs.lemmas.List.Elements.{All-head, All-tail, All-nil, All-con
 use Rattle.std.proofs.lemmas.List.Splits.{slice_split_at}
 use Rattle.cct_lines.specs.declared.entry.End.{End}
 use Rattle.cct_lines.specs.declared.entry.End.TheVariants as end_of
+use Rattle.cct_lines.specs.declared.entry.Said.{Said}
+use Rattle.cct_lines.specs.declared.entry.Said.TheVariants as said_of
 use Rattle.cct_lines.specs.declared.entry.Entry.{Entry}
 use Rattle.cct_lines.specs.declared.entry.Entry.TheVariants as entry
-use Rattle.cct_lines.specs.Text.{number_text, piece_field, command_fields, end_fields, fields_of, line_of, text}
-use Rattle.cct_text.specs.Reading.{parts_at, number_in, piece_in, made, either, taken_by, refused_by, command_in, read_fields, read_line, read_text}
+use Rattle.cct_lines.specs.Text.{number_text, piece_field, coins_field, command_fields, end_fields, said_fields, fields_of, line_of, text}
+use Rattle.cct_text.specs.Reading.{parts_at, number_in, piece_in, coins_in, made, either, taken_by, refused_by, command_in, read_fields, read_line, read_text}
 use Rattle.cct_text.specs.Written.{IsEnd, IsWritten}
 use Rattle.cct_text.proofs.Cuts.{all_above, EachAbove, above_weaker, each_append, number_field, piece_above, joined_above, cut_joined, has_none}
-use Rattle.cct_text.proofs.Back.{each_weaker, one_back, two_back, three_back, four_back, five_back, piece_back, record_back, record_above, command_back, command_above, reason_back, reason_above, fault_back, fault_above, kind_back, kind_above}
+use Rattle.cct_text.proofs.Back.{each_weaker, one_back, two_back, three_back, four_back, five_back, piece_back, coins_back, coins_field_above, record_back, record_above, command_back, command_above, reason_back, reason_above, fault_back, fault_above, kind_back, kind_above}
 use Rattle.cct_text.proofs.Devices.{listed_back, listed_field_above}
 
 -- ends
@@ -58,6 +60,24 @@ end_above addr end_of.Routed h = (refl, (number_field addr, tt))
 end_above addr end_of.RouteUnsure h = (refl, (number_field addr, tt))
 end_above addr end_of.Sold h = (refl, tt)
 
+-- what a monitor says
+said_back : (said : Said) → read_fields (said_fields said) ≡ Some (entry.Said said)
+said_back (said_of.Sure addr first last coins) =
+    three_back (λ a f l. Some (entry.Said (said_of.Sure a f l (coins_in (coins_field coins))))) addr first last
+    ∙ ap (λ c. Some (entry.Said (said_of.Sure addr first last c))) (coins_back coins)
+said_back (said_of.Doubt addr first last) =
+    three_back (λ a f l. Some (entry.Said (said_of.Doubt a f l))) addr first last
+said_back (said_of.Fell addr first last count) =
+    four_back (λ a f l n. Some (entry.Said (said_of.Fell a f l n))) addr first last count
+
+said_above : (said : Said) → EachAbove 32 (said_fields said)
+said_above (said_of.Sure addr first last coins) =
+    (refl, (number_field addr, (number_field first, (number_field last, (coins_field_above coins, tt)))))
+said_above (said_of.Doubt addr first last) =
+    (refl, (number_field addr, (number_field first, (number_field last, tt))))
+said_above (said_of.Fell addr first last count) =
+    (refl, (number_field addr, (number_field first, (number_field last, (number_field count, tt)))))
+
 -- entries
 pub entry_back : (e : Entry) → IsWritten e → read_fields (fields_of e) ≡ Some e
 entry_back (entry.Accepted addr coin) h =
@@ -90,6 +110,15 @@ entry_back (entry.Ended addr end) h = end_back addr end h
 entry_back (entry.Balance totals) h =
     four_back (λ a r p s. Some (entry.Balance (record { available = a; reserved = r; paid = p; sold = s })))
     totals.available totals.reserved totals.paid totals.sold
+entry_back (entry.Stock addr count) h = two_back (λ a n. Some (entry.Stock a n)) addr count
+entry_back (entry.ChangeOk first amount) h = two_back (λ i n. Some (entry.ChangeOk i n)) first amount
+entry_back entry.ChangeNo h = refl
+entry_back entry.ServeIdle h = refl
+entry_back (entry.ServeWait addr) h = one_back (λ a. Some (entry.ServeWait a)) addr
+entry_back (entry.ServeOdd id) h = one_back (λ i. Some (entry.ServeOdd i)) id
+entry_back (entry.Served amount) h = one_back (λ n. Some (entry.Served n)) amount
+entry_back (entry.Short paid rest) h = two_back (λ p r. Some (entry.Short p r)) paid rest
+entry_back (entry.Said said) h = said_back said
 entry_back (entry.Line number why) h =
     ap (λ o. made (entry.Line (number_in (number_text number))) o) (kind_back why)
     ∙ one_back (λ n. Some (entry.Line n why)) number
@@ -148,6 +177,15 @@ entry_above (entry.Balance totals) h = (
     ),
   ),
 )
+entry_above (entry.Stock addr count) h = (refl, (number_field addr, (number_field count, tt)))
+entry_above (entry.ChangeOk first amount) h = (refl, (refl, (number_field first, (number_field amount, tt))))
+entry_above entry.ChangeNo h = (refl, (refl, (refl, tt)))
+entry_above entry.ServeIdle h = (refl, (refl, tt))
+entry_above (entry.ServeWait addr) h = (refl, (refl, (number_field addr, tt)))
+entry_above (entry.ServeOdd id) h = (refl, (refl, (number_field id, tt)))
+entry_above (entry.Served amount) h = (refl, (number_field amount, tt))
+entry_above (entry.Short paid rest) h = (refl, (number_field paid, (number_field rest, tt)))
+entry_above (entry.Said said) h = said_above said
 entry_above (entry.Line number why) h = (refl, (number_field number, (kind_above why, tt)))
 entry_above entry.Words h = (refl, tt)
 entry_above (entry.DiskSize len) h = (refl, (number_field len, tt))

@@ -18,6 +18,7 @@ use Rattle.cct_lines.specs.declared.entry.Listed.{Listed}
 use Rattle.cct_lines.specs.declared.entry.End.TheVariants as end_of
 use Rattle.cct_lines.specs.declared.entry.LineKind.{LineKind}
 use Rattle.cct_lines.specs.declared.entry.LineKind.TheVariants as kind
+use Rattle.cct_lines.specs.declared.entry.Said.TheVariants as said_of
 use Rattle.cct_lines.specs.declared.entry.Entry.{Entry}
 use Rattle.cct_lines.specs.declared.entry.Entry.TheVariants as entry
 use Rattle.cct_lines.specs.DeviceSet.{all_addresses}
@@ -309,6 +310,49 @@ abbrev pub listed_by : List (List ℕ) → Option Entry
 listed_by (devices ∷ []) = Some (entry.Ended 0 (end_of.Listed (listed_in devices)))
 listed_by _ = None
 
+-- The entry of a coin that fell out of a hopper: its address; or of what a monitor says of a hopper: its address, two
+-- numbers of taps, and how many coins fell.
+abbrev pub fell_of : List (List ℕ) → Option Entry
+fell_of (addr ∷ []) = Some (entry.Fell (number_in addr))
+fell_of (addr ∷ first ∷ last ∷ count ∷ []) =
+    Some (entry.Said (said_of.Fell (number_in addr) (number_in first) (number_in last) (number_in count)))
+fell_of _ = None
+
+-- The entry of coins that a monitor is sure of: an address, two numbers of taps, and the coins.
+abbrev pub sure_of : List (List ℕ) → Option Entry
+sure_of (addr ∷ first ∷ last ∷ coins ∷ []) =
+    Some (entry.Said (said_of.Sure (number_in addr) (number_in first) (number_in last) (coins_in coins)))
+sure_of _ = None
+
+-- The entry of a session of change that began, or of one that didn't, since one runs.
+abbrev pub change_by : List ℕ → List (List ℕ) → Option Entry
+change_by word rest =
+    if bytes_eq word (codes "ok") then of_two entry.ChangeOk rest
+    else if bytes_eq word (codes "no") then busy_by rest
+    else None
+  where
+    busy_by : List (List ℕ) → Option Entry
+    busy_by (why ∷ []) = if bytes_eq why (codes "busy") then Some entry.ChangeNo else None
+    busy_by _ = None
+
+-- The entry of a session of change, by its fields.
+abbrev pub change_in : List (List ℕ) → Option Entry
+change_in [] = None
+change_in (word ∷ rest) = change_by word rest
+
+-- The entry of why a session of change doesn't go on: a word, and a number.
+abbrev pub serve_by : List ℕ → List (List ℕ) → Option Entry
+serve_by word rest =
+    if bytes_eq word (codes "idle") then of_none entry.ServeIdle rest
+    else if bytes_eq word (codes "wait") then of_one entry.ServeWait rest
+    else if bytes_eq word (codes "odd") then of_one entry.ServeOdd rest
+    else None
+
+-- The entry of why a session of change doesn't go on.
+abbrev pub serve_in : List (List ℕ) → Option Entry
+serve_in [] = None
+serve_in (word ∷ rest) = serve_by word rest
+
 -- The entry of what happened to a device, by its word.
 abbrev pub device_entry : List ℕ → List (List ℕ) → Option Entry
 device_entry word rest =
@@ -316,7 +360,7 @@ device_entry word rest =
     else if bytes_eq word (codes "held") then of_two entry.Held rest
     else if bytes_eq word (codes "inhibited") then of_two entry.Inhibited rest
     else if bytes_eq word (codes "alien") then of_one entry.Alien rest
-    else if bytes_eq word (codes "fell") then of_one entry.Fell rest
+    else if bytes_eq word (codes "fell") then fell_of rest
     else if bytes_eq word (codes "nofall") then of_one entry.NoFall rest
     else if bytes_eq word (codes "jammed") then of_one entry.Jammed rest
     else if bytes_eq word (codes "nojam") then of_one entry.NoJam rest
@@ -361,6 +405,18 @@ end_entry word rest =
     else if bytes_eq word (codes "sold") then of_none (entry.Ended 1 end_of.Sold) rest
     else None
 
+-- The entry of a session of change, of a hopper's stock, or of what a monitor says of an acceptor, by its word.
+abbrev pub desk_entry : List ℕ → List (List ℕ) → Option Entry
+desk_entry word rest =
+    if bytes_eq word (codes "stock") then of_two entry.Stock rest
+    else if bytes_eq word (codes "change") then change_in rest
+    else if bytes_eq word (codes "serve") then serve_in rest
+    else if bytes_eq word (codes "served") then of_one entry.Served rest
+    else if bytes_eq word (codes "short") then of_two entry.Short rest
+    else if bytes_eq word (codes "sure") then sure_of rest
+    else if bytes_eq word (codes "doubt") then of_three (λ addr first last. entry.Said (said_of.Doubt addr first last)) rest
+    else None
+
 -- The entry of what isn't a step's, by its word.
 abbrev pub other_entry : List ℕ → List (List ℕ) → Option Entry
 other_entry word rest =
@@ -382,7 +438,9 @@ other_entry word rest =
 abbrev pub read_fields : List (List ℕ) → Option Entry
 read_fields [] = None
 read_fields (word ∷ rest) =
-    either (device_entry word rest) (either (host_entry word rest) (either (end_entry word rest) (other_entry word rest)))
+    either (device_entry word rest)
+    (either (host_entry word rest)
+    (either (end_entry word rest) (either (desk_entry word rest) (other_entry word rest))))
 
 -- The entry of a line without its line feed.
 unfoldable pub read_line : List ℕ → Option Entry

@@ -9,6 +9,7 @@ use crate::commands::{write_command, write_fault, write_reason};
 use crate::ends::write_end;
 use crate::fields::{write_address, write_number, write_numbers, write_pair, write_piece};
 use crate::records::write_record;
+use crate::said::write_said;
 use crate::text::TextLine;
 use cct_lines::{
     Coin, Command, CommandNo, Entry, LineKind, MOST_HEARD, MOST_SENT, MOST_TEXT, Record, SumOf,
@@ -54,6 +55,21 @@ fn write_fields(line: &mut TextLine, entry: &Entry)
         Entry::Crash { records } => write_numbers(line, b"crash", &[u64::from(*records)]),
         Entry::Ended { addr, end } => write_end(line, *addr, end),
         Entry::Balance(totals) => write_balance(line, *totals),
+        Entry::Stock { addr, count } => {
+            write_numbers(line, b"stock", &[u64::from(*addr), u64::from(*count)])
+        }
+        Entry::ChangeOk { first, amount } => {
+            write_numbers(line, b"change ok", &[u64::from(*first), u64::from(*amount)])
+        }
+        Entry::ChangeNo => line.push(b"change no busy"),
+        Entry::ServeIdle => line.push(b"serve idle"),
+        Entry::ServeWait { addr } => write_address(line, b"serve wait", *addr),
+        Entry::ServeOdd { id } => write_numbers(line, b"serve odd", &[u64::from(*id)]),
+        Entry::Served { amount } => write_numbers(line, b"served", &[u64::from(*amount)]),
+        Entry::Short { paid, rest } => {
+            write_numbers(line, b"short", &[u64::from(*paid), u64::from(*rest)])
+        }
+        Entry::Said(said) => write_said(line, said),
         Entry::Line { number, kind } => write_refused(line, *number, *kind),
         Entry::Words => line.push(b"words"),
         Entry::DiskSize { len } => write_numbers(line, b"disksize", &[*len]),

@@ -17,6 +17,7 @@ mod entries;
 mod fields;
 mod laws;
 mod records;
+mod said;
 mod text;
 
 pub use laws::{

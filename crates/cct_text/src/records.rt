@@ -106,7 +106,7 @@ fn write_coins_told(line: &mut TextLine, lost: u32, accepts: u32, coins: &[Coin]
 }
 
 /// Writes coins as the next field: joined by commas, or a hyphen where there is none.
-fn write_coins(line: &mut TextLine, coins: &[Coin])
+pub(crate) fn write_coins(line: &mut TextLine, coins: &[Coin])
     requires few { length coins.now ≤ EVENTS }
     requires room { length line.old + 40 ≤ MOST_TEXT }
     ensures { Adds line.old line.new (32 ∷ coins_field coins.now) 40 }

@@ -24,9 +24,10 @@ bare_app = record {
   subs = [];
 }
 
--- The program with its four subcommands.
+-- The program with its five subcommands.
 unfoldable pub words_app : App
 words_app = with_subcommand
     (with_subcommand
+    (with_subcommand
     (with_subcommand (with_subcommand bare_app (new_shape (codes "run"))) (new_shape (codes "report")))
-    (new_shape (codes "upgrade"))) load_app.top
+    (new_shape (codes "upgrade"))) (new_shape (codes "audit"))) load_app.top

@@ -25,6 +25,7 @@ said_by name rows =
     if bytes_eq name (codes "run") then Some words.Run
     else if bytes_eq name (codes "report") then Some words.Report
     else if bytes_eq name (codes "upgrade") then Some words.Upgrade
+    else if bytes_eq name (codes "audit") then Some words.Audit
     else if bytes_eq name (codes "load") then load_in rows
     else None
 

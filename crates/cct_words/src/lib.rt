@@ -1,4 +1,4 @@
-//! The words of the command line, read as a command with four subcommands.
+//! The words of the command line, read as a command with five subcommands.
 #![tactic(auto)]
 
 mod command;

@@ -27,6 +27,7 @@ fn said_by(name: &str, found: &ArgMatches<'_>) -> Option<Words>
         "run" => Some(Words::Run),
         "report" => Some(Words::Report),
         "upgrade" => Some(Words::Upgrade),
+        "audit" => Some(Words::Audit),
         "load" => load_in(found),
         _ => None,
     }

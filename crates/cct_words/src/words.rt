@@ -21,6 +21,8 @@ pub enum Words {
     Report,
     /// Bring a journal of an earlier version forward, for the devices of the script on standard input.
     Upgrade,
+    /// Audit the capture on standard input: tell which coins were surely accepted, and how many fell.
+    Audit,
     /// Play a load that a number makes, of so many rounds: 1 to 10,000.
     Load { seed: u64, rounds: u32 },
 }
@@ -36,8 +38,8 @@ pub enum WordsNo {
     Memory,
 }
 
-/// Reads the words of the command line, without the program's name: `run`, `report`, `upgrade`, or `load SEED N`, with
-/// SEED a number below 2^64 and N one from 1 to 10,000, both in decimal, without sign and without leading zeros.
+/// Reads the words of the command line, without the program's name: `run`, `report`, `upgrade`, `audit`, or `load SEED N`,
+/// with SEED a number below 2^64 and N one from 1 to 10,000, both in decimal, without sign and without leading zeros.
 ///
 /// # Errors
 ///
