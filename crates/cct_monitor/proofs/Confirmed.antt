@@ -3,7 +3,7 @@ use Rattle.std.proofs.Common.{◌≡◌, ℕ, suc, ◌==◌, ◌&&◌, ◌||◌,
 use Rattle.std.specs.List.{list_any}
 use Rattle.cct_monitor.specs.declared.shown.Shown.{Shown}
 use Rattle.cct_monitor.specs.declared.shown.Shown.TheVariants.{Read, Masked, Set, Nothing}
-use Rattle.cct_monitor.specs.declared.said.Said.{Said}
+use Rattle.cct_model.specs.lines.entry.Said.{Said}
 use Rattle.cct_monitor.specs.Spans.{Reading, Span, doubted, goes_on, is_whole, last_reading, leaves_open, new_reading, refused, said_at, spans, spans_by, surely, turned, waits}
 use Rattle.cct_monitor.specs.Confirmed.{confirms, ends_window, has_mask, is_confirmed, is_sure, window}
 
@@ -98,7 +98,7 @@ confirmed_are s xs =
     filter_same (confirms s) (λ x. has_mask s && waits x) (confirms_is s) xs ∙ filter_by (has_mask s) xs
 
 -- what is sure among what is said
-filter_more : (xs ys : List Said) → filter is_sure (xs ++ ys) ≡ filter is_sure xs ++ filter is_sure ys
+pub filter_more : (xs ys : List Said) → filter is_sure (xs ++ ys) ≡ filter is_sure xs ++ filter is_sure ys
 filter_more [] ys = refl
 filter_more (x ∷ xs) ys = by_test (is_sure x) (filter_more xs ys)
   where

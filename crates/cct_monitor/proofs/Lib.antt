@@ -6,3 +6,4 @@ pub mod Insertions
 pub mod Captures
 pub mod Confirmed
 pub mod Monitors
+pub mod Once

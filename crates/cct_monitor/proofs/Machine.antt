@@ -5,7 +5,7 @@ use Rattle.cct_model.specs.terms.coin.Credits.{Credits}
 use Rattle.cct_model.specs.Reading.{distance}
 use Rattle.cct_monitor.specs.declared.shown.Shown.{Shown}
 use Rattle.cct_monitor.specs.declared.shown.Shown.TheVariants.{Read, Masked, Set, Nothing}
-use Rattle.cct_monitor.specs.declared.said.Said.{Said}
+use Rattle.cct_model.specs.lines.entry.Said.{Said}
 use Rattle.cct_monitor.specs.declared.acceptor.LastReading.{LastReading}
 use Rattle.cct_monitor.specs.declared.acceptor.WaitingSpan.{WaitingSpan}
 use Rattle.cct_monitor.specs.Spans.{Reading, Span, after_it, doubted, goes_on, is_set, is_whole, last_reading, leaves_open, new_reading, refused, said_at, said_last, spans, spans_by, turned, waits}
@@ -55,7 +55,7 @@ ended true true more closed = absurd cc
 ended true false more closed = refl
 ended false is_open more closed = refl
 
-none_waits : (s : Shown) (xs : List Span) → leaves_open s ≡ false → filter waits (map (goes_on s) xs) ≡ []
+pub none_waits : (s : Shown) (xs : List Span) → leaves_open s ≡ false → filter waits (map (goes_on s) xs) ≡ []
 none_waits s [] closed = refl
 none_waits s (x ∷ xs) closed =
     ap (λ b. cond b (goes_on s x ∷ filter waits (map (goes_on s) xs)) (filter waits (map (goes_on s) xs)))
@@ -74,7 +74,7 @@ by_test s x true false xs ys same rest = absurd cc
 by_test s x false true xs ys same rest = absurd cc
 by_test s x false false xs ys same rest = rest
 
-all_wait : (s : Shown) (xs : List Span) → leaves_open s ≡ true →
+pub all_wait : (s : Shown) (xs : List Span) → leaves_open s ≡ true →
     filter waits (map (goes_on s) xs) ≡ map (goes_on s) (filter waits xs)
 all_wait s [] opened = refl
 all_wait s (x ∷ xs) opened =

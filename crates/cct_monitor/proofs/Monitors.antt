@@ -2,7 +2,7 @@
 use Rattle.std.proofs.Common.{◌≡◌, ℕ, zero, suc, ◌+◌, ◌==◌, ◌||◌, Bool, true, false, cond, List, [], ◌∷◌, map, flat_map, length, replicate, refl, sym, ap, ap₂, ◌∙◌, None, arith}
 use Rattle.std.specs.List.{list_any}
 use Rattle.cct_monitor.specs.declared.monitor.Monitor.{Monitor}
-use Rattle.cct_monitor.specs.declared.said.Said.{Said}
+use Rattle.cct_model.specs.lines.entry.Said.{Said}
 use Rattle.cct_monitor.specs.declared.shown.Shown.TheVariants.{Nothing}
 use Rattle.cct_monitor.specs.declared.watched.Kept.{Kept}
 use Rattle.cct_monitor.specs.declared.watched.Kept.TheVariants.{Acceptor, Hopper}

@@ -3,8 +3,8 @@ use Rattle.std.specs.Prelude.{◌==◌, ◌&&◌, not, Bool, true, false, List, 
 use Rattle.std.specs.List.{list_any}
 use Rattle.cct_monitor.specs.declared.shown.Shown.{Shown}
 use Rattle.cct_monitor.specs.declared.shown.Shown.TheVariants.{Read, Masked, Set, Nothing}
-use Rattle.cct_monitor.specs.declared.said.Said.{Said}
-use Rattle.cct_monitor.specs.declared.said.Said.TheVariants.{Sure, Doubt, Fell}
+use Rattle.cct_model.specs.lines.entry.Said.{Said}
+use Rattle.cct_model.specs.lines.entry.Said.TheVariants.{Sure, Doubt, Fell}
 use Rattle.cct_monitor.specs.Spans.{Span, goes_on, is_whole}
 
 -- A tap ends the window of a span: it is the next reading, or a setting.

@@ -1,6 +1,7 @@
 pub mod Taps
 pub mod Spans
 pub mod Confirmed
+pub mod Once
 pub mod Lives
 pub mod Machine
 pub mod Watches

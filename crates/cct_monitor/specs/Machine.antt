@@ -5,8 +5,8 @@ use Rattle.cct_model.specs.terms.wire.CheckKind.{CheckKind}
 use Rattle.cct_model.specs.Reading.{distance, posted_of}
 use Rattle.cct_monitor.specs.declared.shown.Shown.{Shown}
 use Rattle.cct_monitor.specs.declared.shown.Shown.TheVariants.{Read, Masked, Set, Nothing}
-use Rattle.cct_monitor.specs.declared.said.Said.{Said}
-use Rattle.cct_monitor.specs.declared.said.Said.TheVariants.{Sure, Doubt}
+use Rattle.cct_model.specs.lines.entry.Said.{Said}
+use Rattle.cct_model.specs.lines.entry.Said.TheVariants.{Sure, Doubt}
 use Rattle.cct_monitor.specs.declared.acceptor.LastReading.{LastReading}
 use Rattle.cct_monitor.specs.declared.acceptor.WaitingSpan.{WaitingSpan}
 use Rattle.cct_monitor.specs.declared.acceptor.AcceptorWatch.{AcceptorWatch}

@@ -7,8 +7,8 @@ use Rattle.cct_model.specs.terms.coin.Credits.{Credits}
 use Rattle.cct_model.specs.Reading.{distance, posted_of}
 use Rattle.cct_monitor.specs.declared.shown.Shown.{Shown}
 use Rattle.cct_monitor.specs.declared.shown.Shown.TheVariants.{Read, Masked, Set, Nothing}
-use Rattle.cct_monitor.specs.declared.said.Said.{Said}
-use Rattle.cct_monitor.specs.declared.said.Said.TheVariants.{Sure, Doubt}
+use Rattle.cct_model.specs.lines.entry.Said.{Said}
+use Rattle.cct_model.specs.lines.entry.Said.TheVariants.{Sure, Doubt}
 
 -- A reading: its number among the taps, the credits that it shows, and what the taps after it showed, newest first.
 pub record Reading : Type 0 where

@@ -4,7 +4,7 @@ use Rattle.std.specs.List.{flat_map}
 use Rattle.cct_model.specs.terms.wire.CheckKind.{CheckKind}
 use Rattle.cct_monitor.specs.declared.shown.Shown.{Shown}
 use Rattle.cct_monitor.specs.declared.shown.Shown.TheVariants.{Nothing}
-use Rattle.cct_monitor.specs.declared.said.Said.{Said}
+use Rattle.cct_model.specs.lines.entry.Said.{Said}
 use Rattle.cct_monitor.specs.Taps.{Tap, shown, life_shown}
 use Rattle.cct_monitor.specs.Spans.{said_at, said_last}
 use Rattle.cct_monitor.specs.Lives.{fell_at}

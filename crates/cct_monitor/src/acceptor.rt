@@ -4,11 +4,10 @@ ghost use Rattle.cct_monitor.specs.Machine.{acceptor_on, acceptor_says, after_se
 ghost use Rattle.cct_monitor.specs.Spans.{are_near};
 ghost use Rattle.cct_monitor.specs.declared.shown.Shown.TheVariants.{Read};
 
-use crate::said::Said;
 use crate::shown::Shown;
 use arrayvec::ArrayVec;
 use cct_epoch::{distance, posted};
-use cct_model::{Credits, EVENTS};
+use cct_model::{Credits, EVENTS, Said};
 
 /// The last reading of an acceptor.
 #[derive(Clone, Copy, Debug, PartialEq, Eq)]

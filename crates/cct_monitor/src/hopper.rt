@@ -3,17 +3,18 @@ ghost use Rattle.std.specs.Prelude.{◌≡◌, []};
 ghost use Rattle.cct_model.specs.Order.{life_between};
 ghost use Rattle.cct_monitor.specs.Lives.{fell_by};
 
-use crate::said::Said;
 use arrayvec::ArrayVec;
+use cct_model::Said;
 
 /// How many values the life count has, which is three bytes long.
 const COUNTS: u64 = 1 << 24;
 
 /// The last life count of a hopper.
 #[derive(Clone, Copy, Debug, PartialEq, Eq)]
-pub(crate) struct LastLife {
+pub struct LastLife {
     /// The number of the tap that showed it.
     pub number: u32,
+    /// The count that it showed, below 2 ^ 24.
     pub count: u32,
 }
 

@@ -9,12 +9,14 @@ mod hopper;
 mod laws;
 mod monitor;
 mod places;
-mod said;
 mod shown;
 mod watched;
 
-pub use cct_model::{CheckKind, Coin, Coins};
-pub use laws::{a_capture_is_watched_whole, a_tap_makes_sure_what_it_confirms};
+pub use cct_model::{CheckKind, Coin, Coins, Said};
+pub use hopper::LastLife;
+pub use laws::{
+    a_capture_is_watched_whole, a_tap_makes_sure_what_it_confirms, each_span_is_said_once,
+};
 pub use monitor::Monitor;
 pub use places::WATCHED;
-pub use said::Said;
+pub use shown::Shown;

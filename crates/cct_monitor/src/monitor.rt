@@ -4,11 +4,10 @@ ghost use Rattle.cct_monitor.specs.Places.{are_apart};
 ghost use Rattle.cct_monitor.specs.Taps.{tap_of};
 ghost use Rattle.cct_monitor.specs.Watches.{Came, Watch, finally_of_all, made_tap, made_watch, said_of_all};
 
-use crate::places::{WATCHED, finish_devices, put_device, tap_devices};
-use crate::said::Said;
+use crate::places::{WATCHED, finish_devices, has_device, put_device, tap_devices};
 use crate::watched::Watched;
 use arrayvec::ArrayVec;
-use cct_model::CheckKind;
+use cct_model::{CheckKind, Said};
 
 /// A monitor of a wire, whoever is its host. It takes no memory, and keeps as much after each tap as before it.
 ///
@@ -49,6 +48,20 @@ impl Monitor {
             → StandsFor self.new (made_watch (record { addr = addr; kind = kind; acceptor = acceptor }) ∷ past) }
     {
         put_device(&mut self.devices, Watched::new(addr, kind, acceptor));
+    }
+
+    /// How many devices it watches, 32 at most.
+    pub fn watched(&self) -> usize
+        ensures { result ≡ watch_count self.now }
+    {
+        self.devices.len()
+    }
+
+    /// Whether it watches a device at an address.
+    pub fn is_watched(&self, addr: u8) -> bool
+        ensures { result ≡ is_watched self.now addr }
+    {
+        has_device(self.devices.as_slice(), addr)
     }
 
     /// Takes a tap: what was sent, and all that was then heard, the echo first. What it makes said takes the place of what

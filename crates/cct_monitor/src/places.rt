@@ -1,13 +1,13 @@
 //! The watched devices by their places, in rising order of address.
 ghost use Rattle.std.specs.Prelude.{◌≡◌, ◌<◌, ◌≤◌, [], true, length, map, slice_index_or, slice_set, IfSome};
-ghost use Rattle.std.specs.List.{flat_map, position, position_or_len};
+ghost use Rattle.std.specs.List.{flat_map, list_any, position, position_or_len};
 ghost use Rattle.cct_monitor.specs.Machine.{ends_on, says_on, watched_on};
 ghost use Rattle.cct_monitor.specs.Places.{are_apart, has_addr, is_behind, put_watched};
 ghost use Rattle.cct_monitor.specs.Taps.{tap_of};
 
-use crate::said::Said;
 use crate::watched::Watched;
 use arrayvec::ArrayVec;
+use cct_model::Said;
 
 /// The most devices that a monitor watches.
 pub const WATCHED: usize = 32;
@@ -102,4 +102,11 @@ fn first_behind(devices: &[Watched], addr: u8) -> Option<usize>
     ensures within { IfSome result (λ place. place < length devices.now) }
 {
     devices.iter().position(|device| addr <= device.addr)
+}
+
+/// Whether one of the devices is at an address.
+pub(crate) fn has_device(devices: &[Watched], addr: u8) -> bool
+    ensures { result ≡ list_any (has_addr addr) devices.now }
+{
+    devices.iter().any(|device| device.addr == addr)
 }

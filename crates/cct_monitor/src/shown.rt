@@ -10,7 +10,7 @@ use cct_msg::wanted_reply;
 
 /// What a tap shows of an acceptor.
 #[derive(Clone, Copy, Debug, PartialEq, Eq)]
-pub(crate) enum Shown {
+pub enum Shown {
     /// A reading: its event counter and its credit buffer (header 229).
     Read(Credits),
     /// Its inhibit mask (header 230).

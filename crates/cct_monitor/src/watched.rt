@@ -5,10 +5,9 @@ ghost use Rattle.cct_monitor.specs.Taps.{tap_of};
 
 use crate::acceptor::AcceptorWatch;
 use crate::hopper::{LastLife, fell};
-use crate::said::Said;
 use crate::shown::{life_at, shown_at};
 use arrayvec::ArrayVec;
-use cct_model::CheckKind;
+use cct_model::{CheckKind, Said};
 
 /// What is kept of a watched device, by its kind.
 #[derive(Clone, Copy, Debug, PartialEq, Eq)]

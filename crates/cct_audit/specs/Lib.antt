@@ -1,0 +1,5 @@
+pub mod Capture
+pub mod Telling
+pub mod Reading
+pub mod Going
+pub mod Audit

@@ -1,0 +1,9 @@
+//! An audit of any host's wire: a capture is read line by line, a monitor watches what its taps show, and what the monitor
+//! says is written (`docs/AUDIT.md`).
+#![tactic(auto)]
+
+mod auditing;
+mod reading;
+mod writing;
+
+pub use auditing::{AuditEnd, audit};

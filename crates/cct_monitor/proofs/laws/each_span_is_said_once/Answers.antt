@@ -1,0 +1,11 @@
+use Rattle.cct_monitor.proofs.Once.{said_once, sure_once, one_between}
+use Rattle.cct_monitor.proofs.laws.each_span_is_said_once.Goals as goal
+
+pub returns-clause-once : goal.returns-clause-once
+returns-clause-once c = said_once
+
+pub returns-clause-confirmed : goal.returns-clause-confirmed
+returns-clause-confirmed c = sure_once
+
+pub returns-clause-at_most_one : goal.returns-clause-at_most_one
+returns-clause-at_most_one c = one_between

@@ -1,0 +1,21 @@
+-- What is said of a span, at all taps and at their end.
+use Rattle.std.specs.Prelude.{ℕ, ◌==◌, ◌&&◌, Bool, false, List, [], ◌∷◌, ◌++◌}
+use Rattle.cct_model.specs.lines.entry.Said.{Said}
+use Rattle.cct_model.specs.lines.entry.Said.TheVariants.{Sure, Doubt, Fell}
+use Rattle.cct_monitor.specs.declared.shown.Shown.{Shown}
+use Rattle.cct_monitor.specs.Spans.{Span, said_at}
+
+-- All that is said of the acceptor at an address at taps that showed this, newest first; what is said first stands first.
+abbrev pub all_said : ℕ → List Shown → List Said
+all_said addr [] = []
+all_said addr (s ∷ past) = all_said addr past ++ said_at addr s past
+
+-- It is said of a span, whose readings are the taps of these two numbers.
+abbrev pub is_of : ℕ → ℕ → Said → Bool
+is_of first last (Sure addr f l coins) = (f == first) && (l == last)
+is_of first last (Doubt addr f l) = (f == first) && (l == last)
+is_of first last (Fell addr f l count) = false
+
+-- The readings of a span are the taps of these two numbers.
+abbrev pub is_between : ℕ → ℕ → Span → Bool
+is_between first last span = (span.first.number == first) && (span.last.number == last)

@@ -1,0 +1,10 @@
+pub mod Acceptors
+pub mod Apart
+pub mod Fallen
+pub mod Hoppers
+pub mod Moments
+pub mod Run
+pub mod Sure
+pub mod True
+pub mod Wire
+pub mod Worked

@@ -1,0 +1,116 @@
+-- A worked wild run: a host that keeps no journal sets a mask, reads the credits before and after a coin, and reads the mask.
+use Rattle.std.proofs.Common.{◌≡◌, ℕ, List, [], ◌∷◌, ◌++◌, map, replicate, refl, true, false, arith}
+use Rattle.std.specs.Prelude.{codes}
+use Rattle.cct_model.specs.terms.coin.Coin.{Coin}
+use Rattle.cct_model.specs.terms.wire.CheckKind.TheVariants.{Simple}
+use Rattle.cct_model.specs.terms.device.DeviceBody.TheVariants.{Acceptor}
+use Rattle.cct_model.specs.terms.device.Setup.{Setup}
+use Rattle.cct_model.specs.lines.command.Step.TheVariants as step
+use Rattle.cct_model.specs.lines.entry.Entry.{Entry}
+use Rattle.cct_model.specs.lines.entry.Entry.TheVariants as entry
+use Rattle.cct_model.specs.lines.entry.Said.TheVariants.{Sure}
+use Rattle.cct_model.specs.Message.{message, spelling, crc}
+use Rattle.cct_model.specs.Request.{data_of, request_of, requests_with, form_of}
+use Rattle.cct_model.specs.Reply.{reply_data, reply_in}
+use Rattle.cct_model.specs.Setting.{has_place}
+use Rattle.cct_model.specs.Acceptor.{acceptor_reply}
+use Rattle.cct_model.specs.Device.{common_reply, reply_of}
+use Rattle.cct_model.specs.Exchange.{ask, asked, asks_of, asker, after_echo, got}
+use Rattle.cct_model.specs.Honest.{HonestPast}
+use Rattle.cct_model.specs.Transcript.{heard_after}
+use Rattle.cct_model.specs.Reading.{distance}
+use Rattle.cct_monitor.specs.Watches.{Watch, made_tap, made_watch}
+use Rattle.cct_wild.specs.Wild.{WildStep, outside, exchange, WildFrom, taps}
+use Rattle.cct_wild.specs.Claims.{all_told}
+
+-- an acceptor at address 2, all whose coins are worth 100
+abbrev setup : Setup
+setup = record {
+  devices =
+      record {
+        addr = 2;
+        kind = Simple;
+        serial = 1;
+        texts = record { maker = codes "BENCH"; product = codes "CCT"; software = codes "1"; build = codes "1" };
+        named = false;
+        body = Acceptor 0 (replicate 16 100) (replicate 16 (codes "XX100A"));
+      }
+      ∷ [];
+}
+
+abbrev coin : Coin
+coin = record { place = 1; path = 1 }
+
+-- it is asked to let in all coins, for its credits, and for its mask; and what it replies
+abbrev sets_mask : List ℕ
+sets_mask = 2 ∷ 2 ∷ 1 ∷ 231 ∷ 255 ∷ 255 ∷ 22 ∷ []
+
+abbrev acknowledged : List ℕ
+acknowledged = 1 ∷ 0 ∷ 2 ∷ 0 ∷ 253 ∷ []
+
+abbrev asks_credits : List ℕ
+asks_credits = 2 ∷ 0 ∷ 1 ∷ 229 ∷ 24 ∷ []
+
+abbrev no_event_yet : List ℕ
+no_event_yet = 1 ∷ 11 ∷ 2 ∷ 0 ∷ 0 ∷ 0 ∷ 0 ∷ 0 ∷ 0 ∷ 0 ∷ 0 ∷ 0 ∷ 0 ∷ 0 ∷ 0 ∷ 242 ∷ []
+
+abbrev one_event : List ℕ
+one_event = 1 ∷ 11 ∷ 2 ∷ 0 ∷ 1 ∷ 1 ∷ 1 ∷ 0 ∷ 0 ∷ 0 ∷ 0 ∷ 0 ∷ 0 ∷ 0 ∷ 0 ∷ 239 ∷ []
+
+abbrev asks_mask : List ℕ
+asks_mask = 2 ∷ 0 ∷ 1 ∷ 230 ∷ 23 ∷ []
+
+abbrev all_let_in : List ℕ
+all_let_in = 1 ∷ 2 ∷ 2 ∷ 0 ∷ 255 ∷ 255 ∷ 253 ∷ []
+
+abbrev steps : List WildStep
+steps =
+    exchange sets_mask ∷ exchange asks_credits ∷ outside (step.Coin 2 1) ∷ exchange asks_credits ∷ exchange asks_mask
+    ∷ []
+
+abbrev masked : Entry
+masked = entry.Wire 2 sets_mask (sets_mask ++ acknowledged)
+
+abbrev read_first : Entry
+read_first = entry.Wire 2 asks_credits (asks_credits ++ no_event_yet)
+
+abbrev came_in : Entry
+came_in = entry.Accepted 2 coin
+
+abbrev read_last : Entry
+read_last = entry.Wire 2 asks_credits (asks_credits ++ one_event)
+
+abbrev shows_mask : Entry
+shows_mask = entry.Wire 2 asks_mask (asks_mask ++ all_let_in)
+
+abbrev past : List Entry
+past = shows_mask ∷ read_last ∷ came_in ∷ read_first ∷ masked ∷ []
+
+-- it is a wild run over an honest wire
+run : WildFrom setup [] steps past
+unfolding message spelling crc data_of request_of requests_with form_of reply_data reply_in has_place acceptor_reply
+    common_reply reply_of ask asked asks_of asker after_echo heard_after
+run = (
+  masked ∷ [],
+  (2, refl),
+  (
+    read_first ∷ [],
+    (2, refl),
+    (
+      came_in ∷ [],
+      (tt, (omega arith, omega arith), refl),
+      (read_last ∷ [], (2, refl), (shows_mask ∷ [], (2, refl), refl)),
+    ),
+  ),
+)
+
+honest : HonestPast past
+honest = (refl, (refl, (tt, (refl, (refl, tt)))))
+
+-- and the coin is sure, between the second tap and the third
+abbrev watched : Watch
+watched = record { addr = 2; kind = Simple; acceptor = true }
+
+coin_is_sure : all_told (map made_tap (taps past) ++ map made_watch (watched ∷ [])) ≡ Sure 2 2 3 (coin ∷ []) ∷ []
+unfolding message request_of requests_with form_of reply_in got after_echo distance
+coin_is_sure = refl

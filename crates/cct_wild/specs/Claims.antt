@@ -1,0 +1,106 @@
+-- What is claimed of what a monitor of any host's wire says.
+use Rattle.std.specs.Prelude.{◌≡◌, ℕ, suc, ◌+◌, ◌^◌, ◌<◌, ◌≤◌, List, [], ◌∷◌, ◌++◌, map, length, reverse, Option, ⊤, MatchBool}
+use Rattle.std.specs.List.{All}
+use Rattle.cct_model.specs.terms.coin.Coin.{Coin}
+use Rattle.cct_model.specs.terms.device.DeviceSetup.{DeviceSetup}
+use Rattle.cct_model.specs.terms.device.Setup.{Setup}
+use Rattle.cct_model.specs.lines.entry.Entry.{Entry}
+use Rattle.cct_model.specs.lines.entry.Said.{Said}
+use Rattle.cct_model.specs.lines.entry.Said.TheVariants.{Sure, Doubt, Fell}
+use Rattle.cct_model.specs.Claims.{coins}
+use Rattle.cct_model.specs.Device.{IsAcceptor, IsHopper}
+use Rattle.cct_model.specs.Exchange.{device_at}
+use Rattle.cct_model.specs.Legal.{OfDevice}
+use Rattle.cct_model.specs.Line.{Line, accepted, inhibited, alien}
+use Rattle.cct_model.specs.Transcript.{lines_of}
+use Rattle.cct_laws.specs.Coins.{all_fallen}
+use Rattle.cct_laws.specs.Law.{IsOf}
+use Rattle.cct_monitor.specs.declared.shown.Shown.{Shown}
+use Rattle.cct_monitor.specs.Taps.{shown, life_shown}
+use Rattle.cct_monitor.specs.Spans.{Span}
+use Rattle.cct_monitor.specs.Lives.{fell_at}
+use Rattle.cct_monitor.specs.Watches.{Came, Watch, made_tap, made_watch, said_of_all}
+use Rattle.cct_wild.specs.Wild.{taps, before_tap}
+
+-- What the exchanges of a past show of an acceptor, newest first.
+abbrev pub looks : DeviceSetup → List Entry → List Shown
+looks d past = map (shown d.kind d.addr) (taps past)
+
+-- The life counts that they show of a hopper, newest first.
+abbrev pub lives : DeviceSetup → List Entry → List (Option ℕ)
+lives d past = map (life_shown d.kind d.addr) (taps past)
+
+-- How many pieces came to an acceptor: coins that it accepted or inhibited, and objects that are no coins.
+abbrev pub pieces : List Line → ℕ
+pieces [] = 0
+pieces (accepted coin ∷ past) = suc (pieces past)
+pieces (inhibited place ∷ past) = suc (pieces past)
+pieces (alien ∷ past) = suc (pieces past)
+pieces (line ∷ past) = pieces past
+
+-- The coins that an acceptor accepted before the exchange of a number, newest first.
+abbrev pub coins_before : DeviceSetup → List Entry → ℕ → List Coin
+coins_before d past n = coins (lines_of d (before_tap n past))
+
+-- How many pieces had come to it by then.
+abbrev pub came_before : DeviceSetup → List Entry → ℕ → ℕ
+came_before d past n = pieces (lines_of d (before_tap n past))
+
+-- How many coins had fallen out of a hopper before the exchange of a number.
+abbrev pub fallen_before : DeviceSetup → List Entry → ℕ → ℕ
+fallen_before d past n = all_fallen (lines_of d (before_tap n past))
+
+-- What is sure between two readings, oldest coin first: its coins are the newest of those accepted between them, and where
+-- fewer than 255 pieces came between them, all.
+pub record AreSure (d : DeviceSetup) (past : List Entry) (first last : ℕ) (posted : List Coin) : Type 0 where
+  pub newest : (older : List Coin) × (coins_before d past last ≡ reverse posted ++ older ++ coins_before d past first)
+  pub exact : came_before d past last < came_before d past first + 255 →
+      coins_before d past last ≡ reverse posted ++ coins_before d past first
+
+-- What a monitor tells of a hopper is true: as many coins fell between two life counts, where that is below 2 ^ 24.
+abbrev pub AreFallen : DeviceSetup → List Entry → ℕ → ℕ → ℕ → Type 0
+AreFallen d past first last count =
+    fallen_before d past last < fallen_before d past first + 2 ^ 24 →
+    fallen_before d past last ≡ count + fallen_before d past first
+
+-- What is said is true of the device of a setup at the address that it names; there has to be one. That a span is in doubt
+-- claims nothing.
+abbrev pub IsTrue : Setup → List Entry → Said → Type 0
+IsTrue setup past (Sure addr first last posted) =
+    OfDevice (device_at setup.devices addr) (λ d. AreSure d past first last posted)
+IsTrue setup past (Doubt addr first last) = ⊤
+IsTrue setup past (Fell addr first last count) =
+    OfDevice (device_at setup.devices addr) (λ d. AreFallen d past first last count)
+
+-- A device is watched as what it is: at its address, under its check, as an acceptor or as a hopper.
+pub record IsWatchOf (w : Watch) (d : DeviceSetup) : Type 0 where
+  pub addr_is : w.addr ≡ d.addr
+  pub kind_is : w.kind ≡ d.kind
+  pub body_is : MatchBool w.acceptor (IsAcceptor d.body) (IsHopper d.body)
+
+-- It is one of a setup.
+abbrev pub IsWatched : Setup → Watch → Type 0
+IsWatched setup w = (d : DeviceSetup) × IsOf setup d × IsWatchOf w d
+
+-- All that a monitor says at the taps of all that came, newest first; what is said first stands first.
+abbrev pub all_told : List Came → List Said
+all_told [] = []
+all_told (made_watch w ∷ past) = all_told past
+all_told (made_tap t ∷ past) = all_told past ++ said_of_all t past
+
+-- The coin of a number, the first being 0, was accepted between the readings of a span.
+abbrev pub StandsIn : DeviceSetup → List Entry → ℕ → Span → Type 0
+StandsIn d past i span =
+    (length (coins_before d past span.first.number) ≤ i) × (i < length (coins_before d past span.last.number))
+
+-- No coin stands in two of these spans.
+abbrev pub AreApart : DeviceSetup → List Entry → List Span → Type 0
+AreApart d past [] = ⊤
+AreApart d past (x ∷ xs) =
+    All (λ y. (i : ℕ) → StandsIn d past i x → StandsIn d past i y → ⊥) xs × AreApart d past xs
+
+-- All that is said of a hopper at an address at taps that showed these life counts, newest first; what is said first stands
+-- first.
+abbrev pub all_fell : ℕ → List (Option ℕ) → List Said
+all_fell addr [] = []
+all_fell addr (s ∷ past) = all_fell addr past ++ fell_at addr s past
