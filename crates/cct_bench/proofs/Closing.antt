@@ -8,11 +8,15 @@ use Rattle.cct_model.specs.terms.device.Setup.{Setup}
 use Rattle.cct_model.specs.lines.command.Step.{Step}
 use Rattle.cct_model.specs.lines.command.Step.TheVariants as step
 use Rattle.cct_model.specs.lines.entry.Entry.{Entry}
-use Rattle.cct_model.specs.Legal.{Legal}
+use Rattle.cct_model.specs.AtDesk.{LegalAtDesk}
+use Rattle.cct_model.specs.Change.{Desk, clear_desk}
 use Rattle.cct_model.specs.lines.entry.Entry.TheVariants as entry
 use Rattle.cct_model.specs.Script.{script, Refusal}
 use Rattle.cct_model.specs.Transcript.{onto}
-use Rattle.cct_laws.proofs.text.Scripts.{played_right}
+use Rattle.cct_model.specs.Honest.{Honest}
+use Rattle.cct_change_laws.specs.Change.{ChangeIsPaid}
+use Rattle.cct_change_laws.proofs.Runs.{change_paid}
+use Rattle.cct_laws.proofs.text.Scripts.{front_legal, front_of_today, played_right, setup_sound}
 use Rattle.cct_journal.specs.Image.{IsBlank, IsFirstByteFrom}
 use Rattle.cct_bench.specs.declared.outcome.Status.{Status}
 use Rattle.cct_bench.specs.declared.outcome.Status.TheVariants as status
@@ -28,7 +32,7 @@ use Rattle.cct_world.specs.Relying.{First, IsCrash, IsReliable, losses_in}
 use Rattle.cct_bench.specs.Disks.{Disks, most_records}
 use Rattle.cct_laws.specs.Right.{IsRight}
 use Rattle.cct_bench.specs.Money.{RightBeforeLoss}
-use Rattle.cct_bench.specs.Source.{AreTold, OfBytes, to_come}
+use Rattle.cct_script.specs.Source.{AreTold, OfBytes, to_come}
 use Rattle.cct_text.specs.Writing.{Writes, Wrote, Broke}
 use Rattle.cct_bench.specs.Run.{RecordsLeftByLine, BreaksOff, Closes, Completes, Ends, EndsLost, OverCut}
 use Rattle.cct_bench.specs.Run.{OverLost, Played, Ran, TellsLoss, TellsOf, last_entry, listed, status_by, status_of}
@@ -42,21 +46,38 @@ pub bytes_weaker : (P Q : List ℕ → Type 0) (known : Option (List ℕ)) → (
 bytes_weaker P Q known f h = (h.0, h.1, f h.0 h.2)
 
 -- what is so before the first power cut, by what is so of the first of the steps
-pub early_right : (setup : Setup) (played : List Step) (transcript : List Entry)
+pub early_right : (setup : Setup) (played : List Step) (transcript : List Entry) (now : Desk)
     → ((first later : List Step) (told : List Entry) → played ≡ first ++ later
-    → Legal most_records setup first told → IsRight setup told)
-    → LegalBeforeLoss most_records setup played transcript → RightBeforeLoss setup played transcript
-early_right setup played transcript rights e = record {
-  first = e.first;
-  later = e.later;
-  told = e.told;
-  rest = e.rest;
-  steps_are = e.steps_are;
-  transcript_is = e.transcript_is;
-  none = e.none;
-  ends = e.ends;
-  so = (e.so.1, rights e.first e.later e.told e.steps_are e.so.1);
-}
+    → LegalAtDesk most_records setup first told → IsRight setup told)
+    → LegalBeforeLoss most_records setup played transcript now → RightBeforeLoss setup played transcript
+early_right setup played transcript now rights e =
+    let legal : LegalAtDesk most_records setup e.first e.told = (e.so.1, e.so.2) in
+    record {
+      first = e.first;
+      later = e.later;
+      told = e.told;
+      rest = e.rest;
+      steps_are = e.steps_are;
+      transcript_is = e.transcript_is;
+      none = e.none;
+      ends = e.ends;
+      so = (legal, rights e.first e.later e.told e.steps_are legal);
+    }
+
+-- the money of a script that was played up to a step is right, where its transcript is legal at the desk
+desk_right : (bytes : List ℕ) (played rest : List Step) (transcript : List Entry) → (script bytes).steps ≡ played ++ rest
+    → LegalAtDesk most_records (script bytes).setup played transcript → IsRight (script bytes).setup transcript
+desk_right bytes played rest transcript fronts legal =
+    played_right most_records bytes played rest transcript fronts
+    (front_legal most_records bytes played rest transcript fronts legal)
+
+-- and its sessions of change pay what they tell
+desk_changes : (bytes : List ℕ) (played rest : List Step) (transcript : List Entry)
+    → (script bytes).steps ≡ played ++ rest → Honest transcript
+    → ChangeIsPaid most_records (script bytes).setup played transcript
+desk_changes bytes played rest transcript fronts honest =
+    change_paid most_records (script bytes).setup played transcript (setup_sound bytes)
+    (front_of_today bytes played rest fronts).in_range honest
 
 -- a last line tells a fault of the source, or of the disk, only where the steps came to their end by one
 unread_tail : (how : Ending) → listed (last_entry how) ≡ entry.ReadFault ∷ [] → how ≡ ending.Unread
@@ -113,10 +134,11 @@ ran_by bytes how s tail left disks Before Written Broken Breaks source_failed di
       took = p.took;
       steps_are = p.steps_are;
       legal = p.legal;
-      money = λ sure. played_right most_records bytes p.played p.unplayed p.transcript p.steps_are (p.legal sure);
-      early = early_right (script bytes).setup p.played p.transcript
-          (λ first later told fronts legal. played_right most_records bytes first (later ++ p.unplayed) told
-          (p.steps_are ∙ ap (λ xs. xs ++ p.unplayed) fronts ∙ append_assoc first later p.unplayed) legal) p.early;
+      money = λ sure. desk_right bytes p.played p.unplayed p.transcript p.steps_are (p.legal sure);
+      change = λ honest. desk_changes bytes p.played p.unplayed p.transcript p.steps_are honest;
+      early = early_right (script bytes).setup p.played p.transcript p.early.0
+          (λ first later told fronts legal. desk_right bytes first (later ++ p.unplayed) told
+          (p.steps_are ∙ ap (λ xs. xs ++ p.unplayed) fronts ∙ append_assoc first later p.unplayed) legal) p.early.1;
       ends = ends;
       book = book;
       keeps = keeps;
@@ -136,7 +158,7 @@ LastLine Before Written Breaks tail (Err failed) = (xs : List Entry) → Before 
 -- the sink failed within the last line
 breaks_last : (Relies : List Entry → Type 0) (setup : Setup) (played : List Step) (transcript tail : List Entry)
     (Breaks : List Entry → List Entry → Type 0)
-    → (Relies (onto [] transcript) → Legal most_records setup played transcript) → Breaks transcript tail
+    → (Relies (onto [] transcript) → LegalAtDesk most_records setup played transcript) → Breaks transcript tail
     → BreaksOff Relies setup played transcript tail Breaks
 breaks_last Relies setup played transcript tail Breaks legal breaks = record {
   before = played;
@@ -147,7 +169,7 @@ breaks_last Relies setup played transcript tail Breaks legal breaks = record {
   one_step = omega arith;
   transcript_is = sym (append-nil transcript);
   legal = legal;
-  goes_on = λ relies. refl;
+  goes_on = λ relies. let is = legal relies in (is.0, is.0, is.1, (refl, refl));
   in_one = inl refl;
   breaks = breaks;
 }
@@ -341,7 +363,7 @@ pub no_memory : (left : Option (List ℕ)) (Written : List Entry → Type 0) (Br
     → OfBytes left (λ bytes. Ran bytes status.OutOfMemory left Written Breaks disks source_failed disk_failed)
 no_memory left Written Breaks disks source_failed disk_failed uncut wrote =
     let bytes = to_come left in
-    let legal : Legal most_records (script bytes).setup [] [] = refl in (
+    let legal : LegalAtDesk most_records (script bytes).setup [] [] = (clear_desk (script bytes).setup, (refl, refl)) in (
       bytes,
       all_told left,
       record {
@@ -353,9 +375,10 @@ no_memory left Written Breaks disks source_failed disk_failed uncut wrote =
         took = refl;
         steps_are = refl;
         legal = λ sure. legal;
-        money = λ sure. played_right most_records bytes [] (script bytes).steps [] refl legal;
-        early = early_right (script bytes).setup [] []
-            (λ first later told fronts legal. played_right most_records bytes first (later ++ (script bytes).steps) told
+        money = λ sure. desk_right bytes [] (script bytes).steps [] refl legal;
+        change = λ honest. desk_changes bytes [] (script bytes).steps [] refl honest;
+        early = early_right (script bytes).setup [] [] (clear_desk (script bytes).setup)
+            (λ first later told fronts legal. desk_right bytes first (later ++ (script bytes).steps) told
             (ap (λ xs. xs ++ (script bytes).steps) fronts ∙ append_assoc first later (script bytes).steps) legal)
             (early_none most_records (script bytes).setup);
         ends = (refl, refl, wrote);

@@ -7,7 +7,8 @@ use Rattle.cct_model.specs.lines.command.Step.{Step}
 use Rattle.cct_model.specs.lines.command.Step.TheVariants as step
 use Rattle.cct_model.specs.lines.record.Record.{Record}
 use Rattle.cct_model.specs.lines.entry.Entry.{Entry}
-use Rattle.cct_model.specs.Legal.{Entries}
+use Rattle.cct_model.specs.AtDesk.{EntriesAtDesk}
+use Rattle.cct_model.specs.Change.{Desk}
 use Rattle.cct_model.specs.Records.{records}
 use Rattle.cct_model.specs.Script.{Stage, at_setup, no_devices, plays}
 use Rattle.cct_disk.specs.declared.disk.Disk.{Ghosts}
@@ -25,7 +26,7 @@ use Rattle.cct_world.specs.Machine.{LosesIn, StepSuits}
 use Rattle.cct_world.specs.Restarts.{CutAt, Survived, no_step}
 use Rattle.cct_world.specs.Step.{CutsIn, LastsIn, count_after, crashes}
 use Rattle.cct_world.specs.World as worlds
-use Rattle.cct_world.specs.World.{Breaks, StandsFor, disk_of, setup_of, used_of}
+use Rattle.cct_world.specs.World.{Breaks, StandsFor, desk_of, disk_of, setup_of, used_of}
 use Rattle.cct_world.specs.Relying.{IsReliable}
 use Rattle.cct_world.proofs.Holding.{holds_on, loses_at}
 use Rattle.cct_world.proofs.Lasting.{lasts_in, lasts_on, lasts_then, trusted_on, uncut_in}
@@ -37,9 +38,10 @@ use Rattle.cct_bench.specs.declared.ending.Ending.TheVariants as ending
 use Rattle.cct_bench.specs.Disks.{Books, IsReady, disks, most_records}
 use Rattle.cct_bench.specs.declared.play.TheConstants.{JOURNAL_BYTES}
 use Rattle.cct_bench.specs.Going.{Going, IsUnbegun}
-use Rattle.cct_bench.specs.Lines.{WithMoreTaken, ScriptGoesOn}
+use Rattle.cct_script.specs.Scripts.{WithMoreTaken}
+use Rattle.cct_bench.specs.Lines.{ScriptGoesOn}
 use Rattle.cct_bench.specs.Playing.{Plays, PlaysOn}
-use Rattle.cct_bench.specs.Source.{OfBytes}
+use Rattle.cct_script.specs.Source.{OfBytes}
 use Rattle.cct_bench.specs.Run.{IsUnopened, Over, OverCut, OverLost, Played}
 use Rattle.cct_text.specs.Writing.{Broke, Writes, Wrote}
 use Rattle.cct_bench.proofs.Going.{Carries, EndsBeside, IsSetupIn, played_broke, played_torn}
@@ -118,16 +120,17 @@ module _ {D : Type 0} {g : Ghosts D} where
       (λ played past holds. ap g.cuts is ∙ holds.cut)
 
   -- what holds of a machine does so after a step that was played
-  pub world_carried : (given last : D) (world : World D g) (After : List Entry → Type 0) (setup : Setup) (many : ℕ)
-      (s : Step) (WritesThem : List Entry → Type 0) → setup ≡ setup_of world
+  pub world_carried : (given last : D) (world : World D g) (After : List Entry → Type 0) (setup : Setup) (next : Desk)
+      (many : ℕ) (s : Step) (WritesThem : List Entry → Type 0) → setup ≡ setup_of world
       → Outlasts g.size g.honest g.seen g.cuts given (disk_of world)
       → LastsIn s g.size g.honest g.seen g.cuts (disk_of world) last
-      → PlaysOn (IsTrusted g.honest g.seen (disk_of world)) (StandsFor world) After (setup_of world) s
+      → PlaysOn (IsTrusted g.honest g.seen (disk_of world)) (StandsFor world) After (setup_of world)
+      (desk_of world) next s
       (CutsIn s g.size g.honest g.seen g.cuts g.cut_to (disk_of world) last) (used_of world) many (g.seen last)
       WritesThem
-      → Carries (IsReliable (IsTrusted g.honest g.seen given)) (WorldHolds given world)
+      → Carries (IsReliable (IsTrusted g.honest g.seen given)) (desk_of world) next (WorldHolds given world)
       (Holds g.size g.honest g.seen g.cuts g.cut_to After setup given last many) (setup_of world) s WritesThem
-  world_carried given last world After setup many s WritesThem same on lasts p =
+  world_carried given last world After setup next many s WritesThem same on lasts p =
       let trusted = IsTrusted g.honest g.seen given in
       let now = IsTrusted g.honest g.seen (disk_of world) in
       let news = reverse p.report in
@@ -135,7 +138,7 @@ module _ {D : Type 0} {g : Ghosts D} where
         report = p.report;
         goes = λ played past before suits.
             let goes : IsReliable trusted (news ++ past)
-            → Entries most_records (setup_of world) past s news × After (news ++ past) =
+            → EntriesAtDesk most_records (setup_of world) past (desk_of world) s news × After (news ++ past) =
             λ sure. let here = reliable_back trusted news past sure in
             p.plays past (before.stands here) (suits here)
             (reliable_survives trusted now (trusted_on g.size g.honest g.seen g.cuts given (disk_of world) on) news past s
@@ -147,6 +150,7 @@ module _ {D : Type 0} {g : Ghosts D} where
                   (disk_of world) last s (used_of world) many news played past on lasts p.told p.cut p.counts p.restarts
                   (λ sure. (goes sure).1) before),
             );
+        desk = p.desk;
         told = p.told;
         wrote = p.wrote;
       }
@@ -156,7 +160,8 @@ module _ {D : Type 0} {g : Ghosts D} where
       → g.size (disk_of world) ≡ JOURNAL_BYTES → worlds.Plays world next s report → last ≡ disk_of next
       → setup_of next ≡ setup_of world
       → Plays (IsTrusted g.honest g.seen (disk_of world)) (StandsFor world)
-      (Books (setup_of world) g.honest g.seen g.may_leave last) (setup_of world) s report
+      (Books (setup_of world) g.honest g.seen g.may_leave last) (setup_of world)
+      (desk_of world) s report
   books_play world next last s report sized played is same past stands suits survives =
       let goes = played past stands suits survives in
       let news = reverse report in (
@@ -328,9 +333,9 @@ module _ {K D : Type 0} {g : Ghosts D} (written : K → Option (List ℕ))
     (puts : K → List ℕ → Result (Unit {0}) Failed → K → Type 0) where
   abbrev pub StepEnds : K → K → World D g → Step → Ending → D → Type 0
   StepEnds out out1 world s how last =
-      ((how ≡ ending.Unwritten) × (failed : Failed) × (many : ℕ)
+      ((how ≡ ending.Unwritten) × (failed : Failed) × (many : ℕ) × (next : Desk)
       × PlaysOn (IsTrusted g.honest g.seen (disk_of world)) (StandsFor world)
-      (Books (setup_of world) g.honest g.seen g.may_leave last) (setup_of world) s
+      (Books (setup_of world) g.honest g.seen g.may_leave last) (setup_of world) (desk_of world) next s
       (CutsIn s g.size g.honest g.seen g.cuts g.cut_to (disk_of world) last) (used_of world) many (g.seen last) (λ report. Writes written puts out report (Err failed) out1))
       ⊎ ((why : CrashNo) × (how ≡ ending.Unplayed why) × Breaks world last why s
       × (why ≢ crash_no.Disk → CutsIn s g.size g.honest g.seen g.cuts g.cut_to (disk_of world) last) × (out1 ≡ out))
@@ -339,7 +344,7 @@ module _ {K D : Type 0} {g : Ghosts D} (written : K → Option (List ℕ))
       (stage : Stage) (how : Ending) (s : Step) (given last : D) (world : World D g)
       → IsReady (g.size given) (g.seen given) → Outlasts g.size g.honest g.seen g.cuts given (disk_of world)
       → LastsIn s g.size g.honest g.seen g.cuts (disk_of world) last → IsDone (setup_of world) stage
-      → Going (IsReliable (IsTrusted g.honest g.seen given)) left0 left held number stage (WorldHolds given world)
+      → Going (IsReliable (IsTrusted g.honest g.seen given)) (λ any. desk_of world) left0 left held number stage (WorldHolds given world)
       (Wrote written puts out out1)
       → WithMoreTaken held left left1 (λ bytes. ScriptGoesOn number stage bytes (plays s stage) rest)
       → StepEnds out1 out2 world s how last
@@ -347,7 +352,7 @@ module _ {K D : Type 0} {g : Ghosts D} (written : K → Option (List ℕ))
       (Wrote written puts out out2) (Broke written puts out out2)
       (OverCut (disks g.size g.honest g.seen g.may_leave g.cuts g.cut_to given last)))
   step_ends out out1 out2 left0 left left1 held rest number stage how s given last world ready on lasts done going reads
-      (inl (is, failed, many, played)) =
+      (inl (is, failed, many, next, played)) =
       let trusted = IsTrusted g.honest g.seen given in
       let B = Broke written puts out out2 in
       let O = OverCut (disks g.size g.honest g.seen g.may_leave g.cuts g.cut_to given last) in
@@ -355,7 +360,7 @@ module _ {K D : Type 0} {g : Ghosts D} (written : K → Option (List ℕ))
       let books = Books (setup_of world) g.honest g.seen g.may_leave last in
       subst (λ how. OfBytes left0 (λ bytes. Played (IsReliable trusted) bytes how left1 (Wrote written puts out out2) B O))
       (sym is)
-      (played_broke (IsReliable trusted) left0 left left1 held rest number stage stage (setup_of world)
+      (played_broke (IsReliable trusted) (desk_of world) next left0 left left1 held rest number stage stage (setup_of world)
       (WorldHolds given world) (Holds g.size g.honest g.seen g.cuts g.cut_to books (setup_of world) given last many) s
       (Wrote written puts out out1) WritesThem (Wrote written puts out out2) B O (reliable_back trusted)
       (λ past none. inr none)
@@ -363,7 +368,7 @@ module _ {K D : Type 0} {g : Ghosts D} (written : K → Option (List ℕ))
       (lasts_then g.size g.honest g.seen g.cuts given (disk_of world) last on
       (lasts_in g.size g.honest g.seen g.cuts s (disk_of world) last lasts))) done
       (λ xs ys whole broken. (out1, failed, whole, broken)) going reads
-      (world_carried given last world books (setup_of world) many s WritesThem refl on lasts played))
+      (world_carried given last world books (setup_of world) next many s WritesThem refl on lasts played))
   step_ends out out1 out2 left0 left left1 held rest number stage how s given last world ready on lasts done going reads
       (inr (why, is, breaks, lost, same)) =
       let trusted = IsTrusted g.honest g.seen given in
@@ -371,7 +376,7 @@ module _ {K D : Type 0} {g : Ghosts D} (written : K → Option (List ℕ))
       let O = OverCut (disks g.size g.honest g.seen g.may_leave g.cuts g.cut_to given last) in
       subst (λ how. OfBytes left0 (λ bytes. Played (IsReliable trusted) bytes how left1 (Wrote written puts out out2) B O))
       (sym is)
-      (played_torn (IsReliable trusted) left0 left left1 held rest number stage stage (setup_of world)
+      (played_torn (IsReliable trusted) (λ any. desk_of world) left0 left left1 held rest number stage stage (setup_of world)
       (WorldHolds given world) s why (Wrote written puts out out1) (Wrote written puts out out2) B O
       (unplayed_cut given last world why s ready on lasts lost breaks) done
       (λ xs wrote. subst (λ k. Wrote written puts out k xs) (sym same) wrote) going reads)

@@ -1,4 +1,3 @@
-pub mod Continuing
 pub mod Reading
 pub mod Staying
 pub mod SetupLines
@@ -12,3 +11,5 @@ pub mod ReportEnds
 pub mod UpgradeForms
 pub mod UpgradeVectors
 pub mod UpgradeEnds
+pub mod Scripts
+pub mod AuditEnds

@@ -8,9 +8,11 @@ use Rattle.cct_edge.specs.declared.fault.Failed.{Failed}
 use Rattle.cct_model.specs.lines.command.Step.{Step}
 use Rattle.cct_model.specs.lines.command.Step.TheVariants as step
 use Rattle.cct_model.specs.lines.entry.Entry.{Entry}
-use Rattle.cct_model.specs.Legal.{Legal}
+use Rattle.cct_model.specs.AtDesk.{LegalAtDesk}
+use Rattle.cct_model.specs.Change.{clear_desk}
 use Rattle.cct_model.specs.Script.{IsInRange}
 use Rattle.cct_model.specs.Transcript.{onto}
+use Rattle.cct_laws.proofs.Desks.{legal_at_desk}
 use Rattle.cct_laws.proofs.text.Scripts.{legal_right}
 use Rattle.cct_journal.specs.Image.{IsBlank}
 use Rattle.cct_disk.specs.Disk.{GoesOn, Outlasts}
@@ -65,9 +67,11 @@ played_in_range seed rounds played unplayed steps_are =
 
 -- the money of steps of a load
 load_right : (seed rounds : ℕ) (played rest : List Step) (transcript : List Entry) → load_steps seed rounds ≡ played ++ rest
-    → Legal most_records load_setup played transcript → IsRight load_setup transcript
+    → LegalAtDesk most_records load_setup played transcript → IsRight load_setup transcript
 load_right seed rounds played rest transcript fronts legal =
-    legal_right most_records load_setup played transcript setup_sound (played_in_range seed rounds played rest fronts) legal
+    let range = played_in_range seed rounds played rest fronts in
+    legal_right most_records load_setup played transcript setup_sound range
+    (legal_at_desk most_records load_setup played transcript setup_sound range legal)
 
 -- a load by its status, from how it came to its end
 loaded_by : (seed rounds : ℕ) (how : Ending) (s : Status) (tail : List Entry) (disks : Disks)
@@ -85,9 +89,9 @@ loaded_by seed rounds how s tail disks Before Written Broken Breaks disk_failed 
   steps_are = p.steps_are;
   legal = p.legal;
   money = λ sure. load_right seed rounds p.played p.unplayed p.transcript p.steps_are (p.legal sure);
-  early = early_right load_setup p.played p.transcript
+  early = early_right load_setup p.played p.transcript p.early.0
       (λ first later told fronts legal. load_right seed rounds first (later ++ p.unplayed) told
-      (p.steps_are ∙ ap (λ xs. xs ++ p.unplayed) fronts ∙ append_assoc first later p.unplayed) legal) p.early;
+      (p.steps_are ∙ ap (λ xs. xs ++ p.unplayed) fronts ∙ append_assoc first later p.unplayed) legal) p.early.1;
   ends = ends;
   book = λ trusted some. subst (RecordsLeftByLine disks load_setup p.unplayed (onto [] p.transcript)) (sym is)
       (p.book trusted some);
@@ -166,8 +170,8 @@ module _ (seed rounds : ℕ) (Written : List Entry → Type 0) (Breaks : List En
     transcript = [];
     told = [];
     steps_are = refl;
-    legal = λ sure. refl;
-    early = early_none most_records load_setup;
+    legal = λ sure. (clear_desk load_setup, (refl, refl));
+    early = (clear_desk load_setup, early_none most_records load_setup);
     stops = stops;
     book = λ trusted some. absurd (some refl);
     keeps = keeps;

@@ -117,6 +117,9 @@ of_today (step.Fault f) e today = (today.0, refl)
 of_today (step.Next addr) e today = (tt, refl)
 of_today (step.Command c) e today = (today.0, refl)
 of_today step.Balance e today = (tt, refl)
+of_today (step.Stock addr count) e today = (tt, refl)
+of_today (step.Change first amount) e today = (today, refl)
+of_today step.Serve e today = (tt, refl)
 of_today (step.Crash at choice) e today = (today, refl)
 of_today step.End e today = cc e
 

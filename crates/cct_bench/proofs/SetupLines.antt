@@ -8,10 +8,11 @@ use Rattle.cct_edge.proofs.Chains.{Consumes-nil, Consumes-trans}
 use Rattle.cct_model.specs.terms.device.Setup.{Setup}
 use Rattle.cct_model.specs.Script.{is_line_feed, Stage, at_setup, no_devices, opens, read_line}
 use Rattle.cct_script.specs.Taking.{TakesOn}
-use Rattle.cct_bench.specs.Lines.{StopsAt, WithMoreTaken}
+use Rattle.cct_script.specs.Scripts.{WithMoreTaken}
+use Rattle.cct_bench.specs.Lines.{StopsAt}
 use Rattle.cct_bench.specs.Run.{ending_at}
 use Rattle.cct_bench.specs.declared.ending.Ending.{Ending}
-use Rattle.cct_bench.specs.declared.lines.ScriptStop.{ScriptStop}
+use Rattle.cct_script.specs.declared.stops.ScriptStop.{ScriptStop}
 use Rattle.cct_bench.specs.SetupLines.{whole_lines, OpenedBy, OpensLine, SetupStops, TakesForLines, TookOpening}
 
 opened_more : (number : ℕ) (stage : Stage) (lines : List (List ℕ)) (last : ℕ) (behind next : Stage) (line : List ℕ)

@@ -14,7 +14,7 @@ use Rattle.cct_host.specs.declared.refusal.UpgradeNo.{UpgradeNo}
 use Rattle.cct_host.specs.declared.refusal.UpgradeNo.TheVariants as no
 use Rattle.cct_bench.specs.Report.{IsOrMemory}
 use Rattle.cct_bench.specs.Run.{last_entry, listed, status_by, status_of}
-use Rattle.cct_bench.specs.Source.{OfBytes, to_come}
+use Rattle.cct_script.specs.Source.{OfBytes, to_come}
 use Rattle.cct_bench.specs.Upgrade.{AtMoments, ComesBack, ImageAnswers, MayGoForward, OldDisk, UpgradeCloses, UpgradeEnds, Upgraded}
 use Rattle.cct_bench.specs.Upgrade.{told_entry, told_status}
 use Rattle.cct_bench.specs.UpgradeScript.{ScriptSays, WasRead, WasStopped, upgrade_script}

@@ -18,16 +18,18 @@ use Rattle.cct_model.specs.Script.{read_form, read_line, read_step_line, refusal
 use Rattle.cct_model.specs.Script.{unfinished}
 use Rattle.cct_script.specs.Giving.{Gives, Standing}
 use Rattle.cct_script.specs.declared.lines.LinesNo.{LinesNo}
-use Rattle.cct_bench.specs.Lines.{GoesOnIn, IsClosedIn, StopsAt, StopsIn, WithMoreTaken, behind_end}
+use Rattle.cct_script.specs.Scripts.{GoesOnIn, IsClosedIn, StopsIn, WithMoreTaken, behind_end}
+use Rattle.cct_bench.specs.Lines.{StopsAt}
 use Rattle.cct_bench.specs.Playing.{is_end}
 use Rattle.cct_bench.specs.Run.{ending_at}
-use Rattle.cct_bench.specs.Source.{OfBytes, to_come}
+use Rattle.cct_script.specs.Source.{OfBytes, to_come}
 use Rattle.cct_bench.specs.SetupLines.{OpenedBy, SetupStops, TookOpening, whole_lines}
-use Rattle.cct_bench.specs.UpgradeScript.{ScriptSays, WasRead, WasStopped, upgrade_from, upgrade_script}
+use Rattle.cct_bench.specs.UpgradeScript.{ScriptSays, WasRead, WasStopped, of_upgrade, upgrade_from, upgrade_script}
 use Rattle.cct_bench.specs.declared.ending.Ending.{Ending}
-use Rattle.cct_bench.specs.declared.lines.ScriptStop.{ScriptStop}
-use Rattle.cct_bench.specs.declared.lines.ScriptStop.TheVariants as stop
-use Rattle.cct_bench.proofs.Continuing.{answer_ends, ended, line_says, of_upgrade}
+use Rattle.cct_script.specs.declared.stops.ScriptStop.{ScriptStop}
+use Rattle.cct_script.specs.declared.stops.ScriptStop.TheVariants as stop
+use Rattle.cct_script.proofs.Continuing.{answer_ends, ended, line_says}
+use Rattle.cct_bench.proofs.Scripts.{by_upgrade}
 use Rattle.cct_bench.proofs.Going.{told_by}
 use Rattle.cct_bench.proofs.Reading.{known_reads, unknown_reads}
 
@@ -90,7 +92,7 @@ says_lines number stage [] last behind before opened rest =
     ap (λ n. upgrade_from n stage (slice_split is_line_feed rest)) opened.0
     ∙ ap (λ s. upgrade_from last s (slice_split is_line_feed rest)) opened.1
 says_lines number (at_setup setup) (line ∷ lines) last behind before opened rest =
-    line_says of_upgrade number (at_setup setup) line (whole_lines lines) (opens opened.0) opened.1 opened.2 rest
+    line_says by_upgrade number (at_setup setup) line (whole_lines lines) (opens opened.0) opened.1 opened.2 rest
     ∙ says_lines (number + 1) opened.0 lines last behind before opened.3 rest
 says_lines number (at_steps setup) (line ∷ lines) last behind before opened rest =
     let over = line_over number setup line opened.0 opened.2 in
@@ -150,7 +152,7 @@ setup_closed number setup why (line ∷ next ∷ parts) is =
     (upgrade_from (number + 1) stage (next ∷ parts)) (refused_from (number + 1) stage (next ∷ parts)) is
 
 setup_stopped : (number : ℕ) (setup : Setup) (why : ScriptStop) (left : Option (List ℕ)) (held : List ℕ)
-    → StopsAt number (at_setup setup) why left held → StopsIn upgrade_from number (at_setup setup) why left held
+    → StopsAt number (at_setup setup) why left held → StopsIn of_upgrade number (at_setup setup) why left held
 setup_stopped number setup stop.Unread left held stops = stops
 setup_stopped number setup (stop.Refused why) left held stops =
     setup_closed number setup why (slice_split is_line_feed (held ++ to_come left)) stops
@@ -200,7 +202,7 @@ goes_came left0 left left1 held came number stage g took = record {
 -- a line more
 pub goes_line : (left0 left left1 : Option (List ℕ)) (held rest : List ℕ) (number : ℕ) (stage next : Stage)
     → Goes left0 left held number stage
-    → WithMoreTaken held left left1 (λ bytes. GoesOnIn upgrade_from number stage bytes (opens next) rest)
+    → WithMoreTaken held left left1 (λ bytes. GoesOnIn of_upgrade number stage bytes (opens next) rest)
     → Goes left0 left1 rest (number + 1) next
 goes_line left0 left left1 held rest number stage next g r =
     let now = goes_came left0 left left1 held r.0 number stage g r.1 in
@@ -208,7 +210,7 @@ goes_line left0 left left1 held rest number stage next g r =
 
 -- no line more
 stopped_here : (left0 left : Option (List ℕ)) (held : List ℕ) (number : ℕ) (stage : Stage) (why : ScriptStop)
-    → (g : Goes left0 left held number stage) → StopsIn upgrade_from number stage why left held
+    → (g : Goes left0 left held number stage) → StopsIn of_upgrade number stage why left held
     → ScriptSays (ending_at number why) (g.taken ++ to_come left) g.taken
 stopped_here left0 left held number stage stop.Unread g stops =
     record {
@@ -220,13 +222,13 @@ stopped_here left0 left held number stage stop.Unread g stops =
           ap upgrade_script (sym (append-nil g.taken))
           ∙ g.says []
           ∙ ap (λ bytes. upgrade_from number stage (slice_split is_line_feed bytes)) (append-nil held)
-          ∙ ended of_upgrade number stage held stops;
+          ∙ ended by_upgrade number stage held stops;
     }
 stopped_here left0 left held number stage (stop.Refused why) g stops =
     ap (λ (s : Script). s.refused) (g.says (to_come left) ∙ stops)
 
 stops_here : (left0 left : Option (List ℕ)) (held : List ℕ) (number : ℕ) (stage : Stage) (why : ScriptStop) (how : Ending)
-    → Goes left0 left held number stage → StopsIn upgrade_from number stage why left held → how ≡ ending_at number why
+    → Goes left0 left held number stage → StopsIn of_upgrade number stage why left held → how ≡ ending_at number why
     → OfBytes left0 (λ bytes. WasStopped bytes left how)
 stops_here left0 left held number stage why how g stops told =
     let bytes = g.taken ++ to_come left in (
@@ -249,7 +251,7 @@ setup_stops left0 left how s =
 
 pub goes_stops : (left0 left left1 : Option (List ℕ)) (held : List ℕ) (number : ℕ) (stage : Stage) (why : ScriptStop)
     (how : Ending) → Goes left0 left held number stage
-    → WithMoreTaken held left left1 (StopsIn upgrade_from number stage why left1) → how ≡ ending_at number why
+    → WithMoreTaken held left left1 (StopsIn of_upgrade number stage why left1) → how ≡ ending_at number why
     → OfBytes left0 (λ bytes. WasStopped bytes left1 how)
 goes_stops left0 left left1 held number stage why how g r told =
     stops_here left0 left1 (held ++ r.0) number stage why how (goes_came left0 left left1 held r.0 number stage g r.1) r.2 told
@@ -257,7 +259,7 @@ goes_stops left0 left left1 held number stage why how g r told =
 -- nothing stands behind its end
 pub goes_closes : (left0 left left1 : Option (List ℕ)) (held : List ℕ) (number : ℕ) (setup : Setup)
     → Goes left0 left held number (at_end setup)
-    → WithMoreTaken held left left1 (IsClosedIn upgrade_from number (at_end setup) None left1)
+    → WithMoreTaken held left left1 (IsClosedIn of_upgrade number (at_end setup) None left1)
     → OfBytes left0 (λ bytes. WasRead bytes left1 setup)
 goes_closes left0 left left1 held number setup g r =
     let now = goes_came left0 left left1 held r.0 number (at_end setup) g r.1 in (
@@ -271,14 +273,14 @@ goes_closes left0 left left1 held number setup g r =
 module _ (old new : Standing) (left0 left : Option (List ℕ)) (answer : Result (Option (List ℕ)) LinesNo)
     (gives : Gives old new left0 left answer) where
   pub nothing_closes : (r : Result (Unit {0}) ScriptStop) → r ≡ behind_end answer → OnOk r ((number : ℕ) (setup : Setup)
-      → WithMoreTaken old.held left0 left (IsClosedIn upgrade_from number (at_end setup) None left))
+      → WithMoreTaken old.held left0 left (IsClosedIn of_upgrade number (at_end setup) None left))
   nothing_closes (Ok done) is =
-      λ number setup. answer_ends of_upgrade old new left0 left answer number setup (Ok done) gives (sym is)
+      λ number setup. answer_ends by_upgrade old new left0 left answer number (at_end setup) (Ok done) refl gives (sym is)
   nothing_closes (Err why) is = tt
 
   pub nothing_stops : (r : Result (Unit {0}) ScriptStop) → r ≡ behind_end answer
       → IfErr r (λ why. (number : ℕ) (setup : Setup)
-      → WithMoreTaken old.held left0 left (StopsIn upgrade_from number (at_end setup) why left))
+      → WithMoreTaken old.held left0 left (StopsIn of_upgrade number (at_end setup) why left))
   nothing_stops (Ok done) is = tt
   nothing_stops (Err why) is =
-      λ number setup. answer_ends of_upgrade old new left0 left answer number setup (Err why) gives (sym is)
+      λ number setup. answer_ends by_upgrade old new left0 left answer number (at_end setup) (Err why) refl gives (sym is)

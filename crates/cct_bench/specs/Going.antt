@@ -3,7 +3,9 @@ use Rattle.std.specs.Prelude.{◌≡◌, ℕ, List, [], ◌++◌, Option}
 use Rattle.std.specs.Io.KnownBytes.{Consumes}
 use Rattle.cct_model.specs.lines.command.Step.{Step}
 use Rattle.cct_model.specs.lines.entry.Entry.{Entry}
-use Rattle.cct_model.specs.Legal.{Legal}
+use Rattle.cct_model.specs.terms.device.Setup.{Setup}
+use Rattle.cct_model.specs.AtDesk.{LeavesDesk}
+use Rattle.cct_model.specs.Change.{Desk}
 use Rattle.cct_model.specs.Script.{Stage, Script, script}
 use Rattle.cct_model.specs.Transcript.{onto}
 use Rattle.cct_world.specs.Early.{LegalBeforeLoss}
@@ -21,9 +23,10 @@ abbrev pub IsUnbegun : List Step → List Entry → Type 0
 IsUnbegun played past = (played ≡ []) × (past ≡ [])
 
 -- What was taken and played so far: whatever follows, the script says these steps and what the lines from here on say,
--- and the entries are those of these steps, where their past may be relied on, and in any case up to the first loss of
--- power; this holds of the steps and the past, and the entries were written.
-pub record Going (Relies : List Entry → Type 0) (left0 left : Option (List ℕ)) (held : List ℕ) (number : ℕ)
+-- and the entries are those of these steps and leave this desk at a machine of the script's setup, where their past may
+-- be relied on, and in any case up to the first loss of power; this holds of the steps and the past, and the entries
+-- were written.
+pub record Going (Relies : List Entry → Type 0) (now : Setup → Desk) (left0 left : Option (List ℕ)) (held : List ℕ) (number : ℕ)
     (stage : Stage) (Stands : List Step → List Entry → Type 0) (Written : List Entry → Type 0) : Type 0 where
   pub taken : List ℕ
   pub played : List Step
@@ -31,7 +34,8 @@ pub record Going (Relies : List Entry → Type 0) (left0 left : Option (List ℕ
   pub consumed : Consumes left0 left taken
   pub says : (more : List ℕ) → AlsoSays (script (taken ++ more)) played (said_from number stage (held ++ more))
   pub legal : Relies (onto [] transcript) → (more : List ℕ)
-      → Legal most_records (script (taken ++ more)).setup played transcript
-  pub early : (more : List ℕ) → LegalBeforeLoss most_records (script (taken ++ more)).setup played transcript
+      → LeavesDesk most_records (script (taken ++ more)).setup played transcript (now (script (taken ++ more)).setup)
+  pub early : (more : List ℕ)
+      → LegalBeforeLoss most_records (script (taken ++ more)).setup played transcript (now (script (taken ++ more)).setup)
   pub holds : Stands played (onto [] transcript)
   pub wrote : Written transcript

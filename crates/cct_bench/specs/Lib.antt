@@ -1,5 +1,4 @@
 pub mod Status
-pub mod Source
 pub mod Lines
 pub mod Setup
 pub mod UpgradeScript
@@ -13,3 +12,4 @@ pub mod Load
 pub mod CommandLine
 pub mod Report
 pub mod Upgrade
+pub mod Audit

@@ -4,7 +4,8 @@ use Rattle.cct_model.specs.lines.command.Step.{Step}
 use Rattle.cct_model.specs.lines.entry.Entry.{Entry}
 use Rattle.cct_model.specs.lines.entry.Entry.TheVariants as entry
 use Rattle.cct_model.specs.lines.entry.Totals.{Totals}
-use Rattle.cct_model.specs.Legal.{Legal}
+use Rattle.cct_model.specs.AtDesk.{LegalAtDesk}
+use Rattle.cct_model.specs.Change.{Desk}
 use Rattle.cct_model.specs.Money.{totals}
 use Rattle.cct_model.specs.Transcript.{onto}
 use Rattle.cct_journal.specs.Image.{IsFirstByteFrom}
@@ -97,7 +98,7 @@ pub record Loaded (seed rounds : ℕ) (s : Status) (Written : List Entry → Typ
   pub tail : List Entry
   -- The steps are the lines that the definitions draw from the two numbers.
   pub steps_are : load_steps seed rounds ≡ played ++ unplayed
-  pub legal : IsReliable disks.trusted (onto [] transcript) → Legal most_records load_setup played transcript
+  pub legal : IsReliable disks.trusted (onto [] transcript) → LegalAtDesk most_records load_setup played transcript
   pub money : IsReliable disks.trusted (onto [] transcript) → IsRight load_setup transcript
   pub early : RightBeforeLoss load_setup played transcript
   -- The first line before the first step, and after the last one the sums and what the operator has; no line of a step.
@@ -117,8 +118,8 @@ pub record LoadPlayed (seed rounds : ℕ) (how : Ending) (Written : List Entry �
   pub transcript : List Entry
   pub told : List Entry
   pub steps_are : load_steps seed rounds ≡ played ++ unplayed
-  pub legal : IsReliable disks.trusted (onto [] transcript) → Legal most_records load_setup played transcript
-  pub early : LegalBeforeLoss most_records load_setup played transcript
+  pub legal : IsReliable disks.trusted (onto [] transcript) → LegalAtDesk most_records load_setup played transcript
+  pub early : (now : Desk) × LegalBeforeLoss most_records load_setup played transcript now
   pub stops : LoadStops disks seed rounds played unplayed (onto [] transcript) how told Written Breaks
   pub book : disks.trusted → told ≢ []
       → RecordsLeftByLine disks load_setup unplayed (onto [] transcript) (listed (last_entry how))

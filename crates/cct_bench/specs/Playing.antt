@@ -4,7 +4,9 @@ use Rattle.cct_model.specs.lines.command.Step.{Step}
 use Rattle.cct_model.specs.lines.command.Step.TheVariants as step
 use Rattle.cct_model.specs.terms.device.Setup.{Setup}
 use Rattle.cct_model.specs.lines.entry.Entry.{Entry}
-use Rattle.cct_model.specs.Legal.{Entries, is_played}
+use Rattle.cct_model.specs.AtDesk.{EntriesAtDesk}
+use Rattle.cct_model.specs.Change.{Desk, desk_after}
+use Rattle.cct_model.specs.Legal.{is_played}
 use Rattle.cct_model.specs.Records.{records}
 use Rattle.cct_model.specs.Script.{Read, at_steps, at_end, opens, plays, is_known, IsInRange}
 use Rattle.cct_world.specs.Machine.{StepSuits, Survives}
@@ -28,21 +30,22 @@ pub record CanPlay (setup : Setup) (s : Step) : Type 0 where
   pub known : IsTrue (is_known setup s)
   pub played : IsTrue (is_played s)
 
--- A step gives these entries, oldest first, whatever is after it, where a record that it puts suits those before it,
--- and the disk is trusted if it is a power cut: one past stands for what was before, and the past with them for
--- what is after.
-abbrev pub Plays : Type 0 → (List Entry → Type 0) → (List Entry → Type 0) → Setup → Step → List Entry → Type 0
-Plays trusted Before After setup s report =
+-- A step gives these entries at the desk, oldest first, whatever is after it, where a record that it puts suits those
+-- before it, and the disk is trusted if it is a power cut: one past stands for what was before, and the past with them
+-- for what is after.
+abbrev pub Plays : Type 0 → (List Entry → Type 0) → (List Entry → Type 0) → Setup → Desk → Step → List Entry → Type 0
+Plays trusted Before After setup now s report =
     (past : List Entry) → Before past → StepSuits setup past s → Survives trusted s
-    → Entries most_records setup past s (reverse report) × After (reverse report ++ past)
+    → EntriesAtDesk most_records setup past now s (reverse report) × After (reverse report ++ past)
 
--- A step was played, and just a power cut tells one; this holds of the cuts of the disk. So many records were
+-- A step was played, and the desk is then this other one; and just a power cut tells one. This holds of the cuts of the disk. So many records were
 -- counted before it, and so many after it, just those more that it tells; after a power cut a read gives these
 -- bytes. Its entries were written so, which holds by the answer.
-pub record PlaysOn (trusted : Type 0) (Before After : List Entry → Type 0) (setup : Setup) (s : Step) (Cut : Type 0)
-    (used many : ℕ) (seen : Option (List ℕ)) (WritesThem : List Entry → Type 0) : Type 0 where
+pub record PlaysOn (trusted : Type 0) (Before After : List Entry → Type 0) (setup : Setup) (now next : Desk) (s : Step)
+    (Cut : Type 0) (used many : ℕ) (seen : Option (List ℕ)) (WritesThem : List Entry → Type 0) : Type 0 where
   pub report : List Entry
-  pub plays : Plays trusted Before After setup s report
+  pub plays : Plays trusted Before After setup now s report
+  pub desk : next ≡ desk_after s (reverse report) now
   pub told : crashes (reverse report) ≡ crashes_of s
   pub cut : Cut
   pub counts : many ≡ used + length (records (reverse report))

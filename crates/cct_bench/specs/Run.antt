@@ -7,7 +7,8 @@ use Rattle.cct_model.specs.lines.command.Step.{Step}
 use Rattle.cct_model.specs.terms.device.Setup.{Setup}
 use Rattle.cct_model.specs.lines.entry.Entry.{Entry}
 use Rattle.cct_model.specs.lines.entry.Entry.TheVariants as entry
-use Rattle.cct_model.specs.Legal.{Legal, LegalFrom}
+use Rattle.cct_model.specs.AtDesk.{AtDeskFrom, LeavesDesk, LegalAtDesk}
+use Rattle.cct_model.specs.Change.{Desk}
 use Rattle.cct_model.specs.Records.{records}
 use Rattle.cct_model.specs.Script.{Refusal, script}
 use Rattle.cct_model.specs.Transcript.{onto}
@@ -18,8 +19,8 @@ use Rattle.cct_bench.specs.declared.outcome.Status.{Status}
 use Rattle.cct_bench.specs.declared.outcome.Status.TheVariants as status
 use Rattle.cct_edge.specs.Bytes.{AppendsFront}
 use Rattle.cct_edge.specs.declared.fault.Failed.{Failed}
-use Rattle.cct_bench.specs.declared.lines.ScriptStop.{ScriptStop}
-use Rattle.cct_bench.specs.declared.lines.ScriptStop.TheVariants as stop
+use Rattle.cct_script.specs.declared.stops.ScriptStop.{ScriptStop}
+use Rattle.cct_script.specs.declared.stops.ScriptStop.TheVariants as stop
 use Rattle.cct_bench.specs.declared.ending.Ending.{Ending}
 use Rattle.cct_bench.specs.declared.ending.Ending.TheVariants as ending
 use Rattle.cct_bench.specs.declared.play.TheConstants.{JOURNAL_BYTES}
@@ -31,12 +32,15 @@ use Rattle.cct_host.specs.declared.refusal.CrashNo.{CrashNo}
 use Rattle.cct_host.specs.declared.refusal.CrashNo.TheVariants as crash_no
 use Rattle.cct_bench.specs.Disks.{Disks, IsReady, most_records}
 use Rattle.cct_bench.specs.Going.{IsUnbegun}
+use Rattle.cct_model.specs.Honest.{Honest}
+use Rattle.cct_change_laws.specs.Change.{ChangeIsPaid}
 use Rattle.cct_laws.specs.Right.{IsRight}
 use Rattle.cct_bench.specs.Money.{RightBeforeLoss}
-use Rattle.cct_bench.specs.Source.{to_come}
+use Rattle.cct_script.specs.Source.{to_come}
 
 -- Writing broke off in the lines of the last step played or in the last line, and all lines before were written whole:
--- they are a front of the transcript, and the entries of the other steps, where their past may be relied on.
+-- they are a front of the transcript, and the entries of the other steps, where their past may be relied on. The last step
+-- goes on at the desk that those leave.
 pub record BreaksOff (Relies : List Entry → Type 0) (setup : Setup) (played : List Step) (transcript tail : List Entry)
     (Breaks : List Entry → List Entry → Type 0) : Type 0 where
   pub before : List Step
@@ -46,9 +50,10 @@ pub record BreaksOff (Relies : List Entry → Type 0) (setup : Setup) (played : 
   pub steps_are : played ≡ before ++ last
   pub one_step : length last ≤ 1
   pub transcript_is : transcript ≡ whole ++ cut
-  pub legal : Relies (onto [] whole) → Legal most_records setup before whole
+  pub legal : Relies (onto [] whole) → LegalAtDesk most_records setup before whole
   pub goes_on : Relies (onto [] transcript)
-      → LegalFrom most_records setup (onto [] whole) last (onto [] transcript)
+      → (desk : Desk) × (next : Desk) × LeavesDesk most_records setup before whole desk
+      × AtDeskFrom most_records setup (onto [] whole) desk last (onto [] transcript) next
   pub in_one : (last ≡ []) ⊎ (tail ≡ [])
   pub breaks : Breaks whole (cut ++ tail)
 
@@ -126,7 +131,8 @@ module _ (disks : Disks) (bytes taken : List ℕ) (played unplayed : List Step) 
 -- line; what it wrote, where `Written` holds of entries that were written whole, and `Breaks` where a put failed in the
 -- second list; and what it left on its disk, once a byte of the script was taken. The bytes are those taken and those
 -- still to come; a source that tells none is taken to have no more.
--- Where the disk was trusted, or no power cut is told, the entries are those of the steps, and the money is right.
+-- Where the disk was trusted, or no power cut is told, the entries are those of the steps at the operator's desk, and the
+-- money is right. Over an honest wire sessions of change pay what they tell.
 -- Over any disk both are so of the steps before the first power cut.
 -- The last line tells a fault of the source or of the disk only where this one failed, also where it was torn.
 -- Over any disk each step that is a power cut is told, and no other is, and after each of them a host started again
@@ -141,11 +147,14 @@ pub record Ran (bytes : List ℕ) (s : Status) (left : Option (List ℕ)) (Writt
   pub tail : List Entry
   pub took : bytes ≡ taken ++ to_come left
   pub steps_are : (script bytes).steps ≡ played ++ unplayed
-  -- The transcript is the legal one of the script's setup and the steps played, where the past may be relied on.
-  pub legal : IsReliable disks.trusted (onto [] transcript) → Legal most_records (script bytes).setup played transcript
+  -- The transcript is the legal one of the script's setup and the steps played, where the past may be relied on; and so
+  -- it is at the operator's desk, which tells what each `change` and each `serve` gives.
+  pub legal : IsReliable disks.trusted (onto [] transcript) → LegalAtDesk most_records (script bytes).setup played transcript
   -- And there the posts are accepted coins in order, none is lost in silence, each order is paid at most once, and no
   -- id is used twice.
   pub money : IsReliable disks.trusted (onto [] transcript) → IsRight (script bytes).setup transcript
+  -- Over an honest wire, sessions of change pay what they tell.
+  pub change : Honest transcript → ChangeIsPaid most_records (script bytes).setup played transcript
   -- Over any disk the same holds of the steps before the first power cut.
   pub early : RightBeforeLoss (script bytes).setup played transcript
   -- The lines of the transcript, each by one put, then the last line of the status; a front of that if writing failed,
@@ -242,8 +251,8 @@ pub record Played (Relies : List Entry → Type 0) (bytes : List ℕ) (how : End
   pub transcript : List Entry
   pub took : bytes ≡ taken ++ to_come left
   pub steps_are : (script bytes).steps ≡ played ++ unplayed
-  pub legal : Relies (onto [] transcript) → Legal most_records (script bytes).setup played transcript
-  pub early : LegalBeforeLoss most_records (script bytes).setup played transcript
+  pub legal : Relies (onto [] transcript) → LegalAtDesk most_records (script bytes).setup played transcript
+  pub early : (now : Desk) × LegalBeforeLoss most_records (script bytes).setup played transcript now
   pub stops : Stops Relies how bytes taken played unplayed transcript Written Breaks
   pub beside : Beside how (script bytes).setup taken played unplayed (onto [] transcript)
 

@@ -10,7 +10,7 @@ use Rattle.cct_model.specs.Script.{is_line_feed, Stage, at_setup, at_steps, no_d
 use Rattle.cct_bench.specs.Lines.{StopsAt}
 use Rattle.cct_bench.specs.Run.{ending_at}
 use Rattle.cct_bench.specs.declared.ending.Ending.{Ending}
-use Rattle.cct_bench.specs.declared.lines.ScriptStop.{ScriptStop}
+use Rattle.cct_script.specs.declared.stops.ScriptStop.{ScriptStop}
 
 -- The bytes of whole lines, each with its line feed.
 abbrev pub whole_lines : List (List ℕ) → List ℕ

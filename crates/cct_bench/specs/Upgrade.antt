@@ -17,7 +17,7 @@ use Rattle.cct_host.specs.OnDisk.{LeavesRecords}
 use Rattle.cct_host.specs.Upgrading.{CanUpgrade, Counts, IsBrought, OldFirstFollow, RefusesUpgrade, StandsBrought}
 use Rattle.cct_host.specs.declared.refusal.UpgradeNo.{UpgradeNo}
 use Rattle.cct_host.specs.declared.refusal.UpgradeNo.TheVariants as no
-use Rattle.cct_bench.specs.Source.{to_come}
+use Rattle.cct_script.specs.Source.{to_come}
 use Rattle.cct_bench.specs.UpgradeScript.{IsUnfinished, upgrade_script}
 use Rattle.cct_bench.specs.declared.outcome.Status.{Status}
 use Rattle.cct_bench.specs.declared.outcome.Status.TheVariants as status

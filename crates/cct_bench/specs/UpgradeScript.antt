@@ -8,23 +8,20 @@ use Rattle.cct_model.specs.lines.entry.LineKind.TheVariants as kind
 use Rattle.cct_model.specs.Script.{is_line_feed, Read, Script, Stage, at_setup, at_steps, closed_script, goes_on, is_over}
 use Rattle.cct_model.specs.Script.{most_bytes, most_lines, no_devices, read_form, refuses, setup_at, stage_after}
 use Rattle.cct_model.specs.Script.{unfinished, word_of}
-use Rattle.cct_bench.specs.Source.{to_come}
+use Rattle.cct_script.specs.Scripts.{Kind, tested}
+use Rattle.cct_script.specs.Source.{to_come}
 use Rattle.cct_bench.specs.declared.ending.Ending.{Ending}
 use Rattle.cct_bench.specs.declared.ending.Ending.TheVariants as ending
-
--- A whole line with its number, where one that is neither past the end, nor one too many, nor too long is this by its form.
-abbrev pub line_by : (Stage → List ℕ → Read) → ℕ → Stage → List ℕ → Read
-line_by form number stage line =
-    if is_over stage then refuses kind.Trailing
-    else if nat_lt most_lines number then refuses kind.Lines
-    else if nat_lt most_bytes (length line) then refuses kind.Long
-    else form stage line
 
 -- A whole line by its word and its form: as in any script, but after `begin` no word other than `end` is taken.
 abbrev pub upgrade_form : Stage → List ℕ → Read
 upgrade_form (at_steps setup) line =
     if bytes_eq (word_of line) (codes "end") then read_form (at_steps setup) line else refuses kind.Word
 upgrade_form stage line = read_form stage line
+
+-- A whole line with its number.
+abbrev pub upgrade_line : ℕ → Stage → List ℕ → Read
+upgrade_line number stage line = tested refuses (is_over stage) number line (upgrade_form stage line)
 
 -- What a line that begins with the letters of `end` is, by what stands after them.
 abbrev pub behind_word : List ℕ → Result (Unit {0}) LineKind
@@ -36,8 +33,19 @@ abbrev pub upgrade_from : ℕ → Stage → List (List ℕ) → Script
 upgrade_from number stage [] = closed_script number (setup_at stage) (unfinished number stage [])
 upgrade_from number stage (rest ∷ []) = closed_script number (setup_at stage) (unfinished number stage rest)
 upgrade_from number stage (line ∷ next ∷ parts) =
-    goes_on number stage (line_by upgrade_form number stage line)
-    (upgrade_from (number + 1) (stage_after stage (line_by upgrade_form number stage line)) (next ∷ parts))
+    goes_on number stage (upgrade_line number stage line)
+    (upgrade_from (number + 1) (stage_after stage (upgrade_line number stage line)) (next ∷ parts))
+
+-- The script of an upgrade, as a kind of script.
+abbrev pub of_upgrade : Kind Stage Read Script
+of_upgrade = record {
+  says = upgrade_from;
+  is_over = is_over;
+  refuses = refuses;
+  after = stage_after;
+  goes_on = goes_on;
+  closed = λ number stage why. closed_script number (setup_at stage) why;
+}
 
 -- What the bytes of the script of an upgrade say.
 unfoldable pub upgrade_script : List ℕ → Script

@@ -7,11 +7,11 @@ ghost use Rattle.cct_model.specs.Text.{line_of};
 ghost use Rattle.cct_text.specs.Writing.{Writes};
 ghost use Rattle.cct_bench.specs.Run.{ClosedBy, ending_at, last_entry, listed, status_by, status_of};
 
-use crate::lines::ScriptStop;
 use crate::outcome::Status;
 use cct_edge::Sink;
 use cct_journal::CreateNo;
 use cct_model::{Entry, LineKind};
+use cct_script::ScriptStop;
 use cct_text::{TextLine, write_entry};
 use cct_world::WorldNo;
 

@@ -1,5 +1,5 @@
 //! The bench: plays a script over the machine and writes the transcript, lists a journal, brings one of an earlier version
-//! forward, or plays a load and writes its sums.
+//! forward, audits a capture, or plays a load and writes its sums.
 #![tactic(auto)]
 
 ghost use Rattle.std.specs.Prelude.{◌≡◌, ◌≢◌, ◌⊎◌, [], ◌∷◌, IfSome, List, None, Result, Some, true, ℕ};
@@ -16,9 +16,11 @@ ghost use Rattle.cct_bench.specs.Disks.{disks};
 ghost use Rattle.cct_world.specs.Relying.{losses_in};
 ghost use Rattle.cct_world.specs.Serving.{DiskServes};
 ghost use Rattle.cct_bench.specs.SetupLines.{TookSetup};
-ghost use Rattle.cct_bench.specs.Source.{OfBytes};
+ghost use Rattle.cct_script.specs.Source.{OfBytes};
 ghost use Rattle.cct_text.specs.Writing.{Broke, Writes, Wrote};
 ghost use Rattle.cct_gen.specs.Load.{load_steps};
+ghost use Rattle.cct_audit.specs.Capture.{capture};
+ghost use Rattle.cct_bench.specs.Audit.{AuditRan};
 ghost use Rattle.cct_bench.specs.Load.{Loaded};
 ghost use Rattle.cct_bench.specs.Report.{IsDecided, IsOrMemory, Reported, image_known, records_known, size_known};
 ghost use Rattle.cct_bench.specs.Run.{Ran, status_by, Completes};
@@ -26,6 +28,7 @@ ghost use Rattle.cct_bench.specs.Upgrade.{MayGoForward, Upgraded, old_disk};
 ghost use Rattle.cct_bench.specs.UpgradeScript.{upgrade_script};
 ghost use Rattle.cct_bench.specs.CommandLine.{AreRefused, said_in};
 
+use auditing::run_audit;
 use cct_disk::Disk;
 use cct_edge::{Sink, Source};
 use cct_load::Load;
@@ -38,8 +41,8 @@ use reporting::report;
 use std::alloc::Global;
 use upgrading::run_upgrade;
 
+mod auditing;
 mod ending;
-mod lines;
 mod loading;
 mod opening;
 mod outcome;
@@ -54,14 +57,15 @@ pub use outcome::Status;
 
 /// Runs the program: by the words of the command line, without its name, plays a script and writes the transcript
 /// (`docs/SCRIPT.md`, `docs/TRANSCRIPT.md`), lists the records of the journal and their sums, brings a journal of an
-/// earlier version forward for the devices of a script, or plays a load and writes the sums over its transcript. The words
-/// are `run`, `report`, `upgrade`, or `load` with a seed and a number of rounds, 1 to 10,000; any other list is refused.
+/// earlier version forward for the devices of a script, audits a capture (`docs/AUDIT.md`), or plays a load and writes the
+/// sums over its transcript. The words are `run`, `report`, `upgrade`, `audit`, or `load` with a seed and a number of
+/// rounds, 1 to 10,000; any other list is refused.
 ///
 /// The script is taken from its source a line at a time, and each step's entries are written before the next line is
 /// read. All buffers are of fixed size, and are taken at once before the first byte of the script; the machine is built
 /// after the line `begin`, before anything is written. A report only reads the disk. A load builds its machine before
 /// anything is written, and writes no entry of a step. Both take nothing of the script. An upgrade reads the script to its
-/// end before it makes a call of the disk but for its length, and writes one line.
+/// end before it makes a call of the disk but for its length, and writes one line. An audit makes no call of the disk.
 pub fn bench<S: Source, K: Sink, D: Disk>(
     alloc: Global,
     words: &[String],
@@ -101,6 +105,13 @@ pub fn bench<S: Source, K: Sink, D: Disk>(
         (old_disk D.size D.honest D.seen D.may_leave D.moment D.left_since D.cuts D.faults disk result.1)
         (Rose (S.faults script.old) (S.faults script.new)) bytes result.0 (S.left script.new)
         (λ lines answer. Writes K.written K.puts out.old lines answer out.new)) }
+
+    // With the word `audit`: what was taken of the capture, what came of it, and what was written: all that a monitor says of
+    // it, in its order, and a last line where it isn't done. No call of the disk is made.
+    ensures audited { said_in words.now ≡ Some Words.Audit → OfBytes (S.left script.old) (λ bytes.
+        AuditRan bytes result.0 (S.left script.new) (Rose (S.faults script.old) (S.faults script.new))
+        (Wrote K.written K.puts out.old out.new) (Broke K.written K.puts out.old out.new)) }
+    ensures audit_disk { said_in words.now ≡ Some Words.Audit → result.1 ≡ disk }
 
     // With the word `load`: what was played and written, the laws as with `run`, and what is left on the disk; and no
     // byte of the script was taken.
@@ -160,6 +171,11 @@ pub fn bench<S: Source, K: Sink, D: Disk>(
         → (Rose (S.faults script.old) (S.faults script.new) → ⊥) → (Rose (K.faults out.old) (K.faults out.new) → ⊥)
         → (Rose (D.faults disk) (D.faults result.1) → ⊥) → IsOrMemory Status.Done result.0) }
 
+    // With no fault, and a capture of which no line is refused, an audit is done, but for want of memory.
+    ensures audit_complete { said_in words.now ≡ Some Words.Audit → OfBytes (S.left script.old) (λ bytes.
+        (capture bytes).refused ≡ None → (Rose (S.faults script.old) (S.faults script.new) → ⊥)
+        → (Rose (K.faults out.old) (K.faults out.new) → ⊥) → IsOrMemory Status.Done result.0) }
+
     // On a blank disk, which is honest or where no step is a power cut, and with no fault, a load is done, but for
     // want of memory.
     ensures load_complete { (seed rounds : ℕ) → said_in words.now ≡ Some (Words.Load seed rounds)
@@ -175,6 +191,7 @@ pub fn bench<S: Source, K: Sink, D: Disk>(
         },
         Ok(Words::Report) => report(out, &mut TextLine::new(), disk),
         Ok(Words::Upgrade) => run_upgrade(script, out, disk),
+        Ok(Words::Audit) => (run_audit(script, out), disk),
         Ok(Words::Load { seed, rounds }) => run_load(alloc, Load { seed, rounds }, out, disk),
         Err(WordsNo::Refused) => (refuse_words(out), disk),
         Err(WordsNo::Memory) => (Status::OutOfMemory, disk),

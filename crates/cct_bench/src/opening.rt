@@ -2,22 +2,23 @@
 ghost use Rattle.std.specs.Prelude.{◌≡◌, ◌+◌, Err, Ok, IfOk, MatchResult};
 ghost use Rattle.std.specs.Result.{IfErr};
 ghost use Rattle.cct_edge.specs.Bytes.{Serves};
+ghost use Rattle.cct_model.specs.Change.{clear_desk};
 ghost use Rattle.cct_model.specs.Script.{at_setup, at_steps, no_devices, opens, refuses, read_form};
 ghost use Rattle.cct_script.specs.Giving.{none_given, standing_of};
-ghost use Rattle.cct_bench.specs.Lines.{IsNext, ScriptGoesOn, StopsAt, WithMoreTaken};
+ghost use Rattle.cct_script.specs.Scripts.{IsNext, WithMoreTaken};
+ghost use Rattle.cct_bench.specs.Lines.{ScriptGoesOn, StopsAt};
 ghost use Rattle.cct_bench.specs.SetupLines.{OpensLine, SetupStops, TookOpening};
 ghost use Rattle.cct_bench.specs.Setup.{stage_of, opened_by};
 ghost use Rattle.cct_text.specs.Writing.{IsNothing, NeverBroke};
 ghost use Rattle.cct_bench.specs.Disks.{Always};
 ghost use Rattle.cct_bench.specs.Going.{Going, IsUnbegun};
-ghost use Rattle.cct_bench.specs.Source.{OfBytes};
+ghost use Rattle.cct_script.specs.Source.{OfBytes};
 ghost use Rattle.cct_bench.specs.Run.{BeforeSteps, IsOfScript, Played};
 
 use crate::ending::{Ending, ending_at};
-use crate::lines::{ScriptStop, before_end};
 use cct_edge::Source;
 use cct_model::{LineKind, Setup, SetupLine};
-use cct_script::{Lines, add, read_setup_line};
+use cct_script::{Lines, ScriptStop, add, before_end, read_setup_line};
 
 /// What a setup line does to the setup.
 #[derive(Clone, Copy, Debug, PartialEq, Eq)]
@@ -83,7 +84,7 @@ pub fn read_setup<S: Source>(
     requires lines { standing_of lines.old ≡ none_given }
     requires setup { setup.old ≡ no_devices }
     ensures opened { IfOk result (λ number.
-        Going Always (S.left script.old) (S.left script.new) (standing_of lines.new).held number (at_steps setup.new)
+        Going Always clear_desk (S.left script.old) (S.left script.new) (standing_of lines.new).held number (at_steps setup.new)
         IsUnbegun IsNothing) }
     ensures took { IfOk result (λ number.
         TookOpening S.takes S.left script.old script.new (standing_of lines.new).held number (at_steps setup.new)) }

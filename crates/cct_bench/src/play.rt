@@ -7,6 +7,7 @@ ghost use Rattle.cct_edge.specs.declared.fault.Failed.{Failed};
 ghost use Rattle.cct_edge.specs.Faults.{Caused, Rose};
 ghost use Rattle.cct_model.specs.lines.entry.Entry.{Entry};
 ghost use Rattle.cct_model.specs.terms.device.Setup.{Setup};
+ghost use Rattle.cct_model.specs.Change.{Desk};
 ghost use Rattle.cct_model.specs.Script.{no_devices, at_steps};
 ghost use Rattle.cct_script.specs.Giving.{none_given, standing_of};
 ghost use Rattle.cct_disk.specs.Disk.{IsTrusted};
@@ -16,20 +17,20 @@ ghost use Rattle.cct_host.specs.declared.refusal.CrashNo.{CrashNo};
 ghost use Rattle.cct_host.specs.declared.refusal.CrashNo.TheVariants as crash_no;
 ghost use Rattle.cct_world.specs.Holds.{WorldHolds};
 ghost use Rattle.cct_world.specs.Step.{CutsIn, LastsIn};
-ghost use Rattle.cct_world.specs.World.{Breaks, StandsFor, disk_of, setup_of, used_of};
-ghost use Rattle.cct_bench.specs.Lines.{WithMoreTaken, EndsAt, IsNext};
+ghost use Rattle.cct_world.specs.World.{Breaks, StandsFor, desk_of, disk_of, setup_of, used_of};
+ghost use Rattle.cct_script.specs.Scripts.{WithMoreTaken, IsNext};
+ghost use Rattle.cct_bench.specs.Lines.{EndsAt};
 ghost use Rattle.cct_bench.specs.Disks.{Books, IsNewJournal, IsReady, disks};
 ghost use Rattle.cct_world.specs.Relying.{IsReliable};
 ghost use Rattle.cct_world.specs.Serving.{DiskServes};
 ghost use Rattle.cct_bench.specs.Going.{Going};
 ghost use Rattle.cct_bench.specs.SetupLines.{TookSetup};
-ghost use Rattle.cct_bench.specs.Source.{OfBytes};
+ghost use Rattle.cct_script.specs.Source.{OfBytes};
 ghost use Rattle.cct_text.specs.Writing.{Writes, Wrote, Broke};
 ghost use Rattle.cct_bench.specs.Playing.{CanPlay, PlaysOn};
 ghost use Rattle.cct_bench.specs.Run.{IsOfScript, IsUnopened, OverCut, Played, Ran, status_of};
 
 use crate::ending::{Ending, ending_at, finish_run};
-use crate::lines::behind_end;
 use crate::opening::read_setup;
 use crate::outcome::Status;
 use crate::steps::{is_end, read_step};
@@ -38,7 +39,7 @@ use cct_disk::{Disk, MADE_LEN};
 use cct_edge::{Failed, Sink, Source};
 use cct_journal::Journal;
 use cct_model::{Devices, Entry, Setup, Step};
-use cct_script::Lines;
+use cct_script::{Lines, behind_end};
 use cct_text::{TextLine, write_entries};
 use cct_world::World;
 use std::alloc::Global;
@@ -86,7 +87,7 @@ impl StepPlayer {
         requires can { CanPlay (setup_of world) step.now }
         requires size { D.size (disk_of world) ≡ JOURNAL_BYTES }
         ensures plays { IfOk result (λ next. PlaysOn (IsTrusted D.honest D.seen (disk_of world.entry))
-            (StandsFor world.entry) (StandsFor next) (setup_of world.entry) step.now
+            (StandsFor world.entry) (StandsFor next) (setup_of world.entry) (desk_of world.entry) (desk_of next) step.now
             (CutsIn step.now D.size D.honest D.seen D.cuts D.cut_to (disk_of world.entry) (disk_of next))
             (used_of world.entry) (used_of next) (D.seen (disk_of next))
             (λ report. Writes K.written K.puts out.old report (Ok tt) out.new)) }
@@ -94,8 +95,9 @@ impl StepPlayer {
 
         // how the run ends
         ensures ended { IfErr result (λ e. ((e.0 ≡ Ending.Unwritten) × (failed : Failed) × (many : ℕ)
-            × PlaysOn (IsTrusted D.honest D.seen (disk_of world.entry)) (StandsFor world.entry)
-            (Books (setup_of world.entry) D.honest D.seen D.may_leave e.1) (setup_of world.entry) step.now
+            × (next : Desk) × PlaysOn (IsTrusted D.honest D.seen (disk_of world.entry)) (StandsFor world.entry)
+            (Books (setup_of world.entry) D.honest D.seen D.may_leave e.1) (setup_of world.entry) (desk_of world.entry)
+            next step.now
             (CutsIn step.now D.size D.honest D.seen D.cuts D.cut_to (disk_of world.entry) e.1) (used_of world.entry)
             many (D.seen e.1) (λ report. Writes K.written K.puts out.old report (Err failed) out.new))
             ⊎ ((why : CrashNo) × (e.0 ≡ Ending.Unplayed why) × Breaks world.entry e.1 why step.now
@@ -150,7 +152,7 @@ impl ScriptDesk {
         requires size { D.size (disk_of world) ≡ JOURNAL_BYTES }
         ensures played { (left0 : Option (List ℕ)) (given : D) → IsReady (D.size given) (D.seen given)
             → Outlasts D.size D.honest D.seen D.cuts given (disk_of world.entry)
-            → Going (IsReliable (IsTrusted D.honest D.seen given)) left0 (S.left script.old)
+            → Going (IsReliable (IsTrusted D.honest D.seen given)) (λ any. desk_of world.entry) left0 (S.left script.old)
             (standing_of self.old.lines).held first (at_steps (setup_of world.entry)) (WorldHolds given world.entry)
             (Wrote K.written K.puts out.old out.old)
             → OfBytes left0 (λ bytes. Played (IsReliable (IsTrusted D.honest D.seen given)) bytes result.0 (S.left script.new)

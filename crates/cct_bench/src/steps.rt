@@ -5,14 +5,14 @@ ghost use Rattle.cct_edge.specs.Bytes.{Serves};
 ghost use Rattle.cct_model.specs.Script.{at_steps, refuses, read_form};
 ghost use Rattle.cct_script.specs.Giving.{standing_of};
 ghost use Rattle.cct_world.specs.World.{setup_of};
-ghost use Rattle.cct_bench.specs.Lines.{IsNext, ScriptGoesOn, StopsAt, WithMoreTaken};
+ghost use Rattle.cct_script.specs.Scripts.{IsNext, WithMoreTaken};
+ghost use Rattle.cct_bench.specs.Lines.{ScriptGoesOn, StopsAt};
 ghost use Rattle.cct_bench.specs.Playing.{is_end, read_as, CanPlay};
 
-use crate::lines::{ScriptStop, before_end};
 use cct_disk::Disk;
 use cct_edge::Source;
 use cct_model::{LineKind, Step};
-use cct_script::{Lines, read_step_into};
+use cct_script::{Lines, ScriptStop, before_end, read_step_into};
 use cct_world::World;
 
 /// Whether a step is `end`.

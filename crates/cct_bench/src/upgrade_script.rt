@@ -6,17 +6,16 @@ ghost use Rattle.cct_model.specs.terms.device.Setup.{Setup};
 ghost use Rattle.cct_model.specs.Script.{at_end, at_steps, no_devices, opens, refuses};
 ghost use Rattle.cct_script.specs.Giving.{none_given, standing_of};
 ghost use Rattle.cct_model.specs.Setup.{IsSoundSetup};
-ghost use Rattle.cct_bench.specs.Lines.{GoesOnIn, IsClosedIn, IsNext, StopsIn, WithMoreTaken};
+ghost use Rattle.cct_script.specs.Scripts.{GoesOnIn, IsClosedIn, IsNext, StopsIn, WithMoreTaken};
 ghost use Rattle.cct_bench.specs.Run.{IsOfScript};
-ghost use Rattle.cct_bench.specs.Source.{OfBytes};
-ghost use Rattle.cct_bench.specs.UpgradeScript.{WasRead, WasStopped, behind_word, upgrade_form, upgrade_from};
+ghost use Rattle.cct_script.specs.Source.{OfBytes};
+ghost use Rattle.cct_bench.specs.UpgradeScript.{WasRead, WasStopped, behind_word, of_upgrade, upgrade_form};
 
 use crate::ending::{Ending, ending_at};
-use crate::lines::{ScriptStop, before_end, behind_end};
 use crate::opening::read_setup;
 use cct_edge::Source;
 use cct_model::{LineKind, Setup};
-use cct_script::Lines;
+use cct_script::{Lines, ScriptStop, before_end, behind_end};
 
 const END: &[u8] = b"end";
 
@@ -47,11 +46,11 @@ fn take_rest(rest: &[u8]) -> Result<(), LineKind>
 fn read_end<S: Source>(lines: &mut Lines, number: u32, script: &mut S) -> Result<(), ScriptStop>
     requires { IsNext number (standing_of lines.old) }
     ensures reads { OnOk result ((setup : Setup) → WithMoreTaken (standing_of lines.old).held (S.left script.old)
-        (S.left script.new) (λ held. GoesOnIn upgrade_from number (at_steps setup) held (opens (at_end setup))
+        (S.left script.new) (λ held. GoesOnIn of_upgrade number (at_steps setup) held (opens (at_end setup))
         (standing_of lines.new).held)) }
     ensures next { OnOk result (IsNext (number + 1) (standing_of lines.new)) }
     ensures stops { IfErr result (λ why. (setup : Setup) → WithMoreTaken (standing_of lines.old).held (S.left script.old)
-        (S.left script.new) (StopsIn upgrade_from number (at_steps setup) why (S.left script.new))) }
+        (S.left script.new) (StopsIn of_upgrade number (at_steps setup) why (S.left script.new))) }
     ensures source { Serves S.left S.faults script.old script.new (result ≡ Err ScriptStop.Unread) }
 {
     let line = before_end(lines.line(script))?;
@@ -64,9 +63,9 @@ fn read_end<S: Source>(lines: &mut Lines, number: u32, script: &mut S) -> Result
 /// Reads what stands behind the line `end` of an upgrade's script, which may be nothing.
 fn read_nothing<S: Source>(lines: &mut Lines, script: &mut S) -> Result<(), ScriptStop>
     ensures closes { OnOk result ((number : ℕ) (setup : Setup) → WithMoreTaken (standing_of lines.old).held
-        (S.left script.old) (S.left script.new) (IsClosedIn upgrade_from number (at_end setup) None (S.left script.new))) }
+        (S.left script.old) (S.left script.new) (IsClosedIn of_upgrade number (at_end setup) None (S.left script.new))) }
     ensures stops { IfErr result (λ why. (number : ℕ) (setup : Setup) → WithMoreTaken (standing_of lines.old).held
-        (S.left script.old) (S.left script.new) (StopsIn upgrade_from number (at_end setup) why (S.left script.new))) }
+        (S.left script.old) (S.left script.new) (StopsIn of_upgrade number (at_end setup) why (S.left script.new))) }
     ensures source { Serves S.left S.faults script.old script.new (result ≡ Err ScriptStop.Unread) }
 {
     behind_end(lines.line(script))

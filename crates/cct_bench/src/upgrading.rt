@@ -9,7 +9,7 @@ ghost use Rattle.cct_host.specs.declared.refusal.UpgradeNo.{UpgradeNo};
 ghost use Rattle.cct_host.specs.declared.refusal.UpgradeNo.TheVariants as no;
 ghost use Rattle.cct_text.specs.Writing.{Writes};
 ghost use Rattle.cct_bench.specs.Run.{status_by};
-ghost use Rattle.cct_bench.specs.Source.{OfBytes};
+ghost use Rattle.cct_script.specs.Source.{OfBytes};
 ghost use Rattle.cct_bench.specs.Upgrade.{ComesBack, Upgraded, old_disk, told_entry, told_status};
 
 use crate::ending::{close, finish_run};

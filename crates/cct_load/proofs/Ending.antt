@@ -8,6 +8,7 @@ use Rattle.cct_model.specs.lines.entry.Entry.{Entry}
 use Rattle.cct_model.specs.lines.entry.Entry.TheVariants as entry
 use Rattle.cct_model.specs.lines.entry.Totals.{Totals}
 use Rattle.cct_model.specs.Money.{totals}
+use Rattle.cct_model.specs.Change.{clear_desk}
 use Rattle.cct_model.specs.Records.{records}
 use Rattle.cct_model.specs.Transcript.{onto}
 use Rattle.cct_disk.specs.declared.disk.Disk.{Ghosts}
@@ -21,7 +22,7 @@ use Rattle.cct_host.specs.declared.refusal.CrashNo.{CrashNo}
 use Rattle.cct_world.specs.declared.world.World.{World}
 use Rattle.cct_world.specs.Restarts.{Survived, no_step}
 use Rattle.cct_world.specs.Step.{crashes}
-use Rattle.cct_world.specs.World.{StandsFor, capacity_in, disk_of, setup_of}
+use Rattle.cct_world.specs.World.{StandsFor, capacity_in, desk_of, disk_of, setup_of}
 use Rattle.cct_world.proofs.Early.{early_none}
 use Rattle.cct_world.proofs.Lasting.{trusted_on}
 use Rattle.cct_world.proofs.Relying.{rose_just}
@@ -69,8 +70,8 @@ module _ {D : Type 0} {g : Ghosts D} (world : World D g) (load : Load) (left : D
     unplayed = load_steps load.seed load.rounds;
     transcript = [];
     steps_are = refl;
-    legal = λ relies. refl;
-    early = early_none (capacity_in world) load_setup;
+    legal = λ relies. (clear_desk load_setup, (refl, refl));
+    early = (clear_desk load_setup, early_none (capacity_in world) load_setup);
     ends = inl (refl, breaks);
     book = λ trusted. subst (λ setup. LeavesRecords setup g.honest g.seen g.may_leave left None []) same
         (world_leaves world left [] is fresh trusted);
@@ -84,15 +85,16 @@ module _ {D : Type 0} {g : Ghosts D} (world : World D g) (load : Load) (left : D
       → Written (first_line load ∷ []) → PlaysLoad world load (load_end.Unplayed why) left Written Breaks
   stopped_in why within wrote =
       let n = within.0 in
-      let lines = within.2 in
+      let now = within.2 in
+      let lines = within.3 in
       let behind = lines_behind load.seed n (6 + 20 * load.rounds) within.1 in
       record {
         played = lines_before load.seed n;
         unplayed = line_at load.seed n ∷ behind.0;
         transcript = lines.transcript;
         steps_are = behind.1;
-        legal = lines.legal;
-        early = lines.early;
+        legal = λ relies. (now, lines.legal relies);
+        early = (now, lines.early);
         ends = (lines.holds.fails, wrote);
         book = lines.holds.book;
         survived = lines.holds.survived;
@@ -104,7 +106,7 @@ module _ {D : Type 0} {g : Ghosts D} (world : World D g) (load : Load) (left : D
   module _ (next : World D g) (sums : LoadSums) (told : Totals) (same : setup_of next ≡ load_setup)
       (tells : (past : List Entry) → StandsFor next past → told ≡ totals (setup_of next) past)
       (lasts : Outlasts g.size g.honest g.seen g.cuts (disk_of world) (disk_of next)) (is : left ≡ disk_of next)
-      (lines : PlayedLines world load.seed (6 + 20 * load.rounds)
+      (lines : PlayedLines world load.seed (6 + 20 * load.rounds) (desk_of next)
       (Became world next sums load.seed (6 + 20 * load.rounds))) where
     abbrev steps : List Step
     steps = load_steps load.seed load.rounds
@@ -119,8 +121,8 @@ module _ {D : Type 0} {g : Ghosts D} (world : World D g) (load : Load) (left : D
       unplayed = [];
       transcript = lines.transcript;
       steps_are = sym (append-nil steps);
-      legal = lines.legal;
-      early = lines.early;
+      legal = λ relies. (desk_of next, lines.legal relies);
+      early = (desk_of next, lines.early);
       ends = ends;
       book = book;
       survived = subst (λ disk. SurvivedOn world disk steps past) (sym is)

@@ -1,12 +1,14 @@
 -- What the playing of a load keeps from line to line, and what it leaves where it stops.
-use Rattle.std.proofs.Common.{◌≡◌, ◌≢◌, ◌≤◌, ◌<◌, ◌+◌, ℕ, List, [], ◌∷◌, ◌++◌, reverse, Some, refl, sym, ◌∙◌, subst}
+use Rattle.std.proofs.Common.{◌≡◌, ◌≢◌, ◌≤◌, ◌<◌, ◌+◌, ℕ, List, [], ◌∷◌, ◌++◌, reverse, Some, refl, sym, ◌∙◌, subst, subst₂}
 use Rattle.std.proofs.Common.{inl, inr, arith, add-one}
 use Rattle.std.proofs.Math.Nat.{le_trans}
 use Rattle.cct_edge.proofs.Chains.{Rose-earlier}
 use Rattle.cct_model.specs.lines.command.Step.{Step}
 use Rattle.cct_model.specs.lines.command.Step.TheVariants as step
 use Rattle.cct_model.specs.lines.entry.Entry.{Entry}
-use Rattle.cct_model.specs.Legal.{Entries, Legal, due_at}
+use Rattle.cct_model.specs.AtDesk.{EntriesAtDesk, LeavesDesk}
+use Rattle.cct_model.specs.Change.{clear_desk}
+use Rattle.cct_model.specs.Legal.{due_at}
 use Rattle.cct_model.specs.Records.{records}
 use Rattle.cct_model.specs.Transcript.{onto}
 use Rattle.cct_disk.specs.declared.disk.Disk.{Ghosts}
@@ -14,7 +16,8 @@ use Rattle.cct_disk.specs.Disk.{IsTrusted}
 use Rattle.cct_disk.specs.Disk.{Outlasts}
 use Rattle.cct_host.specs.OnDisk.{LeavesRecords}
 use Rattle.cct_laws.specs.Restart.{due_in}
-use Rattle.cct_laws.proofs.Onto.{legal_more, transcript_on}
+use Rattle.cct_laws.proofs.Desks.{leaves_more, legal_at_desk}
+use Rattle.cct_laws.proofs.Onto.{transcript_on}
 use Rattle.cct_host.specs.declared.refusal.CrashNo.{CrashNo}
 use Rattle.cct_host.specs.declared.refusal.CrashNo.TheVariants as crash_no
 use Rattle.cct_world.specs.declared.world.World.{World}
@@ -26,7 +29,7 @@ use Rattle.cct_world.specs.Restarts.{LosesAt, Survived}
 use Rattle.cct_world.specs.Step.{CutsIn, LastsIn, RoseBy, count_after, crashes, crashes_of}
 use Rattle.cct_world.specs.Relying.{MayFail, due_to}
 use Rattle.cct_world.specs.Serving.{DiskServes}
-use Rattle.cct_world.specs.World.{Breaks, StandsFor, StepPlayed, StepUnplayed, capacity_in, disk_of, setup_of, used_of}
+use Rattle.cct_world.specs.World.{Breaks, StandsFor, StepPlayed, StepUnplayed, capacity_in, desk_of, disk_of, setup_of, used_of}
 use Rattle.cct_world.proofs.Early.{early_more, early_none}
 use Rattle.cct_world.proofs.Holding.{holds_first, loses_at, world_on}
 use Rattle.cct_world.proofs.Lasting.{lasts_here, lasts_in, lasts_then, trusted_on, uncut_in}
@@ -49,18 +52,19 @@ module _ {D : Type 0} {g : Ghosts D} (world : World D g) where
   -- What the loop over the lines of a load keeps: so many of them were played, the world became this one, and its disk
   -- outlasts the first one.
   pub record Goes (now : World D g) (sums : LoadSums) (seed n : ℕ) : Type 0 where
-    pub lines : PlayedLines world seed n (Became world now sums seed n)
+    pub lines : PlayedLines world seed n (desk_of now) (Became world now sums seed n)
     pub setup : setup_of now ≡ load_setup
     pub disk : DiskServes g.size g.honest g.seen g.cuts g.faults (disk_of world) (disk_of now) ⊥ ⊥
 
-  pub goes_begin : (sums : LoadSums) (seed : ℕ) → StandsFor world [] → SumsUp sums [] [] → setup_of world ≡ load_setup
-      → Goes world sums seed 0
+  pub goes_begin : (sums : LoadSums) (seed : ℕ) → StandsFor world [] → desk_of world ≡ clear_desk load_setup
+      → SumsUp sums [] [] → setup_of world ≡ load_setup → Goes world sums seed 0
   unfolding lines_before
-  goes_begin sums seed fresh counted setup = record {
+  goes_begin sums seed fresh clear counted setup = record {
     lines = record {
       transcript = [];
-      legal = λ relies. refl;
-      early = early_none (capacity_in world) load_setup;
+      legal = λ relies. (refl, clear);
+      early = subst (LegalBeforeLoss (capacity_in world) load_setup [] []) (sym clear)
+          (early_none (capacity_in world) load_setup);
       holds = record {
         so = holds_first g.size g.honest g.seen g.cuts g.cut_to (setup_of world) (disk_of world) (StandsFor world)
             (disk_of world) (used_of world) refl fresh.host.keeps.used (λ sure. fresh) [] [] refl refl;
@@ -83,13 +87,15 @@ module _ {D : Type 0} {g : Ghosts D} (world : World D g) where
   suits now sums seed n goes relies s =
       subst (λ setup. StepSuits setup (onto [] goes.lines.transcript) s) (sym goes.setup)
       (legal_suits (capacity_in world) load_setup (lines_before seed n) goes.lines.transcript s setup_sound
-      (lines_in_range seed n) (goes.lines.legal relies))
+      (lines_in_range seed n)
+      (legal_at_desk (capacity_in world) load_setup (lines_before seed n) goes.lines.transcript setup_sound
+      (lines_in_range seed n) (desk_of now, goes.lines.legal relies)))
 
   -- the entries of the step that comes next, and that the world goes on by them
   next_goes : (now next : World D g) (sums : LoadSums) (seed n : ℕ) (s : Step) (report : List Entry)
       → (goes : Goes now sums seed n) → worlds.Plays now next s report → crashes (reverse report) ≡ crashes_of s
       → Relies world (reverse report ++ onto [] goes.lines.transcript)
-      → Entries (capacity_in world) load_setup (onto [] goes.lines.transcript) s (reverse report)
+      → EntriesAtDesk (capacity_in world) load_setup (onto [] goes.lines.transcript) (desk_of now) s (reverse report)
       × StandsFor next (reverse report ++ onto [] goes.lines.transcript)
   next_goes now next sums seed n s report goes plays told relies =
       let past = onto [] goes.lines.transcript in
@@ -99,7 +105,7 @@ module _ {D : Type 0} {g : Ghosts D} (world : World D g) where
       reliable_survives (HasTrusted world) (HasTrusted now)
       (trusted_on g.size g.honest g.seen g.cuts (disk_of world) (disk_of now) goes.disk.outlasts) news past s told relies in
       let goes_so = plays past (goes.lines.holds.so.stands here) (suits now sums seed n goes here s) survives in
-      (subst (λ setup. Entries (capacity_in now) setup past s news) goes.setup goes_so.0, goes_so.1)
+      (subst (λ setup. EntriesAtDesk (capacity_in now) setup past (desk_of now) s news) goes.setup goes_so.0, goes_so.1)
 
   -- one line more
   pub goes_on : (now next : World D g) (sums sums1 : LoadSums) (seed n : ℕ) (s : Step) (report : List Entry)
@@ -120,11 +126,13 @@ module _ {D : Type 0} {g : Ghosts D} (world : World D g) where
         lines = record {
           transcript = t ++ report;
           legal = λ relies. let here = subst (Relies world) on relies in
-              subst (λ steps. Legal (capacity_in world) load_setup steps (t ++ report)) (sym more)
-              (legal_more (capacity_in world) load_setup (lines_before seed n) t report s
+              subst₂ (λ steps desk. LeavesDesk (capacity_in world) load_setup steps (t ++ report) desk) (sym more)
+              (sym played.desk)
+              (leaves_more (capacity_in world) load_setup (lines_before seed n) t report (desk_of now) s
               (goes.lines.legal (reliable_back (HasTrusted world) news past here)) (entries here).0);
-          early = subst (λ steps. LegalBeforeLoss (capacity_in world) load_setup steps (t ++ report)) (sym more)
-              (early_more (Relies world) (capacity_in world) load_setup (lines_before seed n) t report s
+          early = subst₂ (λ steps desk. LegalBeforeLoss (capacity_in world) load_setup steps (t ++ report) desk) (sym more)
+              (sym played.desk)
+              (early_more (Relies world) (capacity_in world) load_setup (lines_before seed n) t report (desk_of now) s
               (λ es none. inr none) played.told (λ relies. (entries relies).0) goes.lines.early);
           holds = subst (Became world next sums1 seed (n + 1)) (sym on) (record {
             so = subst (λ steps. WorldHolds (disk_of world) next steps (news ++ past)) (sym more)
@@ -209,6 +217,7 @@ module _ {D : Type 0} {g : Ghosts D} (world : World D g) where
       let outlasts = lasts_in g.size g.honest g.seen g.cuts s (disk_of now) left lasts in (
         n,
         within,
+        desk_of now,
         record {
           transcript = goes.lines.transcript;
           legal = goes.lines.legal;

@@ -7,7 +7,7 @@ use Rattle.cct_model.specs.lines.command.Step.TheVariants as step
 use Rattle.cct_model.specs.lines.command.Command.TheVariants as command
 use Rattle.cct_model.specs.lines.command.WireFault.TheVariants as fault
 use Rattle.cct_model.specs.lines.entry.Entry.{Entry}
-use Rattle.cct_model.specs.Legal.{Legal}
+use Rattle.cct_model.specs.AtDesk.{LegalAtDesk}
 use Rattle.cct_laws.specs.Law.{Begins, NamesNoPut}
 use Rattle.cct_laws.proofs.Alike.{fronts_begin}
 use Rattle.cct_gen.specs.Load.{load_setup, load_steps, drawn, coin_of, coin_or_alien, coin_or_loss, crash_or_balance}
@@ -56,7 +56,7 @@ lines_name seed (suc n) =
 -- so a load has one transcript
 pub load_begins : (capacity seed rounds : ℕ) (played unplayed others more : List Step) (first second : List Entry) →
     load_steps seed rounds ≡ played ++ unplayed → load_steps seed rounds ≡ others ++ more →
-    Legal capacity load_setup played first → Legal capacity load_setup others second →
+    LegalAtDesk capacity load_setup played first → LegalAtDesk capacity load_setup others second →
     Begins first second ⊎ Begins second first
 load_begins capacity seed rounds played unplayed others more first second is other_is legal other_legal =
     fronts_begin capacity load_setup (load_steps seed rounds) played unplayed others more first second

@@ -5,7 +5,8 @@ use Rattle.cct_model.specs.lines.command.Step.{Step}
 use Rattle.cct_model.specs.lines.entry.Entry.{Entry}
 use Rattle.cct_model.specs.lines.entry.Entry.TheVariants as entry
 use Rattle.cct_model.specs.lines.entry.Totals.{Totals}
-use Rattle.cct_model.specs.Legal.{Legal}
+use Rattle.cct_model.specs.AtDesk.{LeavesDesk, LegalAtDesk}
+use Rattle.cct_model.specs.Change.{Desk}
 use Rattle.cct_model.specs.Money.{totals}
 use Rattle.cct_model.specs.Records.{records}
 use Rattle.cct_model.specs.Transcript.{onto}
@@ -51,11 +52,13 @@ module _ {D : Type 0} {g : Ghosts D} (world : World D g) where
   Relies past = IsReliable HasTrusted past
 
   -- So many lines of a load were played on the world, from the first on: the entries of the transcript are those of the
-  -- steps, where its past may be relied on, and in any case up to the first power cut; and this holds of its past.
-  pub record PlayedLines (seed n : ℕ) (Holds : List Entry → Type 0) : Type 0 where
+  -- steps, and leave this desk, where its past may be relied on, and in any case up to the first power cut; and this holds
+  -- of its past.
+  pub record PlayedLines (seed n : ℕ) (now : Desk) (Holds : List Entry → Type 0) : Type 0 where
     pub transcript : List Entry
-    pub legal : Relies (onto [] transcript) → Legal (capacity_in world) load_setup (lines_before seed n) transcript
-    pub early : LegalBeforeLoss (capacity_in world) load_setup (lines_before seed n) transcript
+    pub legal : Relies (onto [] transcript)
+        → LeavesDesk (capacity_in world) load_setup (lines_before seed n) transcript now
+    pub early : LegalBeforeLoss (capacity_in world) load_setup (lines_before seed n) transcript now
     pub holds : Holds (onto [] transcript)
 
   -- What is so after a past, where so many lines of a load were played and the world became another: what holds of a
@@ -99,7 +102,7 @@ module _ {D : Type 0} {g : Ghosts D} (world : World D g) where
   -- One of so many lines of a load wasn't played, for this reason, and all lines before were; this disk is left.
   abbrev pub StoppedWithin : ℕ → ℕ → D → CrashNo → Type 0
   StoppedWithin seed lines left why =
-      (n : ℕ) × (n < lines) × PlayedLines seed n (Stopped left why (line_at seed n) (lines_before seed n))
+      (n : ℕ) × (n < lines) × (now : Desk) × PlayedLines seed n now (Stopped left why (line_at seed n) (lines_before seed n))
 
   -- This holds of what is written after the steps: their sums, and what is told that the operator has, which is so
   -- where the past may be relied on.
@@ -139,8 +142,8 @@ module _ {D : Type 0} {g : Ghosts D} (world : World D g) where
     pub unplayed : List Step
     pub transcript : List Entry
     pub steps_are : load_steps load.seed load.rounds ≡ played ++ unplayed
-    pub legal : Relies (onto [] transcript) → Legal (capacity_in world) load_setup played transcript
-    pub early : LegalBeforeLoss (capacity_in world) load_setup played transcript
+    pub legal : Relies (onto [] transcript) → LegalAtDesk (capacity_in world) load_setup played transcript
+    pub early : (now : Desk) × LegalBeforeLoss (capacity_in world) load_setup played transcript now
     -- The line of the load before its first step, and after the last one the six sums, each record that was kept
     -- counted once, and what the operator has; the first line alone if a step wasn't played, and a front of these if
     -- the sink failed.

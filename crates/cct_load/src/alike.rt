@@ -2,7 +2,7 @@
 ghost use Rattle.std.specs.Prelude.{◌≡◌, ◌⊎◌, ℕ, List, ◌++◌};
 ghost use Rattle.cct_model.specs.lines.command.Step.{Step};
 ghost use Rattle.cct_model.specs.lines.entry.Entry.{Entry};
-ghost use Rattle.cct_model.specs.Legal.{Legal};
+ghost use Rattle.cct_model.specs.AtDesk.{LegalAtDesk};
 ghost use Rattle.cct_laws.specs.Law.{Begins};
 ghost use Rattle.cct_gen.specs.Load.{load_setup, load_steps};
 
@@ -11,6 +11,6 @@ ghost use Rattle.cct_gen.specs.Load.{load_setup, load_steps};
 pub fn a_load_tells_its_transcript()
     ensures { (capacity seed rounds : ℕ) (played unplayed others more : List Step) (first second : List Entry)
         → load_steps seed rounds ≡ played ++ unplayed → load_steps seed rounds ≡ others ++ more
-        → Legal capacity load_setup played first → Legal capacity load_setup others second
+        → LegalAtDesk capacity load_setup played first → LegalAtDesk capacity load_setup others second
         → Begins first second ⊎ Begins second first }
 {}

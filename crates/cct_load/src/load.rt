@@ -4,9 +4,10 @@ ghost use Rattle.cct_edge.specs.Bytes.{Serves};
 ghost use Rattle.cct_model.specs.lines.command.Step.{Step};
 ghost use Rattle.cct_model.specs.lines.entry.Entry.{Entry};
 ghost use Rattle.cct_model.specs.lines.entry.Entry.TheVariants.{Balance};
+ghost use Rattle.cct_model.specs.Change.{clear_desk};
 ghost use Rattle.cct_text.specs.Writing.{Broke, Writes, Wrote};
 ghost use Rattle.cct_world.specs.Serving.{DiskServes};
-ghost use Rattle.cct_world.specs.World.{StandsFor, disk_of, setup_of};
+ghost use Rattle.cct_world.specs.World.{StandsFor, desk_of, disk_of, setup_of};
 ghost use Rattle.cct_gen.specs.Load.{load_setup};
 ghost use Rattle.cct_load.specs.Sums.{SumsUp, sums_of};
 ghost use Rattle.cct_load.specs.Played.{Became, LosesJournal, PlayedLines, PlaysLoad, StoppedWithin, end_of, first_line};
@@ -65,9 +66,10 @@ impl LoadDesk {
         requires rounds { load.rounds ≤ MOST_ROUNDS }
         requires setup { setup_of world ≡ load_setup }
         requires fresh { StandsFor world [] }
+        requires desk { desk_of world ≡ clear_desk load_setup }
         requires sums { SumsUp self.old.sums [] [] }
         ensures played { IfOk result (λ next. (setup_of next ≡ load_setup)
-            × PlayedLines world.entry load.seed (6 + 20 * load.rounds)
+            × PlayedLines world.entry load.seed (6 + 20 * load.rounds) (desk_of next)
             (Became world.entry next self.new.sums load.seed (6 + 20 * load.rounds))) }
         ensures stopped { IfErr result (λ e. StoppedWithin world.entry load.seed (6 + 20 * load.rounds) e.0 e.1) }
         ensures disk { MatchResult result
@@ -100,6 +102,7 @@ pub fn play_load<K: Sink, D: Disk>(
     requires rounds { load.rounds ≤ MOST_ROUNDS }
     requires setup { setup_of world ≡ load_setup }
     requires fresh { StandsFor world [] }
+    requires desk { desk_of world ≡ clear_desk load_setup }
     // what was played and written, and what the disk keeps
     ensures played { PlaysLoad world.entry load result.0 result.1 (Wrote K.written K.puts out.old out.new)
         (Broke K.written K.puts out.old out.new) }

@@ -4,6 +4,7 @@ pub mod Lasting
 pub mod Restarts
 pub mod Suiting
 pub mod Relying
+pub mod AtDesk
 pub mod Early
 pub mod Steps
 pub mod Suited

@@ -17,7 +17,9 @@ use Rattle.cct_model.specs.Bill.{holds}
 use Rattle.cct_model.specs.Exchange.{device_at}
 use Rattle.cct_model.specs.Honest.{forged_after, was_forged}
 use Rattle.cct_model.specs.Hopper.{remaining}
-use Rattle.cct_model.specs.Legal.{Entries, EntriesOfHappening, EntriesOfNext, EntriesOnWire, command_entry, happening_entry, step_of}
+use Rattle.cct_model.specs.AtDesk.{EntriesAtDesk}
+use Rattle.cct_model.specs.Change.{Desk}
+use Rattle.cct_model.specs.Legal.{EntriesOfHappening, EntriesOfNext, EntriesOnWire, command_entry, happening_entry, step_of}
 use Rattle.cct_model.specs.Money.{totals}
 use Rattle.cct_model.specs.Records.{records}
 use Rattle.cct_model.specs.Refusal.{refusal}
@@ -48,14 +50,15 @@ pub one_entry : (before after : List Entry) (e : Entry) → before ≡ [] → af
 one_entry before after e none is = is ∙ ap (λ es. es ++ e ∷ []) none
 
 -- the entries of what befalls a device are those of its step
-pub entries_are : (capacity : ℕ) (setup : Setup) (past : List Entry) (addr : ℕ) (what : Happening) (news : List Entry)
-    → EntriesOfHappening setup past addr what news → Entries capacity setup past (step_of addr what) news
-entries_are capacity setup past addr (happening.Coin place) news are = are
-entries_are capacity setup past addr happening.Alien news are = are
-entries_are capacity setup past addr (happening.Bill place) news are = are
-entries_are capacity setup past addr happening.Fall news are = are
-entries_are capacity setup past addr happening.Jam news are = are
-entries_are capacity setup past addr happening.Reset news are = are
+pub entries_are : (capacity : ℕ) (setup : Setup) (past : List Entry) (desk : Desk) (addr : ℕ) (what : Happening)
+    (news : List Entry) → EntriesOfHappening setup past addr what news
+    → EntriesAtDesk capacity setup past desk (step_of addr what) news
+entries_are capacity setup past desk addr (happening.Coin place) news are = are
+entries_are capacity setup past desk addr happening.Alien news are = are
+entries_are capacity setup past desk addr (happening.Bill place) news are = are
+entries_are capacity setup past desk addr happening.Fall news are = are
+entries_are capacity setup past desk addr happening.Jam news are = are
+entries_are capacity setup past desk addr happening.Reset news are = are
 
 -- what is made of a choice
 of_choice : {X Y : Type 0} (f : X → Y) (test : Bool) (x y : X) → f (cond test x y) ≡ cond test (f x) (f y)

@@ -20,11 +20,11 @@ use Rattle.cct_host.specs.Attempt.{Attempt, HeardBy, Links, asked, idle, news_of
 use Rattle.cct_world.specs.Forged.{forged_told}
 
 -- all that devices met is the same
-abbrev SameMet : List Entry → List Entry → Type 0
+abbrev pub SameMet : List Entry → List Entry → Type 0
 SameMet past later = ◌≡◌ {A = DeviceSetup → List Met} (λ d. met d later) (λ d. met d past)
 
 -- what leaves all that the devices met, the fault that is set and the last exchange as they were
-still : {bus : Bus} {past later : List Entry} → wires.StandsFor bus past → SameMet past later
+pub still : {bus : Bus} {past later : List Entry} → wires.StandsFor bus past → SameMet past later
     → pending later ≡ pending past → was_forged later ≡ was_forged past → wires.StandsFor bus later
 still {bus} s same fault forged = record {
   sound = s.sound;

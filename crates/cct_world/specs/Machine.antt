@@ -1,4 +1,4 @@
--- A host and a bus that stand for all that happened on them.
+-- A host and a bus that stand for all that happened on them, and the operator's desk beside them.
 use Rattle.std.specs.Prelude.{◌≡◌, ◌≢◌, ◌≤◌, ◌+◌, Bool, false, ℕ, List, [], ◌++◌, length, Option, Some, reverse, ⊤}
 use Rattle.cct_model.specs.terms.device.Setup.{Setup}
 use Rattle.cct_model.specs.lines.command.CrashAt.{CrashAt}
@@ -6,8 +6,13 @@ use Rattle.cct_model.specs.lines.command.Step.{Step}
 use Rattle.cct_model.specs.lines.command.Step.TheVariants as step
 use Rattle.cct_model.specs.lines.record.Record.{Record}
 use Rattle.cct_model.specs.lines.entry.Entry.{Entry}
-use Rattle.cct_model.specs.Legal.{Entries, due_at}
+use Rattle.cct_model.specs.AtDesk.{EntriesAtDesk}
+use Rattle.cct_model.specs.Change.{Desk, desk_after, gone_on}
+use Rattle.cct_model.specs.Legal.{due_at}
 use Rattle.cct_model.specs.Records.{records}
+use Rattle.cct_model.specs.declared.change.Payment.{Payment}
+use Rattle.cct_model.specs.declared.change.Session.{Session}
+use Rattle.cct_change.specs.Serving.{entries_by}
 use Rattle.cct_edge.specs.Faults.{Caused, Rose}
 use Rattle.cct_disk.specs.declared.disk.Disk.{Ghosts}
 use Rattle.cct_disk.specs.Disk.{IsTrusted}
@@ -59,6 +64,10 @@ module _ {D : Type 0} {g : Ghosts D} where
   abbrev pub capacity_in : Machine D g → ℕ
   capacity_in machine = hosts.capacity_in machine.host
 
+  -- What is known at the desk of its operator.
+  abbrev pub desk_of : Machine D g → Desk
+  desk_of machine = machine.desk
+
   -- A machine stands for a transcript, newest entry first: its host and its bus do.
   pub record StandsFor (machine : Machine D g) (past : List Entry) : Type 0 where
     pub host : hosts.StandsFor machine.host past
@@ -68,12 +77,13 @@ module _ {D : Type 0} {g : Ghosts D} where
   abbrev pub HasTrusted : Machine D g → Type 0
   HasTrusted machine = IsTrusted g.honest g.seen (disk_of machine)
 
-  -- A step gives these entries, oldest first, whatever is after it, where a record that it puts suits those before it;
-  -- and the machine goes on by them. A power cut does so on a trusted disk.
+  -- A step gives these entries, oldest first, by what is known at the desk and whatever is after it, where a record that it
+  -- puts suits those before it; and the machine goes on by them. A power cut does so on a trusted disk.
   abbrev pub Plays : Machine D g → Machine D g → Step → List Entry → Type 0
   Plays old new s report =
       (past : List Entry) → StandsFor old past → StepSuits (setup_of old) past s → Survives (HasTrusted old) s
-      → Entries (capacity_in old) (setup_of old) past s (reverse report) × StandsFor new (reverse report ++ past)
+      → EntriesAtDesk (capacity_in old) (setup_of old) past (desk_of old) s (reverse report)
+      × StandsFor new (reverse report ++ past)
 
   -- A call of the disk failed in a step. It is a `next` that was about to put a record, and whatever a power cut
   -- leaves on the trusted disk stands for the records of the past, or for these and that one; or it is a loss of
@@ -119,19 +129,21 @@ module _ {D : Type 0} {g : Ghosts D} where
   Breaks old left why s = LosesIn old left why s
 
   -- A step that makes no call of the disk gave these entries, oldest first: the setup and the journal stay, the machine
-  -- goes on by the entries, and they tell no power cut and no record, neither as put nor as kept.
-  pub record PlaysUndisturbed (old new : Machine D g) (s : Step) (report : List Entry) : Type 0 where
+  -- goes on by the entries, and they tell no power cut and no record, neither as put nor as kept. This is the desk then.
+  pub record PlaysUndisturbed (old new : Machine D g) (s : Step) (report : List Entry) (after : Desk) : Type 0 where
     pub setup : setup_of new ≡ setup_of old
     pub journal : hosts.journal_of new.host ≡ hosts.journal_of old.host
     pub plays : Plays old new s report
     pub told : crashes (reverse report) ≡ 0
     pub recorded : records (reverse report) ≡ []
     pub unkept : kept_in (reverse report) ≡ []
+    pub desk : desk_of new ≡ after
 
   -- A step was played, and gave these entries, oldest first. The setup stays, no put of the journal failed, and the machine
   -- goes on by the entries. Just a power cut tells one; the journal counts the records that they tell more, and after a
-  -- power cut the disk has what they tell. The disk goes on, and only a power cut cuts it, once and by its choice.
-  pub record StepPlayed (old new : Machine D g) (s : Step) (report : List Entry) : Type 0 where
+  -- power cut the disk has what they tell. The disk goes on, and only a power cut cuts it, once and by its choice. This is
+  -- the desk then.
+  pub record PlayedTo (old new : Machine D g) (s : Step) (report : List Entry) (after : Desk) : Type 0 where
     pub setup : setup_of new ≡ setup_of old
     pub whole : has_failed new ≡ false
     -- After each past for which the world stands, the step adds the entries of the definitions, and the world goes on
@@ -148,6 +160,24 @@ module _ {D : Type 0} {g : Ghosts D} where
     pub cut : CutsIn s g.size g.honest g.seen g.cuts g.cut_to (disk_of old) (disk_of new)
     pub lasts : LastsIn s g.size g.honest g.seen g.cuts (disk_of old) (disk_of new)
     pub later : g.faults (disk_of old) ≤ g.faults (disk_of new)
+    -- Whatever happened before and over any disk, the desk goes on by the step and its entries.
+    pub desk : desk_of new ≡ after
+
+  -- The same, with the desk that the step and its entries make of the one before.
+  abbrev pub StepPlayed : Machine D g → Machine D g → Step → List Entry → Type 0
+  StepPlayed old new s report = PlayedTo old new s report (desk_after s (reverse report) (desk_of old))
+
+  -- The host was given a payment of the session at the desk, and these are the entries of its answer, oldest first. The rest
+  -- is as in a step that makes no call of the disk.
+  pub record Pays (old new : Machine D g) (p : Payment) (report : List Entry) : Type 0 where
+    pub setup : setup_of new ≡ setup_of old
+    pub journal : hosts.journal_of new.host ≡ hosts.journal_of old.host
+    pub plays : (s : Session) → (desk_of old).session ≡ Some s → (past : List Entry) → StandsFor old past
+        → (reverse report ≡ entries_by (capacity_in old) (setup_of old) past s p) × StandsFor new (reverse report ++ past)
+    pub told : crashes (reverse report) ≡ 0
+    pub recorded : records (reverse report) ≡ []
+    pub unkept : kept_in (reverse report) ≡ []
+    pub desk : (s : Session) → (desk_of old).session ≡ Some s → desk_of new ≡ gone_on (reverse report) (desk_of old).trays s
 
   -- A step wasn't played, for this reason; it gave no entry, and this disk is left. That the disk failed has its cause;
   -- for any other reason the step is a power cut, which cut the disk once, by its choice.

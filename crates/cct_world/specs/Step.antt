@@ -8,6 +8,8 @@ use Rattle.cct_model.specs.lines.entry.Entry.{Entry}
 use Rattle.cct_model.specs.lines.entry.Entry.TheVariants as entry
 use Rattle.cct_bus.specs.declared.outcome.Outcome.{Outcome}
 use Rattle.cct_bus.specs.declared.outcome.Outcome.TheVariants as outcome
+use Rattle.cct_change.specs.declared.desk.Serving.{Serving}
+use Rattle.cct_change.specs.declared.desk.Serving.TheVariants as serving
 use Rattle.cct_edge.specs.Faults.{next_count}
 use Rattle.cct_disk.specs.Disk.{GoesOn, Outlasts}
 use Rattle.cct_journal.specs.Stands.{CutOnce}
@@ -29,6 +31,22 @@ entry_told addr happening.Reset became = entry.Reset addr
 abbrev pub is_next : Step → Bool
 is_next (step.Next addr) = true
 is_next s = false
+
+-- The step is one of the operator's desk: it is told what is in a hopper, change is wanted, or a session goes on.
+abbrev pub is_of_desk : Step → Bool
+is_of_desk (step.Stock addr count) = true
+is_of_desk (step.Change first amount) = true
+is_of_desk step.Serve = true
+is_of_desk s = false
+
+-- What is told of a `serve` that gives the host no payment; of one that does, the answer tells.
+abbrev pub entries_told : Serving → List Entry
+entries_told serving.Idle = entry.ServeIdle ∷ []
+entries_told (serving.Wait addr) = entry.ServeWait addr ∷ []
+entries_told (serving.Odd id) = entry.ServeOdd id ∷ []
+entries_told (serving.Served amount) = entry.Served amount ∷ []
+entries_told (serving.Short shortfall) = entry.Short shortfall.paid shortfall.rest ∷ []
+entries_told (serving.Pay p) = []
 
 -- How many power cuts an entry tells: one or none.
 abbrev pub crashes_told : Entry → ℕ

@@ -3,6 +3,7 @@ use Rattle.std.specs.Prelude.{ℕ, List}
 use Rattle.cct_model.specs.terms.device.Setup.{Setup}
 use Rattle.cct_model.specs.lines.command.Step.{Step}
 use Rattle.cct_model.specs.lines.entry.Entry.{Entry}
+use Rattle.cct_model.specs.Change.{Desk}
 use Rattle.cct_disk.specs.declared.disk.Disk.{Ghosts}
 use Rattle.cct_host.specs.declared.refusal.CrashNo.{CrashNo}
 use Rattle.cct_world.specs.declared.world.World.{World}
@@ -16,6 +17,10 @@ module _ {D : Type 0} {g : Ghosts D} where
   -- Its disk.
   abbrev pub disk_of : World D g → D
   disk_of world = machines.disk_of world.machine.value
+
+  -- What is known at the desk of its operator.
+  abbrev pub desk_of : World D g → Desk
+  desk_of world = machines.desk_of world.machine.value
 
   -- How many records its journal has.
   abbrev pub used_of : World D g → ℕ

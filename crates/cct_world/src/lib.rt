@@ -1,4 +1,4 @@
-//! One step of the whole machine: the bus of devices, and the host.
+//! One step of the whole machine: the bus of devices, the host, and the desk of the operator.
 #![tactic(auto)]
 
 mod machine;

@@ -1,5 +1,5 @@
-//! The machine of a world: the host, and the bus with its devices.
-ghost use Rattle.std.specs.Prelude.{◌∷◌, ◌++◌, ◌≡◌, ◌<◌, [], IfErr, IsTrue, List, OnOk, false, length, reverse, true};
+//! The machine of a world: the host, the bus with its devices, and the operator's desk.
+ghost use Rattle.std.specs.Prelude.{◌∷◌, ◌++◌, ◌≡◌, ◌<◌, [], IfErr, IsTrue, List, OnOk, Some, false, length, reverse, true};
 ghost use Rattle.cct_model.specs.lines.command.Step.TheVariants as step;
 ghost use Rattle.cct_model.specs.Exchange.{device_at, known_there};
 ghost use Rattle.cct_model.specs.Family.{IsPlaced};
@@ -12,26 +12,31 @@ ghost use Rattle.cct_bus.specs.Bus as wires;
 ghost use Rattle.cct_host.specs.Host as hosts;
 ghost use Rattle.cct_host.specs.Restarting.{restart_news};
 ghost use Rattle.cct_world.specs.Forged.{TellsForged, asked_at, forged_told};
-ghost use Rattle.cct_world.specs.Step.{crashes_of, entry_told, is_next};
+ghost use Rattle.cct_change.specs.Serving.{change_told};
+ghost use Rattle.cct_world.specs.Step.{crashes_of, entries_told, entry_told, is_next, is_of_desk};
+ghost use Rattle.cct_model.specs.Change.{desk_after};
+ghost use Rattle.std.specs.Option.{option_map};
 
 use crate::WorldNo;
 use arrayvec::ArrayVec;
 use cct_bus::{Bus, Outcome};
+use cct_change::{Desk, Serving, Shortfall};
 use cct_disk::Disk;
 use cct_edge::Failed;
 use cct_host::{Crashed, Host};
-use cct_model::{Command, CommandNo, CrashAt, Entry, Happening, Step, Totals, WireFault};
+use cct_model::{Command, CommandNo, CrashAt, Entry, Happening, Payment, Step, Totals, WireFault};
 
-/// The host and the bus of a world. They stand in a box, so that a world that is moved costs a pointer.
+/// The host, the bus and the desk of a world. They stand in a box, so that a world that is moved costs a pointer.
 #[derive(Drop)]
 pub(crate) struct Machine<'s, D: Disk> {
     pub host: Host<'s, D>,
     pub bus: Bus<'s>,
+    pub desk: Desk,
     ghost same: { wires.setup_of bus ≡ hosts.setup_of host },
 }
 
 impl<D: Disk> Machine<'_, D> {
-    ghost use Rattle.cct_world.specs.Machine.{PlaysUndisturbed, StandsFor, StepPlayed, StepUnplayed, disk_of, has_failed, setup_of};
+    ghost use Rattle.cct_world.specs.Machine.{PlayedTo, Pays, PlaysUndisturbed, StandsFor, StepPlayed, StepUnplayed, desk_of, disk_of, has_failed, setup_of};
 
     pub fn knows(&self, step: &Step) -> bool
         ensures { result ≡ is_known (setup_of self.now) step.now }
@@ -48,6 +53,9 @@ impl<D: Disk> Machine<'_, D> {
             Step::Command(_) => true,
             Step::Crash { .. } => true,
             Step::Balance => true,
+            Step::Stock { addr, .. } => self.bus.is_hopper(*addr),
+            Step::Change { .. } => true,
+            Step::Serve => true,
             Step::End => true,
         }
     }
@@ -65,6 +73,36 @@ impl<D: Disk> Machine<'_, D> {
     {
         report.clear();
         match step {
+            Step::Stock { addr, count } => self.stock(*addr, *count, report),
+            Step::Change { first, amount } => self.change(*first, *amount, report),
+            Step::Serve => self.serve(report),
+            _ => {
+                self.step_beside_desk(step, report)?;
+                self.desk.see(report.as_slice());
+            }
+        }
+        Ok(())
+    }
+
+    /// Plays a step that is none of the desk's, which stays as it is.
+    #[inline(always)]
+    fn step_beside_desk(
+        &mut self,
+        step: &Step,
+        report: &mut ArrayVec<Entry, 8>,
+    ) -> Result<(), WorldNo>
+        requires known { IsTrue (is_known (setup_of self.old) step.now) }
+        requires in_range { IsInRange step.now }
+        requires played { IsTrue (is_played step.now) }
+        requires beside { is_of_desk step.now ≡ false }
+        requires whole { has_failed self.old ≡ false }
+        requires report { report.old.items ≡ [] }
+        ensures setup { setup_of self.new ≡ setup_of self.old }
+        ensures played { OnOk result (PlayedTo self.old self.new step.now report.new.items (desk_of self.old)) }
+        ensures unplayed { IfErr result (λ why.
+            StepUnplayed self.old (disk_of self.new) why step.now report.new.items) }
+    {
+        match step {
             Step::Next { addr } => self.next(*addr, report),
             Step::Crash { at, choice } => self.crash(*at, *choice, report),
             _ => {
@@ -74,15 +112,16 @@ impl<D: Disk> Machine<'_, D> {
         }
     }
 
-    /// Plays a step that makes no call of the disk: any but a `next` and a power cut.
+    /// Plays a step that makes no call of the disk, and is none of the desk's: any other but a `next` and a power cut.
     fn undisturbed_step(&mut self, step: &Step, report: &mut ArrayVec<Entry, 8>)
         requires known { IsTrue (is_known (setup_of self.old) step.now) }
         requires in_range { IsInRange step.now }
         requires played { IsTrue (is_played step.now) }
         requires no_next { is_next step.now ≡ false }
         requires no_crash { crashes_of step.now ≡ 0 }
+        requires beside { is_of_desk step.now ≡ false }
         requires report { report.old.items ≡ [] }
-        ensures { PlaysUndisturbed self.old self.new step.now report.new.items }
+        ensures { PlaysUndisturbed self.old self.new step.now report.new.items (desk_of self.old) }
     {
         match step {
             Step::Coin { addr, place } => {
@@ -100,6 +139,9 @@ impl<D: Disk> Machine<'_, D> {
             Step::Balance => self.balance(report),
             Step::Next { .. } => unreachable!(),
             Step::Crash { .. } => unreachable!(),
+            Step::Stock { .. } => unreachable!(),
+            Step::Change { .. } => unreachable!(),
+            Step::Serve => unreachable!(),
             Step::End => unreachable!(),
         }
     }
@@ -116,7 +158,8 @@ impl<D: Disk> Machine<'_, D> {
         requires whole { has_failed self.old ≡ false }
         requires report { report.old.items ≡ [] }
         ensures setup { setup_of self.new ≡ setup_of self.old }
-        ensures played { OnOk result (StepPlayed self.old self.new (step.Crash at choice) report.new.items) }
+        ensures played { OnOk result (PlayedTo self.old self.new (step.Crash at choice) report.new.items
+            (desk_of self.old)) }
         ensures unplayed { IfErr result (λ why.
             StepUnplayed self.old (disk_of self.new) why (step.Crash at choice) report.new.items) }
     {
@@ -134,7 +177,7 @@ impl<D: Disk> Machine<'_, D> {
         requires known { IsTrue (known_there what (device_at (setup_of self.old).devices addr)) }
         requires placed { IsPlaced what }
         requires report { report.old.items ≡ [] }
-        ensures { PlaysUndisturbed self.old self.new (step_of addr what) report.new.items }
+        ensures { PlaysUndisturbed self.old self.new (step_of addr what) report.new.items (desk_of self.old) }
     {
         let outcome = self.bus.befall(addr, what);
         tell(addr, what, outcome, report);
@@ -144,7 +187,7 @@ impl<D: Disk> Machine<'_, D> {
     fn fault(&mut self, fault: &WireFault, report: &mut ArrayVec<Entry, 8>)
         requires in_range { IsFault fault.now }
         requires report { report.old.items ≡ [] }
-        ensures { PlaysUndisturbed self.old self.new (step.Fault fault.now) report.new.items }
+        ensures { PlaysUndisturbed self.old self.new (step.Fault fault.now) report.new.items (desk_of self.old) }
     {
         self.bus.set_fault(fault.copied());
         report.push(Entry::Fault(fault.copied()));
@@ -153,7 +196,8 @@ impl<D: Disk> Machine<'_, D> {
     /// The operator gives the host a command. A refused one changes nothing.
     fn command(&mut self, command: &Command, report: &mut ArrayVec<Entry, 8>)
         requires report { report.old.items ≡ [] }
-        ensures { PlaysUndisturbed self.old self.new (step.Command command.now) report.new.items }
+        ensures { PlaysUndisturbed self.old self.new (step.Command command.now) report.new.items
+            (desk_of self.old) }
     {
         match self.host.command(command) {
             Ok(()) => tell_taken(command, report),
@@ -164,9 +208,70 @@ impl<D: Disk> Machine<'_, D> {
     /// The operator is told what is available, reserved, paid and sold.
     fn balance(&self, report: &mut ArrayVec<Entry, 8>)
         requires report { report.old.items ≡ [] }
-        ensures { PlaysUndisturbed self.now self.now step.Balance report.new.items }
+        ensures { PlaysUndisturbed self.now self.now step.Balance report.new.items (desk_of self.now) }
     {
         report.push(Entry::Balance(self.host.totals()));
+    }
+
+    /// The operator counted the coins in a hopper.
+    fn stock(&mut self, addr: u8, count: u32, report: &mut ArrayVec<Entry, 8>)
+        requires report { report.old.items ≡ [] }
+        ensures { PlaysUndisturbed self.old self.new (step.Stock addr count) report.new.items
+            (desk_after (step.Stock addr count) (reverse report.new.items) (desk_of self.old)) }
+    {
+        self.desk.stock(addr, count);
+        tell_stock(addr, count, report);
+    }
+
+    /// The operator wants change: a session begins where none runs.
+    fn change(&mut self, first: u32, amount: u32, report: &mut ArrayVec<Entry, 8>)
+        requires in_range { IsInRange (step.Change first amount) }
+        requires report { report.old.items ≡ [] }
+        ensures { PlaysUndisturbed self.old self.new (step.Change first amount) report.new.items
+            (desk_after (step.Change first amount) (reverse report.new.items) (desk_of self.old)) }
+    {
+        let began = self.desk.change(first, amount);
+        tell_change(first, amount, began, report);
+    }
+
+    /// The session goes on, and the host is given its next payment, if it has one.
+    fn serve(&mut self, report: &mut ArrayVec<Entry, 8>)
+        requires report { report.old.items ≡ [] }
+        ensures { PlaysUndisturbed self.old self.new step.Serve report.new.items
+            (desk_after step.Serve (reverse report.new.items) (desk_of self.old)) }
+    {
+        match self.desk.serve() {
+            Serving::Pay(payment) => self.pay(payment, report),
+            Serving::Idle => tell_serving(Serving::Idle, report),
+            Serving::Wait { addr } => tell_serving(Serving::Wait { addr }, report),
+            Serving::Odd { id } => tell_serving(Serving::Odd { id }, report),
+            Serving::Served { amount } => tell_serving(Serving::Served { amount }, report),
+            Serving::Short(shortfall) => tell_serving(Serving::Short(shortfall), report),
+        }
+    }
+
+    /// The host is given a payment of the session at the desk. Where it refuses it, the session ends short.
+    fn pay(&mut self, payment: Payment, report: &mut ArrayVec<Entry, 8>)
+        requires own { option_map (λ s. s.next) (desk_of self.old).session ≡ Some payment.id }
+        requires report { report.old.items ≡ [] }
+        ensures { Pays self.old self.new payment report.new.items }
+    {
+        let command = Command::Pay {
+            addr: payment.addr,
+            id: payment.id,
+            count: payment.count,
+        };
+        match self.host.command(&command) {
+            Ok(()) => {
+                self.desk.taken(payment);
+                tell_taken(&command, report);
+            }
+            Err(why) => {
+                let shortfall = self.desk.refused();
+                tell_refused(&command, why, report);
+                add_short(shortfall, report);
+            }
+        }
     }
 
     /// The host's job at an address makes one attempt of one row on the bus. After an exchange that was forged, that is told.
@@ -174,7 +279,7 @@ impl<D: Disk> Machine<'_, D> {
         requires whole { has_failed self.old ≡ false }
         requires report { report.old.items ≡ [] }
         ensures setup { setup_of self.new ≡ setup_of self.old }
-        ensures played { OnOk result (StepPlayed self.old self.new (step.Next addr) report.new.items) }
+        ensures played { OnOk result (PlayedTo self.old self.new (step.Next addr) report.new.items (desk_of self.old)) }
         ensures unplayed { IfErr result (λ why.
             StepUnplayed self.old (disk_of self.new) why (step.Next addr) report.new.items) }
     {
@@ -198,7 +303,11 @@ impl<D: Disk> Machine<'_, D> {
     pub fn into_disk(self) -> D
         ensures { result ≡ disk_of self.entry }
     {
-        let Machine { host, bus: _ } = self;
+        let Machine {
+            host,
+            bus: _,
+            desk: _,
+        } = self;
         host.into_disk()
     }
 }
@@ -268,6 +377,59 @@ fn tell_refused(command: &Command, why: CommandNo, report: &mut ArrayVec<Entry, 
     report.push(Entry::No {
         command: *command,
         why,
+    });
+}
+
+/// Tells that the operator counted the coins in a hopper.
+#[inline(never)]
+#[tactic(auto, using(crate::proofs::Steps::one_entry))]
+fn tell_stock(addr: u8, count: u32, report: &mut ArrayVec<Entry, 8>)
+    requires { report.old.items ≡ [] }
+    ensures { report.new.items ≡ entry.Stock addr count ∷ [] }
+{
+    report.push(Entry::Stock { addr, count });
+}
+
+/// Tells whether a session of change began.
+#[inline(never)]
+#[tactic(auto, using(crate::proofs::Steps::one_entry))]
+fn tell_change(first: u32, amount: u32, began: bool, report: &mut ArrayVec<Entry, 8>)
+    requires { report.old.items ≡ [] }
+    ensures { report.new.items ≡ change_told first amount began ∷ [] }
+{
+    if began {
+        report.push(Entry::ChangeOk { first, amount });
+    } else {
+        report.push(Entry::ChangeNo);
+    }
+}
+
+/// Tells what a `serve` came to, where no payment is given to the host.
+#[inline(never)]
+#[tactic(auto, using(crate::proofs::Steps::one_entry))]
+fn tell_serving(serving: Serving, report: &mut ArrayVec<Entry, 8>)
+    requires { report.old.items ≡ [] }
+    ensures { report.new.items ≡ entries_told serving }
+{
+    match serving {
+        Serving::Idle => report.push(Entry::ServeIdle),
+        Serving::Wait { addr } => report.push(Entry::ServeWait { addr }),
+        Serving::Odd { id } => report.push(Entry::ServeOdd { id }),
+        Serving::Served { amount } => report.push(Entry::Served { amount }),
+        Serving::Short(shortfall) => add_short(shortfall, report),
+        Serving::Pay(_) => {}
+    }
+}
+
+/// Adds that a session ended short.
+#[inline(never)]
+fn add_short(shortfall: Shortfall, report: &mut ArrayVec<Entry, 8>)
+    requires { length report.old.items < 8 }
+    ensures { report.new.items ≡ report.old.items ++ entry.Short shortfall.paid shortfall.rest ∷ [] }
+{
+    report.push(Entry::Short {
+        paid: shortfall.paid,
+        rest: shortfall.rest,
     });
 }
 

@@ -1,5 +1,6 @@
-//! The world of a script: the host, and the bus with its devices.
+//! The world of a script: the host, the bus with its devices, and the operator's desk.
 ghost use Rattle.std.specs.Prelude.{◌≡◌, [], IfErr, IfOk, IsTrue, MatchResult, false};
+ghost use Rattle.cct_model.specs.Change.{clear_desk};
 ghost use Rattle.cct_model.specs.Legal.{is_played};
 ghost use Rattle.cct_model.specs.Script.{IsInRange, is_known};
 ghost use Rattle.cct_model.specs.Setup.{IsSoundSetup};
@@ -15,14 +16,15 @@ use crate::WorldNo;
 use crate::machine::Machine;
 use arrayvec::ArrayVec;
 use cct_bus::Bus;
+use cct_change::Desk;
 use cct_disk::Disk;
 use cct_host::Host;
 use cct_journal::Journal;
 use cct_model::{Entry, Setup, Step, Totals};
 use std::alloc::{AllocError, AllocFailed, Global};
 
-/// The machine that a script plays on: the devices on their wire, and the host over its journal. Its contracts tell it
-/// by the transcript of all that happened on it, newest entry first.
+/// The machine that a script plays on: the devices on their wire, the host over its journal, and the operator's desk. Its
+/// contracts tell it by the transcript of all that happened on it, newest entry first, and by what is known at the desk.
 #[derive(Drop)]
 pub struct World<'s, D: Disk> {
     machine: Box<Machine<'s, D>>,
@@ -30,7 +32,7 @@ pub struct World<'s, D: Disk> {
 }
 
 impl<'s, D: Disk> World<'s, D> {
-    ghost use Rattle.cct_world.specs.World.{StandsFor, StepPlayed, StepUnplayed, disk_of, setup_of};
+    ghost use Rattle.cct_world.specs.World.{StandsFor, StepPlayed, StepUnplayed, desk_of, disk_of, setup_of};
 
     /// A machine with the devices of a setup, on which nothing has happened, over a journal without records. This takes
     /// all memory that the machine ever has.
@@ -50,16 +52,21 @@ impl<'s, D: Disk> World<'s, D> {
         ensures fresh { IfOk result (λ world. (IsTrusted D.honest D.seen (journals.disk_of journal)
             → KeepsRecords setup.now D.honest D.seen D.may_leave (journals.disk_of journal) (journals.place_of journal) [])
             → StandsFor world []) }
+        ensures desk { IfOk result (λ world. desk_of world ≡ clear_desk setup.now) }
     {
         let bus = match Bus::new(alloc, setup) {
             Ok(bus) => bus,
+            Err(error) => return Err((journal.into_disk(), error)),
+        };
+        let desk = match Desk::new(alloc, setup) {
+            Ok(desk) => desk,
             Err(error) => return Err((journal.into_disk(), error)),
         };
         let host = match Host::start(setup, journal) {
             Ok(host) => host,
             Err(_) => unreachable!(),
         };
-        match Box::new(alloc, Machine { host, bus }) {
+        match Box::new(alloc, Machine { host, bus, desk }) {
             Ok(machine) => Ok(World { machine }),
             Err(AllocFailed { value }) => Err((value.into_disk(), AllocError)),
         }

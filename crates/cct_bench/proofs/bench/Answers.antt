@@ -23,6 +23,9 @@ use Rattle.cct_bench.proofs.ReportEnds.{report_other}
 use Rattle.cct_bench.proofs.CommandLine.{load_said, words_most}
 use Rattle.cct_bench.proofs.UpgradeEnds.{goes_forward, no_memory_upgraded, some_bytes, untouched_moments, upgrade_completes}
 use Rattle.cct_text.proofs.Writing.{wrote_none}
+use Rattle.cct_audit.specs.Capture.{capture}
+use Rattle.cct_bench.specs.Audit.{AuditRan}
+use Rattle.cct_bench.proofs.AuditEnds.{audit_completes, audit_no_memory}
 use Rattle.cct_bench.proofs.bench.Goals as goal
 
 pub returns-in-Ok-clause-complete : goal.returns-in-Ok-clause-complete
@@ -221,3 +224,34 @@ returns-in-Ok-Report-clause-upgrade_cause g c is =
     (size_known (disk.size c.args.disk) (Rose (disk.faults c.args.disk) (disk.faults c.report.result.1)))
     c.report.result.0 (λ lines answer. Writes sink.written sink.puts c.args.out.now lines answer c.report.new.out)
     c.report.ensures.lines is)
+
+pub returns-in-Ok-Audit-clause-audit_complete : goal.returns-in-Ok-Audit-clause-audit_complete
+returns-in-Ok-Audit-clause-audit_complete g c is_audit =
+    let source = g.S.Source in
+    let sink = g.K.Sink in
+    let script0 = c.args.script.now in
+    let script1 = c.run_audit.new.script in
+    let out0 = c.args.out.now in
+    let out1 = c.run_audit.new.out in
+    let s = c.run_audit.result in
+    let Read = Rose (source.faults script0) (source.faults script1) in
+    let Write = Rose (sink.faults out0) (sink.faults out1) in
+    let W = Wrote sink.written sink.puts out0 out1 in
+    let B = Broke sink.written sink.puts out0 out1 in
+    bytes_weaker (λ bytes. AuditRan bytes s (source.left script1) Read W B)
+    (λ bytes. (capture bytes).refused ≡ None → (Read → ⊥) → (Write → ⊥) → IsOrMemory status.Done s) (source.left script0)
+    (λ bytes ran none no_read no_write.
+    audit_completes bytes s (source.left script1) Read Write W B ran none c.run_audit.ensures.sink.rose no_read no_write)
+    c.run_audit.ensures.audited
+
+pub returns-in-Err-Memory-clause-audited : goal.returns-in-Err-Memory-clause-audited
+returns-in-Err-Memory-clause-audited g c is_audit =
+    let sink = g.K.Sink in
+    let out = c.args.out.now in
+    audit_no_memory (g.S.Source.left c.args.script.now)
+    (Rose (g.S.Source.faults c.args.script.now) (g.S.Source.faults c.args.script.now))
+    (Wrote sink.written sink.puts out out) (Broke sink.written sink.puts out out) (wrote_none sink.written sink.puts out)
+
+pub returns-in-Err-Memory-clause-audit_complete : goal.returns-in-Err-Memory-clause-audit_complete
+returns-in-Err-Memory-clause-audit_complete g c is_audit =
+    some_bytes (g.S.Source.left c.args.script.now) (λ bytes none no_read no_write. inr refl)

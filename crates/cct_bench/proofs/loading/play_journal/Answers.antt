@@ -1,4 +1,5 @@
 use Rattle.std.proofs.Common.{ap, sym, ◌∙◌, subst}
+use Rattle.cct_model.specs.Change.{clear_desk}
 use Rattle.cct_disk.specs.Disk.{GoesOn}
 use Rattle.cct_text.specs.Writing.{Broke, Wrote}
 use Rattle.cct_text.proofs.Writing.{wrote_none}
@@ -43,3 +44,6 @@ returns-in-Err-clause-played g c given ready on =
 
 pub play_load-how-requires-clause-fresh : goal.play_load-how-requires-clause-fresh
 play_load-how-requires-clause-fresh g c = c.in-Ok.ensures.fresh (c.requires.made.stands c.load_setup.new.setup)
+
+pub play_load-how-requires-clause-desk : goal.play_load-how-requires-clause-desk
+play_load-how-requires-clause-desk g c = c.in-Ok.ensures.desk ∙ ap clear_desk c.load_setup.ensures.value

@@ -1,8 +1,10 @@
 use Rattle.std.proofs.Common.{[], refl, sym, subst, lit≤, rules}
+use Rattle.cct_model.specs.Change.{clear_desk}
 use Rattle.cct_model.specs.Script.{at_setup, at_steps, opens}
 use Rattle.cct_script.specs.Giving.{standing_of}
 use Rattle.cct_bench.specs.Setup.{stage_of}
-use Rattle.cct_bench.specs.Lines.{IsNext, ScriptGoesOn, WithMoreTaken}
+use Rattle.cct_script.specs.Scripts.{IsNext, WithMoreTaken}
+use Rattle.cct_bench.specs.Lines.{ScriptGoesOn}
 use Rattle.cct_bench.specs.SetupLines.{OpensLine, TookOpening}
 use Rattle.cct_text.specs.Writing.{IsNothing, NeverBroke}
 use Rattle.cct_bench.specs.Disks.{Always}
@@ -19,9 +21,9 @@ loop-number-init g c =
     let left = source.left script in
     record {
       going = subst
-          (λ standing. Going Always left left standing.held 1 (at_setup c.args.setup.now) IsUnbegun IsNothing)
+          (λ standing. Going Always clear_desk left left standing.held 1 (at_setup c.args.setup.now) IsUnbegun IsNothing)
           (sym c.requires.lines)
-          (subst (λ setup. Going Always left left [] 1 (at_setup setup) IsUnbegun IsNothing) (sym c.requires.setup)
+          (subst (λ setup. Going Always clear_desk left left [] 1 (at_setup setup) IsUnbegun IsNothing) (sym c.requires.setup)
           (going_begin left));
       opening = subst
           (λ standing. TookOpening source.takes source.left script script standing.held 1 (at_setup c.args.setup.now))
@@ -44,7 +46,7 @@ returns-in-Ok-Begun-clause-opened g c =
     let reads = subst
     (λ opened. WithMoreTaken held left left1 (λ bytes. ScriptGoesOn number stage bytes (opens (stage_of opened setup)) rest))
     c.in-Ok-Begun.field-0-is c.in-Ok-Begun.ensures.reads in
-    going_opens Always (g.S.Source.left c.args.script.now) left left1 held rest number stage (at_steps setup) IsUnbegun
+    going_opens Always clear_desk (g.S.Source.left c.args.script.now) left left1 held rest number stage (at_steps setup) IsUnbegun
     IsNothing c.loop-number.invariant.going reads
 
 pub returns-in-Ok-Begun-clause-took : goal.returns-in-Ok-Begun-clause-took
@@ -68,7 +70,7 @@ returns-in-Err-clause-ended g c =
     let left0 = g.S.Source.left c.args.script.now in
     let left1 = g.S.Source.left c.read_opening.new.script in
     let stage = at_setup c.loop-number.setup in
-    played_stopped Always left0 (g.S.Source.left c.loop-number.script) left1 (standing_of c.loop-number.lines).held
+    played_stopped Always clear_desk left0 (g.S.Source.left c.loop-number.script) left1 (standing_of c.loop-number.lines).held
     c.loop-number.number stage c.in-Err.why c.ending_at.result IsUnbegun IsNothing NeverBroke BeforeSteps
     c.ending_at.ensures (λ how setup taken played unplayed past is there nothing. (is, nothing))
     c.loop-number.invariant.going c.in-Err.ensures.stops
@@ -101,7 +103,7 @@ loop-number-preserved g c =
     (λ opened. OpensLine source.takes source.left number stage (stage_of opened setup) held rest script script1)
     c.in-Ok-Added.field-0-is c.in-Ok-Added.ensures.line in
     record {
-      going = going_opens Always (source.left script0) left left1 held rest number stage (at_setup setup) IsUnbegun
+      going = going_opens Always clear_desk (source.left script0) left left1 held rest number stage (at_setup setup) IsUnbegun
           IsNothing runs.going reads;
       opening = opening_more source.takes source.left script0 script script1 held rest number stage (at_setup setup)
           runs.opening line;

@@ -1,12 +1,13 @@
 use Rattle.std.proofs.Common.{◌+◌, sym, subst}
 use Rattle.std.specs.Prelude.{IfErr}
+use Rattle.cct_model.specs.Change.{clear_desk}
 use Rattle.cct_model.specs.Script.{at_end, at_steps}
 use Rattle.cct_script.specs.Giving.{standing_of}
 use Rattle.cct_text.proofs.Writing.{passes_up}
 use Rattle.cct_text.specs.Writing.{IsNothing}
 use Rattle.cct_bench.specs.Disks.{Always}
 use Rattle.cct_bench.specs.Going.{IsUnbegun}
-use Rattle.cct_bench.specs.Source.{OfBytes}
+use Rattle.cct_script.specs.Source.{OfBytes}
 use Rattle.cct_bench.specs.UpgradeScript.{WasStopped}
 use Rattle.cct_bench.proofs.Going.{going_setup}
 use Rattle.cct_bench.proofs.UpgradeLines.{goes_closes, goes_line, goes_setup, goes_stops, setup_stops}
@@ -70,6 +71,6 @@ returns-in-Err-read_nothing-clause-stopped g c =
 
 pub returns-in-Ok-read_nothing-clause-sound : goal.returns-in-Ok-read_nothing-clause-sound
 returns-in-Ok-read_nothing-clause-sound g c =
-    going_setup Always (g.S.Source.left c.args.script.now) (g.S.Source.left c.read_setup.new.script)
+    going_setup Always clear_desk (g.S.Source.left c.args.script.now) (g.S.Source.left c.read_setup.new.script)
     (standing_of c.read_setup.new.lines).held c.in_ok-number.number c.read_setup.new.setup IsUnbegun IsNothing
     c.in_ok-number.ensures.opened

@@ -1,10 +1,11 @@
-use Rattle.std.proofs.Common.{ap, sym, subst, ◌∙◌}
+use Rattle.std.proofs.Common.{◌≡◌, ap, sym, subst, ◌∙◌}
+use Rattle.cct_model.specs.Change.{clear_desk}
 use Rattle.cct_model.specs.Script.{at_steps}
 use Rattle.cct_disk.specs.Disk.{IsTrusted}
 use Rattle.cct_journal.specs.Journal as journals
 use Rattle.cct_disk.specs.Disk.{Outlasts}
 use Rattle.cct_world.specs.Holds.{WorldHolds}
-use Rattle.cct_world.specs.World.{StandsFor, disk_of, setup_of, used_of}
+use Rattle.cct_world.specs.World.{StandsFor, desk_of, disk_of, setup_of, used_of}
 use Rattle.cct_script.specs.Giving.{standing_of}
 use Rattle.cct_text.specs.Writing.{Broke, Wrote, IsNothing, NeverBroke}
 use Rattle.cct_bench.specs.Disks.{Always, disks}
@@ -20,7 +21,7 @@ use Rattle.cct_bench.proofs.play.Bench.play_script.Goals as goal
 
 pub build-requires-clause-sound : goal.build-requires-clause-sound
 build-requires-clause-sound g c =
-    going_setup Always (g.S.Source.left c.args.script.now) (g.S.Source.left c.read_setup.new.script)
+    going_setup Always clear_desk (g.S.Source.left c.args.script.now) (g.S.Source.left c.read_setup.new.script)
     (standing_of c.read_setup.new.lines).held c.in-Ok.first c.read_setup.new.setup IsUnbegun IsNothing
     c.in-Ok.ensures.opened
 
@@ -37,19 +38,21 @@ returns-in-Ok-build-clause-played g c given ready on =
     let W = Wrote sink.written sink.puts out out in
     let R = IsReliable (IsTrusted disk.honest disk.seen given) in
     let opened =
-    subst (λ setup. Going Always left0 left lines first (at_steps setup) IsUnbegun IsNothing)
+    subst (λ setup. Going Always clear_desk left0 left lines first (at_steps setup) IsUnbegun IsNothing)
     (sym c.in-Ok-build.ensures.setup) c.in-Ok.ensures.opened in
     let going =
-    going_by Always left0 left lines first (at_steps (setup_of world)) IsUnbegun IsNothing W
+    going_by Always clear_desk left0 left lines first (at_steps (setup_of world)) IsUnbegun IsNothing W
     (wrote_nothing sink.written sink.puts out) opened in
     let same = c.in-Ok-build.ensures.disk in
+    let begins : clear_desk (setup_of world) ≡ desk_of world =
+    ap clear_desk c.in-Ok-build.ensures.setup ∙ sym c.in-Ok-build.ensures.desk in
     let fresh = c.in-Ok-build.ensures.fresh (c.requires.made.stands c.read_setup.new.setup) in
     c.play_steps.ensures.played left0 given ready
     (subst (Outlasts disk.size disk.honest disk.seen disk.cuts given) (sym same)
     (lasts_on disk.size disk.honest disk.seen disk.cuts given _ on))
     (
-    going_holds Always R left0 left lines first (at_steps (setup_of world)) IsUnbegun (WorldHolds given world) W
-    (λ past relies. tt)
+    going_holds Always R clear_desk (λ any. desk_of world) left0 left lines first (setup_of world) IsUnbegun
+    (WorldHolds given world) W begins (λ past relies. tt)
     (λ played past unbegun. holds_first disk.size disk.honest disk.seen disk.cuts disk.cut_to (setup_of world) given
     (StandsFor world) (disk_of world) (used_of world) (ap disk.cuts same ∙ on.same_cuts) fresh.host.keeps.used
     (λ sure. fresh) played past unbegun.0 unbegun.1) going
@@ -61,7 +64,7 @@ returns-in-Err-build-clause-played g c given ready on =
     let disk = g.D.Disk in
     let out = c.args.out.now in
     let last = c.in-Err-build.disk in
-    played_none Always (IsReliable (IsTrusted disk.honest disk.seen given)) (g.S.Source.left c.args.script.now)
+    played_none Always (IsReliable (IsTrusted disk.honest disk.seen given)) clear_desk (g.S.Source.left c.args.script.now)
     (g.S.Source.left c.read_setup.new.script) (standing_of c.read_setup.new.lines).held c.in-Ok.first
     (at_steps c.read_setup.new.setup) IsUnbegun (Wrote sink.written sink.puts out out)
     (Broke sink.written sink.puts out out)

@@ -5,9 +5,10 @@ use Rattle.cct_edge.proofs.Chains.{Rose-earlier}
 use Rattle.cct_model.specs.Script.{at_steps, at_end, opens, plays}
 use Rattle.cct_disk.specs.Disk.{IsTrusted}
 use Rattle.cct_world.specs.Holds.{WorldHolds}
-use Rattle.cct_world.specs.World.{StandsFor, disk_of, setup_of, used_of}
+use Rattle.cct_world.specs.World.{StandsFor, desk_of, disk_of, setup_of, used_of}
 use Rattle.cct_script.specs.Giving.{standing_of}
-use Rattle.cct_bench.specs.Lines.{ScriptGoesOn, WithMoreTaken}
+use Rattle.cct_script.specs.Scripts.{WithMoreTaken}
+use Rattle.cct_bench.specs.Lines.{ScriptGoesOn}
 use Rattle.cct_bench.specs.Disks.{disks}
 use Rattle.cct_world.specs.Relying.{IsReliable}
 use Rattle.cct_text.specs.Writing.{Writes, Wrote, Broke}
@@ -51,7 +52,7 @@ returns-in-Err-clause-played g c left0 given ready on start =
     let runs = c.loop-why.invariant in
     let now = lasts_then disk.size disk.honest disk.seen disk.cuts given (disk_of c.args.world) (disk_of world) on
     runs.disk.outlasts in
-    played_stopped R left0 left left1 (standing_of c.loop-why.self.lines).held c.loop-why.number
+    played_stopped R (λ any. desk_of world) left0 left left1 (standing_of c.loop-why.self.lines).held c.loop-why.number
     (at_steps (setup_of world)) c.in-Err.why c.ending_at.result (WorldHolds given world) W B O c.ending_at.ensures
     (world_ends given last world (at_steps (setup_of world)) (λ by is. is) ready now c.into_disk.ensures) (runs.going left0 given on start) c.in-Err.ensures.stops
 
@@ -82,9 +83,9 @@ returns-then-is_end-clause-played g c left0 given ready on start =
     (if b then opens (at_end setup) else plays c.read_step.new.step (at_steps setup)) rest))
     (sym c.is_end.ensures ∙ c.if-is_end.true) c.in-Ok.ensures.reads in
     let going =
-    going_opens R left0 left left1 held rest number stage (at_end setup) (WorldHolds given world) W
+    going_opens R (λ any. desk_of world) left0 left left1 held rest number stage (at_end setup) (WorldHolds given world) W
     (runs.going left0 given on start) ends in
-    played_ended R left0 left1 left2 rest (number + 1) setup c.finish.result (WorldHolds given world) W B O
+    played_ended R (λ any. desk_of world) left0 left1 left2 rest (number + 1) setup c.finish.result (WorldHolds given world) W B O
     (world_ends given last world (at_end setup) (λ by is. is) ready now c.into_disk-then-is_end.ensures) going (c.finish.ensures.ended setup)
 
 pub play-requires-clause-size : goal.play-requires-clause-size
@@ -164,15 +165,15 @@ loop-why-preserved g c =
           let trusted = IsTrusted disk.honest disk.seen given in
           let now = lasts_then disk.size disk.honest disk.seen disk.cuts given (disk_of c.args.world) (disk_of world)
           on runs.disk.outlasts in
-          subst (λ after. Going (IsReliable trusted) left0 left1 rest (number + 1) after (WorldHolds given world1) W2) same
+          subst (λ after. Going (IsReliable trusted) (λ any. desk_of world1) left0 left1 rest (number + 1) after (WorldHolds given world1) W2) same
           (
-          going_plays (IsReliable trusted) left0 left left1 held rest number stage stage setup (WorldHolds given world)
+          going_plays (IsReliable trusted) (desk_of world) (desk_of world1) left0 left left1 held rest number stage stage setup (WorldHolds given world)
           (WorldHolds given world1) s (Wrote sink.written sink.puts out out1)
           (λ report. Writes sink.written sink.puts out1 report (Ok tt) out2) W2 (reliable_back trusted)
           (λ past none. inr none) refl
           (λ xs ys before here. writes_then sink.written sink.puts out out1 out2 xs ys (Ok tt) before here)
           (runs.going left0 given on start) reads
-          (world_carried given (disk_of world1) world (StandsFor world1) (setup_of world1) (used_of world1) s
+          (world_carried given (disk_of world1) world (StandsFor world1) (setup_of world1) (desk_of world1) (used_of world1) s
           (λ report. Writes sink.written sink.puts out1 report (Ok tt) out2) played.setup now played.lasts played.plays)
           );
       source = serves_on runs.source c.in-Ok.ensures.source;

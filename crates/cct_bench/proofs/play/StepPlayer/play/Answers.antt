@@ -1,7 +1,7 @@
 use Rattle.std.proofs.Common.{Err, refl, inl, reverse, sym, subst}
 use Rattle.cct_world.specs.Step.{CutsIn}
 use Rattle.cct_world.specs.Restarts.{RestartsIn}
-use Rattle.cct_world.specs.World.{StandsFor, disk_of, setup_of, used_of}
+use Rattle.cct_world.specs.World.{StandsFor, desk_of, disk_of, setup_of, used_of}
 use Rattle.cct_text.specs.Writing.{Writes}
 use Rattle.cct_world.proofs.Holding.{restarts_in}
 use Rattle.cct_bench.proofs.Keeping.{books_play}
@@ -22,9 +22,11 @@ returns-in-Err-write_entries-clause-ended g c =
       refl,
       failed,
       used_of next,
+      desk_of next,
       record {
         report = c.step.new.report.items;
         plays = books_play world next last s c.step.new.report.items c.requires.size played.plays is played.setup;
+        desk = played.desk;
         told = played.told;
         cut = subst (CutsIn s disk.size disk.honest disk.seen disk.cuts disk.cut_to (disk_of world)) (sym is)
             played.cut;

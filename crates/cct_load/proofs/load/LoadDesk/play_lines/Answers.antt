@@ -10,7 +10,7 @@ use Rattle.cct_load.proofs.load.LoadDesk.play_lines.Goals as goal
 
 pub loop-line-init : goal.loop-line-init
 loop-line-init g c =
-    goes_begin c.args.world c.args.self.now.sums c.args.load.seed c.requires.fresh c.requires.sums c.requires.setup
+    goes_begin c.args.world c.args.self.now.sums c.args.load.seed c.requires.fresh c.requires.desk c.requires.sums c.requires.setup
 
 pub step-requires-clause-played : goal.step-requires-clause-played
 step-requires-clause-played g c =

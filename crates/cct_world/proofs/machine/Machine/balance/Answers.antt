@@ -14,4 +14,5 @@ returns g c = record {
   told = search rules;
   recorded = search rules;
   unkept = search rules;
+  desk = refl;
 }

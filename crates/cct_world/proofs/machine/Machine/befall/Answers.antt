@@ -19,10 +19,11 @@ returns g c =
           c.befall-outcome.result (c.befall-outcome.ensures.stands past stands.bus) c.tell.ensures stands.host in
           let here =
           subst (λ s. HappeningGoes s c.args.what c.args.addr machine.host bus past report) machine.same goes in (
-            entries_are (capacity_in machine) (hosts.setup_of machine.host) past c.args.addr c.args.what _ here.0,
+            entries_are (capacity_in machine) (hosts.setup_of machine.host) past machine.desk c.args.addr c.args.what _ here.0,
             record { host = here.1.0; bus = here.1.1 },
           );
       told = plain.0;
       recorded = plain.1;
       unkept = plain.2;
+      desk = refl;
     }

@@ -1,4 +1,4 @@
-use Rattle.std.proofs.Common.{◌≡◌, ◌∷◌, Some, subst, ap, sym, ◌∙◌, rules}
+use Rattle.std.proofs.Common.{refl, ◌≡◌, ◌∷◌, Some, subst, ap, sym, ◌∙◌, rules}
 use Rattle.cct_model.specs.Legal.{command_entry}
 use Rattle.cct_host.specs.Desk.{no_of}
 use Rattle.cct_host.specs.Host as hosts
@@ -24,4 +24,5 @@ returns-in-Err g c = record {
   told = search rules;
   recorded = search rules;
   unkept = search rules;
+  desk = refl;
 }

@@ -18,6 +18,7 @@ returns-in-Ok-clause-played g c =
       cut = again.cut;
       lasts = again.outlasts;
       later = again.later;
+      desk = refl;
     }
 
 pub returns-in-Err-clause-unplayed : goal.returns-in-Err-clause-unplayed

@@ -20,4 +20,5 @@ returns g c = record {
   told = search rules;
   recorded = search rules;
   unkept = search rules;
+  desk = refl;
 }

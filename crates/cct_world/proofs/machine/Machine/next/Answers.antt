@@ -27,6 +27,7 @@ returns-in-Ok-clause-played g c =
       cut = next.goes_on.same_cuts;
       lasts = next.goes_on;
       later = search rules;
+      desk = refl;
     }
 
 pub returns-in-Err-clause-unplayed : goal.returns-in-Err-clause-unplayed

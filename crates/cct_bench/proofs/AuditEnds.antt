@@ -1,0 +1,127 @@
+-- How an audit ends, by its status.
+use Rattle.std.proofs.Common.{◌≡◌, ◌≢◌, ℕ, List, [], ◌∷◌, ◌++◌, reverse, Option, Some, None, Result, Ok, Err, inl, inr, refl, ap, subst, sym, ◌∙◌}
+use Rattle.std.specs.Io.KnownBytes.{Consumes}
+use Rattle.cct_edge.proofs.Chains.{Consumes-nil}
+use Rattle.cct_edge.specs.declared.fault.Failed.{Failed}
+use Rattle.cct_model.specs.lines.entry.Entry.{Entry}
+use Rattle.cct_model.specs.lines.entry.Entry.TheVariants as entry
+use Rattle.cct_model.specs.lines.entry.LineKind.{LineKind}
+use Rattle.cct_monitor.specs.Watches.{Came}
+use Rattle.cct_model.specs.Script.{Refusal}
+use Rattle.cct_script.specs.Source.{OfBytes, to_come}
+use Rattle.cct_script.specs.declared.stops.ScriptStop.TheVariants as stop
+use Rattle.cct_script.proofs.Sources.{told_by}
+use Rattle.cct_text.specs.Writing.{Broke, Writes, Wrote}
+use Rattle.cct_text.proofs.Writing.{writes_then}
+use Rattle.cct_audit.specs.Audit.{Audited}
+use Rattle.cct_audit.specs.declared.auditing.AuditEnd.TheVariants as ended
+use Rattle.cct_audit.specs.Capture.{Capture, capture}
+use Rattle.cct_audit.specs.Telling.{told}
+use Rattle.cct_bench.specs.Audit.{AuditCloses, AuditEnds, AuditRan, IsOfAudit}
+use Rattle.cct_bench.specs.Report.{IsOrMemory}
+use Rattle.cct_bench.specs.Run.{status_by}
+use Rattle.cct_bench.specs.declared.outcome.Status.{Status}
+use Rattle.cct_bench.specs.declared.outcome.Status.TheVariants as status
+
+module _ {K : Type 0} (written : K → Option (List ℕ)) (puts : K → List ℕ → Result (Unit {0}) Failed → K → Type 0)
+    (a b c : K) (bytes : List ℕ) (left : Option (List ℕ)) (F : Type 0) where
+  pub audit_done : Audited bytes ended.Done left (Wrote written puts a b) (Broke written puts a b)
+      → AuditRan bytes status.Done left F (Wrote written puts a b) (Broke written puts a b)
+  audit_done h = record { taken = h.taken; past = h.past; took = h.took; ends = h.ends }
+
+  pub audit_unwritten : Audited bytes ended.Unwritten left (Wrote written puts a b) (Broke written puts a b)
+      → AuditRan bytes status.WriteFault left F (Wrote written puts a b) (Broke written puts a b)
+  audit_unwritten h = record { taken = h.taken; past = h.past; took = h.took; ends = inl h.ends }
+
+  -- the last line is written, or not
+  refused_line : (taken : List ℕ) (past : List Came) (line : Entry) (answer : Result (Unit {0}) Failed)
+      → AuditCloses bytes taken past F status.ScriptRefused line → Wrote written puts a b (told past)
+      → Writes written puts b (line ∷ []) answer c
+      → AuditEnds bytes taken past F (status_by answer status.ScriptRefused) (Wrote written puts a c) (Broke written puts a c)
+  refused_line taken past line (Ok done) closes wrote last =
+      (line, closes, writes_then written puts a b c (told past) (line ∷ []) (Ok done) wrote last)
+  refused_line taken past line (Err failed) closes wrote last =
+      inr (status.ScriptRefused, line, closes, (b, failed, wrote, last))
+
+  unread_line : (taken : List ℕ) (past : List Came) (line : Entry) (answer : Result (Unit {0}) Failed)
+      → AuditCloses bytes taken past F status.ReadFault line → Wrote written puts a b (told past)
+      → Writes written puts b (line ∷ []) answer c
+      → AuditEnds bytes taken past F (status_by answer status.ReadFault) (Wrote written puts a c) (Broke written puts a c)
+  unread_line taken past line (Ok done) closes wrote last =
+      (line, closes, writes_then written puts a b c (told past) (line ∷ []) (Ok done) wrote last)
+  unread_line taken past line (Err failed) closes wrote last =
+      inr (status.ReadFault, line, closes, (b, failed, wrote, last))
+
+  pub audit_refused : (number : ℕ) (why : LineKind) (s : Status)
+      → Audited bytes (ended.Stopped number (stop.Refused why)) left (Wrote written puts a b) (Broke written puts a b)
+      → (answer : Result (Unit {0}) Failed) × Writes written puts b (entry.Line number why ∷ []) answer c
+      × (s ≡ status_by answer status.ScriptRefused)
+      → AuditRan bytes s left F (Wrote written puts a c) (Broke written puts a c)
+  audit_refused number why s h put = record {
+    taken = h.taken;
+    past = h.past;
+    took = h.took;
+    ends = subst
+        (λ x. AuditEnds bytes h.taken h.past F x (Wrote written puts a c) (Broke written puts a c)) (sym put.2)
+        (refused_line h.taken h.past (entry.Line number why) put.0
+        (record { number = number; why = why }, h.ends.0, refl) h.ends.1 put.1);
+  }
+
+  pub audit_unread : (number : ℕ) (s : Status) → F
+      → Audited bytes (ended.Stopped number stop.Unread) left (Wrote written puts a b) (Broke written puts a b)
+      → (answer : Result (Unit {0}) Failed) × Writes written puts b (entry.ReadFault ∷ []) answer c
+      × (s ≡ status_by answer status.ReadFault)
+      → AuditRan bytes s left F (Wrote written puts a c) (Broke written puts a c)
+  audit_unread number s failed h put = record {
+    taken = h.taken;
+    past = h.past;
+    took = h.took;
+    ends = subst
+        (λ x. AuditEnds bytes h.taken h.past F x (Wrote written puts a c) (Broke written puts a c)) (sym put.2)
+        (unread_line h.taken h.past entry.ReadFault put.0 (h.ends.0, failed, refl) h.ends.1 put.1);
+  }
+
+-- there was no memory for the words
+pub audit_no_memory : (left : Option (List ℕ)) (F : Type 0) (W : List Entry → Type 0) (B : List Entry → List Entry → Type 0)
+    → W [] → OfBytes left (λ bytes. AuditRan bytes status.OutOfMemory left F W B)
+audit_no_memory left F W B wrote = (
+  to_come left,
+  told_by left left [] (Consumes-nil left),
+  record { taken = []; past = []; took = refl; ends = (refl, wrote) },
+)
+
+-- where nothing failed and no line is refused, it is done
+pub audit_completes : (bytes : List ℕ) (s : Status) (left : Option (List ℕ)) (source_failed sink_failed : Type 0)
+    (W : List Entry → Type 0) (B : List Entry → List Entry → Type 0) → AuditRan bytes s left source_failed W B
+    → (capture bytes).refused ≡ None → (s ≡ status.WriteFault → sink_failed) → (source_failed → ⊥) → (sink_failed → ⊥)
+    → IsOrMemory status.Done s
+audit_completes bytes s left source_failed sink_failed W B a none cause no_source no_sink = by_status s a.ends cause
+  where
+    clash : (line : Refusal) → capture bytes ≡ record { came = reverse a.past; refused = Some line } → ⊥
+    clash line is = let e : Some line ≡ None = sym (ap (λ (c : Capture). c.refused) is) ∙ none in cc e
+
+    by_status : (s : Status) → AuditEnds bytes a.taken a.past source_failed s W B → (s ≡ status.WriteFault → sink_failed)
+        → IsOrMemory status.Done s
+    by_status status.Done ends cause = inl refl
+    by_status status.OutOfMemory ends cause = inr refl
+    by_status status.WriteFault ends cause = absurd (no_sink (cause refl))
+    by_status status.ScriptRefused ends cause = absurd (clash ends.1.0 ends.1.1)
+    by_status status.ReadFault ends cause = absurd (no_source ends.1.1)
+    by_status status.WordsRefused ends cause = absurd ends.1
+    by_status status.DiskFault ends cause = absurd ends.1
+    by_status status.NotBlank ends cause = absurd ends.1
+    by_status status.DiskSize ends cause = absurd ends.1
+    by_status status.JournalLost ends cause = absurd ends.1
+    by_status status.NotUpgraded ends cause = absurd ends.1
+
+-- the status of its last line
+pub refused_of_audit : (answer : Result (Unit {0}) Failed) → IsOfAudit (status_by answer status.ScriptRefused)
+refused_of_audit (Ok done) = tt
+refused_of_audit (Err failed) = tt
+
+pub unread_of_audit : (answer : Result (Unit {0}) Failed) → IsOfAudit (status_by answer status.ReadFault)
+unread_of_audit (Ok done) = tt
+unread_of_audit (Err failed) = tt
+
+pub not_of_audit : (s other : Status) → (IsOfAudit other → ⊥) → IsOfAudit s → s ≢ other
+not_of_audit s other never is same = never (subst IsOfAudit same is)

@@ -1,0 +1,51 @@
+-- What an audit of the bench leaves: what it took of its capture, and what it wrote, by its status.
+use Rattle.std.specs.Prelude.{◌≡◌, ◌⊎◌, ℕ, List, [], ◌∷◌, ◌++◌, reverse, Option, Some, None, ⊤}
+use Rattle.cct_model.specs.lines.entry.Entry.{Entry}
+use Rattle.cct_model.specs.lines.entry.Entry.TheVariants as entry
+use Rattle.cct_model.specs.Script.{Refusal}
+use Rattle.cct_monitor.specs.Watches.{Came}
+use Rattle.cct_script.specs.Source.{to_come}
+use Rattle.cct_audit.specs.Audit.{BreaksOff}
+use Rattle.cct_audit.specs.Capture.{capture}
+use Rattle.cct_audit.specs.Telling.{told, told_last}
+use Rattle.cct_bench.specs.declared.outcome.Status.{Status}
+use Rattle.cct_bench.specs.declared.outcome.Status.TheVariants as status
+
+-- of an audit of a capture of these bytes, of which these were taken, and of which this came, newest first
+module _ (bytes taken : List ℕ) (past : List Came) (source_failed : Type 0) where
+  -- The last line of an audit that isn't done, and its cause: a line of the capture is refused; or reading failed, and what
+  -- came are the taps whose lines stand whole in the bytes taken.
+  abbrev pub AuditCloses : Status → Entry → Type 0
+  AuditCloses status.ScriptRefused line =
+      (refusal : Refusal) × (capture bytes ≡ record { came = reverse past; refused = Some refusal })
+      × (line ≡ entry.Line refusal.number refusal.why)
+  AuditCloses status.ReadFault line = ((capture taken).came ≡ reverse past) × source_failed × (line ≡ entry.ReadFault)
+  AuditCloses s line = ⊥
+
+  -- What was written: all that the monitor says, in its order; or what it says up to there, and the last line; or a front of
+  -- either, in which all that is said at the taps but the last one is whole. Without memory for the words nothing is.
+  abbrev pub AuditEnds : Status → (List Entry → Type 0) → (List Entry → List Entry → Type 0) → Type 0
+  AuditEnds status.Done Written Breaks =
+      (capture bytes ≡ record { came = reverse past; refused = None }) × Written (told past ++ told_last past)
+  AuditEnds status.WriteFault Written Breaks =
+      BreaksOff bytes Breaks past
+      ⊎ ((s : Status) × (line : Entry) × AuditCloses s line × Breaks (told past) (line ∷ []))
+  AuditEnds status.OutOfMemory Written Breaks = (taken ≡ []) × Written []
+  AuditEnds s Written Breaks = (line : Entry) × AuditCloses s line × Written (told past ++ line ∷ [])
+
+-- An audit of a capture of these bytes: what it took of them, what came of it, newest first, and what it wrote. The bytes are
+-- those taken and those still to come; a source that tells none is taken to have no more.
+pub record AuditRan (bytes : List ℕ) (s : Status) (left : Option (List ℕ)) (source_failed : Type 0)
+    (Written : List Entry → Type 0) (Breaks : List Entry → List Entry → Type 0) : Type 0 where
+  pub taken : List ℕ
+  pub past : List Came
+  pub took : bytes ≡ taken ++ to_come left
+  pub ends : AuditEnds bytes taken past source_failed s Written Breaks
+
+-- An audit may end with this status.
+abbrev pub IsOfAudit : Status → Type 0
+IsOfAudit status.Done = ⊤
+IsOfAudit status.ScriptRefused = ⊤
+IsOfAudit status.ReadFault = ⊤
+IsOfAudit status.WriteFault = ⊤
+IsOfAudit s = ⊥
