@@ -4,7 +4,7 @@ use crate::fields::first_field;
 
 /// What is said where words are refused, and by the word `--help`.
 pub const USAGE: &str =
-    "usage: cct_main run < SCRIPT, cct_main report, cct_main upgrade < SCRIPT, cct_main load SEED N, with SEED 0 to 18446744073709551615 and N 1 to 10000 (docs/OPERATING.md, \"Exit statuses\")";
+    "usage: cct_main run < SCRIPT, cct_main report, cct_main upgrade < SCRIPT, cct_main audit < CAPTURE, cct_main load SEED N, with SEED 0 to 18446744073709551615 and N 1 to 10000 (docs/OPERATING.md, \"Exit statuses\")";
 
 /// What is said where there was no memory.
 pub const MEMORY: &str =
@@ -14,12 +14,16 @@ pub const MEMORY: &str =
 pub const UNWRITTEN: &str =
     "standard output couldn't be written; a report tells what was put (docs/OPERATING.md, \"Exit statuses\")";
 
+/// What is said where writing failed in an audit.
+pub const UNTOLD: &str =
+    "standard output couldn't be written; give the capture to audit again (docs/OPERATING.md, \"Exit statuses\")";
+
 /// What is said by a report or an upgrade where there is no file.
 pub const NO_JOURNAL: &str =
     "this folder has no cctalk.jnl, and none was made (docs/OPERATING.md, \"A journal that isn't right\")";
 
 const UNREAD: Meaning = Meaning::Plain(
-    "standard input couldn't be read; the steps before were played (docs/OPERATING.md, \"Exit statuses\")",
+    "standard input couldn't be read; the lines before were played (docs/OPERATING.md, \"Exit statuses\")",
 );
 
 const DISK_FAULT: Meaning = Meaning::OfJournal {

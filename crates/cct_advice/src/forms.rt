@@ -1,16 +1,66 @@
-//! The forms of all lines of a script: the table of `docs/SCRIPT.md`.
+//! The forms of all lines of a script and of a capture: the tables of `docs/SCRIPT.md`.
 
 use crate::rule::Rule;
-use cct_lines::{COIN_PLACES, MOST_HEARD, MOST_SENT, PATHS, RETURN_CODE, STACK_CODE};
+use cct_lines::{
+    COIN_PLACES, GREATEST_AMOUNT, GREATEST_FIRST, MOST_HEARD, MOST_SENT, PATHS, RETURN_CODE,
+    STACK_CODE,
+};
 use std::fmt;
 
-/// A part of a script.
+/// A part of a script or of a capture.
 #[derive(Clone, Copy, PartialEq, Eq)]
 pub(crate) enum Part {
-    /// The setup lines, up to `begin`.
+    /// The setup lines of a script, up to `begin`.
     Setup,
-    /// The step lines, up to `end`.
+    /// The step lines of a script, up to `end`.
     Steps,
+    /// The watch lines of a capture, up to `begin`.
+    Watches,
+    /// The tap lines of a capture, up to `end`.
+    Taps,
+}
+
+impl Part {
+    /// The text of which it is a part.
+    pub(crate) fn text(self) -> Text {
+        match self {
+            Part::Setup | Part::Steps => Text::Script,
+            Part::Watches | Part::Taps => Text::Capture,
+        }
+    }
+}
+
+/// What is read on standard input.
+#[derive(Clone, Copy, PartialEq, Eq)]
+pub(crate) enum Text {
+    Script,
+    Capture,
+}
+
+impl Text {
+    /// Its name.
+    pub(crate) fn name(self) -> &'static str {
+        match self {
+            Text::Script => "script",
+            Text::Capture => "capture",
+        }
+    }
+
+    /// Its part up to `begin`.
+    pub(crate) fn front(self) -> Part {
+        match self {
+            Text::Script => Part::Setup,
+            Text::Capture => Part::Watches,
+        }
+    }
+
+    /// Its part after `begin`.
+    pub(crate) fn body(self) -> Part {
+        match self {
+            Text::Script => Part::Steps,
+            Text::Capture => Part::Taps,
+        }
+    }
 }
 
 /// A field: its name, and what it may be.
@@ -29,12 +79,12 @@ impl Field {
     }
 }
 
-/// A form of a line: the part of the script in which it may stand, its word, and the fields after it.
+/// A form of a line: the part in which it may stand, its word, and the fields after it.
 #[derive(Clone, Copy)]
 pub(crate) struct Form(Part, &'static str, &'static [Field]);
 
 impl Form {
-    /// The part of the script in which it may stand.
+    /// The part in which it may stand.
     pub(crate) fn part(&self) -> Part {
         self.0
     }
@@ -72,7 +122,7 @@ const MOST_VALUE: u64 = 1_000_000;
 
 const MOST_PLACE: u64 = COIN_PLACES as u64;
 
-const MOST_ID: u64 = 4_294_967_295;
+const MOST_NUMBER: u64 = 4_294_967_295;
 
 /// The address of a device.
 const DEVICE: Field = Field("A", Rule::Number(2, 255));
@@ -102,11 +152,18 @@ const ID: Field = Field("ID", Rule::Id);
 
 const MASK: Field = Field("MASK", Rule::Mask);
 
-const ORDER: Field = Field("ORDER", Rule::Number(1, MOST_ID));
+const ORDER: Field = Field("ORDER", Rule::Number(1, MOST_NUMBER));
 
-const SALE: Field = Field("SALE", Rule::Number(1, MOST_ID));
+const SALE: Field = Field("SALE", Rule::Number(1, MOST_NUMBER));
 
 const COUNT: Field = Field("COUNT", Rule::Number(1, 255));
+
+/// How many coins are in a hopper.
+const STOCK: Field = Field("COUNT", Rule::Number(0, MOST_NUMBER));
+
+const FIRST: Field = Field("FIRST", Rule::Number(1, GREATEST_FIRST as u64));
+
+const AMOUNT: Field = Field("AMOUNT", Rule::Number(1, GREATEST_AMOUNT as u64));
 
 const PRICE: Field = Field("PRICE", Rule::Number(1, 1_000_000_000));
 
@@ -128,9 +185,15 @@ const HOST: Field = Field("host", Rule::Only("host"));
 
 const WHOLE: Field = Field("whole", Rule::Only("whole"));
 
-const SENT: Field = Field("PIECE", Rule::Piece(MOST_SENT));
+const PIECE: Field = Field("PIECE", Rule::Piece(MOST_SENT));
 
-const HEARD: Field = Field("PIECE", Rule::Piece(MOST_HEARD));
+const WHOLE_PIECE: Field = Field("PIECE", Rule::Piece(MOST_HEARD));
+
+const KIND: Field = Field("KIND", Rule::Kind);
+
+const SENT: Field = Field("SENT", Rule::Bytes(MOST_SENT));
+
+const HEARD: Field = Field("HEARD", Rule::Piece(MOST_HEARD));
 
 /// The fields of a line that has an address alone after its word.
 const AT: &[Field] = &[A];
@@ -153,9 +216,9 @@ pub(crate) const FORMS: &[Form] = &[
     Form(Part::Steps, "fall", AT),
     Form(Part::Steps, "jam", AT),
     Form(Part::Steps, "reset", AT),
-    Form(Part::Steps, "fault", &[DEVICES, SENT]),
-    Form(Part::Steps, "fault", &[HOST, SENT]),
-    Form(Part::Steps, "fault", &[WHOLE, HEARD]),
+    Form(Part::Steps, "fault", &[DEVICES, PIECE]),
+    Form(Part::Steps, "fault", &[HOST, PIECE]),
+    Form(Part::Steps, "fault", &[WHOLE, WHOLE_PIECE]),
     Form(Part::Steps, "start", &[A, MASK]),
     Form(Part::Steps, "round", AT),
     Form(Part::Steps, "stop", AT),
@@ -171,7 +234,14 @@ pub(crate) const FORMS: &[Form] = &[
     Form(Part::Steps, "crash", &[CHOICE]),
     Form(Part::Steps, "crash", &[A, CALLS, CHOICE]),
     Form(Part::Steps, "balance", &[]),
+    Form(Part::Steps, "stock", &[A, STOCK]),
+    Form(Part::Steps, "change", &[FIRST, AMOUNT]),
+    Form(Part::Steps, "serve", &[]),
     Form(Part::Steps, "end", &[]),
+    Form(Part::Watches, "watch", &[DEVICE, CHECK, KIND]),
+    Form(Part::Watches, "begin", &[]),
+    Form(Part::Taps, "tap", &[SENT, HEARD]),
+    Form(Part::Taps, "end", &[]),
 ];
 
 /// The forms of a word, joined by `or`.

@@ -14,7 +14,7 @@ pub(crate) fn gap_in(line: &[u8]) -> Option<&'static str> {
         return Some("a byte order mark stands before the word; save the file without it");
     }
     if line.starts_with(WIDE_MARK) {
-        return Some("the script is in UTF-16; save it as plain text of one byte a character");
+        return Some("the text is in UTF-16; save it as plain text of one byte a character");
     }
     if line.ends_with(b"\r") {
         return Some("a carriage return ends the line; take it out, as by tr -d '\\r'");

@@ -2,6 +2,7 @@
 ghost use Rattle.std.specs.Prelude.{◌≡◌};
 ghost use Rattle.cct_advice.specs.Kept.{source_of, sink_of};
 
+use crate::forms::Text;
 use crate::front::Front;
 use crate::window::Window;
 use cct_edge::{Failed, Sink, Source};
@@ -14,13 +15,23 @@ pub struct KeptSource<S> {
 }
 
 impl<S: Source> KeptSource<S> {
-    /// Over `source`, with no byte kept.
+    /// Over `source`, which gives a script, with no byte kept.
     pub fn new(source: S) -> KeptSource<S>
         ensures { source_of result ≡ source }
     {
         KeptSource {
             source,
-            window: Window::new(),
+            window: Window::new(Text::Script),
+        }
+    }
+
+    /// Over `source`, which gives a capture, with no byte kept.
+    pub fn of_capture(source: S) -> KeptSource<S>
+        ensures { source_of result ≡ source }
+    {
+        KeptSource {
+            source,
+            window: Window::new(Text::Capture),
         }
     }
 

@@ -19,7 +19,7 @@ mod word;
 mod words;
 
 pub use advice::{Advice, advise};
-pub use ending::{MEMORY, NO_JOURNAL, UNWRITTEN, USAGE};
+pub use ending::{MEMORY, NO_JOURNAL, UNTOLD, UNWRITTEN, USAGE};
 pub use kept::{KeptSink, KeptSource};
 pub use window::Window;
 pub use words::words_of;

@@ -1,7 +1,7 @@
 //! Where a line misses its form.
 
 use crate::fields::{fields_behind, first_field};
-use crate::forms::{FORMS, Field, Form, FormsOf, Part};
+use crate::forms::{FORMS, Field, Form, FormsOf, Part, Text};
 use crate::gaps::is_remark;
 use crate::rule::{Rule, misspelling};
 use crate::shown::Shown;
@@ -104,7 +104,7 @@ impl fmt::Display for Miss<'_> {
         match self.wrong {
             Wrong::Missing(field) => write_missing(field, f),
             Wrong::Unfit(field, text) => write_unfit(field, text, f),
-            Wrong::Surplus(name, text) => write_surplus(name, text, f),
+            Wrong::Surplus(name, rest) => write_surplus(form.part().text(), name, rest, f),
         }
     }
 }
@@ -134,12 +134,18 @@ fn write_unfit<W: fmt::Write>(field: Field, text: &[u8], f: &mut fmt::Formatter<
 }
 
 /// Writes that something stands after a field or a word.
-fn write_surplus<W: fmt::Write>(name: &str, text: &[u8], f: &mut fmt::Formatter<W>) -> fmt::Result {
-    let shown = Shown(text);
-    if is_remark(text) {
+fn write_surplus<W: fmt::Write>(
+    text: Text,
+    name: &str,
+    rest: &[u8],
+    f: &mut fmt::Formatter<W>,
+) -> fmt::Result {
+    let shown = Shown(rest);
+    if is_remark(rest) {
+        let text = text.name();
         return write!(
             f,
-            "\"{shown}\" stands after {name}: a script has no comments"
+            "\"{shown}\" stands after {name}: a {text} has no comments"
         );
     }
     write!(

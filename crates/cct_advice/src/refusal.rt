@@ -71,7 +71,7 @@ impl Refusal<'_> {
         let (word, rest) = first_field(self.line);
         let addr = Shown(first_field(rest.unwrap_or(b"")).0);
         match word {
-            b"acceptor" | b"hopper" | b"bills" => write!(
+            b"acceptor" | b"hopper" | b"bills" | b"watch" => write!(
                 f,
                 "address {addr} is an earlier device's, or {DEVICES} devices were given before"
             ),
@@ -81,7 +81,10 @@ impl Refusal<'_> {
             ),
             b"coin" | b"alien" => write!(f, "no coin acceptor was given before at address {addr}"),
             b"bill" => write!(f, "no bill acceptor was given before at address {addr}"),
-            b"fall" | b"jam" => write!(f, "no hopper was given before at address {addr}"),
+            b"fall" | b"jam" | b"stock" => write!(
+                f,
+                "no hopper was given before at address {addr}"
+            ),
             _ => write!(f, "no device was given before at address {addr}"),
         }
     }
@@ -97,16 +100,18 @@ impl Refusal<'_> {
 
     /// Writes what is wrong with the end of a line or of the script.
     fn write_end<W: fmt::Write>(&self, f: &mut fmt::Formatter<W>) -> fmt::Result {
+        let text = self.part.text().name();
         match self.kind {
-            b"cut" if !self.line.is_empty() => f.write_str(
-                "the script ends within the line; end it with a line feed, the line end too",
+            b"cut" if !self.line.is_empty() => write!(
+                f,
+                "the {text} ends within the line; end it with a line feed, the line end too"
             ),
             b"cut" => match self.part {
-                Part::Setup => f.write_str("the script ends before its line begin"),
-                Part::Steps => f.write_str("the script ends before its line end"),
+                Part::Setup | Part::Watches => write!(f, "the {text} ends before its line begin"),
+                Part::Steps | Part::Taps => write!(f, "the {text} ends before its line end"),
             },
             b"long" => write!(f, "the line has more than {MOST_LINE} bytes"),
-            b"lines" => write!(f, "a script has at most {MOST_LINES} lines"),
+            b"lines" => write!(f, "a {text} has at most {MOST_LINES} lines"),
             _ => f.write_str(
                 "something stands after the line end; its line feed has to be the last byte",
             ),

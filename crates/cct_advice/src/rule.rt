@@ -8,6 +8,10 @@ const SIMPLE: &[u8] = b"simple";
 
 const CRC: &[u8] = b"crc";
 
+const ACCEPTOR: &[u8] = b"acceptor";
+
+const HOPPER: &[u8] = b"hopper";
+
 /// The mask that has no coin place.
 const NO_PLACE: &[u8] = b"0000";
 
@@ -28,6 +32,10 @@ pub(crate) enum Rule {
     Mask,
     /// Up to so many bytes in hexadecimal, or a hyphen for none.
     Piece(usize),
+    /// At least one byte and up to so many, in hexadecimal.
+    Bytes(usize),
+    /// What a watched device is.
+    Kind,
     /// This word.
     Only(&'static str),
 }
@@ -42,6 +50,8 @@ impl Rule {
             Rule::Id => field.len() == 6 && are_printing(field),
             Rule::Mask => field.len() == 4 && are_hex(field) && field != NO_PLACE,
             Rule::Piece(most) => field == NO_BYTE || is_piece(most, field),
+            Rule::Bytes(most) => is_piece(most, field),
+            Rule::Kind => field == ACCEPTOR || field == HOPPER,
             Rule::Only(word) => field == word.as_bytes(),
         }
     }
@@ -75,6 +85,11 @@ impl fmt::Display for Rule {
                 f,
                 "- or two hexadecimal digits for each byte, at most {most} bytes"
             ),
+            Rule::Bytes(most) => write!(
+                f,
+                "two hexadecimal digits for each byte, 1 to {most} bytes"
+            ),
+            Rule::Kind => f.write_str("acceptor or hopper"),
             Rule::Only(word) => write!(f, "{word}"),
         }
     }

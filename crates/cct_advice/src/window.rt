@@ -1,8 +1,8 @@
-//! The last bytes of a script that were taken.
+//! The last bytes of a script or of a capture that were taken.
 ghost use Rattle.std.specs.Prelude.{◌≡◌, ◌≤◌, length};
 ghost use Rattle.cct_advice.specs.declared.window.TheConstants.{LONGEST, ROOM};
 
-use crate::forms::Part;
+use crate::forms::{Part, Text};
 use cct_lines::MOST_LINE;
 
 /// The most bytes that the reader of lines holds: a line, and one byte.
@@ -14,12 +14,14 @@ const ROOM: usize = 2 * LONGEST;
 /// How many bytes are counted at once: as many as a byte can count.
 const RUN: usize = 255;
 
-/// The line after which the steps begin.
+/// The line after which the steps or the taps begin.
 const BEGIN: &[u8] = b"begin";
 
-/// The last bytes that were taken of a script, the line that is read among them, and how many lines came before.
+/// The last bytes that were taken of a script or of a capture, the line that is read among them, and how many lines came
+/// before.
 #[derive(Drop)]
 pub struct Window {
+    text: Text,
     bytes: [u8; ROOM],
     len: usize,
     /// How many line feeds were taken.
@@ -32,9 +34,10 @@ pub struct Window {
 }
 
 impl Window {
-    /// No byte was taken.
-    pub(crate) fn new() -> Self {
+    /// No byte of this text was taken.
+    pub(crate) fn new(text: Text) -> Self {
         Window {
+            text,
             bytes: [0; ROOM],
             len: 0,
             feeds: 0,
@@ -97,11 +100,11 @@ impl Window {
         None
     }
 
-    /// The part of the script in which the line of this number stands.
+    /// The part in which the line of this number stands.
     pub(crate) fn part(&self, number: u64) -> Part {
         match self.begun {
-            Some(begun) if begun < number => Part::Steps,
-            _ => Part::Setup,
+            Some(begun) if begun < number => self.text.body(),
+            _ => self.text.front(),
         }
     }
 }

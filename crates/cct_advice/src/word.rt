@@ -1,12 +1,12 @@
 //! What is wrong with the word of a line.
 
 use crate::fields::first_field;
-use crate::forms::{FORMS, Form, Part, WordsOf};
+use crate::forms::{FORMS, Form, Part, Text, WordsOf};
 use crate::gaps::is_remark;
 use crate::shown::Shown;
 use std::fmt;
 
-/// A line whose word its part of the script doesn't have.
+/// A line whose word its part of the script or of the capture doesn't have.
 #[derive(Drop)]
 pub(crate) struct BadWord<'l> {
     pub part: Part,
@@ -19,21 +19,22 @@ impl fmt::Display for BadWord<'_> {
             return f.write_str("the line is empty; leave it out");
         }
         if is_remark(self.line) {
-            return f.write_str("a script has no comments; leave the line out");
+            let text = self.part.text().name();
+            return write!(f, "a {text} has no comments; leave the line out");
         }
         let (word, _) = first_field(self.line);
-        match form_named(word) {
+        match form_named(self.part.text(), word) {
             Some(form) => write_known(self.part, form, word, f),
             None => write_unknown(self.part, word, f),
         }
     }
 }
 
-/// The first form with this word, in letters of either case.
-fn form_named(word: &[u8]) -> Option<&'static Form> {
-    FORMS
-        .iter()
-        .find(|form| form.word().as_bytes().eq_ignore_ascii_case(word))
+/// The first form of a text with this word, in letters of either case.
+fn form_named(text: Text, word: &[u8]) -> Option<&'static Form> {
+    FORMS.iter().find(|form| {
+        form.part().text() == text && form.word().as_bytes().eq_ignore_ascii_case(word)
+    })
 }
 
 /// Writes that a word is of the other part, isn't in lower case, or is one that only a run takes.
@@ -60,6 +61,14 @@ fn write_known<W: fmt::Write>(
             f,
             "{name} is a word of step lines, which stand after the line begin"
         ),
+        Part::Watches => write!(
+            f,
+            "{name} is a word of watch lines, which stand up to the line begin"
+        ),
+        Part::Taps => write!(
+            f,
+            "{name} is a word of tap lines, which stand after the line begin"
+        ),
     }
 }
 
@@ -73,5 +82,10 @@ fn write_unknown<W: fmt::Write>(part: Part, word: &[u8], f: &mut fmt::Formatter<
             "\"{shown}\" is no word of a setup line; they are {words}"
         ),
         Part::Steps => write!(f, "\"{shown}\" is no word of a step line; they are {words}"),
+        Part::Watches => write!(
+            f,
+            "\"{shown}\" is no word of a watch line; they are {words}"
+        ),
+        Part::Taps => write!(f, "\"{shown}\" is no word of a tap line; they are {words}"),
     }
 }

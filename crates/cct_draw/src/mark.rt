@@ -122,9 +122,9 @@ pub enum Mark {
     Put(Record),
     /// A record was kept of a put that a power cut broke off.
     Kept(Record),
-    /// A job ended well, as `posted 2`.
+    /// A job or a session of change ended well, as `posted 2` or `served 70`.
     Ended(Label),
-    /// A job ended so that somebody is to look, as `broke 2` (`docs/OPERATING.md`).
+    /// A job or a session of change ended so that somebody is to look, as `broke 2` or `short 10 60` (`docs/OPERATING.md`).
     Alarm(Label),
     /// The exchange before it was forged, as `forged 2`.
     Forged(Label),

@@ -35,6 +35,13 @@ impl Logged {
         }
     }
 
+    /// The run of these digits, a word of its own, or `None` where there is no room or a digit is none.
+    pub(crate) fn of(digits: &[u8]) -> Option<Logged> {
+        let mut logged = Logged::new(None, true);
+        logged.add(digits)?;
+        Some(logged)
+    }
+
     /// Adds the bytes of these digits, or gives `None` where there is no room or a digit is none.
     fn add(&mut self, digits: &[u8]) -> Option<()> {
         for pair in digits.chunks(2) {

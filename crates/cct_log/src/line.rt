@@ -4,6 +4,9 @@ use crate::gather::{Gathered, LogBytes, Logged};
 use crate::time::Time;
 use crate::word::{Way, Word, word_in};
 
+/// The word of a line of a capture, and its space.
+const TAP: &[u8] = b"tap ";
+
 /// The bytes of the shortest message.
 const LEAST_MESSAGE: usize = 5;
 
@@ -20,6 +23,8 @@ pub struct LogLine<'l> {
 pub enum Said {
     /// What was sent, and what was then heard.
     Exchange { sent: LogBytes, heard: LogBytes },
+    /// The same as a capture has it (`docs/SCRIPT.md`): what was heard begins with the echo, where that was heard.
+    Tap { sent: LogBytes, heard: LogBytes },
     /// What was sent.
     Sent(LogBytes),
     /// What was heard.
@@ -30,8 +35,13 @@ pub enum Said {
 
 /// What a line of a bus log says, without its line feed: bytes in hexadecimal, with spaces, commas or semicolons between
 /// them or not, `0x` before them or not, and a time and the way they went before them. `None` for a line with anything
-/// else in it, and for fewer bytes than a message has with neither a time nor a way before them.
+/// else in it, and for fewer bytes than a message has with neither a time nor a way before them. A line `tap SENT HEARD`
+/// of a capture is one too.
 pub fn read_log_line(line: &[u8]) -> Option<LogLine<'_>> {
+    if let Some(fields) = line.strip_prefix(TAP) {
+        let said = tap_said(fields)?;
+        return Some(LogLine { time: None, said });
+    }
     let mut time = None;
     let mut gathered = Gathered::new();
     for word in line.split(|byte| matches!(*byte, b' ' | b'\t' | b',' | b';')) {
@@ -49,6 +59,26 @@ pub fn read_log_line(line: &[u8]) -> Option<LogLine<'_>> {
     }
     let said = said_in(gathered, time.is_some())?;
     Some(LogLine { time, said })
+}
+
+/// What the line `tap SENT HEARD` says, by what stands after its word.
+fn tap_said(fields: &[u8]) -> Option<Said> {
+    let mut fields = fields.split(|byte| *byte == b' ');
+    let sent = bytes_in(fields.next()?)?;
+    let heard = bytes_in(fields.next()?)?;
+    match fields.next() {
+        None => Some(Said::Tap { sent, heard }),
+        Some(_) => None,
+    }
+}
+
+/// The bytes of one word of a capture: two digits each, or a hyphen for none.
+fn bytes_in(word: &[u8]) -> Option<LogBytes> {
+    match word_in(word)? {
+        Word::NoByte => Some(LogBytes::new()),
+        Word::Hex(digits) => Some(Logged::of(digits)?.bytes),
+        Word::Way(_) | Word::Date | Word::Time(_) => None,
+    }
 }
 
 /// What the bytes say, of a line with a time or without.

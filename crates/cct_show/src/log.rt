@@ -18,7 +18,7 @@ pub(crate) enum Half {
 
 /// Whether the replies of a log begin with the echo of what was sent.
 #[derive(Clone, Copy, PartialEq, Eq)]
-enum Echoes {
+pub(crate) enum Echoes {
     Unknown,
     /// Some reply did, or an echo stood by itself.
     There,
@@ -37,6 +37,9 @@ pub(crate) struct Log {
     pub(crate) is_again: bool,
     /// Whether the last line is the first one that tells that the log has no echo.
     pub(crate) tells_no_echo: bool,
+    /// The number of the last line among the taps of a capture, from 1, where it is one.
+    pub(crate) tap: Option<u64>,
+    taps: u64,
     echoes: Echoes,
     micros: Option<u64>,
 }
@@ -50,6 +53,8 @@ impl Log {
             half: Half::Both,
             is_again: false,
             tells_no_echo: false,
+            tap: None,
+            taps: 0,
             echoes: Echoes::Unknown,
             micros: None,
         }
@@ -59,8 +64,10 @@ impl Log {
     pub(crate) fn take(&mut self, said: &Said) {
         self.is_again = false;
         self.tells_no_echo = false;
+        self.tap = None;
         match said {
             Said::Exchange { sent, heard } => self.exchange(sent.as_slice(), heard.as_slice()),
+            Said::Tap { sent, heard } => self.tap(sent.as_slice(), heard.as_slice()),
             Said::Sent(bytes) => self.sent(bytes.as_slice()),
             Said::Heard(bytes) => self.heard(bytes.as_slice()),
             Said::Either(bytes) => self.either(bytes.as_slice()),
@@ -72,6 +79,14 @@ impl Log {
         let before = self.micros;
         self.micros = Some(time.micros);
         time.micros.checked_sub(before?)
+    }
+
+    /// An exchange of a capture, which has the echo.
+    fn tap(&mut self, sent: &[u8], heard: &[u8]) {
+        self.echoes = Echoes::There;
+        self.taps = self.taps.saturating_add(1);
+        self.tap = Some(self.taps);
+        self.exchange(sent, heard);
     }
 
     /// A whole exchange.
@@ -150,12 +165,12 @@ impl Log {
 }
 
 /// Whether bytes are a message under either check.
-fn is_message(bytes: &[u8]) -> bool {
+pub(crate) fn is_message(bytes: &[u8]) -> bool {
     read(CheckKind::Simple, bytes).is_ok() || read(CheckKind::Crc, bytes).is_ok()
 }
 
 /// Puts bytes in place of what is held. There is room: both are bytes of a log.
-fn copy(held: &mut LogBytes, bytes: &[u8]) {
+pub(crate) fn copy(held: &mut LogBytes, bytes: &[u8]) {
     held.clear();
     let _ = held.try_extend_from_slice(bytes);
 }

@@ -2,6 +2,7 @@
 //! line names the form.
 #![tactic(auto)]
 
+mod capture;
 mod exchange;
 mod lines;
 mod log;
@@ -10,10 +11,13 @@ mod picture;
 mod put_buffer;
 mod status;
 mod text;
+mod watch;
 
+use crate::capture::write_capture;
 use crate::picture::{Part, show_picture};
 use crate::status::Status;
 use crate::text::show_text;
+use crate::watch::{Watches, watches_in};
 use cct_edge::{StdSink, StdSource};
 use std::io::ErrorKind;
 use std::process::ExitCode;
@@ -21,12 +25,14 @@ use std::rt::Env;
 use std::{env, io};
 
 /// In which form the lines are shown.
-#[derive(Clone, Copy)]
+#[derive(Drop)]
 enum Form {
     /// `text`: each line, and below it what it says.
     Text,
     /// `svg`, or `svg FROM TO`: a sequence picture of all lines, or of those from one number to another.
     Picture(Part),
+    /// `capture A CHECK KIND ..`: all exchanges, as an audit of these devices takes them.
+    Capture(Watches),
 }
 
 fn main(rt: HostRuntime) -> ExitCode {
@@ -42,32 +48,29 @@ fn main(rt: HostRuntime) -> ExitCode {
 }
 
 /// Shows what is on standard input in a form.
-fn show(form: Form, rt: &(impl Input + Print + AllocGlobal)) -> Status {
+fn show(form: Form, rt: &(impl Input + Print + Eprint + AllocGlobal)) -> Status {
     let mut source = StdSource::new(rt.reader());
     let mut out = StdSink::new(io::writer(rt));
     match form {
         Form::Text => show_text(&mut source, &mut out),
         Form::Picture(part) => show_picture(rt.alloc(), part, &mut source, &mut out),
+        Form::Capture(watches) => write_capture(rt, &watches, &mut source, &mut out),
     }
 }
 
 /// The form that the words of the command line name. A word that isn't UTF-8 names none.
 fn form_wanted(rt: &(impl Env + AllocGlobal)) -> io::Result<Option<Form>> {
-    let words = match env::args(rt) {
-        Ok(words) => words,
+    let words: Vec<String> = match env::args(rt) {
+        Ok(words) => words.skip(1).collect(rt.alloc())?,
         Err(error) if error.kind() == ErrorKind::InvalidData => return Ok(None),
         Err(error) => return Err(error),
     };
-    let mut words = words.skip(1);
-    let form = words.next();
-    let from = words.next();
-    let to = words.next();
-    if words.next().is_some() {
-        return Ok(None);
-    }
-    Ok(match (form, from, to) {
-        (Some(form), None, None) => whole_form(form.as_str()),
-        (Some(form), Some(from), Some(to)) => part_form(form.as_str(), from.as_str(), to.as_str()),
+    Ok(match words.as_slice() {
+        [form] => whole_form(form.as_str()),
+        [form, devices @ ..] if form.as_str() == "capture" => {
+            watches_in(devices).map(Form::Capture)
+        }
+        [form, from, to] => part_form(form.as_str(), from.as_str(), to.as_str()),
         _ => None,
     })
 }

@@ -26,7 +26,7 @@ pub(crate) fn mark_of(
         Some(Entry::Ended { end, .. }) => end_mark(end, line),
         Some(Entry::Fault(fault)) => fault_mark(&fault, line),
         Some(Entry::Forged { .. }) => Mark::Forged(Label::new(line)),
-        Some(entry) => device_mark(&entry, line),
+        Some(entry) => desk_mark(&entry, line),
         None => Mark::Note(Label::new(line)),
     };
     Ok(mark)
@@ -67,6 +67,15 @@ fn end_mark(end: End, line: &[u8]) -> Mark {
     match alarm_of(end) {
         Some(_) => Mark::Alarm(Label::new(line)),
         None => Mark::Ended(Label::new(line)),
+    }
+}
+
+/// The mark of how a session of change ended, or of another entry.
+fn desk_mark(entry: &Entry, line: &[u8]) -> Mark {
+    match entry {
+        Entry::Served { .. } => Mark::Ended(Label::new(line)),
+        Entry::ServeOdd { .. } | Entry::Short { .. } => Mark::Alarm(Label::new(line)),
+        _ => device_mark(entry, line),
     }
 }
 

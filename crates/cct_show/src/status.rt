@@ -75,7 +75,7 @@ impl Status {
         match self {
             Status::Done => None,
             Status::WordsRefused => Some(
-                "usage: cct_show text < TRANSCRIPT, cct_show svg < TRANSCRIPT, cct_show svg FROM TO < TRANSCRIPT",
+                "usage: cct_show text < TRANSCRIPT, cct_show svg < TRANSCRIPT, cct_show svg FROM TO < TRANSCRIPT, cct_show capture A CHECK KIND .. < LOG, with A 2 to 255, CHECK simple or crc, KIND acceptor or hopper",
             ),
             Status::ReadFault => Some("cct_show: reading failed"),
             Status::WriteFault => Some("cct_show: writing failed"),

@@ -32,6 +32,9 @@ impl<K: Sink> Text<'_, K> {
             self.tell_time(time)?;
         }
         self.log.take(&logged.said);
+        if let Some(tap) = self.log.tap {
+            write!(self.out, "    tap {tap}\n")?;
+        }
         if self.log.tells_no_echo {
             self.out
                 .add(b"    the replies of this log stand without their echo\n")?;

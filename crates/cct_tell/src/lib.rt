@@ -4,6 +4,7 @@
 
 mod answer;
 mod asked;
+mod change;
 mod ends;
 mod event;
 mod exchange;
@@ -18,6 +19,7 @@ mod refusal;
 mod register;
 mod reply;
 mod request;
+mod said;
 mod short;
 mod told;
 

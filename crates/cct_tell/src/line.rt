@@ -1,9 +1,10 @@
 //! The entry that a line of a transcript is.
 
-use crate::ends::end_line;
+use crate::change::change_line;
 use crate::fields::{amount, byte, fields_of, number, one_byte, one_number, step_in, two_bytes};
 use crate::record::record_in;
 use crate::refusal::refusal_in;
+use crate::said::fell_line;
 use cct_lines::{Coin, Entry, MOST_HEARD, MOST_SENT, Sent, Step, Totals};
 use cct_script::piece_in;
 
@@ -142,9 +143,7 @@ fn device_line(word: &[u8], rest: &[&[u8]]) -> Option<Entry> {
 /// A line that says what happened to a hopper alone; or another line.
 fn hopper_line(word: &[u8], rest: &[&[u8]]) -> Option<Entry> {
     match word {
-        _ if word == FELL => Some(Entry::Fell {
-            addr: one_byte(rest)?,
-        }),
+        _ if word == FELL => fell_line(rest),
         _ if word == NO_FALL => Some(Entry::NoFall {
             addr: one_byte(rest)?,
         }),
@@ -195,7 +194,7 @@ fn host_line(word: &[u8], rest: &[&[u8]]) -> Option<Entry> {
         }),
         _ if word == BALANCE => balance_line(rest),
         _ if word == TOTAL => total_line(rest),
-        _ => end_line(word, rest),
+        _ => change_line(word, rest),
     }
 }
 

@@ -1,8 +1,10 @@
 //! What people read below a line.
 
+use crate::change::write_change;
 use crate::exchange::Exchange;
 use crate::lists::Count;
 use crate::posting::Means;
+use crate::said::write_said;
 use cct_lines::{End, Entry, Record, Totals, WireFault};
 use std::fmt;
 
@@ -25,6 +27,7 @@ impl fmt::Display for Told<'_> {
             Entry::Fault(fault) => write_fault(fault, f),
             Entry::Forged { .. } => write_forged(f),
             Entry::Ended { end, .. } => write_end(*end, f),
+            Entry::Said(said) => write_said(said, f),
             _ => write_sums(self.0, f),
         }
     }
@@ -126,7 +129,7 @@ fn write_sums<W: fmt::Write>(entry: &Entry, f: &mut fmt::Formatter<W>) -> fmt::R
     }
 }
 
-/// Writes the sums of a report by their names.
+/// Writes the sums of a report by their names; or what a line of a session means.
 fn write_total<W: fmt::Write>(entry: &Entry, f: &mut fmt::Formatter<W>) -> fmt::Result {
     match entry {
         Entry::Total {
@@ -142,6 +145,6 @@ fn write_total<W: fmt::Write>(entry: &Entry, f: &mut fmt::Formatter<W>) -> fmt::
                 "    {posted} posted, {lost} lost, {paid} paid, {unpaid} unpaid, {sold} sold\n"
             )
         }
-        _ => Ok(()),
+        _ => write_change(entry, f),
     }
 }
