@@ -47,12 +47,22 @@ PLANS = (
     (2, 'hopper', 'settle A, halt A, 3* next A, put A'),
     (1, 'hopper', 'halt A, 2* next A'),
     (1, 'hopper', 'jam A'),
+    # Sessions of change. A payment is at work at the hopper that its plan takes.
+    (20, 'hopper', 'each stock, change FIRST AMOUNT, serve, each pays, serve, each pays, serve, each pays, serve'),
+    (4, 'hopper', 'each stock, change FIRST AMOUNT, serve, each pays, serve, 2* next A, put A, next A, fall A, jam A, 2* next A, '
+                  'put A, serve, each settles, serve, each pays, serve'),
+    (3, 'hopper', 'change FIRST AMOUNT, serve, 2* next A, put A, next A, fall A, halt A, 3* next A, put A, each stock, serve, '
+                  'each settles, serve, each pays, serve'),
+    (4, 'hopper', 'each settles, serve, each pays, serve'),
+    (2, 'hopper', 'stock A STOCK'),
     (2, 'device', 'reset A'),
     (4, 'device', '?* next A'),
     (1, 'device', 'ident A, 8* next A, ?* next A, ?* next A, ?* next A'),
     (3, 'all', 'scan, 4* next A, ?* next A'),
     (6, 'sale', 'vend ID PRICE, put A'),
     (4, 'any', 'balance'),
+    (2, 'any', 'serve'),
+    (1, 'any', 'change FIRST AMOUNT'),
     (2, 'any', 'next A'),
     (2, 'any', 'crash CHOICE'),
     (1, 'any', 'crash A CALLS CHOICE'),
@@ -67,6 +77,10 @@ PLANS = (
     (1, 'any', 'path A WAY PATH'),
     (1, 'any', 'route A TO'),
 )
+# What such a plan has of each hopper.
+EACH = {'each stock': 'stock A STOCK',
+        'each pays': '2* next A, put A, next A, 7* fall A, 2* next A, put A',
+        'each settles': 'settle A, 7* fall A, 2* next A, put A'}
 # The plan with which a script begins, at each device that takes money.
 FIRST = {'acceptor': 'start A MASK, 5* next A, 5* coin A PLACE, round A, 5* next A',
          'bills': 'start A MASK, 5* next A, 5* bill A PLACE, route A TO, next A, round A, 5* next A'}
@@ -81,6 +95,9 @@ FIELDS = {
     'ID': lambda drawer, addr: drawer.next_id(),
     'COUNT': lambda drawer, addr: drawer.rng.choice((1, 1, 1, 2, 2, 2, 2, 3, 3, 3, 4, 4, 5, 6, 255)),
     'PRICE': lambda drawer, addr: drawer.rng.choice((1, 1, 1, 5, 5, 10, 30, 30, 700, 1000000000)),
+    'STOCK': lambda drawer, addr: drawer.rng.choice((0, 1, 2, 10, 10, 10, 300, 300, 300, 4294967295)),
+    'FIRST': lambda drawer, addr: min(drawer.next_id() + drawer.rng.choice((0, 0, 50)), 4000000000),
+    'AMOUNT': lambda drawer, addr: drawer.amount(),
     'CALLS': lambda drawer, addr: drawer.rng.choice((0, 1, 2, 3, 3, 4)),
     'CHOICE': lambda drawer, addr: drawer.rng.choice((0, 1, 2, 3, drawer.rng.getrandbits(8), drawer.rng.getrandbits(64))),
     'FAULT': lambda drawer, addr: drawer.fault(addr),
@@ -98,6 +115,8 @@ REFUSED = (
     ('coin 2 17', 'form'), ('coin 02 5', 'form'), ('coin  2 5', 'form'), ('next 256', 'form'), ('start 2 0000', 'form'),
     ('bill 2 17', 'form'), ('route 2 2', 'form'), ('fault host 0', 'form'), ('fault devices ' + 261 * '55', 'form'),
     ('fault whole ' + 521 * '55', 'form'),
+    ('stock 3', 'form'), ('stock 3 4294967296', 'form'), ('change 0 10', 'form'), ('change 4000000001 10', 'form'),
+    ('change 1 0', 'form'), ('change 1 10001', 'form'), ('serve 3', 'form'), ('stock 1 5', 'device'),
     ('fault clear', 'form'), ('pay 3 0 1', 'form'), ('pay 3 1 256', 'form'), ('vend 1 0', 'form'), ('crash 2 5 0', 'form'),
     ('crash 18446744073709551616', 'form'), ('balance 2', 'form'), ('end ', 'form'), ('coin 1 5', 'device'),
     ('bill 1 5', 'device'), ('fall 0', 'device'), ('jam 1', 'device'), ('reset 1', 'device'), ('alien 0', 'device'), (1201 * 'x', 'long'))
@@ -118,7 +137,7 @@ class Drawer:
 
     def __init__(self, seed):
         self.rng = random.Random(seed)
-        self.devices, self.setup, self.refused = {}, [], None
+        self.devices, self.setup, self.refused, self.worths = {}, [], None, {}
         self.faults, self.cuts, self.forges = self.rng.choice(FAULTS), self.rng.choice(CUTS), self.chance(FORGED)
         self.last_id = self.rng.choice((0, 0, 0, 4294967000))
         self.draw_setup()
@@ -132,18 +151,28 @@ class Drawer:
 
     def draw_setup(self):
         """One to six devices, mostly at low addresses, with their values and texts."""
-        for letter in self.rng.choice(('a', 'b', 'h', 'ah', 'ah', 'bh', 'bh', 'abh', 'aahh', 'abbhh', 'aabbhh')):
+        for letter in self.rng.choice(('a', 'b', 'h', 'ah', 'ah', 'bh', 'bh', 'abh', 'aahh', 'ahhh', 'abbhh', 'aabbhh')):
             kind = KINDS[letter]
             addr = self.rng.choice([addr for addr in (*range(2, 12), 151, 159, 254, 255) if addr not in self.devices])
             self.devices[addr] = kind, self.rng.choice(CHECKS)
             serial, count = self.rng.choice((0, 197121, 16777215)), self.rng.choice((0, 100, 16777214))
-            value = f' {self.rng.choice((1, 1, 10, 10, 10, 50, 1000000))}' if kind == 'hopper' else ''
+            value = f' {self.worth(addr)}' if kind == 'hopper' else ''
             self.setup.append(f'{kind} {addr} {self.devices[addr][1]} {serial} {count}{value}')
             rate = self.rng.choice((0.7, 1, 1)) if kind in FIRST else 0
             self.setup += [f'value {addr} {place} {self.rng.choice((5, 10, 100, 200, 1000000))} {self.text(6, 6)}'
                            for place in range(1, 17) if self.chance(rate)]
             if self.chance(0.3):
                 self.setup.append(f'texts {addr} ' + ' '.join(self.text(1, 24) for _ in range(4)))
+
+    def worth(self, addr):
+        """What a coin of a hopper is worth."""
+        self.worths[addr] = self.rng.choice((1, 1, 10, 10, 10, 50, 1000000))
+        return self.worths[addr]
+
+    def amount(self):
+        """Mostly what some coins of each hopper are worth, if there are any."""
+        some = sum(worth * self.rng.randint(0, 4) for worth in self.worths.values() if worth < 1000)
+        return self.rng.choice(10 * (some,) + (1, 35, 10000)) or 10
 
     def text(self, least, most):
         """A row of printing characters."""
@@ -185,17 +214,21 @@ class Drawer:
         attempts = puts + [at for at, line in enumerate(lines) if line.startswith('next')]
         lines = [line.replace('put', 'next') for line in lines]
         if attempts and self.chance(self.cuts):
-            lines[self.rng.choice(puts or attempts)] = self.lines(addr, 'crash A CALLS CHOICE')[0]
+            at = self.rng.choice(puts or attempts)
+            lines[at] = self.lines(int(lines[at].split(' ')[1]), 'crash A CALLS CHOICE')[0]
         elif attempts and self.chance(self.faults):
             at = self.rng.choice(attempts)
             # Three faults in succession end a job.
-            lines[at:at] = self.rng.choice((1, 1, 3)) * self.lines(addr, 'fault FAULT, next A')
+            lines[at:at] = self.rng.choice((1, 1, 3)) * self.lines(int(lines[at].split(' ')[1]), 'fault FAULT, next A')
         return addr, lines
 
     def lines(self, addr, text):
         """The lines of a plan at an address, with their fields drawn."""
         lines = []
         for part in text.split(', '):
+            if part in EACH:
+                lines += [line for hopper in self.those('hopper') for line in self.lines(hopper, EACH[part])]
+                continue
             times, _, line = part.rpartition('* ')
             for _ in range(self.rng.randint(0, 7) if times == '?' else int(times or 1)):
                 lines.append(' '.join(str(FIELDS[word](self, addr)) if word in FIELDS else word for word in line.split(' ')))

@@ -1,5 +1,6 @@
 """Judges what the program wrote and reported. The Laws are the promises of README.md, read off the lines alone; the Judge
 holds each line against its step, and those of the host against what it does (host.py)."""
+from change import BEGUN, ODD, OPENED, Desk, Session
 from host import READS, Ask, Books, Device, Job, Wrong, expect, places_of
 from wire import hexed, is_forged
 
@@ -122,6 +123,7 @@ class Judge:
     def __init__(self, script, refused):
         """A script, and the number and kind of its refused line."""
         self.books, self.laws, self.jobs, self.fault = Books(), Laws(), {}, None
+        self.desk = Desk(self.books.devices)
         self.refused = refused
         self.lines = script.split('\n')[:refused[0] - 1] if refused else script.split('\n')
         self.written, self.at, self.place, self.step = [], 0, '', 0
@@ -191,6 +193,8 @@ class Judge:
     def step_fall(self, addr):
         if self.wants(f'fell {addr}', f'nofall {addr}').startswith('fell'):
             self.laws.fell(addr)
+            worth, amount = self.desk.fell(int(addr))
+            self.laws.holds(worth <= amount, f'{worth} fell for a session of change of {amount}')
 
     def step_jam(self, addr):
         self.wants(f'jammed {addr}', f'nojam {addr}')
@@ -212,8 +216,45 @@ class Judge:
         have = books.available() - self.running()
         self.wants(f'balance {have} {books.reserved() + self.running()} {books.paid} {books.sold}')
 
+    def step_stock(self, addr, count):
+        self.wants(f'stock {addr} {count}')
+        self.desk.stock[int(addr)] = int(count)
+
+    def step_change(self, first, amount):
+        self.wants('change no busy' if self.desk.session else f'change ok {first} {amount}')
+        self.desk.session = self.desk.session or Session(int(first), int(amount))
+
+    def step_serve(self):
+        """A session waits for its payment, or settles it and goes on, if it has a rest."""
+        session, due = self.desk.session, self.desk.due()
+        if session is None:
+            self.wants('serve idle')
+        elif due and due.phase in (BEGUN, OPENED):
+            self.wants(f'serve wait {due.addr}')
+        elif due and due.phase == ODD:
+            self.laws.holds(False, f'the order {due.id} of a session is odd')
+            self.session_ends(f'serve odd {due.id}')
+        else:
+            self.desk.settle()
+            self.goes_on(session)
+
+    def goes_on(self, session):
+        """A session without a payment is served, ends short, or pays on."""
+        paid, next_one = session.amount - session.rest, self.desk.pays() if session.rest else None
+        self.laws.holds(paid == session.fell, f'a session of change is told {paid} as paid, and {session.fell} fell')
+        if session.rest == 0:
+            self.session_ends(f'served {session.amount}')
+        elif next_one is None or self.command('pay', *map(str, (next_one.addr, next_one.id, next_one.count))):
+            self.session_ends(f'short {paid} {session.rest}')
+        else:
+            session.due, session.next = next_one, session.next + 1
+
+    def session_ends(self, line):
+        self.wants(line)
+        self.desk.session = None
+
     def command(self, word, *fields):
-        """A command: it is refused for its first reason, or it begins its job; a halt is for the job that is there."""
+        """A command: it is refused for its first reason, which is given, or it begins its job; a halt is for the job there."""
         addr = {'scan': 0, 'vend': 1}[word] if word in ('scan', 'vend') else int(fields[0])
         reason = self.reason_of_device(addr, word) or self.reason(addr, word, *fields)
         line = ' '.join((word, *fields))
@@ -222,6 +263,7 @@ class Judge:
             self.jobs[addr].halt()
         elif not reason:
             self.jobs[addr] = Job(self.books, addr, word, *fields)
+        return reason
 
     def step_start(self, addr, mask):
         self.command('start', addr, mask.lower())
@@ -276,6 +318,7 @@ class Judge:
         if job.end:
             del self.jobs[int(addr)]
             self.wants(job.end)
+            self.desk.ended(int(addr))
             if job.end.startswith('clean'):
                 self.laws.item('clean', addr)
             if job.end.startswith('moved'):
@@ -291,6 +334,7 @@ class Judge:
         """A record was put or kept."""
         self.books.put(record)
         self.laws.record(record)
+        self.desk.record(record)
 
     def exchange(self, addr, job):
         """An exchange of a job; whether its fault is forged."""
@@ -319,6 +363,7 @@ class Judge:
         if kept:
             self.wants(f'kept {job.row}')
             self.take_in(job.row)
+        self.desk.ended()
 
 
 for WORD in ('round', 'stop', 'route', 'pay', 'settle', 'halt', 'vend', 'ident', 'path', 'scan'):
