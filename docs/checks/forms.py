@@ -1,4 +1,5 @@
-"""The tables of docs/SCRIPT.md are those by which the program reads a line, and by which it explains one that it refuses.
+"""The tables of docs/SCRIPT.md and docs/AUDIT.md are those by which the program reads a line of a script or
+of a capture, and by which it explains one that it refuses.
 
 The program is asked: a line with a wrong field is played, and what it writes and what it says on standard error are
 compared with the tables. So no table of the source is read here. A field of a table is a word in capitals; a byte that
@@ -14,7 +15,7 @@ import played
 
 # What stands for a field that has no range.
 SAMPLES = {"`simple` or `crc`": "simple", "exactly six": "ABCDEF", "1 to 24 printing": "TEXT", "four hexadecimal": "0001",
-           "`-` or two": "-"}
+           "`-` or two": "-", "two hexadecimal": "00", "`acceptor` or `hopper`": "acceptor"}
 BAD = "\x01"
 
 
@@ -23,10 +24,12 @@ class Part:
     # as the tables name it, and as the program does in the singular
     name: str
     singular: str
+    # the word of the command line by which it is read
+    word: str
     # what stands before a line that is the first of its part
     front: str
-    # the forms of its lines, and the line in the document
-    forms: list[tuple[int, str]]
+    # the forms of its lines, each with its place in a document
+    forms: list[tuple[str, str]]
 
     def word_forms(self, word: str) -> list[str]:
         return [form for _, form in self.forms if form.split(" ")[0] == word]
@@ -61,20 +64,22 @@ class Field:
 
 
 def tables(root: Path) -> tuple[list[Part], list[Field]]:
-    parts = [Part("setup lines", "setup line", "", []), Part("step lines", "step line", "begin\n", [])]
+    parts = [Part("setup lines", "setup line", "run", "", []), Part("step lines", "step line", "run", "begin\n", []),
+             Part("watch lines", "watch line", "audit", "", []), Part("tap lines", "tap line", "audit", "begin\n", [])]
     fields = []
-    for table in markdown.read(root / "docs/SCRIPT.md")[0]:
+    for table in markdown.read(root / "docs/SCRIPT.md")[0] + markdown.read(root / "docs/AUDIT.md")[0]:
         if table.header[:3] == ["Field", "Of", "It is"]:
             fields += [Field(markdown.quoted(row.cells[0]), row.cells[1], row.cells[2]) for row in table.rows]
         for part in parts:
             if table.header[0] == "Line" and table.section.lower().startswith(part.name):
-                part.forms += [(row.line, form) for row in table.rows for form in markdown.quoted(row.cells[0])]
+                part.forms += [(f"{table.path.name}:{row.line}", form)
+                               for row in table.rows for form in markdown.quoted(row.cells[0])]
     return parts, fields
 
 
 def said(program: Path, part: Part, line: str) -> tuple[str, str]:
     """The last line that is written if this line is the first of its part, and what standard error says of it."""
-    done = played.call(program, ["run"], f"{part.front}{line}\n".encode())
+    done = played.call(program, [part.word], f"{part.front}{line}\n".encode())
     number = part.front.count("\n") + 1
     explained = done.stderr.decode().rstrip("\n")
     return (done.stdout.decode().splitlines() or [""])[-1], explained.removeprefix(f"line {number}: ")
@@ -92,7 +97,7 @@ def word_faults(program: Path, part: Part) -> list[str]:
     for line, start in wanted:
         _, explained = said(program, part, line)
         if not explained.startswith(start):
-            faults.append(f"SCRIPT.md: {line!r}: {explained}, wanted {start}")
+            faults.append(f"{part.name}: {line!r}: {explained}, wanted {start}")
     return faults
 
 
@@ -125,15 +130,15 @@ def field_faults(program: Path, part: Part, place: str, form: str, fields: list[
 
 
 def forms(root: Path, program: Path):
-    """The words, the forms and the fields of docs/SCRIPT.md are those of the program."""
+    """The words, the forms and the fields of docs/SCRIPT.md and docs/AUDIT.md are those of the program."""
     parts, fields = tables(root)
     count, faults = 0, []
     for part in parts:
         faults += word_faults(program, part)
-        for line, form in part.forms:
+        for place, form in part.forms:
             count += 1
-            faults += field_faults(program, part, f"SCRIPT.md:{line}", form, fields)
-    faults += [f"SCRIPT.md: {field.names} {field.of}: of no line" for field in fields if not field.used]
+            faults += field_faults(program, part, place, form, fields)
+    faults += [f"{field.names} {field.of}: of no line" for field in fields if not field.used]
     return count, faults
 
 
