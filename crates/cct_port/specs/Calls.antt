@@ -1,5 +1,5 @@
 -- What the calls of an exchange do on a line, one after another.
-use Rattle.std.specs.Prelude.{◌≡◌, ◌⊎◌, ℕ, ◌+◌, ◌<◌, ◌≤◌, true, false, Option, Some, None, List, [], ◌++◌, Result, Ok, Err, length, take}
+use Rattle.std.specs.Prelude.{◌≡◌, ◌⊎◌, ℕ, ◌+◌, ◌<◌, ◌≤◌, Bool, true, false, Option, Some, None, List, [], ◌++◌, Result, Ok, Err, length, take}
 use Rattle.cct_edge.specs.declared.fault.Failed.{Failed}
 use Rattle.cct_terms.specs.declared.wire.TheConstants.{MOST_HEARD}
 use Rattle.cct_port.specs.Answer.{is_over}
@@ -28,36 +28,41 @@ Stops patience sent before bytes silent made =
 
 -- Of a line of which is known what a read and a write do.
 module _ {L : Type 0} (reads : L → Option (List ℕ) → L → Type 0) (writes : L → List ℕ → Result (Unit {0}) Failed → L → Type 0) where
-  -- Reads, each made while more was wanted, by the bytes that had come and by how many of the last reads were silent;
-  -- the bytes that came, how many of the last are silent, and how many reads they are.
-  pub data Hearing (wants : List ℕ → ℕ → Type 0) (first : L) : List ℕ → ℕ → ℕ → L → Type 0 where
-    unread : Hearing wants first [] 0 0 first
-    paused : (bytes : List ℕ) (silent made : ℕ) (line next : L) → Hearing wants first bytes silent made line
-        → wants bytes silent → reads line (Some []) next → Hearing wants first bytes (silent + 1) (made + 1) next
-    brought : (bytes piece : List ℕ) (silent made : ℕ) (line next : L) → Hearing wants first bytes silent made line
-        → wants bytes silent → 0 < length piece → reads line (Some piece) next
-        → Hearing wants first (bytes ++ piece) 0 (made + 1) next
+  -- Reads, each made while more was wanted, by the bytes that had come and by how many of the last reads were silent. So
+  -- many were silent in a row before the first of them. The bytes that came, how many of the last are silent, and how many
+  -- reads they are.
+  pub data Hearing (wants : List ℕ → ℕ → Type 0) (already : ℕ) (first : L) : List ℕ → ℕ → ℕ → L → Type 0 where
+    unread : Hearing wants already first [] already 0 first
+    paused : (bytes : List ℕ) (silent made : ℕ) (line next : L) → Hearing wants already first bytes silent made line
+        → wants bytes silent → reads line (Some []) next → Hearing wants already first bytes (silent + 1) (made + 1) next
+    brought : (bytes piece : List ℕ) (silent made : ℕ) (line next : L)
+        → Hearing wants already first bytes silent made line → wants bytes silent → 0 < length piece
+        → reads line (Some piece) next → Hearing wants already first (bytes ++ piece) 0 (made + 1) next
 
-  -- Reads that ended with so many silent ones in a row.
-  pub record Waits (wanted : ℕ) (first last : L) : Type 0 where
+  -- Reads that ended with so many silent ones in a row, those before them counted.
+  pub record Waits (already wanted : ℕ) (first last : L) : Type 0 where
     pub dropped : List ℕ
+    pub silent : ℕ
     pub made : ℕ
-    pub hearing : Hearing (is_noisy wanted) first dropped wanted made last
+    pub hearing : Hearing (is_noisy wanted) already first dropped silent made last
+    pub enough : wanted ≤ silent
     pub few : made ≤ most_reads wanted
 
   -- Reads that didn't: one failed, or they were too many.
-  pub data Unquiet (wanted : ℕ) (first : L) : L → Type 0 where
+  pub data Unquiet (already wanted : ℕ) (first : L) : L → Type 0 where
     never : (dropped : List ℕ) (silent : ℕ) (last : L)
-        → Hearing (is_noisy wanted) first dropped silent (most_reads wanted) last → Unquiet wanted first last
+        → Hearing (is_noisy wanted) already first dropped silent (most_reads wanted) last
+        → Unquiet already wanted first last
     broke : (dropped : List ℕ) (silent made : ℕ) (line last : L)
-        → Hearing (is_noisy wanted) first dropped silent made line → reads line None last → Unquiet wanted first last
+        → Hearing (is_noisy wanted) already first dropped silent made line → reads line None last
+        → Unquiet already wanted first last
 
   -- Reads of what follows what was sent, where this is heard already: until the reply is over, so many reads in a row
-  -- were silent, or they were too many.
-  pub record Listens (patience : ℕ) (sent before : List ℕ) (first : L) (bytes : List ℕ) (last : L) : Type 0 where
-    pub silent : ℕ
+  -- were silent, or they were too many. So many of the last are silent.
+  pub record Listens (patience : ℕ) (sent before : List ℕ) (first : L) (bytes : List ℕ) (silent : ℕ) (last : L)
+      : Type 0 where
     pub made : ℕ
-    pub hearing : Hearing (goes_on patience sent before) first bytes silent made last
+    pub hearing : Hearing (goes_on patience sent before) 0 first bytes silent made last
     pub stops : Stops patience sent before bytes silent made
 
   -- Such reads, and then one that failed.
@@ -66,21 +71,32 @@ module _ {L : Type 0} (reads : L → Option (List ℕ) → L → Type 0) (writes
     pub silent : ℕ
     pub made : ℕ
     pub line : L
-    pub hearing : Hearing (goes_on patience sent before) first bytes silent made line
+    pub hearing : Hearing (goes_on patience sent before) 0 first bytes silent made line
     pub fails : reads line None last
 
-  -- After so many silent reads in a row these bytes were written once, and then these were read.
-  pub record Converses (wanted patience : ℕ) (sent before : List ℕ) (first : L) (bytes : List ℕ) (last : L) : Type 0 where
+  -- After so many silent reads in a row these bytes were written once.
+  pub record Sends (already wanted : ℕ) (sent : List ℕ) (first asked : L) : Type 0 where
     pub quiet : L
-    pub asked : L
-    pub waits : Waits wanted first quiet
-    pub sends : writes quiet sent (Ok tt) asked
-    pub listens : Listens patience sent before asked bytes last
+    pub waits : Waits already wanted first quiet
+    pub writes_once : writes quiet sent (Ok tt) asked
 
-  -- An exchange that failed wrote nothing, or these bytes once, and that after so many silent reads in a row.
-  pub data FailsAt (wanted patience : ℕ) (sent before : List ℕ) (first : L) : L → Type 0 where
-    waiting : (last : L) → Unquiet wanted first last → FailsAt wanted patience sent before first last
-    sending : (quiet last : L) (why : Failed) → Waits wanted first quiet → writes quiet sent (Err why) last
-        → FailsAt wanted patience sent before first last
-    listening : (quiet asked last : L) → Waits wanted first quiet → writes quiet sent (Ok tt) asked
-        → Breaks patience sent before asked last → FailsAt wanted patience sent before first last
+  -- Nothing was written, as the line wasn't silent for so long; or these bytes were once, after it was, and that failed.
+  pub data FailsToSend (already wanted : ℕ) (sent : List ℕ) (first : L) : L → Type 0 where
+    waiting : (last : L) → Unquiet already wanted first last → FailsToSend already wanted sent first last
+    sending : (quiet last : L) (why : Failed) → Waits already wanted first quiet → writes quiet sent (Err why) last
+        → FailsToSend already wanted sent first last
+
+  -- After so many silent reads in a row these bytes were written once, and then these were read. So many of the last reads
+  -- are silent.
+  pub record Converses (already wanted patience : ℕ) (sent before : List ℕ) (first : L) (bytes : List ℕ) (silent : ℕ)
+      (last : L) : Type 0 where
+    pub asked : L
+    pub sends : Sends already wanted sent first asked
+    pub listens : Listens patience sent before asked bytes silent last
+
+  -- An exchange that failed, by whether all of these bytes were written: it failed to send them, or to hear what came.
+  pub data FailsAt (already wanted patience : ℕ) (sent before : List ℕ) (first : L) : Bool → L → Type 0 where
+    unsent : (last : L) → FailsToSend already wanted sent first last
+        → FailsAt already wanted patience sent before first false last
+    unheard : (asked last : L) → Sends already wanted sent first asked → Breaks patience sent before asked last
+        → FailsAt already wanted patience sent before first true last

@@ -8,7 +8,7 @@ use cct_terms::{BROADCAST, CheckKind, HOST};
 use cct_wire::{Heard, hear};
 
 /// Whether what follows the echo is a message of whom the bytes were sent to, under their own check.
-pub(crate) fn is_answered(sent: &[u8], heard: &[u8]) -> bool
+pub fn is_answered(sent: &[u8], heard: &[u8]) -> bool
     ensures { result ≡ answered sent.now heard.now }
 {
     is_answered_under(CheckKind::Simple, sent, heard)

@@ -1,7 +1,7 @@
 // The reads of an exchange: those before it is sent, and those after it.
 ghost use Rattle.std.specs.Prelude.{◌≡◌, ◌<◌, ◌++◌, ℕ, List, [], Some, None, length, OnOk, OnErr, IfOk, drop};
 ghost use Rattle.cct_terms.specs.declared.wire.TheConstants.{MOST_HEARD};
-ghost use Rattle.cct_port.specs.Calls.{Waits, Unquiet, Listens, Breaks};
+ghost use Rattle.cct_port.specs.Calls.{Waits, Unquiet, Listens, Breaks, Sends, FailsToSend};
 ghost use Rattle.cct_port.specs.Answer.{is_over};
 
 use crate::Line;
@@ -10,16 +10,16 @@ use arrayvec::ArrayVec;
 use cct_edge::Failed;
 use cct_terms::MOST_HEARD;
 
-/// Reads until so many reads in a row were silent, and drops what comes. It fails if a read fails, or if the line isn't
-/// silent within so many reads and `MOST_HEARD` more.
-pub(crate) fn wait<L: Line>(line: &mut L, reads: u16) -> Result<(), Failed>
-    ensures quiet { OnOk result (Waits L.reads L.writes reads line.old line.new) }
-    ensures unquiet { OnErr result (Unquiet L.reads L.writes reads line.old line.new) }
+/// Reads until so many reads in a row were silent, and drops what comes. So many are silent already, which count up to the
+/// first byte that comes. It fails if a read fails, or if the line isn't silent within so many reads and `MOST_HEARD` more.
+fn wait<L: Line>(line: &mut L, already: u16, reads: u16) -> Result<(), Failed>
+    ensures quiet { OnOk result (Waits L.reads L.writes already reads line.old line.new) }
+    ensures unquiet { OnErr result (Unquiet L.reads L.writes already reads line.old line.new) }
 {
     let mut room = [0; MOST_HEARD];
-    let mut silent = 0;
+    let mut silent = already;
     for _ in 0..usize::from(reads) + MOST_HEARD {
-        if silent == reads {
+        if silent >= reads {
             return Ok(());
         }
         if line.read(&mut room)? == 0 {
@@ -31,23 +31,37 @@ pub(crate) fn wait<L: Line>(line: &mut L, reads: u16) -> Result<(), Failed>
     Err(Failed)
 }
 
+/// Writes a message once, after so many silent reads in a row, of which so many are made already.
+pub(crate) fn send<L: Line>(
+    line: &mut L,
+    already: u16,
+    wanted: u16,
+    sent: &[u8],
+) -> Result<(), Failed>
+    ensures sends { OnOk result (Sends L.reads L.writes already wanted sent.now line.old line.new) }
+    ensures fails { OnErr result (FailsToSend L.reads L.writes already wanted sent.now line.old line.new) }
+{
+    wait(line, already, wanted)?;
+    line.write(sent)
+}
+
 /// Reads what comes after a message was sent: until a reply is there by its length, so many reads in a row were silent,
-/// or there is no room for more; at most so many reads and `MOST_HEARD` more.
+/// or there is no room for more; at most so many reads and `MOST_HEARD` more. It answers how many of the last were silent.
 pub(crate) fn listen<L: Line>(
     line: &mut L,
     reads: u16,
     sent: &[u8],
     heard: &mut ArrayVec<u8, MOST_HEARD>,
-) -> Result<(), Failed>
-    ensures brings { OnOk result ((bytes : List ℕ)
-        × Listens L.reads L.writes reads sent.now heard.old.items line.old bytes line.new
+) -> Result<u16, Failed>
+    ensures brings { IfOk result (λ silent. (bytes : List ℕ)
+        × Listens L.reads L.writes reads sent.now heard.old.items line.old bytes silent line.new
         × (heard.new.items ≡ heard.old.items ++ bytes)) }
     ensures breaks { OnErr result (Breaks L.reads L.writes reads sent.now heard.old.items line.old line.new) }
 {
     let mut silent = 0;
     for _ in 0..usize::from(reads) + MOST_HEARD {
         if silent == reads || is_over(sent, heard.as_slice()) {
-            return Ok(());
+            return Ok(silent);
         }
         if read_more(line, heard)? == 0 {
             silent += 1;
@@ -55,7 +69,7 @@ pub(crate) fn listen<L: Line>(
             silent = 0;
         }
     }
-    Ok(())
+    Ok(silent)
 }
 
 /// Whether nothing more is wanted: the reply to what was sent is whole by its length, or there is no room.

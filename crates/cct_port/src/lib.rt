@@ -5,11 +5,14 @@
 mod answer;
 mod calls;
 mod counted;
+mod laws;
 mod line;
 mod port;
 mod standard;
 
+pub use answer::is_answered;
 pub use counted::CountedLink;
+pub use laws::each_send_follows_silence;
 pub use line::Line;
 pub use port::{Options, Port};
 pub use standard::StdLine;

@@ -1,12 +1,11 @@
 // The host's link over a line.
 ghost use Rattle.std.specs.Prelude.{◌≡◌, ◌≤◌, ◌++◌, ℕ, List, true, false, length, IfNone, IfSome, OnOk, OnErr};
 ghost use Rattle.cct_terms.specs.declared.wire.TheConstants.{MOST_SENT};
-ghost use Rattle.cct_port.specs.Calls.{Converses, FailsAt};
 ghost use Rattle.cct_port.specs.Port.{echo_in, echo_of};
 
 use crate::Line;
 use crate::answer::{is_answered, is_to_all};
-use crate::calls::{listen, wait};
+use crate::calls::{listen, send};
 use arrayvec::ArrayVec;
 use cct_edge::Failed;
 use cct_terms::MOST_HEARD;
@@ -21,14 +20,15 @@ pub struct Options {
     /// Whether the line gives back what is sent. Where it doesn't, the port writes the echo itself.
     pub echoes: bool,
     /// How long the line has to be silent before a message is sent, if the last one was answered. After a whole reply no
-    /// device owes anything. So 0 does where the line gives the echo: what came since then stands before the echo of the
-    /// next message, which then counts as not answered. Where it doesn't, a reply that came twice would be taken for that
-    /// to the next message, so 1 is the least.
+    /// device owes anything. So 0 is right where no device sends a reply twice, with or without an echo. Where one does, 1
+    /// drops what came twice. At 0 it stands before the echo of the next message, which then counts as not answered; and
+    /// where the line gives no echo, it is taken for the reply to the next message.
     pub gap: u16,
     /// How long an answer is waited for, and how long it may pause.
     pub patience: u16,
     /// The longest time after which any device on the line may still answer. So long the line has to be silent before a
-    /// message is sent, at the start and if the last one wasn't answered; so long an address poll is listened to.
+    /// message is sent, at the start and if the last one wasn't answered, whatever that silence was waited for: the silent
+    /// reads in which its answer was waited for count. So long an address poll is listened to.
     pub longest: u16,
 }
 
@@ -38,11 +38,15 @@ pub struct Port<L> {
     line: L,
     options: Options,
     settled: bool,
+    /// How many reads in a row were silent at the end of the last exchange, since the last byte that came or was sent.
+    silent: u16,
+    /// Whether all bytes of the last message were written.
+    is_sent: bool,
     faults: u64,
 }
 
 impl<L: Line> Port<L> {
-    ghost use Rattle.cct_port.specs.Port.{line_of, options_of, settled, faults_of, patience, wanted};
+    ghost use Rattle.cct_port.specs.Port.{line_of, options_of, settled, silent_of, was_sent, faults_of, patience, wanted};
     ghost use Rattle.cct_port.specs.Port.{Gives, address_poll, echo_in, with_echo, with_gap};
 
     /// A port over a line of which nothing is known, so its first exchange waits.
@@ -50,12 +54,16 @@ impl<L: Line> Port<L> {
         ensures line { line_of result ≡ line }
         ensures options { options_of result ≡ options }
         ensures unsettled { settled result ≡ false }
+        ensures unheard { silent_of result ≡ 0 }
+        ensures unsent { was_sent result ≡ false }
         ensures faultless { faults_of result ≡ 0 }
     {
         Port {
             line,
             options,
             settled: false,
+            silent: 0,
+            is_sent: false,
             faults: 0,
         }
     }
@@ -65,6 +73,14 @@ impl<L: Line> Port<L> {
         ensures { result ≡ faults_of self.now }
     {
         self.faults
+    }
+
+    /// Whether all bytes of the last exchange's message were written; not where the line was never silent, or the write
+    /// failed, or before the first exchange.
+    pub fn was_sent(&self) -> bool
+        ensures { result ≡ was_sent self.now }
+    {
+        self.is_sent
     }
 
     /// Whether the last exchange brought the whole reply, so the next one needn't wait for late ones.
@@ -143,22 +159,20 @@ fn begin(echoes: bool, sent: &[u8], heard: &mut ArrayVec<u8, MOST_HEARD>)
     }
 }
 
-/// One message is sent after so many silent reads, and what comes is heard after what `heard` holds.
-fn converse<L: Line>(
-    line: &mut L,
-    wanted: u16,
-    patience: u16,
-    sent: &[u8],
-    heard: &mut ArrayVec<u8, MOST_HEARD>,
-) -> Result<(), Failed>
-    ensures done { OnOk result ((bytes : List ℕ)
-        × Converses L.reads L.writes wanted patience sent.now heard.old.items line.old bytes line.new
-        × (heard.new.items ≡ heard.old.items ++ bytes)) }
-    ensures failed { OnErr result (FailsAt L.reads L.writes wanted patience sent.now heard.old.items line.old line.new) }
-{
-    wait(line, wanted)?;
-    line.write(sent)?;
-    listen(line, patience, sent, heard)
+impl<L: Line> Port<L> {
+    ghost use Rattle.cct_port.specs.Port.{GaveUp};
+
+    /// An exchange has failed, and all of its message was written or not: nothing is heard, and the next one waits as long
+    /// as the first.
+    fn give_up(&mut self, is_sent: bool, heard: &mut ArrayVec<u8, MOST_HEARD>)
+        ensures gave_up { GaveUp self.old is_sent heard.new.items self.new }
+    {
+        heard.clear();
+        self.settled = false;
+        self.silent = 0;
+        self.is_sent = is_sent;
+        self.faults = self.faults.saturating_add(1);
+    }
 }
 
 impl<L: Line> Link for Port<L> {
@@ -170,13 +184,20 @@ impl<L: Line> Link for Port<L> {
         let wanted = self.wanted();
         let patience = self.patience(sent);
         begin(self.options.echoes, sent, heard);
-        match converse(&mut self.line, wanted, patience, sent, heard) {
-            Ok(()) => self.settled = is_answered(sent, heard.as_slice()),
+        match send(&mut self.line, self.silent, wanted, sent) {
+            Ok(()) => {}
             Err(Failed) => {
-                heard.clear();
-                self.settled = false;
-                self.faults = self.faults.saturating_add(1);
+                self.give_up(false, heard);
+                return;
             }
+        }
+        match listen(&mut self.line, patience, sent, heard) {
+            Ok(silent) => {
+                self.settled = is_answered(sent, heard.as_slice());
+                self.silent = silent;
+                self.is_sent = true;
+            }
+            Err(Failed) => self.give_up(true, heard),
         }
     }
 }

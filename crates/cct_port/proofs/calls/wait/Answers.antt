@@ -6,7 +6,7 @@ use Rattle.cct_port.proofs.calls.wait.Goals.{then-branch-eq0, else-branch-eq0}
 use Rattle.cct_port.proofs.calls.wait.Goals as goal
 
 pub loop-init : goal.loop-init
-loop-init g c = record { dropped = []; few = omega arith; hearing = unread }
+loop-init g c = record { dropped = []; hearing = unread }
 
 pub returns-in_err-read-clause-unquiet : goal.returns-in_err-read-clause-unquiet
 returns-in_err-read-clause-unquiet g c =
@@ -20,14 +20,12 @@ loop-preserved g c =
     elim c.if-branch-eq0.branch [
       | then-branch-eq0 w ↦ rw w.silent-is (record {
         dropped = before.dropped;
-        few = omega (arith, before.few, c.if-silent-reads.false);
-        hearing = paused _ _ _ _ _ before.hearing (omega (arith, before.few, c.if-silent-reads.false))
+        hearing = paused _ _ _ _ _ before.hearing (omega (arith, c.if-silent-reads.false))
             (subst (λ k. g.L.Line.reads c.loop.line (Some (take k c.read.new.room)) c.read.new.self) w.if-branch-eq0.true read.one);
       })
       | else-branch-eq0 w ↦ rw w.silent-is (record {
         dropped = before.dropped ++ piece;
-        few = omega arith;
-        hearing = brought before.dropped piece _ _ _ _ before.hearing (omega (arith, before.few, c.if-silent-reads.false))
+        hearing = brought before.dropped piece _ _ _ _ before.hearing (omega (arith, c.if-silent-reads.false))
             (some_bytes _ _ read.bound.0 w.if-branch-eq0.false) read.one;
       })
     ]
@@ -35,5 +33,5 @@ loop-preserved g c =
 pub returns-clause-unquiet : goal.returns-clause-unquiet
 returns-clause-unquiet g c =
     let all : c.loop.counter ≡ most_reads c.args.reads = (omega (arith, c.loop-test.false, c.loop.auto.counter-end, c.from-end.ensures)) in
-    never _ _ _ (subst (λ made. Hearing g.L.Line.reads g.L.Line.writes (is_noisy c.args.reads) c.args.line.now
+    never _ _ _ (subst (λ made. Hearing g.L.Line.reads g.L.Line.writes (is_noisy c.args.reads) c.args.already c.args.line.now
     c.loop.invariant.dropped c.loop.silent made c.loop.line) all c.loop.invariant.hearing)
