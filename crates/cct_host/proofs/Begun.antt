@@ -3,12 +3,13 @@ use Rattle.std.proofs.Common.{◌≡◌, ℕ, ◌+◌, List, [], length, reverse
 use Rattle.cct_model.specs.terms.device.Setup.{Setup}
 use Rattle.cct_model.specs.lines.carry.Carry.{Carry}
 use Rattle.cct_model.specs.lines.record.Record.{Record}
-use Rattle.cct_model.specs.Carried.{empty_carry}
+use Rattle.cct_model.specs.Carried.{IsRightly, empty_carry}
 use Rattle.cct_disk.specs.declared.disk.Disk.{Ghosts}
 use Rattle.cct_journal.specs.Journal as journals
 use Rattle.cct_journal.specs.declared.place.Place.{Place}
 use Rattle.cct_carry.specs.Tally as tallies
 use Rattle.cct_carry.proofs.Resumed.{carry_first}
+use Rattle.cct_carry.proofs.Small.{none_empty}
 use Rattle.cct_ledger.specs.declared.ledger.Ledger.{Ledger}
 use Rattle.cct_ledger.specs.Resumed.{IsResumed}
 use Rattle.cct_host.specs.declared.desks.Desks.{Desks}
@@ -17,7 +18,7 @@ use Rattle.cct_host.specs.Desks as all_desks
 use Rattle.cct_host.specs.Host.{setup_of}
 use Rattle.cct_host.specs.OnDisk.{ReadsRecords, ReadsRest}
 use Rattle.cct_host.specs.Replayed.{Resumes}
-use Rattle.cct_host.specs.Starting.{BeginFrom, FirstFollow, HasReplayed, HasResumed, TalliesOver}
+use Rattle.cct_host.specs.Starting.{BeginFrom, FirstFollow, HasReplayed, HasResumed, HasResumedSome, TalliesOver, TalliesSome}
 use Rattle.cct_host.proofs.Starting.{begun_over, resumed_replayed}
 
 -- desks and a ledger that were made of one carry begin with it
@@ -45,6 +46,17 @@ module _ {D : Type 0} {g : Ghosts D} where
         from_carry = subst (λ n. BeginFrom host.desks host.ledger n (tallies.carry_in host.tally)) used begins;
         used = used;
       }
+
+  -- the same of some records
+  pub resumed_some : (host : Host D g) (setup : Setup) (base : ℕ) (c : Carry) (many : ℕ) → setup_of host ≡ setup
+      → TalliesSome setup base c many (tallies.carry_in host.tally)
+      → BeginFrom host.desks host.ledger (journals.used_of host.journal) (tallies.carry_in host.tally)
+      → journals.used_of host.journal ≡ many → IsRightly base c → HasResumedSome host base c
+  resumed_some host setup base c many same some begins used rightly = record {
+    rest = some.rest;
+    resumed = resumed_by host setup base c some.rest same some.over begins (used ∙ some.count);
+    empty = λ none. none_empty c (subst (λ n. IsRightly n c) none rightly);
+  }
 
   -- such a host is as one that went over all records, where the first ones follow one another
   pub resumed_all : (host : Host D g) (setup : Setup) (seen : D → Option (List ℕ)) (disk : D) (place : Place)

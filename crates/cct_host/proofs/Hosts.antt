@@ -14,7 +14,7 @@ use Rattle.cct_model.specs.Records.{records}
 use Rattle.cct_model.specs.Refusal.{refusal, state_refusal}
 use Rattle.cct_model.specs.Rows.{puts_in}
 use Rattle.cct_disk.specs.declared.disk.Disk.{Ghosts}
-use Rattle.cct_disk.specs.Disk.{IsTrusted}
+use Rattle.cct_disk.specs.Disk.{IsTrusted, LeavesOnly}
 use Rattle.cct_journal.specs.declared.journal.Journal.{Journal}
 use Rattle.cct_journal.specs.declared.place.Place.{Place}
 use Rattle.cct_carry.specs.declared.tally.Tally.{Tally}
@@ -27,7 +27,7 @@ use Rattle.cct_ledger.specs.Ledger as ledgers
 use Rattle.cct_host.specs.declared.desks.Desks.{Desks}
 use Rattle.cct_host.specs.declared.host.Host.{Host}
 use Rattle.cct_host.specs.Attempt.{news_of}
-use Rattle.cct_host.specs.OnDisk.{KeepsRecords}
+use Rattle.cct_host.specs.OnDisk.{KeepsRecords, StandsUpTo}
 use Rattle.cct_host.specs.Desk.{no_of, puts_at, sum_in}
 use Rattle.cct_host.specs.Desks as all_desks
 use Rattle.cct_host.specs.Host.{Advances, Answers, Fails, FailsToPut, Keeps, Nexts, PutSuits, PutsDue, StandsFor, capacity_in, disk_of, put_by, setup_of}
@@ -117,6 +117,11 @@ module _ {D : Type 0} {g : Ghosts D} where
               next_stands hears old new addr past (news_of addr nexts.what) goes (advances.puts past stands.keeps.desks)
                   same stands suits turned.0 turned.1,
             );
+        moments = λ past stands trusted. subst
+            (λ d. LeavesOnly g.moment g.left_since (disk_of old) (disk_of new)
+            (StandsUpTo (setup_of old) d (reverse (records past)))) (sym nexts.put_is)
+            ((advances.puts past stands.keeps.desks).moments (stands.on_disk trusted) stands.keeps.carry_is);
+        quiet = λ none. advances.quiet (sym nexts.put_is ∙ none);
       }
 
   -- a put that failed
@@ -143,6 +148,16 @@ module _ {D : Type 0} {g : Ghosts D} where
               (stands.keeps.carry_is ∙ ap (carry (setup_of old)) (sym (reverse-reverse (records past)))),
         ),
       )
+
+  pub put_failed_between : (old : Host D g) (addr : ℕ) (turned : Desks) (posted : Ledger) (added : Tally)
+      (written : Journal D g)
+      → FailsToPut addr old.desks turned old.ledger posted old.tally added old.journal written
+      → (past : List Entry) → StandsFor old past → IsTrusted g.honest g.seen (disk_of old)
+      → LeavesOnly g.moment g.left_since (disk_of old) (journals.disk_of written)
+      (StandsUpTo (setup_of old) (due_at (setup_of old) past addr) (reverse (records past)))
+  put_failed_between old addr turned posted added written fails past stands trusted =
+      fails.moments past stands.keeps.desks (reverse (records past)) (stands.on_disk trusted)
+      (stands.keeps.carry_is ∙ ap (carry (setup_of old)) (sym (reverse-reverse (records past))))
 
   -- after a command that had room the parts of a host still belong together
   pub together_taken : (desks turned : Desks) (ledger posted : Ledger) (tally : Tally) (journal : Journal D g) (c : Command)

@@ -17,6 +17,7 @@ pub mod Replaying
 pub mod Records
 pub mod Standing
 pub mod Starting
+pub mod Suiting
 pub mod Talks
 pub mod Told
 pub mod Tallying

@@ -405,7 +405,7 @@ module _ {D : Type 0} {g : Ghosts D} where
         setup = same;
         whole = restarts.whole;
         tells = tells_by old new at choice crashed same due resumes restarts counts;
-        found = opens_by (setup_of new) (journal_of new) restarts.found;
+        found = restarts.found;
         has_whole = λ image tells.
             let read = restarts.found image tells in
             let resumed = resumes read.0 read.1 in

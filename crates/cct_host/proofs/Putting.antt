@@ -15,7 +15,7 @@ use Rattle.cct_model.specs.lines.entry.End.{End}
 use Rattle.cct_model.specs.lines.entry.Entry.{Entry}
 use Rattle.cct_model.specs.lines.entry.Entry.TheVariants as entry
 use Rattle.cct_model.specs.lines.carry.Carry.{Carry}
-use Rattle.cct_model.specs.Carry.{carry, carry_with, follows_carry}
+use Rattle.cct_model.specs.Carry.{carry, carry_of, carry_with, follows_carry}
 use Rattle.cct_model.specs.Exchange.{device_at}
 use Rattle.cct_model.specs.Following.{all_follow}
 use Rattle.cct_model.specs.Job as model
@@ -27,6 +27,12 @@ use Rattle.cct_model.specs.Scan.{scan_row}
 use Rattle.cct_model.specs.Transcript.{lines_of, sale_lines, scan_lines}
 use Rattle.cct_carry.proofs.Follows.{follows_carried}
 use Rattle.cct_carry.proofs.Steps.{carry_next}
+use Rattle.cct_disk.specs.Disk.{LeavesOnly}
+use Rattle.cct_journal.specs.Image.{StandsFor}
+use Rattle.cct_journal.specs.declared.place.Place.{Place}
+use Rattle.cct_journal.proofs.Calls.{stands_settled}
+use Rattle.cct_journal.proofs.Moments.{started}
+use Rattle.cct_host.specs.OnDisk.{KeepsRecords}
 use Rattle.cct_host.specs.Host.{put_by}
 use Rattle.cct_host.proofs.Lines.{wire_records}
 
@@ -140,3 +146,15 @@ due_added setup due r before old new taken there sound tells goes follow is =
     carry_added setup r before old new taken sound tells goes
     (subst (λ d. IfSome d (λ r. all_follow setup (r ∷ before) ≡ true)) there follow) is
     ∙ ap (λ d. carry setup (put_by d ++ before)) (sym there)
+
+-- where no call is made, a disk that keeps records leaves what stands for these
+pub same_moments : {D : Type 0} {honest : D → Bool} {seen : D → Option (List ℕ)} {may_leave : D → List ℕ → Type 0}
+    {moment : D → ℕ} {left_since : D → ℕ → List ℕ → Type 0} {disk : D} {place : Place} {records : List Record}
+    (setup : Setup) → ((disk : D) (c : List ℕ) → left_since disk (moment disk) c → may_leave disk c)
+    → KeepsRecords setup honest seen may_leave disk place records
+    → LeavesOnly moment left_since disk disk (λ c. StandsFor (carry_of setup) c records)
+same_moments {D} {honest} {seen} {may_leave} {moment} {left_since} {disk} {place} {records} setup only_now stands =
+    let settled = stands_settled stands in
+    started moment left_since disk (λ c. StandsFor (carry_of setup) c records) (may_leave disk) (only_now disk)
+    (λ c left. subst (λ (image : List ℕ). StandsFor (carry_of setup) image records) (sym (settled.held.only c left))
+    settled.stands)

@@ -14,7 +14,7 @@ use Rattle.cct_carry.proofs.Over.{follow_append, over_append}
 use Rattle.cct_host.specs.declared.replay.ReplayState.{ReplayState}
 use Rattle.cct_host.specs.OnDisk.{StopsAt}
 use Rattle.cct_host.specs.Replaying.{GoesOver, ReplaysTo}
-use Rattle.cct_host.specs.Starting.{RefusesResume, TalliesFirst, TalliesOver}
+use Rattle.cct_host.specs.Starting.{RefusesResume, TalliesFirst, TalliesOver, TalliesSome}
 
 -- one record more, which follows or doesn't
 
@@ -202,3 +202,26 @@ went_none setup base c rest fits = record {
   many = omega arith;
   over = record { fits = fits; follow = refl; carry_is = refl };
 }
+
+-- some records, whichever they are
+pub some_more : (setup : Setup) (base : ℕ) (c now next : Carry) (index : ℕ) (entry : Record)
+    → follows_carry setup now entry ≡ true → next ≡ carry_with setup entry now → TalliesSome setup base c index now
+    → TalliesSome setup base c (index + 1) next
+some_more setup base c now next index entry follows goes some = record {
+  rest = some.rest ++ entry ∷ [];
+  count = omega (arith, some.count, length-append some.rest (entry ∷ []));
+  over = tallied_more setup c now next some.rest entry some.over follows goes;
+}
+
+pub some_none : (setup : Setup) (base : ℕ) (c : Carry) → Fits setup c → TalliesSome setup base c base c
+some_none setup base c fits = record {
+  rest = [];
+  count = omega arith;
+  over = record { fits = fits; follow = refl; carry_is = refl };
+}
+
+-- the same of another setup and another number, where these are the same
+pub first_same : (s t : Setup) (a b : ℕ) (c now : Carry) (rest : List Record) (index : ℕ) → s ≡ t → a ≡ b
+    → TalliesFirst s a c rest index now → TalliesFirst t b c rest index now
+first_same s t a b c now rest index setup base went =
+    subst (λ x. TalliesFirst x b c rest index now) setup (subst (λ n. TalliesFirst s n c rest index now) base went)

@@ -14,7 +14,7 @@ use Rattle.cct_model.specs.Money.{freed_by, reserved_at_work}
 use Rattle.cct_model.specs.Records.{records}
 use Rattle.cct_model.specs.Refusal.{refusal}
 use Rattle.cct_disk.specs.declared.disk.Disk.{Ghosts}
-use Rattle.cct_disk.specs.Disk.{IsTrusted}
+use Rattle.cct_disk.specs.Disk.{IsTrusted, LeavesOnly}
 use Rattle.cct_journal.specs.declared.journal.Journal.{Journal}
 use Rattle.cct_journal.specs.Journal as journals
 use Rattle.cct_journal.specs.declared.format.TheConstants.{MOST_RECORDS}
@@ -25,7 +25,7 @@ use Rattle.cct_ledger.specs.Ledger as ledgers
 use Rattle.cct_host.specs.declared.desks.Desks.{Desks}
 use Rattle.cct_host.specs.declared.host.Host.{Host}
 use Rattle.cct_host.specs.Attempt.{Attempt, HeardBy, Links, news_of, put_of}
-use Rattle.cct_host.specs.OnDisk.{KeepsRecords, LeavesRecords}
+use Rattle.cct_host.specs.OnDisk.{KeepsRecords, LeavesRecords, StandsUpTo}
 use Rattle.cct_host.specs.Desk.{no_of}
 use Rattle.cct_host.specs.Desks as all_desks
 use Rattle.cct_host.specs.Place.{OwnsItsPut}
@@ -115,6 +115,13 @@ module _ {D : Type 0} {g : Ghosts D} where
     pub goes : (hears : List ℕ → List ℕ) (past : List Entry) → HeardBy hears what → StandsFor before past
         → PutSuits (setup_of before) past addr
         → EntriesOfNext hears (setup_of before) past addr (news_of addr what) × StandsFor after (news_of addr what ++ past)
+    -- Each image that a power cut at a moment of it might have left on a trusted disk stands for the records of the past, or
+    -- for these and the one that is put.
+    pub moments : (past : List Entry) → StandsFor before past → IsTrusted g.honest g.seen (disk_of before)
+        → LeavesOnly g.moment g.left_since (disk_of before) (disk_of after)
+        (StandsUpTo (setup_of before) (put_of what) (reverse (records past)))
+    -- Where it puts no record, the journal stays.
+    pub quiet : put_of what ≡ None → journal_of after ≡ journal_of before
 
   -- A put failed: the job at the address was about to put a record, the host has all of the past as before, and whatever a
   -- power cut leaves on its trusted disk stands for the records of the past, or for these and that record.
@@ -124,6 +131,14 @@ module _ {D : Type 0} {g : Ghosts D} where
       → Keeps new past × ((r : Record) × (due_at (setup_of old) past addr ≡ Some r)
       × (IsTrusted g.honest g.seen (disk_of old)
       → LeavesRecords (setup_of old) g.honest g.seen g.may_leave (disk_of new) (Some r) (reverse (records past))))
+
+  -- Each image that a power cut at a moment of a put that failed might have left on a trusted disk stands for the records of
+  -- the past, or for these and the one that was due.
+  abbrev pub FailsBetween : Host D g → Host D g → ℕ → Type 0
+  FailsBetween old new addr =
+      (past : List Entry) → StandsFor old past → IsTrusted g.honest g.seen (disk_of old)
+      → LeavesOnly g.moment g.left_since (disk_of old) (disk_of new)
+      (StandsUpTo (setup_of old) (due_at (setup_of old) past addr) (reverse (records past)))
 
   -- A record that was due, if one was, is put into a journal with the carry of those before it: so many more does it count,
   -- and its disk keeps them.
@@ -135,6 +150,12 @@ module _ {D : Type 0} {g : Ghosts D} where
         → so_far ≡ carry_of setup records
         → KeepsRecords setup g.honest g.seen g.may_leave (journals.disk_of written) (journals.place_of written)
         (records ++ put_by due)
+    pub moments : (setup : Setup) (records : List Record)
+        → KeepsRecords setup g.honest g.seen g.may_leave (journals.disk_of journal) (journals.place_of journal) records
+        → so_far ≡ carry_of setup records
+        → LeavesOnly g.moment g.left_since (journals.disk_of journal) (journals.disk_of written)
+        (StandsUpTo setup due records)
+    pub quiet : due ≡ None → written ≡ journal
 
   -- A put fails: a record was due, and whatever a power cut leaves on the disk has the records before it, of which this is
   -- the carry, or these and that one.
@@ -144,6 +165,11 @@ module _ {D : Type 0} {g : Ghosts D} where
         → KeepsRecords setup g.honest g.seen g.may_leave (journals.disk_of journal) (journals.place_of journal) records
         → so_far ≡ carry_of setup records
         → LeavesRecords setup g.honest g.seen g.may_leave (journals.disk_of written) (Some r) records)
+    pub moments : (setup : Setup) (records : List Record)
+        → KeepsRecords setup g.honest g.seen g.may_leave (journals.disk_of journal) (journals.place_of journal) records
+        → so_far ≡ carry_of setup records
+        → LeavesOnly g.moment g.left_since (journals.disk_of journal) (journals.disk_of written)
+        (StandsUpTo setup due records)
 
   -- After all that happened the record that was due at an address, if one was due, was put: the journal has it, and the
   -- ledger, beside what is reserved after it, and the tally.
@@ -156,6 +182,11 @@ module _ {D : Type 0} {g : Ghosts D} where
         → tallies.carry_in tally ≡ carry (all_desks.setup_of desks) (records past)
         → KeepsRecords (all_desks.setup_of desks) g.honest g.seen g.may_leave (journals.disk_of written)
         (journals.place_of written) (reverse (records past) ++ put_by (due_at (all_desks.setup_of desks) past addr))
+    pub moments : KeepsRecords (all_desks.setup_of desks) g.honest g.seen g.may_leave (journals.disk_of journal)
+        (journals.place_of journal) (reverse (records past))
+        → tallies.carry_in tally ≡ carry (all_desks.setup_of desks) (records past)
+        → LeavesOnly g.moment g.left_since (journals.disk_of journal) (journals.disk_of written)
+        (StandsUpTo (all_desks.setup_of desks) (all_desks.due_on desks addr) (reverse (records past)))
     pub posts : TakesItsPut (all_desks.setup_of desks) past addr
         → ledgers.StandsFor ledger (records past) (all_desks.reserved_of desks)
         → ledgers.StandsFor posted (put_by (due_at (all_desks.setup_of desks) past addr) ++ records past)
@@ -175,6 +206,7 @@ module _ {D : Type 0} {g : Ghosts D} where
     pub counts : journals.used_of written ≡ journals.used_of journal + length (put_by (all_desks.due_on desks addr))
     pub puts : (past : List Entry) → all_desks.StandsFor desks past
         → PutsDue past addr desks turned ledger posted tally added journal written
+    pub quiet : all_desks.due_on desks addr ≡ None → written ≡ journal
 
   -- The put of the record that is due at an address fails, and nothing but the disk changes.
   pub record FailsToPut (addr : ℕ) (desks turned : Desks) (ledger posted : Ledger) (tally added : Tally)
@@ -189,3 +221,9 @@ module _ {D : Type 0} {g : Ghosts D} where
         (journals.place_of journal) records
         → tallies.carry_in tally ≡ carry_of (all_desks.setup_of desks) records
         → LeavesRecords (all_desks.setup_of desks) g.honest g.seen g.may_leave (journals.disk_of written) (Some r) records)
+    pub moments : (past : List Entry) → all_desks.StandsFor desks past → (records : List Record)
+        → KeepsRecords (all_desks.setup_of desks) g.honest g.seen g.may_leave (journals.disk_of journal)
+        (journals.place_of journal) records
+        → tallies.carry_in tally ≡ carry_of (all_desks.setup_of desks) records
+        → LeavesOnly g.moment g.left_since (journals.disk_of journal) (journals.disk_of written)
+        (StandsUpTo (all_desks.setup_of desks) (due_at (all_desks.setup_of desks) past addr) records)

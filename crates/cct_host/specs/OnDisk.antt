@@ -1,12 +1,12 @@
 -- The records that the journal of a host has on its disk: what is there, what a power cut may leave of it,
 -- and what is found in an image.
-use Rattle.std.specs.Prelude.{◌≡◌, ◌⊎◌, ℕ, ◌+◌, Bool, true, false, Option, List, ◌∷◌, ◌++◌, length}
+use Rattle.std.specs.Prelude.{◌≡◌, ◌⊎◌, ℕ, ◌+◌, Bool, true, false, Option, Some, None, List, ◌∷◌, ◌++◌, length}
 use Rattle.cct_model.specs.terms.device.Setup.{Setup}
 use Rattle.cct_model.specs.lines.carry.Carry.{Carry}
 use Rattle.cct_model.specs.lines.record.Record.{Record}
 use Rattle.cct_model.specs.Carry.{Fits, all_follow_carry, carry_of, carry_over, follows_carry}
 use Rattle.cct_journal.specs.declared.place.Place.{Place}
-use Rattle.cct_journal.specs.Image.{HasFrom, HasMany}
+use Rattle.cct_journal.specs.Image.{HasFrom, HasMany, StandsFor, StandsForOneOf}
 use Rattle.cct_journal.specs.PowerCuts.{LeavesWith}
 use Rattle.cct_journal.specs.Stands.{Reads, ReadsFrom, Stands}
 
@@ -23,6 +23,11 @@ abbrev pub LeavesRecords : {D : Type 0} → Setup → (D → Bool) → (D → Op
     → Option Record → List Record → Type 0
 LeavesRecords setup honest seen may_leave disk due records =
     LeavesWith (carry_of setup) honest seen may_leave disk due records
+
+-- An image stands for these records, or, where one was due, for these or for these and that one.
+abbrev pub StandsUpTo : Setup → Option Record → List Record → List ℕ → Type 0
+StandsUpTo setup None records image = StandsFor (carry_of setup) image records
+StandsUpTo setup (Some r) records image = StandsForOneOf (carry_of setup) records r image
 
 -- What a read gives stands for these records, whatever a power cut may leave, and so many does the journal count.
 abbrev pub ReadsRecords : {D : Type 0} → Setup → (D → Option (List ℕ)) → D → Place → List Record → Type 0

@@ -141,9 +141,11 @@ module _ {D : Type 0} {g : Ghosts D} where
     -- On a trusted disk, after any past whose records follow one another: the entries are those of the definitions, with
     -- the record that was kept, if one was. No job is left, and nothing that only jobs reserved.
     pub tells : TellsRestart old new at crashed
-    pub found : Opens (setup_of new) (journal_of new)
-    -- On any disk that tells its bytes, honest or not, the host is the one that starts over what a read gives: the carry
-    -- fits the setup, and each record after it follows.
+    -- On any disk that tells its bytes, honest or not, what a read gives has some records after the carry of the new journal's
+    -- place, and the host is the one that starts over that carry and these: the carry fits the setup, and each of them
+    -- follows.
+    pub found : (image : List ℕ) → g.seen (disk_of new) ≡ Some image
+        → (rest : List Record) × ReadsRest g.seen (disk_of new) (journals.place_of (journal_of new)) rest
     pub has_whole : (image : List ℕ) → g.seen (disk_of new) ≡ Some image
         → FindsWhole (setup_of new) image (journals.used_of (journal_of new))
     pub resumes : (rest : List Record) → ReadsRest g.seen (disk_of new) (journals.place_of (journal_of new)) rest

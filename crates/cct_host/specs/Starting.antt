@@ -4,7 +4,8 @@ use Rattle.cct_model.specs.terms.device.Setup.{Setup}
 use Rattle.cct_model.specs.lines.record.Record.{Record}
 use Rattle.cct_model.specs.lines.carry.Carry.{Carry}
 use Rattle.cct_model.specs.Carry.{Fits, all_follow_carry, carry, carry_over}
-use Rattle.cct_model.specs.Following.{all_follow, follows}
+use Rattle.cct_model.specs.Carried.{empty_carry}
+use Rattle.cct_model.specs.Following.{Known, all_follow, follows}
 use Rattle.cct_journal.specs.declared.place.Place.{Place}
 use Rattle.cct_edge.specs.Faults.{Caused}
 use Rattle.cct_disk.specs.declared.disk.Disk.{Ghosts}
@@ -21,7 +22,7 @@ use Rattle.cct_journal.specs.declared.refusal.ReadNo.{ReadNo}
 use Rattle.cct_journal.specs.declared.refusal.ReadNo.TheVariants.{Disk, BadRecord}
 use Rattle.cct_host.specs.Desks as all_desks
 use Rattle.cct_host.specs.OnDisk.{ReadsRecords, StopsAt}
-use Rattle.cct_host.specs.Replayed.{Replays, Resumes}
+use Rattle.cct_host.specs.Replayed.{BeginsWith, Replays, Resumes}
 
 -- A tally went over a carry that fits its setup, and over records after it, oldest first, each of which follows.
 pub record TalliesOver (setup : Setup) (c : Carry) (rest : List Record) (now : Carry) : Type 0 where
@@ -37,6 +38,13 @@ pub record TalliesFirst (setup : Setup) (base : ℕ) (c : Carry) (rest : List Re
     pub all : rest ≡ first ++ later
     pub many : index ≡ base + length first
     pub over : TalliesOver setup c first now
+
+-- A tally went over a carry of so many records that fits its setup, and over some records after it, oldest first, each of
+-- which follows: so many are these in all.
+pub record TalliesSome (setup : Setup) (base : ℕ) (c : Carry) (many : ℕ) (now : Carry) : Type 0 where
+  pub rest : List Record
+  pub count : many ≡ base + length rest
+  pub over : TalliesOver setup c rest now
 
 -- Desks and a ledger went over records, newest first: they have what these tell, and each record follows those before
 -- it.
@@ -100,3 +108,14 @@ pub record HasResumed {D : Type 0} {g : Ghosts D} (host : Host D g) (base : ℕ)
     pub carry_is : tallies.carry_in host.tally ≡ carry_over (all_desks.setup_of host.desks) c rest
     pub from_carry : BeginFrom host.desks host.ledger (base + length rest) (tallies.carry_in host.tally)
     pub used : journals.used_of host.journal ≡ base + length rest
+
+-- A host stands over a carry of so many records and some records after them, as one that has just started. The carry of no
+-- record is the empty one.
+pub record HasResumedSome {D : Type 0} {g : Ghosts D} (host : Host D g) (base : ℕ) (c : Carry) : Type 0 where
+  pub rest : List Record
+  pub resumed : HasResumed host base c rest
+  pub empty : base ≡ 0 → c ≡ empty_carry
+
+-- A host begins with what is known of its devices, and with this greatest id: no job has begun.
+abbrev pub BeginsAs : {D : Type 0} {g : Ghosts D} → Host D g → Known → ℕ → Type 0
+BeginsAs host k last = BeginsWith host.desks k last

@@ -9,7 +9,7 @@ ghost use Rattle.cct_model.specs.lines.entry.Entry.{Entry};
 ghost use Rattle.cct_model.specs.Legal.{due_at};
 ghost use Rattle.cct_model.specs.Money as money;
 ghost use Rattle.cct_model.specs.Money.{freed_by};
-ghost use Rattle.cct_model.specs.Refusal.{held};
+ghost use Rattle.cct_model.specs.Refusal.{held, last_id};
 ghost use Rattle.cct_model.specs.Setup.{IsSoundSetup};
 ghost use Rattle.cct_record.specs.Body.{Encodable};
 ghost use Rattle.cct_jobs.specs.Jobs.{is_of_device};
@@ -167,8 +167,10 @@ impl<'s> Desks<'s> {
     }
 
     /// The last id: the greatest of the records, of the running payments and of the running sale, 0 where there is none.
-    fn last_id(&self) -> u32
-        ensures { result ≡ max self.now.last (working_id self.now) }
+    #[tactic(auto, using(crate::proofs::Places::last_is))]
+    pub(crate) fn last_id(&self) -> u32
+        ensures value { result ≡ max self.now.last (working_id self.now) }
+        ensures stands { (past : List Entry) → StandsFor self.now past → result ≡ last_id (setup_of self.now) past }
     {
         let running = JobDesk::greatest_paying(self.devices.as_slice()).max(self.sale.orders.id);
         self.last.max(running)

@@ -49,9 +49,9 @@ pub struct Host<'s, D: Disk> {
 
 impl<'s, D: Disk> Host<'s, D> {
     ghost use Rattle.cct_host.specs.OnDisk.{KeepsRecords, ReadsRecords, ReadsRest};
-    ghost use Rattle.cct_host.specs.Host.{Answers, Fails, Keeps, Nexts, Stays, capacity_in, disk_of, has_failed, journal_of, setup_of};
+    ghost use Rattle.cct_host.specs.Host.{Answers, Fails, FailsBetween, Keeps, Nexts, Stays, capacity_in, disk_of, has_failed, journal_of, setup_of};
     ghost use Rattle.cct_host.specs.Restarting.{RestartFails, Restarts};
-    ghost use Rattle.cct_host.specs.Starting.{FirstFollow, HasReplayed, HasResumed, RefusesResume, RefusesStart};
+    ghost use Rattle.cct_host.specs.Starting.{FirstFollow, HasReplayed, HasResumed, HasResumedSome, RefusesResume, RefusesStart};
 
     /// The host over a journal: it begins with the carry of the records before the current half, and goes over those of the
     /// half, oldest first. It has no job, and the epochs, open orders and money that these tell. The disk is only read.
@@ -66,8 +66,10 @@ impl<'s, D: Disk> Host<'s, D> {
         ensures whole { IfOk result (λ host. has_failed host ≡ false) }
 
         // what it knows, and why it isn't started:
-        // On any disk that tells its bytes it begins with the carry of its journal, which fits the setup, and each record
-        // after that follows.
+        // On any disk, also one that tells nothing, it begins with the carry of its journal, which fits the setup, and went
+        // over some records after that, each of which follows.
+        ensures begins { IfOk result (λ host. HasResumedSome host (journals.base_of journal) (journals.carry_before journal)) }
+        // On any disk that tells its bytes these are the ones that a read gives.
         ensures resumes { IfOk result (λ host. (rest : List Record)
             → ReadsRest D.seen (journals.disk_of journal) (journals.place_of journal) rest
             → HasResumed host (journals.base_of journal) (journals.carry_before journal) rest) }
@@ -227,6 +229,8 @@ impl<'s, D: Disk> Host<'s, D> {
         // Only with a record due. The host has all of the past as before, and whatever a power cut leaves on a trusted
         // disk stands for the records of the past, or for these and that one.
         ensures fails { OnErr result (Fails self.old self.new addr) }
+        // And so does whatever one might have left at a moment of it.
+        ensures between { OnErr result (FailsBetween self.old self.new addr) }
 
         // the disk
         ensures cause { HasCause (D.faults (disk_of self.old)) (D.faults (disk_of self.new)) result }

@@ -7,6 +7,7 @@ mod desk;
 mod desks;
 mod exchange;
 mod host;
+mod legal_past;
 mod old_replay;
 mod orders;
 mod reasons;
@@ -20,6 +21,7 @@ mod upgrading;
 
 pub use desks::Desks;
 pub use host::Host;
+pub use legal_past::each_legal_past_suits_a_host;
 pub use refusal::{CrashNo, StartNo, UpgradeNo};
 pub use restart::Crashed;
 pub use upgrading::upgrade;

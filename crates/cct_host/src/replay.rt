@@ -1,6 +1,6 @@
 //! A host that starts goes over the carry and the records of its journal: it reads them, or is shown them as they are
 //! found.
-ghost use Rattle.std.specs.Prelude.{◌≡◌, ◌≤◌, ◌<◌, ◌+◌, List, Err, IfErr, IfOk, IsTrue, OnOk, Ok, is_ok};
+ghost use Rattle.std.specs.Prelude.{◌≡◌, ◌≤◌, ◌<◌, ◌+◌, ℕ, List, Err, IfErr, IfOk, IsTrue, OnOk, Ok, is_ok};
 ghost use Rattle.cct_model.specs.lines.record.Record.{Record};
 ghost use Rattle.cct_model.specs.lines.carry.Carry.{Carry};
 ghost use Rattle.cct_model.specs.Carried.{empty_carry};
@@ -9,7 +9,7 @@ ghost use Rattle.cct_model.specs.Setup.{IsSoundSetup};
 ghost use Rattle.cct_carry.specs.Tally as tallies;
 ghost use Rattle.cct_journal.specs.Journal as journals;
 ghost use Rattle.cct_host.specs.OnDisk.{ReadsRest};
-ghost use Rattle.cct_host.specs.Starting.{OnlyReadIn, RefusesResume, TalliesFirst, TalliesOver};
+ghost use Rattle.cct_host.specs.Starting.{OnlyReadIn, RefusesResume, TalliesFirst, TalliesOver, TalliesSome};
 
 use crate::refusal::StartNo;
 use cct_carry::Tally;
@@ -31,6 +31,8 @@ pub(crate) fn replay_all<'s, D: Disk>(
     // what it tells
     ensures setup { IfOk result (λ tally. tallies.setup_of tally ≡ setup.now) }
     ensures counted { IfOk result (λ tally. tallies.many_of tally ≡ journals.used_of journal.old) }
+    ensures some { IfOk result (λ tally. TalliesSome setup.now (journals.base_of journal.old)
+        (journals.carry_before journal.old) (journals.used_of journal.old) (tallies.carry_in tally)) }
     ensures over { IfOk result (λ tally. (rest : List Record)
         → ReadsRest D.seen (journals.disk_of journal.old) (journals.place_of journal.old) rest
         → TalliesOver setup.now (journals.carry_before journal.old) rest (tallies.carry_in tally)) }
@@ -59,6 +61,9 @@ fn replay_rest<'s, D: Disk>(
     requires counted { tallies.many_of before ≡ journals.base_of journal.old }
     ensures setup { IfOk result (λ tally. tallies.setup_of tally ≡ tallies.setup_of before.entry) }
     ensures counted { IfOk result (λ tally. tallies.many_of tally ≡ journals.used_of journal.old) }
+    ensures some { IfOk result (λ tally. Fits (tallies.setup_of before.entry) (tallies.carry_in before.entry)
+        → TalliesSome (tallies.setup_of before.entry) (journals.base_of journal.old) (tallies.carry_in before.entry)
+        (journals.used_of journal.old) (tallies.carry_in tally)) }
     ensures over { IfOk result (λ tally. (rest : List Record)
         → ReadsRest D.seen (journals.disk_of journal.old) (journals.place_of journal.old) rest
         → Fits (tallies.setup_of before.entry) (tallies.carry_in before.entry)
@@ -89,6 +94,9 @@ fn replay_next<D: Disk>(
     requires counted { tallies.many_of tally.old ≡ index }
     ensures setup { tallies.setup_of tally.new ≡ tallies.setup_of tally.old }
     ensures counted { OnOk result (tallies.many_of tally.new ≡ index + 1) }
+    ensures some { OnOk result ((base : ℕ) (c : Carry)
+        → TalliesSome (tallies.setup_of tally.old) base c index (tallies.carry_in tally.old)
+        → TalliesSome (tallies.setup_of tally.old) base c (index + 1) (tallies.carry_in tally.new)) }
     ensures over { OnOk result ((rest : List Record)
         → ReadsRest D.seen (journals.disk_of journal.old) (journals.place_of journal.old) rest
         → (c : Carry)

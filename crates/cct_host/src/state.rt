@@ -1,10 +1,15 @@
 //! How a host stands: the job of each address, what is recorded of each device, and how many records its journal has and still takes.
-ghost use Rattle.std.specs.Prelude.{◌≡◌, List, length};
+ghost use Rattle.std.specs.Prelude.{◌≡◌, ℕ, List, is_some, length, true};
 ghost use Rattle.cct_model.specs.lines.entry.Entry.{Entry};
+ghost use Rattle.cct_model.specs.Exchange.{device_at};
+ghost use Rattle.cct_model.specs.Following.{Known};
 ghost use Rattle.cct_model.specs.Records.{records};
+ghost use Rattle.cct_model.specs.Refusal.{last_id};
 ghost use Rattle.cct_jobs.specs.Jobs.{order_of};
+ghost use Rattle.cct_journal.specs.Journal as journals;
 ghost use Rattle.cct_host.specs.Desks.{StandsFor};
 ghost use Rattle.cct_host.specs.Desks as all_desks;
+ghost use Rattle.cct_host.specs.Replayed.{BeginsWith};
 ghost use Rattle.cct_host.specs.Standing.{bare_command, command_at, epoch_at, order_at, room_after};
 
 use crate::{Desks, Host};
@@ -40,8 +45,10 @@ impl Desks<'_> {
 
     /// The epoch of the acceptor at an address, by its records. At any other address none runs.
     pub fn epoch_at(&self, addr: u8) -> EpochState
-        ensures { (past : List Entry) → StandsFor self.now past
+        ensures stands { (past : List Entry) → StandsFor self.now past
             → result ≡ epoch_at (all_desks.setup_of self.now) past addr }
+        ensures begins { (k : Known) (last : ℕ) → BeginsWith self.now k last
+            → is_some (device_at (all_desks.setup_of self.now).devices addr) ≡ true → result ≡ k.epoch_at addr }
     {
         match self.find(addr) {
             Some(index) => self.devices[index].epoch,
@@ -51,8 +58,10 @@ impl Desks<'_> {
 
     /// The open order of the hopper at an address, by its records. At any other address none is open.
     pub fn order_at(&self, addr: u8) -> Option<OpenOrder>
-        ensures { (past : List Entry) → StandsFor self.now past
+        ensures stands { (past : List Entry) → StandsFor self.now past
             → result ≡ order_at (all_desks.setup_of self.now) past addr }
+        ensures begins { (k : Known) (last : ℕ) → BeginsWith self.now k last
+            → is_some (device_at (all_desks.setup_of self.now).devices addr) ≡ true → result ≡ k.order_at addr }
     {
         match self.find(addr) {
             Some(index) => order_in(&self.devices[index].orders.order),
@@ -69,7 +78,8 @@ fn order_in(owed: &Option<Owed>) -> Option<OpenOrder>
 }
 
 impl<'s, D: Disk> Host<'s, D> {
-    ghost use Rattle.cct_host.specs.Host.{Keeps, capacity_in, setup_of};
+    ghost use Rattle.cct_host.specs.Host.{Keeps, capacity_in, journal_of, setup_of};
+    ghost use Rattle.cct_host.specs.Starting.{BeginsAs};
 
     /// The setup.
     pub fn setup(&self) -> &'s Setup
@@ -91,7 +101,10 @@ impl<'s, D: Disk> Host<'s, D> {
     /// record. At any other address none runs.
     pub fn epoch_at(&self, addr: u8) -> EpochState
         // Also after a put that failed.
-        ensures { (past : List Entry) → Keeps self.now past → result ≡ epoch_at (setup_of self.now) past addr }
+        ensures stands { (past : List Entry) → Keeps self.now past → result ≡ epoch_at (setup_of self.now) past addr }
+        // At the address of a device, where no job has begun since the start.
+        ensures begins { (k : Known) (last : ℕ) → BeginsAs self.now k last
+            → is_some (device_at (setup_of self.now).devices addr) ≡ true → result ≡ k.epoch_at addr }
     {
         self.desks.epoch_at(addr)
     }
@@ -99,15 +112,28 @@ impl<'s, D: Disk> Host<'s, D> {
     /// The order that is open at the hopper at an address. At any other address none is open.
     pub fn order_at(&self, addr: u8) -> Option<OpenOrder>
         // Also after a put that failed.
-        ensures { (past : List Entry) → Keeps self.now past → result ≡ order_at (setup_of self.now) past addr }
+        ensures stands { (past : List Entry) → Keeps self.now past → result ≡ order_at (setup_of self.now) past addr }
+        // At the address of a device, where no job has begun since the start.
+        ensures begins { (k : Known) (last : ℕ) → BeginsAs self.now k last
+            → is_some (device_at (setup_of self.now).devices addr) ≡ true → result ≡ k.order_at addr }
     {
         self.desks.order_at(addr)
     }
 
+    /// The greatest id that was used: of the payments and sales in the records, and of those that are running; 0 where there
+    /// is none. A new id has to be above it (`docs/SCRIPT.md`).
+    pub fn last_id(&self) -> u32
+        // Also after a put that failed.
+        ensures { (past : List Entry) → Keeps self.now past → result ≡ last_id (setup_of self.now) past }
+    {
+        self.desks.last_id()
+    }
+
     /// How many records were put.
     pub fn records(&self) -> u32
+        ensures value { result ≡ journals.used_of (journal_of self.now) }
         // Also after a put that failed.
-        ensures { (past : List Entry) → Keeps self.now past → result ≡ length (records past) }
+        ensures stands { (past : List Entry) → Keeps self.now past → result ≡ length (records past) }
     {
         self.journal.used()
     }

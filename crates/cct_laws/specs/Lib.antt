@@ -18,4 +18,5 @@ pub mod Right
 pub mod Scope
 pub mod SinceEpoch
 pub mod Takers
+pub mod Tallying
 pub mod Tries

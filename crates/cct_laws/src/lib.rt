@@ -44,7 +44,7 @@ ghost use Rattle.cct_model.specs.lines.command.WireFault.TheVariants.{Clear};
 ghost use Rattle.cct_model.specs.lines.entry.Entry.{Entry};
 ghost use Rattle.cct_model.specs.terms.wire.TheConstants.{BROADCAST};
 ghost use Rattle.cct_model.specs.Acceptor.{accepts, credits_in};
-ghost use Rattle.cct_model.specs.Claims.{AllPast, InOrder, Covers, Pace, Tallies};
+ghost use Rattle.cct_model.specs.Claims.{AllPast, InOrder, Covers, Pace};
 ghost use Rattle.cct_model.specs.Device.{IsAcceptor, IsTaker};
 ghost use Rattle.cct_model.specs.Exchange.{ask, by_address};
 ghost use Rattle.cct_model.specs.Job.{works, job, epoch, sends, puts, Noted};
@@ -85,6 +85,7 @@ ghost use Rattle.cct_laws.specs.Right.{IsRight};
 ghost use Rattle.cct_laws.specs.Scope.{EachHopper, EachTaker, EachTranscript, IsCommandFor};
 ghost use Rattle.cct_laws.specs.SinceEpoch.{AcceptsInEpochs, since_epoch_in, mask_set_in, IsMaskedBy, MayBreak, HaveCauses};
 ghost use Rattle.cct_laws.specs.Takers.{events_of};
+ghost use Rattle.cct_laws.specs.Tallying.{AlwaysTallies};
 ghost use Rattle.cct_laws.specs.Tries.{TriesAt, ScanTriesAt, HasFewTries, failed_in};
 
 /// Where no fault is set for the next exchange, a job at a device of a sound setup gets an answer to each request that it
@@ -184,11 +185,12 @@ pub fn none_lost_in_silence()
     ensures { EachTaker (λ d transcript. Pace (lines_in d transcript) → Covers (lines_in d transcript)) }
 {}
 
-/// The coins up to the mark are exactly as many as all records of the acceptor together post and tell to be lost, under the
-/// same pace. The mark is the number of coins up to which its last record or clean end tells. So what was posted and what
-/// was told to be lost is together what was accepted, up to the last reading that told anything.
+/// After each line, the coins up to the mark are exactly as many as all records of the acceptor up to then together post and
+/// tell to be lost, under the same pace. The mark is the number of coins up to which its last record or clean end tells. So
+/// at every moment what was posted and what was told to be lost is together what was accepted, up to the last reading that
+/// told anything.
 pub fn coins_up_to_the_mark_are_tallied()
-    ensures { EachTaker (λ d transcript. Pace (lines_in d transcript) → Tallies (lines_in d transcript)) }
+    ensures { EachTaker (λ d transcript. Pace (lines_in d transcript) → AlwaysTallies (lines_in d transcript)) }
 {}
 
 /// If a job of an acceptor ends because its reading has to be made again, a coin was accepted meanwhile: after the accept

@@ -7,6 +7,5 @@ pub mod Relying
 pub mod AtDesk
 pub mod Early
 pub mod Steps
-pub mod Suited
 pub mod Surviving
 pub mod Wires

@@ -18,7 +18,7 @@ use Rattle.cct_model.specs.lines.command.Step.{Step}
 use Rattle.cct_model.specs.lines.entry.End.{End}
 use Rattle.cct_model.specs.lines.entry.End.TheVariants.{Clean, Moved}
 use Rattle.cct_model.specs.lines.entry.Entry.{Entry}
-use Rattle.cct_model.specs.Claims.{InOrder, Covers, Pace, Tallies}
+use Rattle.cct_model.specs.Claims.{InOrder, Covers, Pace}
 use Rattle.cct_model.specs.Device.{IsHopper}
 use Rattle.cct_model.specs.Reply.{Reply}
 use Rattle.cct_model.specs.History.{Met}
@@ -36,11 +36,12 @@ use Rattle.cct_laws.specs.DeviceJobs.{is_for_hopper, with_ended}
 use Rattle.cct_laws.specs.KeptHopper.{IsKeptHopper}
 use Rattle.cct_laws.specs.Law.{IsOf, lines_in}
 use Rattle.cct_laws.specs.Scope.{EachHopper}
+use Rattle.cct_laws.specs.Tallying.{AlwaysTallies}
 use Rattle.cct_laws.proofs.acceptor.Acceptors.{put_other}
 use Rattle.cct_laws.proofs.EitherKind.{for_hopper, kind_of}
 use Rattle.cct_laws.proofs.acceptor.Moves.{IfOther, IsOtherEnd, failure_other}
 use Rattle.cct_laws.proofs.acceptor.Posts.{legal_in_order, legal_covers}
-use Rattle.cct_laws.proofs.acceptor.Tallies.{tallied}
+use Rattle.cct_laws.proofs.acceptor.Tallies.{always_tallied}
 use Rattle.cct_model.proofs.Rows.{RowHolds, puts_only, EachRow, answer_end, DueHolds, AnswerEnds, told_only, each_told, each_put}
 use Rattle.cct_laws.proofs.Whole.{kept_hopper_legal}
 
@@ -194,12 +195,12 @@ each_covers capacity setup steps transcript d sound own in_range legal honest pa
       | inr paying ↦ (legal_coinless capacity setup steps transcript d sound own paying in_range legal honest).1
     ]
 
--- and the coins up to the mark are as many as its records post and tell to be lost
+-- and after each line the coins up to the mark are as many as its records post and tell to be lost
 pub each_tallies : (capacity : ℕ) (setup : Setup) (steps : List Step) (transcript : List Entry)
     (d : DeviceSetup) → IsSoundSetup setup → IsOf setup d → All IsInRange steps →
     Legal capacity setup steps transcript → Honest transcript → Pace (lines_in d transcript) →
-    Tallies (lines_in d transcript)
+    AlwaysTallies (lines_in d transcript)
 each_tallies capacity setup steps transcript d sound own in_range legal honest pace =
-    tallied (lines_in d transcript)
+    always_tallied (lines_in d transcript)
     (each_in_order capacity setup steps transcript d sound own in_range legal honest)
     (each_covers capacity setup steps transcript d sound own in_range legal honest pace)

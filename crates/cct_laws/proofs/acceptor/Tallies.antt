@@ -1,14 +1,15 @@
 -- Where posts are in order and no coin is lost in silence, the coins up to the mark are as many as all that were posted and
--- all that were told to be lost.
+-- all that were told to be lost, after each line.
 use Rattle.std.proofs.Common.{◌≡◌, ℕ, ◌+◌, ◌-◌, ◌≤◌, List, [], ◌∷◌, length, refl, ap, arith, length-take}
 use Rattle.cct_model.specs.terms.coin.Coin.{Coin}
 use Rattle.cct_model.specs.lines.record.Record.{Record}
 use Rattle.cct_model.specs.lines.record.Record.TheVariants as record_of
 use Rattle.cct_model.specs.lines.entry.End.TheVariants.{Clean}
-use Rattle.cct_model.specs.Line.{Line, put, ended}
+use Rattle.cct_model.specs.Line.{Line, accepted, put, ended}
 use Rattle.cct_model.specs.Claims.{coins, reading, looking, mark, part, OrderAt, UnpostedOf, CoverAt, InOrder, Covers, Pace, Tallies}
 use Rattle.cct_laws.specs.Law.{lines_in}
 use Rattle.cct_laws.specs.Scope.{EachTaker}
+use Rattle.cct_laws.specs.Tallying.{AlwaysTallies}
 use Rattle.cct_laws.proofs.acceptor.Posts.{legal_in_order, legal_covers}
 
 -- an item that tells up to these coins
@@ -48,13 +49,30 @@ line_tallied past (ended Clean) order cover before =
     let none = told_none past (coins (reading past)) order cover in omega (arith, none, before)
 line_tallied past line order cover before = before
 
-pub tallied : (lines : List Line) → InOrder lines → Covers lines → Tallies lines
+tallied : (lines : List Line) → InOrder lines → Covers lines → Tallies lines
 tallied [] order covers = refl
 tallied (line ∷ past) order covers =
     line_tallied past line order.0 covers.0 (tallied past order.1 covers.1)
 
-pub legal_tallies : EachTaker (λ d transcript. Pace (lines_in d transcript) → Tallies (lines_in d transcript))
+pub always_tallied : (lines : List Line) → InOrder lines → Covers lines → AlwaysTallies lines
+always_tallied [] order covers = tt
+always_tallied (line ∷ past) order covers =
+    (tallied (line ∷ past) order covers, always_tallied past order.1 covers.1)
+
+pub legal_tallies : EachTaker (λ d transcript. Pace (lines_in d transcript) → AlwaysTallies (lines_in d transcript))
 legal_tallies capacity setup steps transcript d sound own taking in_range legal honest pace =
-    tallied (lines_in d transcript)
+    always_tallied (lines_in d transcript)
     (legal_in_order capacity setup steps transcript d sound own taking in_range legal honest)
     (legal_covers capacity setup steps transcript d sound own taking in_range legal honest pace)
+
+-- A reading that tells of a coin before any came is wrong at once, and the coin that comes later makes it right again at the
+-- begin of an epoch. That is tallied at the end alone.
+abbrev lost_too_early : List Line
+lost_too_early =
+    put (record_of.Epoch 2 1 0) ∷ accepted (record { place = 1; path = 1 }) ∷ put (record_of.Reading 2 0 1 0 []) ∷ []
+
+right_at_its_end : Tallies lost_too_early
+right_at_its_end = refl
+
+wrong_in_its_middle : AlwaysTallies lost_too_early → ⊥
+wrong_in_its_middle always = let early : 0 ≡ 1 = always.1.1.0 in omega (arith, early)

@@ -7,10 +7,11 @@ use Rattle.cct_model.specs.Following.{all_follow, is_allowed}
 use Rattle.cct_model.specs.Legal.{due_at}
 use Rattle.cct_model.specs.Money.{freed_by, reserved_at_work}
 use Rattle.cct_model.specs.Records.{records}
+use Rattle.cct_disk.specs.Disk.{LeavesOnly}
 use Rattle.cct_carry.specs.Tally as tallies
 use Rattle.cct_journal.specs.Journal as journals
 use Rattle.cct_ledger.specs.Ledger as ledgers
-use Rattle.cct_host.specs.OnDisk.{KeepsRecords}
+use Rattle.cct_host.specs.OnDisk.{KeepsRecords, StandsUpTo}
 use Rattle.cct_host.specs.Desks.{reserved_of, setup_of}
 use Rattle.cct_host.specs.Host.{put_by}
 use Rattle.cct_host.proofs.Hosts.{if_failed}
@@ -32,6 +33,7 @@ returns-clause-advances g c =
       whole = put.whole;
       nexts = c.go_on.ensures.nexts;
       counts = put.counted ∙ ap counted c.due_there-due.ensures.value;
+      quiet = λ none. put.quiet (c.due_there-due.ensures.value ∙ none);
       puts = λ past stands.
           let due_is = c.due_there-due.ensures.stands past stands in
           record {
@@ -40,6 +42,11 @@ returns-clause-advances g c =
                 (λ d. KeepsRecords setup disk.honest disk.seen disk.may_leave (journals.disk_of written)
                 (journals.place_of written) (reverse (records past) ++ put_by d)) due_is
                 (put.done setup (reverse (records past)) stood
+                (c.carry.ensures.value ∙ so_far ∙ ap (carry setup) (sym (reverse-reverse (records past)))));
+            moments = λ stood so_far. subst
+                (λ d. LeavesOnly disk.moment disk.left_since (journals.disk_of c.args.journal.now) (journals.disk_of written)
+                (StandsUpTo setup d (reverse (records past)))) c.due_there-due.ensures.value
+                (put.moments setup (reverse (records past)) stood
                 (c.carry.ensures.value ∙ so_far ∙ ap (carry setup) (sym (reverse-reverse (records past)))));
             posts = λ takes stood.
                 let allowed = allowed_is c.due_there-due.result _ setup (records past) (reserved_at_work setup past)
@@ -77,4 +84,9 @@ returns-in_err-put-clause-fails g c =
         λ records stood so_far.
             failed.left.2 (setup_of c.args.desks.now) records stood (c.carry.ensures.value ∙ so_far),
       );
+      moments = λ past stands records stood so_far. subst
+          (λ d. LeavesOnly g.D.Disk.moment g.D.Disk.left_since (journals.disk_of c.args.journal.now)
+          (journals.disk_of c.put.new.journal) (StandsUpTo (setup_of c.args.desks.now) d records))
+          (c.due_there-due.ensures.stands past stands)
+          (failed.moments (setup_of c.args.desks.now) records stood (c.carry.ensures.value ∙ so_far));
     })

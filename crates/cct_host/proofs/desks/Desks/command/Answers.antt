@@ -40,7 +40,7 @@ pub returns-in-Vend-clause-answers : goal.returns-in-Vend-clause-answers
 returns-in-Vend-clause-answers c past stands =
     let k = command.Vend c.in-Vend.id c.in-Vend.price in
     let refused = no_of c.sell.result in
-    let last = last_is c.args.self.now past c.last_id-last.result stands c.last_id-last.ensures in
+    let last = last_is c.args.self.now past c.last_id-last.result stands c.last_id-last.ensures.value in
     let answered = c.sell.ensures.commands past (λ _. last) stands.sale in
     let turned = sale_turn c.args.self.now.setup.now _ c.args.self.now.scan past (command_entry k refused ∷ [])
     stands.sound (command_at past k refused) stands.devices stands.scan in

@@ -13,7 +13,7 @@ returns-in-Scan c past stands =
 pub returns-in-Vend : goal.returns-in-Vend
 returns-in-Vend c past stands =
     let desks = c.args.self.now in
-    let last = last_is desks past c.last_id.result stands c.last_id.ensures in
+    let last = last_is desks past c.last_id.result stands c.last_id.ensures.value in
     c.sale_refusal.ensures
     ∙ sale_refusal_is desks.setup.now _ c.in-Vend.price desks.sale.job _ _ c.last_id.result past last stands.sale
     ∙ sym (ap (state_refusal desks.setup.now past) c.in-Vend.is)

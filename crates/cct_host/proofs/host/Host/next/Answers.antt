@@ -1,5 +1,5 @@
 use Rattle.std.proofs.lemmas.Result.{on_err_weaker, on_ok_weaker}
-use Rattle.cct_host.proofs.Hosts.{next_goes, put_failed}
+use Rattle.cct_host.proofs.Hosts.{next_goes, put_failed, put_failed_between}
 use Rattle.cct_host.proofs.host.Host.next.Goals as goal
 
 pub returns-clause-nexts : goal.returns-clause-nexts
@@ -13,3 +13,10 @@ returns-clause-nexts g c =
 pub returns-clause-fails : goal.returns-clause-fails
 returns-clause-fails g c =
     on_err_weaker c.advance.result (λ fails. put_failed c.args.self.now _ c.args.addr fails) c.advance.ensures.fails
+
+pub returns-clause-between : goal.returns-clause-between
+returns-clause-between g c =
+    on_err_weaker c.advance.result
+    (λ fails. put_failed_between c.args.self.now c.args.addr c.advance.new.desks c.advance.new.ledger c.advance.new.tally
+    c.advance.new.journal fails)
+    c.advance.ensures.fails

@@ -1,6 +1,6 @@
 use Rattle.std.proofs.Common.{◌∙◌, ap, arith, sym}
 use Rattle.cct_journal.specs.declared.place.Place.{Place}
-use Rattle.cct_host.proofs.Begun.{begin_from, begun_empty, resumed_all, resumed_by}
+use Rattle.cct_host.proofs.Begun.{begin_from, begun_empty, resumed_all, resumed_by, resumed_some}
 use Rattle.cct_host.proofs.Records.{refuses_start}
 use Rattle.cct_host.proofs.Starting.{free_together}
 use Rattle.cct_host.proofs.host.Host.start.Goals as goal
@@ -16,6 +16,14 @@ invariant_of-result g c =
           (omega (arith, ledger.counted, c.used.ensures.value)) (c.in-Ok.ensures.setup ∙ sym desks.setup)
           (c.in-Ok.ensures.counted ∙ sym used);
     }
+
+pub returns-in-Ok-clause-begins : goal.returns-in-Ok-clause-begins
+returns-in-Ok-clause-begins g c =
+    let used = ap (λ (p : Place). p.used) c.replay_all.ensures.reads.place in
+    resumed_some _ c.args.setup.now _ _ _ c.resume.ensures.setup c.in-Ok.ensures.some
+    (begin_from c.resume.result c.resume-in-Ok.result c.args.setup.now c.used.result _ _ _ _ c.resume.ensures.setup
+    c.used.ensures.value c.carry.ensures.value c.carry-in-Ok.ensures.value c.resume.ensures.resumes
+    c.resume-in-Ok.ensures.resumed) used c.args.journal.placed.begins.rightly
 
 pub returns-in-Ok-clause-resumes : goal.returns-in-Ok-clause-resumes
 returns-in-Ok-clause-resumes g c rest reads =
