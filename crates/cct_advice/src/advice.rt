@@ -2,8 +2,10 @@
 
 use crate::ending::{Meaning, meaning_of};
 use crate::fields::first_field;
+use crate::forms::Part;
 use crate::refusal::Refusal;
 use crate::window::Window;
+use cct_lines::LineKind;
 use cct_script::ranged;
 use std::fmt;
 
@@ -23,20 +25,55 @@ enum Said<'a> {
 /// What there is to say after this last line of a transcript, which may have its line feed, and after these last bytes
 /// of the script; `None` after a line that says all itself. The journal is named as `journal`.
 pub fn advise<'a>(last: &'a [u8], script: &'a Window, journal: &'a str) -> Option<Advice<'a>> {
-    let line = match last {
+    let (word, rest) = word_and_rest(last);
+    match word {
+        b"refused" => Some(Advice(Said::Refusal(refusal_of(rest, script)?))),
+        _ => advise_end(last, journal),
+    }
+}
+
+/// As [`advise`], where the last line refuses no line of a script.
+pub fn advise_end<'a>(last: &'a [u8], journal: &'a str) -> Option<Advice<'a>> {
+    let (word, rest) = word_and_rest(last);
+    Some(Advice(Said::Meaning {
+        meaning: meaning_of(word, rest)?,
+        journal,
+    }))
+}
+
+/// What is wrong with a refused line of the input of a host on a line, by its number and without its line feed. A line of
+/// which nothing is kept has no bytes here.
+pub fn advise_line(number: u32, kind: LineKind, line: &[u8]) -> Advice<'_> {
+    Advice(Said::Refusal(Refusal {
+        number: u64::from(number),
+        kind: kind_word(kind),
+        part: Part::Live,
+        line,
+    }))
+}
+
+/// The word of a line, which may have its line feed, and what stands after it.
+fn word_and_rest(line: &[u8]) -> (&[u8], &[u8]) {
+    let line = match line {
         [line @ .., b'\n'] => line,
-        _ => last,
+        _ => line,
     };
     let (word, rest) = first_field(line);
-    let rest = rest.unwrap_or(b"");
-    let said = match word {
-        b"refused" => Said::Refusal(refusal_of(rest, script)?),
-        _ => Said::Meaning {
-            meaning: meaning_of(word, rest)?,
-            journal,
-        },
-    };
-    Some(Advice(said))
+    (word, rest.unwrap_or(b""))
+}
+
+/// The word by which a transcript tells why a line is refused.
+fn kind_word(kind: LineKind) -> &'static [u8] {
+    match kind {
+        LineKind::Trailing => b"trailing",
+        LineKind::Lines => b"lines",
+        LineKind::Long => b"long",
+        LineKind::Cut => b"cut",
+        LineKind::Word => b"word",
+        LineKind::Form => b"form",
+        LineKind::Device => b"device",
+        LineKind::Again => b"again",
+    }
 }
 
 /// The refusal that its number and its kind tell.

@@ -4,7 +4,7 @@ use crate::fields::first_field;
 
 /// What is said where words are refused, and by the word `--help`.
 pub const USAGE: &str =
-    "usage: cct_main run < SCRIPT, cct_main report, cct_main upgrade < SCRIPT, cct_main audit < CAPTURE, cct_main load SEED N, with SEED 0 to 18446744073709551615 and N 1 to 10000 (docs/OPERATING.md, \"Exit statuses\")";
+    "usage: cct_main run < SCRIPT, cct_main report [--journal FILE], cct_main upgrade < SCRIPT, cct_main audit < CAPTURE, cct_main load SEED N, with SEED 0 to 18446744073709551615 and N 1 to 10000 (docs/OPERATING.md, \"Exit statuses\")";
 
 /// What is said where there was no memory.
 pub const MEMORY: &str =
@@ -18,17 +18,18 @@ pub const UNWRITTEN: &str =
 pub const UNTOLD: &str =
     "standard output couldn't be written; give the capture to audit again (docs/OPERATING.md, \"Exit statuses\")";
 
-/// What is said by a report or an upgrade where there is no file.
-pub const NO_JOURNAL: &str =
-    "this folder has no cctalk.jnl, and none was made (docs/OPERATING.md, \"A journal that isn't right\")";
-
 const UNREAD: Meaning = Meaning::Plain(
     "standard input couldn't be read; the lines before were played (docs/OPERATING.md, \"Exit statuses\")",
 );
 
 const DISK_FAULT: Meaning = Meaning::OfJournal {
     before: "",
-    after: " couldn't be opened, made, read, written or synced; on a read-only medium, copy it first (docs/OPERATING.md, \"After a disk fault\")",
+    after: " couldn't be opened, made, read, written or synced; the disk may be full (docs/OPERATING.md, \"A full disk\", \"After a disk fault\")",
+};
+
+const IN_USE: Meaning = Meaning::OfJournal {
+    before: "another process uses ",
+    after: ", so nothing was done; wait until it ends, or end it (docs/OPERATING.md, \"Exit statuses\")",
 };
 
 const NOT_BLANK: Meaning = Meaning::OfJournal {
@@ -99,8 +100,17 @@ pub(crate) fn meaning_of(word: &[u8], rest: &[u8]) -> Option<Meaning> {
             b"0" => EMPTY,
             _ => OTHER_SIZE,
         }),
+        b"inuse" => in_use_meaning(rest),
         b"journal" => journal_meaning(rest),
         b"upgrade" => upgrade_meaning(rest),
+        _ => None,
+    }
+}
+
+/// What another process uses, by what stands after the word `inuse`.
+fn in_use_meaning(rest: &[u8]) -> Option<Meaning> {
+    match rest {
+        b"journal" => Some(IN_USE),
         _ => None,
     }
 }

@@ -1,4 +1,5 @@
-//! The forms of all lines of a script and of a capture: the tables of `docs/SCRIPT.md`.
+//! The forms of all lines of a script, of a capture and of the input of a host on a line: the tables of `docs/SCRIPT.md` and
+//! `docs/LIVE.md`.
 
 use crate::rule::Rule;
 use cct_lines::{
@@ -7,7 +8,7 @@ use cct_lines::{
 };
 use std::fmt;
 
-/// A part of a script or of a capture.
+/// A part of a script, of a capture or of the input of a host on a line.
 #[derive(Clone, Copy, PartialEq, Eq)]
 pub(crate) enum Part {
     /// The setup lines of a script, up to `begin`.
@@ -18,6 +19,8 @@ pub(crate) enum Part {
     Watches,
     /// The tap lines of a capture, up to `end`.
     Taps,
+    /// The lines of the input of a host on a line, up to `end`.
+    Live,
 }
 
 impl Part {
@@ -26,6 +29,7 @@ impl Part {
         match self {
             Part::Setup | Part::Steps => Text::Script,
             Part::Watches | Part::Taps => Text::Capture,
+            Part::Live => Text::Input,
         }
     }
 }
@@ -35,6 +39,8 @@ impl Part {
 pub(crate) enum Text {
     Script,
     Capture,
+    /// That of a host on a line.
+    Input,
 }
 
 impl Text {
@@ -43,6 +49,7 @@ impl Text {
         match self {
             Text::Script => "script",
             Text::Capture => "capture",
+            Text::Input => "input",
         }
     }
 
@@ -51,6 +58,7 @@ impl Text {
         match self {
             Text::Script => Part::Setup,
             Text::Capture => Part::Watches,
+            Text::Input => Part::Live,
         }
     }
 
@@ -59,6 +67,7 @@ impl Text {
         match self {
             Text::Script => Part::Steps,
             Text::Capture => Part::Taps,
+            Text::Input => Part::Live,
         }
     }
 }
@@ -242,6 +251,24 @@ pub(crate) const FORMS: &[Form] = &[
     Form(Part::Watches, "begin", &[]),
     Form(Part::Taps, "tap", &[SENT, HEARD]),
     Form(Part::Taps, "end", &[]),
+    Form(Part::Live, "start", &[A, MASK]),
+    Form(Part::Live, "round", AT),
+    Form(Part::Live, "stop", AT),
+    Form(Part::Live, "pay", &[A, ORDER, COUNT]),
+    Form(Part::Live, "settle", AT),
+    Form(Part::Live, "halt", AT),
+    Form(Part::Live, "vend", &[SALE, PRICE]),
+    Form(Part::Live, "ident", AT),
+    Form(Part::Live, "path", &[A, PLACE_OR_ALL, PATH]),
+    Form(Part::Live, "route", &[A, WAY]),
+    Form(Part::Live, "scan", &[]),
+    Form(Part::Live, "next", AT),
+    Form(Part::Live, "do", AT),
+    Form(Part::Live, "poll", &[]),
+    Form(Part::Live, "balance", &[]),
+    Form(Part::Live, "status", &[]),
+    Form(Part::Live, "order", &[ORDER]),
+    Form(Part::Live, "end", &[]),
 ];
 
 /// The forms of a word, joined by `or`.

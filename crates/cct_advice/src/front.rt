@@ -46,6 +46,7 @@ fn may_be_last(line: &[u8]) -> bool {
     match line.first() {
         Some(b'w') => line.get(1) == Some(&b'o'),
         Some(b'u') => line.get(1) == Some(&b'p'),
+        Some(b'i') => line.get(1) == Some(&b'n'),
         Some(first) => matches!(*first, b'd' | b'j' | b'n' | b'r'),
         None => false,
     }

@@ -18,8 +18,8 @@ mod window;
 mod word;
 mod words;
 
-pub use advice::{Advice, advise};
-pub use ending::{MEMORY, NO_JOURNAL, UNTOLD, UNWRITTEN, USAGE};
+pub use advice::{Advice, advise, advise_end, advise_line};
+pub use ending::{MEMORY, UNTOLD, UNWRITTEN, USAGE};
 pub use kept::{KeptSink, KeptSource};
 pub use window::Window;
 pub use words::words_of;

@@ -109,6 +109,10 @@ impl Refusal<'_> {
             b"cut" => match self.part {
                 Part::Setup | Part::Watches => write!(f, "the {text} ends before its line begin"),
                 Part::Steps | Part::Taps => write!(f, "the {text} ends before its line end"),
+                Part::Live => write!(
+                    f,
+                    "the {text} ends within the line; end each line with a line feed"
+                ),
             },
             b"long" => write!(f, "the line has more than {MOST_LINE} bytes"),
             b"lines" => write!(f, "a {text} has at most {MOST_LINES} lines"),

@@ -69,6 +69,7 @@ fn write_known<W: fmt::Write>(
             f,
             "{name} is a word of tap lines, which stand after the line begin"
         ),
+        Part::Live => write!(f, "{name} is a word of the lines of a host"),
     }
 }
 
@@ -87,5 +88,6 @@ fn write_unknown<W: fmt::Write>(part: Part, word: &[u8], f: &mut fmt::Formatter<
             "\"{shown}\" is no word of a watch line; they are {words}"
         ),
         Part::Taps => write!(f, "\"{shown}\" is no word of a tap line; they are {words}"),
+        Part::Live => write!(f, "\"{shown}\" is no word here; they are {words}"),
     }
 }

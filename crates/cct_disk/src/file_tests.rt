@@ -1,7 +1,8 @@
 // The disk over a file: a real one, and one that fails at each of its calls.
 use super::*;
 use std::alloc::Allocator;
-use std::fs::{Files, Metadata, OpenFile, OpenOptions};
+use std::cell::Cell;
+use std::fs::{Files, Metadata, OpenFile, OpenOptions, TryLockError};
 use std::io::{ErrorKind, Read, Seek, SeekFrom, Write};
 use std::test::Fail;
 use std::{fs, io};
@@ -50,6 +51,23 @@ fn a_file_has_the_length_that_it_is_opened_with(rt: HostRuntime) -> Result<(), F
 }
 
 #[test]
+fn a_locked_file_is_opened_by_no_other_that_locks(rt: HostRuntime) {
+    let mut first = match FileDisk::open_locked(&rt, "locked.jnl") {
+        Ok(disk) => disk,
+        Err(InUse) => return assert!(rt; false, "nobody has it"),
+    };
+    assert_eq!(rt; read_three(&mut first, 2_097_149), Some([0, 0, 0]));
+    assert!(rt; is_written(&mut first, 0, &[1, 2, 3]));
+    assert_eq!(rt; FileDisk::open_locked(&rt, "locked.jnl").err(), Some(InUse));
+    // Who only reads needs no lock.
+    let mut beside = FileDisk::open_file(&rt, "locked.jnl");
+    assert_eq!(rt; read_three(&mut beside, 0), Some([1, 2, 3]));
+    drop(first);
+    let again = FileDisk::open_locked(&rt, "locked.jnl").map(|mut disk| read_three(&mut disk, 0));
+    assert_eq!(rt; again, Ok(Some([1, 2, 3])));
+}
+
+#[test]
 fn a_disk_without_a_file_fails_at_each_call(rt: HostRuntime) -> Result<(), Fail> {
     fs::create_dir(&rt, "folder.jnl")?;
     for path in ["folder.jnl", "no_folder/made.jnl", "", "a\0b"] {
@@ -59,6 +77,8 @@ fn a_disk_without_a_file_fails_at_each_call(rt: HostRuntime) -> Result<(), Fail>
         assert!(rt; !is_written(&mut disk, 0, &[1]), "{path}");
         assert!(rt; disk.sync().is_err(), "{path}");
         assert!(rt; disk.power_cut(1).is_err(), "{path}");
+        let locked = FileDisk::open_locked(&rt, path).map(|mut disk| read_three(&mut disk, 0));
+        assert_eq!(rt; locked, Ok(None), "{path}");
     }
     Ok(())
 }
@@ -69,7 +89,9 @@ enum Wrong {
     Nothing,
     Opening,
     Making,
-    Filling,
+    MadeByAnother,
+    LockedByAnother,
+    Locking,
     Measuring,
     Seeking,
     Reading,
@@ -80,11 +102,23 @@ enum Wrong {
     Syncing,
 }
 
-// Files of which each opening gives one of 2,097,152 zeros, which gives and takes two bytes a call.
+// Files of which each opening gives one of 2,097,152 zeros, which gives two bytes a call, and takes half of what it is
+// given. It is known whether one was removed.
 #[derive(Drop)]
 struct Faulty {
     wrong: Wrong,
-    is_there: bool,
+    is_there: Cell<bool>,
+    removed: Cell<bool>,
+}
+
+impl Faulty {
+    fn new(is_there: bool, wrong: Wrong) -> Faulty {
+        Faulty {
+            wrong,
+            is_there: Cell::new(is_there),
+            removed: Cell::new(false),
+        }
+    }
 }
 
 #[derive(Drop)]
@@ -119,7 +153,7 @@ impl Write for FaultyFile {
         if self.wrong == Wrong::WritingLittle {
             return Ok(0);
         }
-        Ok(buf.len().min(2))
+        Ok(buf.len().div_ceil(2))
     }
 
     fn flush(&mut self) -> io::Result<()> {
@@ -144,7 +178,7 @@ impl OpenFile for FaultyFile {
     }
 
     fn set_len(&self, _size: u64) -> io::Result<()> {
-        self.meets(Wrong::Filling)
+        Err(unsupported())
     }
 
     fn sync_all(&self) -> io::Result<()> {
@@ -153,6 +187,16 @@ impl OpenFile for FaultyFile {
 
     fn sync_data(&self) -> io::Result<()> {
         self.meets(Wrong::Syncing)
+    }
+}
+
+impl Lockable for FaultyFile {
+    fn take_lock(&self) -> Result<(), TryLockError> {
+        match self.wrong {
+            Wrong::LockedByAnother => Err(TryLockError::WouldBlock),
+            Wrong::Locking => Err(TryLockError::Error(unsupported())),
+            _ => Ok(()),
+        }
     }
 }
 
@@ -169,11 +213,15 @@ impl Files for Faulty {
         if self.wrong == Wrong::Opening {
             return Err(io::Error::from(ErrorKind::PermissionDenied));
         }
-        if self.is_there == how.asks_create_new() {
+        if !how.asks_create_new() && !self.is_there.get() {
             return Err(io::Error::from(ErrorKind::NotFound));
         }
         if self.wrong == Wrong::Making {
             return Err(io::Error::from(ErrorKind::StorageFull));
+        }
+        if how.asks_create_new() && self.wrong == Wrong::MadeByAnother {
+            self.is_there.set(true);
+            return Err(io::Error::from(ErrorKind::AlreadyExists));
         }
         Ok(FaultyFile { wrong: self.wrong })
     }
@@ -199,7 +247,8 @@ impl Files for Faulty {
     }
 
     fn remove_file(&self, _path: &str) -> io::Result<()> {
-        Err(unsupported())
+        self.removed.set(true);
+        Ok(())
     }
 
     fn create_dir(&self, _path: &str) -> io::Result<()> {
@@ -215,26 +264,35 @@ impl Files for Faulty {
     }
 }
 
-// Whether the file is there, what goes wrong, and whether a read, a write, a sync and a cut then succeed, one after the
-// other.
-const FAULTS: [(bool, Wrong, [bool; 4]); 17] = [
-    (true, Wrong::Nothing, [true, true, true, true]),
-    (true, Wrong::Opening, [false, false, false, false]),
-    (true, Wrong::Measuring, [false, false, false, false]),
-    (true, Wrong::Seeking, [false, false, true, true]),
-    (true, Wrong::Reading, [false, true, true, true]),
-    (true, Wrong::ReadingLittle, [false, true, true, true]),
-    (true, Wrong::Writing, [true, false, true, true]),
-    (true, Wrong::WritingLittle, [true, false, true, true]),
-    (true, Wrong::Flushing, [true, false, true, true]),
-    (true, Wrong::Syncing, [true, true, false, false]),
-    (false, Wrong::Nothing, [true, true, true, true]),
-    (false, Wrong::Making, [false, false, false, false]),
-    (false, Wrong::Filling, [false, false, false, false]),
-    (false, Wrong::Syncing, [false, false, false, false]),
-    (false, Wrong::Measuring, [false, false, false, false]),
-    (false, Wrong::Reading, [false, true, true, true]),
-    (false, Wrong::Writing, [true, false, true, true]),
+// Whether the file is there, what goes wrong, whether it is removed, and whether a read, a write, a sync and a cut then
+// succeed, one after the other.
+const FAULTS: [(bool, Wrong, bool, [bool; 4]); 21] = [
+    (true, Wrong::Nothing, false, [true, true, true, true]),
+    (true, Wrong::Opening, false, [false, false, false, false]),
+    (true, Wrong::Locking, false, [false, false, false, false]),
+    (true, Wrong::Measuring, false, [false, false, false, false]),
+    (true, Wrong::Seeking, false, [false, false, true, true]),
+    (true, Wrong::Reading, false, [false, true, true, true]),
+    (true, Wrong::ReadingLittle, false, [false, true, true, true]),
+    (true, Wrong::Writing, false, [true, false, true, true]),
+    (true, Wrong::WritingLittle, false, [true, false, true, true]),
+    (true, Wrong::Flushing, false, [true, false, true, true]),
+    (true, Wrong::Syncing, false, [true, true, false, false]),
+    (false, Wrong::Nothing, false, [true, true, true, true]),
+    (false, Wrong::MadeByAnother, false, [true, true, true, true]),
+    (false, Wrong::Making, false, [false, false, false, false]),
+    (false, Wrong::Locking, true, [false, false, false, false]),
+    (false, Wrong::Writing, true, [false, false, false, false]),
+    (
+        false,
+        Wrong::WritingLittle,
+        true,
+        [false, false, false, false],
+    ),
+    (false, Wrong::Flushing, true, [false, false, false, false]),
+    (false, Wrong::Syncing, true, [false, false, false, false]),
+    (false, Wrong::Measuring, false, [false, false, false, false]),
+    (false, Wrong::Reading, false, [false, true, true, true]),
 ];
 
 // Whether a read, a write, a sync and a cut succeed, one after the other.
@@ -249,20 +307,41 @@ fn four_calls<D: Disk>(disk: &mut D) -> [bool; 4] {
 
 #[test]
 fn each_fault_of_a_file_is_told(rt: HostRuntime) {
-    for (is_there, wrong, want) in FAULTS {
-        let mut disk = FileDisk::open_file(&Faulty { wrong, is_there }, "any.jnl");
-        assert_eq!(rt; disk.len(), 2_097_152);
-        assert_eq!(rt; four_calls(&mut disk), want);
+    for (is_there, wrong, removed, want) in FAULTS {
+        let files = Faulty::new(is_there, wrong);
+        let tried = FileDisk::open_locked(&files, "any.jnl").map(|mut disk| (
+            disk.len(),
+            four_calls(&mut disk),
+        ));
+        assert_eq!(rt; tried, Ok((2_097_152, want)));
+        assert_eq!(rt; files.removed.get(), removed);
+    }
+}
+
+#[test]
+fn without_a_lock_each_fault_is_told_but_that_of_the_lock(rt: HostRuntime) {
+    for (is_there, wrong, removed, want) in FAULTS {
+        if wrong != Wrong::Locking {
+            let files = Faulty::new(is_there, wrong);
+            let mut disk = FileDisk::open_file(&files, "any.jnl");
+            assert_eq!(rt; (disk.len(), four_calls(&mut disk)), (2_097_152, want));
+            assert_eq!(rt; files.removed.get(), removed);
+        }
+    }
+}
+
+#[test]
+fn a_file_that_another_has_locked_is_left_as_it_is(rt: HostRuntime) {
+    for is_there in [true, false] {
+        let files = Faulty::new(is_there, Wrong::LockedByAnother);
+        assert_eq!(rt; FileDisk::open_locked(&files, "any.jnl").err(), Some(InUse));
+        assert!(rt; !files.removed.get());
     }
 }
 
 #[test]
 fn each_call_after_a_failed_sync_fails(rt: HostRuntime) {
-    let files = Faulty {
-        wrong: Wrong::Syncing,
-        is_there: true,
-    };
-    let mut disk = FileDisk::open_file(&files, "any.jnl");
+    let mut disk = FileDisk::open_file(&Faulty::new(true, Wrong::Syncing), "any.jnl");
     assert_eq!(rt; four_calls(&mut disk), [true, true, false, false]);
     assert_eq!(rt; four_calls(&mut disk), [false, false, false, false]);
     assert_eq!(rt; disk.len(), 2_097_152);

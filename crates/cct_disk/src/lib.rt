@@ -9,7 +9,7 @@ mod torn;
 mod traced;
 
 pub use disk::Disk;
-pub use file::{FileDisk, MADE_LEN};
+pub use file::{FileDisk, InUse, Lockable, MADE_LEN};
 pub use memory::MemDisk;
 pub use torn::TornDisk;
 

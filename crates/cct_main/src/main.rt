@@ -3,12 +3,13 @@
 //! with a refused line, it says on standard error (`cct_advice`).
 #![tactic(auto)]
 
-use cct_advice::{
-    KeptSink, KeptSource, MEMORY, NO_JOURNAL, UNTOLD, UNWRITTEN, USAGE, advise, words_of,
-};
+mod call;
+
+use call::Call;
+use cct_advice::{KeptSink, KeptSource, MEMORY, UNTOLD, UNWRITTEN, USAGE, advise, words_of};
 use cct_bench::{Status, bench};
-use cct_disk::FileDisk;
-use cct_edge::{Failed, StdSink, StdSource};
+use cct_disk::{FileDisk, InUse};
+use cct_edge::{Failed, Sink, StdSink, StdSource};
 use cct_lines::Entry;
 use cct_text::put_entry;
 use std::fs::Files;
@@ -16,54 +17,94 @@ use std::io::ErrorKind;
 use std::process::ExitCode;
 use std::{fs, io};
 
-/// The file of the journal, in the current folder.
-const JOURNAL: &str = "cctalk.jnl";
-
-/// The name of no file: a disk of it has no file, and none is made.
-const NO_FILE: &str = "";
-
-fn main(rt: HostRuntime) -> ExitCode {
-    let status = match words_of(&rt) {
-        Ok(words) if is_help(words.as_slice()) => help(&rt),
-        Ok(words) => play(&rt, words.as_slice()),
-        Err(_) => {
-            let _ = rt.eprintln(MEMORY);
-            Status::OutOfMemory
-        }
-    };
-    ExitCode::from(status.code())
+/// How the program ended.
+#[derive(Clone, Copy)]
+enum End {
+    /// As the call of the bench ended, or as such a call would.
+    Of(Status),
+    /// 11: another process uses the journal: `inuse journal`. It was left alone.
+    InUse,
 }
 
-/// Does what the words say, and tells on standard error what there is to say of the end.
-fn play(rt: &HostRuntime, words: &[String]) -> Status {
-    if wants_journal(words) && is_missing(rt) {
-        return tell_missing(rt);
+impl End {
+    /// The exit status.
+    fn code(self) -> u8 {
+        match self {
+            End::Of(status) => status.code(),
+            End::InUse => 11,
+        }
     }
-    let source = StdSource::new(rt.reader());
-    let (mut script, path) = if is_audit(words) {
-        (KeptSource::of_capture(source), NO_FILE)
+}
+
+fn main(rt: HostRuntime) -> ExitCode {
+    let end = match words_of(&rt) {
+        Ok(words) => answer(&rt, &Call::of(rt.alloc(), words.as_slice())),
+        Err(_) => {
+            let _ = rt.eprintln(MEMORY);
+            End::Of(Status::OutOfMemory)
+        }
+    };
+    ExitCode::from(end.code())
+}
+
+/// Does what a call wants.
+fn answer(rt: &HostRuntime, call: &Call<'_>) -> End {
+    if call.is_help() {
+        End::Of(help(rt))
+    } else if call.wants_journal() && is_missing(rt, call.journal()) {
+        End::Of(tell_missing(rt, call.journal()))
     } else {
-        (KeptSource::new(source), JOURNAL)
+        play(rt, call)
+    }
+}
+
+/// Does what a call wants that reads a script, a capture or a journal, and tells on standard error what there is to say of
+/// the end.
+fn play(rt: &HostRuntime, call: &Call<'_>) -> End {
+    let source = StdSource::new(rt.reader());
+    let mut script = if call.is_audit() {
+        KeptSource::of_capture(source)
+    } else {
+        KeptSource::new(source)
     };
     let mut out = KeptSink::new(StdSink::new(io::writer(rt)));
-    let disk = FileDisk::open_file(rt, path);
-    let (status, _) = bench(rt.alloc(), words, &mut script, &mut out, disk);
-    let _ = match status {
-        Status::Done => Ok(()),
-        Status::OutOfMemory => rt.eprintln(MEMORY),
-        Status::WriteFault if is_audit(words) => rt.eprintln(UNTOLD),
-        Status::WriteFault => rt.eprintln(UNWRITTEN),
-        _ => match advise(out.last(), script.window(), JOURNAL) {
+    let end = match open(rt, call) {
+        Ok(disk) => End::Of(bench(rt.alloc(), call.words, &mut script, &mut out, disk).0),
+        Err(InUse) => tell_in_use(&mut out),
+    };
+    let _ = match end {
+        End::Of(Status::Done) => Ok(()),
+        End::Of(Status::OutOfMemory) => rt.eprintln(MEMORY),
+        End::Of(Status::WriteFault) if call.is_audit() => rt.eprintln(UNTOLD),
+        End::Of(Status::WriteFault) => rt.eprintln(UNWRITTEN),
+        _ => match advise(out.last(), script.window(), call.journal()) {
             Some(advice) => rt.eprintln(advice),
             None => Ok(()),
         },
     };
-    status
+    end
 }
 
-/// Whether there is no file of a journal, nor a link of its name.
-fn is_missing(rt: &impl Files) -> bool {
-    match fs::symlink_metadata(rt, JOURNAL) {
+/// The disk over the journal's file. It is locked where something may be written into it.
+fn open(rt: &HostRuntime, call: &Call<'_>) -> Result<FileDisk<HostRuntime>, InUse> {
+    if call.locks() {
+        FileDisk::open_locked(rt, call.journal())
+    } else {
+        Ok(FileDisk::open_file(rt, call.journal()))
+    }
+}
+
+/// Tells that another process uses the journal.
+fn tell_in_use<K: Sink>(out: &mut K) -> End {
+    match out.put(b"inuse journal\n") {
+        Ok(()) => End::InUse,
+        Err(Failed) => End::Of(Status::WriteFault),
+    }
+}
+
+/// Whether there is no such file, nor a link of its name.
+fn is_missing(rt: &impl Files, journal: &str) -> bool {
+    match fs::symlink_metadata(rt, journal) {
         Ok(_) => false,
         Err(error) => error.kind() == ErrorKind::NotFound,
     }
@@ -71,11 +112,13 @@ fn is_missing(rt: &impl Files) -> bool {
 
 /// A report or an upgrade where there is no file: it says what one of a blank file does. None is made, and no script is
 /// read.
-fn tell_missing(rt: &HostRuntime) -> Status {
+fn tell_missing(rt: &HostRuntime, journal: &str) -> Status {
     let mut out = StdSink::new(io::writer(rt));
     match put_entry(&mut out, &Entry::JournalAlien) {
         Ok(()) => {
-            let _ = rt.eprintln(NO_JOURNAL);
+            let _ = eprintln!(rt;
+                "there is no {journal}, and none was made (docs/OPERATING.md, \"A journal that isn't right\")"
+            );
             Status::JournalLost
         }
         Err(Failed) => {
@@ -83,21 +126,6 @@ fn tell_missing(rt: &HostRuntime) -> Status {
             Status::WriteFault
         }
     }
-}
-
-/// Whether the words want a journal that is there: those of a report or of an upgrade.
-fn wants_journal(words: &[String]) -> bool {
-    matches!(words, [word] if word.as_str() == "report" || word.as_str() == "upgrade")
-}
-
-/// Whether the words want an audit, which reads a capture and has no journal.
-fn is_audit(words: &[String]) -> bool {
-    matches!(words, [word] if word.as_str() == "audit")
-}
-
-/// Whether the words ask how the program is called.
-fn is_help(words: &[String]) -> bool {
-    matches!(words, [word] if word.as_str() == "--help")
 }
 
 /// Writes how the program is called.

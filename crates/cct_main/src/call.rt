@@ -1,0 +1,71 @@
+//! What a call of the program wants.
+
+use cct_words::{Words, read_words};
+use std::alloc::Global;
+
+/// The file of the journal, in the current folder, where the words name no other one.
+const JOURNAL: &str = "cctalk.jnl";
+
+/// The name of no file: a disk of it has no file, and none is made.
+const NO_FILE: &str = "";
+
+/// A call: its words without the option that names a file, what these want, or none where they are refused or couldn't be
+/// read, and the file of its journal.
+#[derive(Drop)]
+pub(crate) struct Call<'w> {
+    pub(crate) words: &'w [String],
+    wants: Option<Words>,
+    file: &'w str,
+}
+
+impl<'w> Call<'w> {
+    /// The call that the words of the command line make.
+    pub(crate) fn of(alloc: Global, words: &'w [String]) -> Call<'w> {
+        let (words, file) = match words {
+            [word, option, file] if is_report_of(word, option) => (&words[..1], file.as_str()),
+            _ => (words, JOURNAL),
+        };
+        Call {
+            words,
+            wants: read_words(alloc, words).ok(),
+            file,
+        }
+    }
+
+    /// The file of the journal, or the name of none where nothing is done with one: in an audit, or where the words are
+    /// refused.
+    pub(crate) fn journal(&self) -> &'w str {
+        match self.wants {
+            Some(Words::Audit) | None => NO_FILE,
+            _ => self.file,
+        }
+    }
+
+    /// Whether it asks how the program is called.
+    pub(crate) fn is_help(&self) -> bool {
+        matches!(self.words, [word] if word.as_str() == "--help")
+    }
+
+    /// Whether it is an audit, which reads a capture.
+    pub(crate) fn is_audit(&self) -> bool {
+        self.wants == Some(Words::Audit)
+    }
+
+    /// Whether it wants a journal that is there: none is made for it.
+    pub(crate) fn wants_journal(&self) -> bool {
+        matches!(self.wants, Some(Words::Report | Words::Upgrade))
+    }
+
+    /// Whether it may write into the journal, so that no other process may use it meanwhile. A report only reads.
+    pub(crate) fn locks(&self) -> bool {
+        matches!(
+            self.wants,
+            Some(Words::Run | Words::Load { .. } | Words::Upgrade)
+        )
+    }
+}
+
+/// Whether these are the first two words of a report of a journal in another file.
+fn is_report_of(word: &String, option: &String) -> bool {
+    word.as_str() == "report" && option.as_str() == "--journal"
+}
