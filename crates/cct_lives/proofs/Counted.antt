@@ -18,6 +18,7 @@ use Rattle.cct_laws.specs.Law.{EachEntry}
 use Rattle.cct_laws.proofs.money.Recorded.{epoch_recorded}
 use Rattle.cct_lives.specs.Counters.{Told, none_told, events_to, accepted_to, told_with, told_in, IsTallied}
 use Rattle.cct_lives.specs.Posts.{PostAt, PostOf, PostedBy, as_judged}
+use Rattle.cct_lives.specs.Recording.{IsKeptBy}
 use Rattle.cct_lives.proofs.Fronts.{EachFront}
 
 none_tallied : IsTallied none_told
@@ -95,6 +96,11 @@ module _ (d : DeviceSetup) (past : List Entry) where
       by_test false heard = tallied
   post_tallied r of tallied = tallied
 
+kept_tallied : (d : DeviceSetup) (past : List Entry) (r : Record) → IsKeptBy (PostOf d.body) d past r →
+    IsTallied (told_in d.addr (records past)) → IsTallied (told_in d.addr (r ∷ records past))
+kept_tallied d (entry.Crash n ∷ past) r kept tallied = post_tallied d past r kept tallied
+kept_tallied d past r kept tallied = post_tallied d past r (λ here. absurd (kept here)) tallied
+
 -- so it is over entries that post what was heard
 pub front_tallied : (d : DeviceSetup) (news past : List Entry) → EachFront (PostAt d) news past →
     IsTallied (told_in d.addr (records past)) → IsTallied (told_in d.addr (records (news ++ past)))
@@ -102,12 +108,12 @@ front_tallied d [] past front tallied = tallied
 front_tallied d (entry.Put r ∷ news) past front tallied =
     post_tallied d (news ++ past) r front.0 (front_tallied d news past front.1 tallied)
 front_tallied d (entry.Kept r ∷ news) past front tallied =
-    post_tallied d (news ++ past) r front.0 (front_tallied d news past front.1 tallied)
+    kept_tallied d (news ++ past) r front.0 (front_tallied d news past front.1 tallied)
 front_tallied d (e ∷ news) past front tallied = front_tallied d news past front.1 tallied
 
 pub each_tallied : (d : DeviceSetup) (past : List Entry) → EachEntry (PostAt d) past →
     IsTallied (told_in d.addr (records past))
 each_tallied d [] each = none_tallied
 each_tallied d (entry.Put r ∷ past) each = post_tallied d past r each.0 (each_tallied d past each.1)
-each_tallied d (entry.Kept r ∷ past) each = post_tallied d past r each.0 (each_tallied d past each.1)
+each_tallied d (entry.Kept r ∷ past) each = kept_tallied d past r each.0 (each_tallied d past each.1)
 each_tallied d (e ∷ past) each = each_tallied d past each.1

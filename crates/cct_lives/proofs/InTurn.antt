@@ -1,6 +1,6 @@
 -- A job that has a reading to put heard its four replies in turn, whatever the wire does: the accept counter, the credits,
 -- the inhibit mask, and the accept counter again.
-use Rattle.std.proofs.Common.{◌≡◌, ℕ, zero, suc, nat_le, ◌-◌, cond, true, false, Bool, List, [], ◌∷◌, ◌++◌, refl, ap, sym, ◌∙◌, subst, Option, Some, None, inl, inr, arith, true≢false}
+use Rattle.std.proofs.Common.{◌≡◌, ℕ, zero, suc, nat_le, ◌-◌, ◌⊎◌, cond, true, false, Bool, List, [], ◌∷◌, ◌++◌, refl, ap, sym, ◌∙◌, subst, Option, Some, None, inl, inr, arith, true≢false}
 use Rattle.std.specs.Prelude.{⊤, option_and_then}
 use Rattle.std.specs.Option.{option_or}
 use Rattle.cct_model.specs.terms.coin.Credits.{Credits}
@@ -8,7 +8,7 @@ use Rattle.cct_model.specs.terms.device.DeviceBody.{DeviceBody}
 use Rattle.cct_model.specs.terms.device.DeviceBody.TheVariants.{Acceptor, Bill, Hopper}
 use Rattle.cct_model.specs.terms.device.DeviceSetup.{DeviceSetup}
 use Rattle.cct_model.specs.terms.request.Request.{Request}
-use Rattle.cct_model.specs.terms.request.Request.TheVariants.{ReadCredits, GetMask, AcceptCount, ReadBills}
+use Rattle.cct_model.specs.terms.request.Request.TheVariants.{ReadCredits, GetMask, AcceptCount, ReadBills, Dispense, GetStatus, StopNow}
 use Rattle.cct_model.specs.terms.request.ReplyForm.{ReplyForm}
 use Rattle.cct_model.specs.terms.wire.CheckKind.{CheckKind}
 use Rattle.cct_model.specs.declared.judging.Judged.{Judged}
@@ -23,7 +23,7 @@ use Rattle.cct_model.specs.Request.{form_of}
 use Rattle.cct_model.specs.Reply.{Reply, reply_in}
 use Rattle.cct_model.specs.Reply as reply
 use Rattle.cct_model.specs.Exchange.{after_echo, asked, got, reply_from}
-use Rattle.cct_model.specs.Line.{Line, exchange, put}
+use Rattle.cct_model.specs.Line.{Line, exchange, put, restarted, taken}
 use Rattle.cct_model.specs.Order.{close, life_between}
 use Rattle.cct_model.specs.Job.{sends, puts, Noted, noted_in, state_row, judged_in, address_of, credits_request, ident_requests, settled_events, credits_line, credits_read, mask_line, mask_read, accepts_line, accepts_read, at_credits, accepts_before}
 use Rattle.cct_model.specs.Rows.{Due, new_epoch, reading, epoch_end, new_order, order_end, sale, TableRow, asks_for, asks_once, waits_for_coins, puts_due, rows_of, after, from, first, rest, row, row_at, done, ends_first}
@@ -36,57 +36,74 @@ use Rattle.cct_msg.proofs.Replies.{reply_form}
 use Rattle.cct_lives.specs.Posts.{HasOver, HaveInTurn, as_judged, credits_heard, mask_heard, accepts_heard}
 
 -- what the first of these rows asks, and that it puts a record
-abbrev AsksFirst : List TableRow → Option Request → Type 0
+abbrev pub AsksFirst : List TableRow → Option Request → Type 0
 AsksFirst (asks_for q behind ∷ rows) asked = asked ≡ Some q
-AsksFirst (asks_once q behind without ∷ rows) asked = ⊤
-AsksFirst (waits_for_coins ∷ rows) asked = ⊤
+AsksFirst (asks_once q behind without ∷ rows) asked = asked ≡ Some q
+AsksFirst (waits_for_coins ∷ rows) asked = (asked ≡ Some GetStatus) ⊎ (asked ≡ Some StopNow)
 AsksFirst rows asked = ⊥
 
-abbrev PutsFirst : List TableRow → Type 0
+abbrev pub PutsFirst : List TableRow → Type 0
 PutsFirst (puts_due due behind ∷ rows) = ⊤
 PutsFirst rows = ⊥
 
 -- a reply is in the form that its request wants
-abbrev FitsForm : Option Request → Option Reply → Type 0
+abbrev pub FitsForm : Option Request → Option Reply → Type 0
 FitsForm (Some q) (Some y) = form_shown y ≡ form_of q
 FitsForm asked got = ⊤
+
+-- the only command that is a line of a job is a halt
+abbrev pub IsHalt : Command → Type 0
+IsHalt (command.Halt addr) = ⊤
+IsHalt c = ⊥
 
 -- the lines of a job go by its rows
 abbrev pub Obeys : List TableRow → List Line → Type 0
 Obeys rows [] = ⊤
+Obeys rows (taken c ∷ since) = IsHalt c × Obeys rows since
+Obeys rows (restarted ∷ since) = ⊥
 Obeys rows (exchange asked got ∷ since) = AsksFirst (after rows (done rows since)) asked × FitsForm asked got × Obeys rows since
 Obeys rows (put r ∷ since) = PutsFirst (after rows (done rows since)) × Obeys rows since
 Obeys rows (l ∷ since) = Obeys rows since
 
--- a line brings no answer
-abbrev IsQuiet : Line → Type 0
+-- a request dispenses nothing
+abbrev pub DosesNone : Option Request → Type 0
+DosesNone (Some (Dispense serial count)) = ⊥
+DosesNone asked = ⊤
+
+-- a line of a job brings no answer and no record, and sends no dispense
+abbrev pub IsQuiet : Line → Type 0
+IsQuiet (exchange asked None) = DosesNone asked
 IsQuiet (exchange asked (Some y)) = ⊥
+IsQuiet (put r) = ⊥
+IsQuiet (taken c) = IsHalt c
+IsQuiet restarted = ⊥
 IsQuiet l = ⊤
 
-abbrev AreQuiet : List Line → Type 0
+abbrev pub AreQuiet : List Line → Type 0
 AreQuiet [] = ⊤
 AreQuiet (l ∷ ls) = IsQuiet l × AreQuiet ls
 
 -- a row asks this until it is answered
-abbrev IsAsk : List TableRow → Request → Type 0
+abbrev pub IsAsk : List TableRow → Request → Type 0
 IsAsk (asks_for q behind ∷ rows) asked = q ≡ asked
 IsAsk rows asked = ⊥
 
--- an exchange without an end of these rows has no answer
-abbrev IsPlain : List TableRow → Type 0
+-- an exchange without an end of these rows has no answer, and sends no dispense
+abbrev pub IsPlain : List TableRow → Type 0
+IsPlain (asks_for q behind ∷ rows) = DosesNone (Some q)
 IsPlain (asks_once q behind without ∷ rows) = ⊥
 IsPlain (waits_for_coins ∷ rows) = ⊥
 IsPlain rows = ⊤
 
-ask_plain : (rows : List TableRow) (q : Request) → IsAsk rows q → IsPlain rows
-ask_plain (asks_for x behind ∷ rows) q is = tt
-ask_plain (asks_once x behind without ∷ rows) q is = absurd is
-ask_plain (waits_for_coins ∷ rows) q is = absurd is
-ask_plain rows q is = tt
+ask_plain : (rows : List TableRow) (q : Request) → DosesNone (Some q) → IsAsk rows q → IsPlain rows
+ask_plain (asks_for x behind ∷ rows) q none is = subst (λ a. DosesNone (Some a)) (sym is) none
+ask_plain (asks_once x behind without ∷ rows) q none is = absurd is
+ask_plain (waits_for_coins ∷ rows) q none is = absurd is
+ask_plain rows q none is = tt
 
-quiet_stay : (rows : List TableRow) (asked : Option Request) (got : Option Reply) → IsPlain rows → AsksFirst rows asked →
+pub quiet_stay : (rows : List TableRow) (asked : Option Request) (got : Option Reply) → IsPlain rows → AsksFirst rows asked →
     ends_first rows got ≡ false → IsQuiet (exchange asked got)
-quiet_stay (asks_for x behind ∷ rows) asked None plain asks stays = tt
+quiet_stay (asks_for x behind ∷ rows) asked None plain asks stays = subst DosesNone (sym asks) plain
 quiet_stay (asks_for x behind ∷ rows) asked (Some y) plain asks stays = absurd (true≢false stays)
 quiet_stay (asks_once x behind without ∷ rows) asked got plain asks stays = absurd plain
 quiet_stay (waits_for_coins ∷ rows) asked got plain asks stays = absurd plain
@@ -94,15 +111,15 @@ quiet_stay (puts_due due behind ∷ rows) asked got plain asks stays = absurd as
 quiet_stay [] asked got plain asks stays = absurd asks
 
 -- the newest answer, by which a row that asked this ended
-record Answered (rows : List TableRow) (n : ℕ) (q : Request) (since : List Line) : Type 0 where
-  y : Reply
-  newer : List Line
-  older : List Line
-  is : since ≡ newer ++ (exchange (Some q) (Some y) ∷ older)
-  quiet : AreQuiet newer
-  fits : form_shown y ≡ form_of q
-  at : done rows older ≡ n
-  obeys : Obeys rows older
+pub record Answered (rows : List TableRow) (n : ℕ) (q : Request) (since : List Line) : Type 0 where
+  pub y : Reply
+  pub newer : List Line
+  pub older : List Line
+  pub is : since ≡ newer ++ (exchange (Some q) (Some y) ∷ older)
+  pub quiet : AreQuiet newer
+  pub fits : form_shown y ≡ form_of q
+  pub at : done rows older ≡ n
+  pub obeys : Obeys rows older
 
 quiet_more : (rows : List TableRow) (n : ℕ) (q : Request) (since : List Line) (l : Line) → IsQuiet l →
     Answered rows n q since → Answered rows n q (l ∷ since)
@@ -135,17 +152,17 @@ answered_here rows (asks_for x behind ∷ ahead) n q since asked (Some y) is ask
     }
 answered_here rows ahead n q since asked got is asks ends fits at obeys = absurd is
 
-no_put : (rows : List TableRow) (q : Request) → IsAsk rows q → PutsFirst rows → ⊥
+pub no_put : (rows : List TableRow) (q : Request) → IsAsk rows q → PutsFirst rows → ⊥
 no_put (puts_due due behind ∷ rows) q is puts_it = is
 no_put (asks_for x behind ∷ rows) q is puts_it = puts_it
 no_put (asks_once x behind without ∷ rows) q is puts_it = puts_it
 no_put (waits_for_coins ∷ rows) q is puts_it = puts_it
 no_put [] q is puts_it = puts_it
 
-less : (m n : ℕ) → suc m ≡ suc n → m ≡ n
+pub less : (m n : ℕ) → suc m ≡ suc n → m ≡ n
 less m n is = omega (arith, is)
 
-back : (rows : List TableRow) (n : ℕ) (q : Request) (since : List Line) → IsAsk (after rows n) q →
+pub back : (rows : List TableRow) (n : ℕ) (q : Request) (since : List Line) → IsAsk (after rows n) q →
     IsPlain (after rows (suc n)) → Obeys rows since → done rows since ≡ suc n → Answered rows n q since
 back rows n q [] ask plain obeys at = absurd (omega (arith, at))
 back rows n q (put r ∷ since) ask plain obeys at =
@@ -166,15 +183,18 @@ back rows n q (exchange asked got ∷ since) ask plain obeys at =
         (quiet_stay (after rows (suc n)) asked got plain (subst (λ m. AsksFirst (after rows m) asked) is obeys.0)
         (subst (λ m. ends_first (after rows m) got ≡ false) is test))
         (earlier is)
+back rows n q (taken c ∷ since) ask plain obeys at =
+    quiet_more rows n q since (taken c) obeys.0 (back rows n q since ask plain obeys.1 at)
+back rows n q (restarted ∷ since) ask plain obeys at = absurd obeys
 back rows n q (l ∷ since) ask plain obeys at = quiet_more rows n q since l tt (back rows n q since ask plain obeys at)
 
 -- what quiet lines don't change
-over_quiet : {A : Type 0} (f : List Line → A) → ((l : Line) (ls : List Line) → IsQuiet l → f (l ∷ ls) ≡ f ls) →
+pub over_quiet : {A : Type 0} (f : List Line → A) → ((l : Line) (ls : List Line) → IsQuiet l → f (l ∷ ls) ≡ f ls) →
     (newer ls : List Line) → AreQuiet newer → f (newer ++ ls) ≡ f ls
 over_quiet f same [] ls quiet = refl
 over_quiet f same (l ∷ newer) ls quiet = same l (newer ++ ls) quiet.0 ∙ over_quiet f same newer ls quiet.1
 
-read_back : {A : Type 0} (f : List Line → A) → ((l : Line) (ls : List Line) → IsQuiet l → f (l ∷ ls) ≡ f ls) →
+pub read_back : {A : Type 0} (f : List Line → A) → ((l : Line) (ls : List Line) → IsQuiet l → f (l ∷ ls) ≡ f ls) →
     (rows : List TableRow) (n : ℕ) (q : Request) (since : List Line) (by : Answered rows n q since) →
     f since ≡ f (exchange (Some q) (Some by.y) ∷ by.older)
 read_back f same rows n q since by = ap f by.is ∙ over_quiet f same by.newer _ by.quiet
@@ -280,7 +300,7 @@ InTurn body since =
     (first seen now : ℕ) (judged : Credits) → accepts_read since ≡ Some now → mask_read since ≡ Some seen →
     credits_read since ≡ Some judged → accepts_before since ≡ Some first → HeardAs body since now seen judged first
 
-has_front : (newer ls : List Line) (l : Line) (P : List Line → Type 0) → HasOver ls l P → HasOver (newer ++ ls) l P
+pub has_front : (newer ls : List Line) (l : Line) (P : List Line → Type 0) → HasOver ls l P → HasOver (newer ++ ls) l P
 has_front [] ls l P has = has
 has_front (x ∷ newer) ls l P has = inr (has_front newer ls l P has)
 
@@ -319,15 +339,20 @@ in_turn body rows n since d c b a first seen now judged counts sees reads was =
           (turn_over rows _ AcceptCount b.older [] (reply.accepts first) a first_is tt))),
     )
 
+credits_dose_none : (body : DeviceBody) → DosesNone (Some (credits_request body))
+credits_dose_none (Acceptor accepts values ids) = tt
+credits_dose_none (Hopper life value) = tt
+credits_dose_none (Bill accepts values ids) = tt
+
 turn_at : (body : DeviceBody) (rows : List TableRow) (n : ℕ) (since : List Line) → IsAsk (after rows n) AcceptCount →
     IsAsk (after rows (suc n)) (credits_request body) → IsAsk (after rows (suc (suc n))) GetMask →
     IsAsk (after rows (suc (suc (suc n)))) AcceptCount → IsPlain (after rows (suc (suc (suc (suc n))))) →
     Obeys rows since → done rows since ≡ suc (suc (suc (suc n))) → InTurn body since
 turn_at body rows n since first reads sees counts plain obeys at =
     let d = back rows (suc (suc (suc n))) AcceptCount since counts plain obeys at in
-    let c = back rows (suc (suc n)) GetMask d.older sees (ask_plain (after rows (suc (suc (suc n)))) AcceptCount counts) d.obeys d.at in
-    let b = back rows (suc n) (credits_request body) c.older reads (ask_plain (after rows (suc (suc n))) GetMask sees) c.obeys c.at in
-    let a = back rows n AcceptCount b.older first (ask_plain (after rows (suc n)) (credits_request body) reads) b.obeys b.at in
+    let c = back rows (suc (suc n)) GetMask d.older sees (ask_plain (after rows (suc (suc (suc n)))) AcceptCount tt counts) d.obeys d.at in
+    let b = back rows (suc n) (credits_request body) c.older reads (ask_plain (after rows (suc (suc n))) GetMask tt sees) c.obeys c.at in
+    let a = back rows n AcceptCount b.older first (ask_plain (after rows (suc n)) (credits_request body) (credits_dose_none body) reads) b.obeys b.at in
     in_turn body rows n since d c b a
 
 -- a record is a reading or a break
@@ -375,7 +400,7 @@ close_none o life = by_test (nat_le (life_between o.life life) o.count)
     by_test true reads = reads
     by_test false reads = reads
 
-other_none : (d : DeviceSetup) (c : Command) (n : ℕ) (means : Judged) (p : Noted) (r : Record) →
+pub other_none : (d : DeviceSetup) (c : Command) (n : ℕ) (means : Judged) (p : Noted) (r : Record) →
     puts_only is_other (rows_of d c) ≡ true → row_at d c n means p ≡ puts r → IsReading r → ⊥
 other_none d c n means p r only is =
     subst (RowHolds (λ q. ⊤) (λ x. IsReading x → ⊥)) is
@@ -404,12 +429,16 @@ reading_turn d (command.Ident addr) since means p r is reads obeys =
 reading_turn d c since means p r is reads obeys = absurd (other_none d c (done (rows_of d c) since) means p r refl is reads)
 
 -- what a job asks and puts goes by its rows
+state_by : (marked : Bool) (q : Request) → state_row marked ≡ sends q → (Some q ≡ Some GetStatus) ⊎ (Some q ≡ Some StopNow)
+state_by true q is = inr (ap Some (sym (same_request StopNow q is)))
+state_by false q is = inl (ap Some (sym (same_request GetStatus q is)))
+
 asks_by : (addr : ℕ) (means : Judged) (p : Noted) (rows : List TableRow) (q : Request) → first addr means p rows ≡ sends q →
     AsksFirst rows (Some q)
 asks_by addr means p [] q is = absurd cc
 asks_by addr means p (asks_for x behind ∷ rows) q is = ap Some (sym (same_request x q is))
-asks_by addr means p (asks_once x behind without ∷ rows) q is = tt
-asks_by addr means p (waits_for_coins ∷ rows) q is = tt
+asks_by addr means p (asks_once x behind without ∷ rows) q is = ap Some (sym (same_request x q is))
+asks_by addr means p (waits_for_coins ∷ rows) q is = state_by p.is_marked q is
 asks_by addr means p (puts_due due behind ∷ rows) q is = absurd (due_sends addr means p due q is)
 
 state_asks : (marked : Bool) (r : Record) → state_row marked ≡ puts r → ⊥
@@ -450,7 +479,7 @@ wanted_form : (kind : CheckKind) (addr : ℕ) (form : Option ReplyForm) (sent he
 wanted_form kind addr None sent heard y e = absurd cc
 wanted_form kind addr (Some form) sent heard y e = got_form kind addr form sent heard y e
 
-fits_by : (d : DeviceSetup) (sent piece : List ℕ) (q : Request) (found : Option Reply) → asked d.kind sent ≡ Some q →
+pub fits_by : (d : DeviceSetup) (sent piece : List ℕ) (q : Request) (found : Option Reply) → asked d.kind sent ≡ Some q →
     got_by d sent piece ≡ found → FitsForm (Some q) found
 unfolding got_by
 fits_by d sent piece q None asks is = tt

@@ -1,5 +1,7 @@
 pub mod Alike
 pub mod Carrying
+pub mod Closed
+pub mod Closing
 pub mod Counted
 pub mod Followed
 pub mod Fronts
@@ -13,6 +15,8 @@ pub mod LifeTexts
 pub mod LifeTries
 pub mod Onward
 pub mod Posting
+pub mod Recording
+pub mod Routes
 pub mod Sends
 pub mod Tallying
 pub mod Texts
@@ -20,3 +24,4 @@ pub mod Tries
 pub mod Undosed
 pub mod Wider
 pub mod Worked
+pub mod WorkedCloses

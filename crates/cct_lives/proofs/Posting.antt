@@ -1,6 +1,6 @@
 -- What is posted was heard, whatever the wire does: a job puts what it judged of the lines that it read, and these are among
 -- those of its address.
-use Rattle.std.proofs.Common.{◌≡◌, ℕ, ◌-◌, ◌==◌, ◌&&◌, ◌||◌, nat_le, not, cond, true, false, Bool, List, [], ◌∷◌, ◌++◌, length, refl, ap, sym, ◌∙◌, subst, Option, Some, None, ◌⊎◌, inl, inr, eq-eqb, eqb-true}
+use Rattle.std.proofs.Common.{◌≡◌, ℕ, ◌-◌, ◌==◌, ◌&&◌, ◌||◌, nat_le, not, cond, true, false, Bool, List, [], ◌∷◌, ◌++◌, length, refl, ap, sym, ◌∙◌, subst, Option, Some, None, ◌⊎◌, inl, inr, eqb-true}
 use Rattle.std.specs.Prelude.{⊤}
 use Rattle.std.specs.Option.{option_or}
 use Rattle.cct_model.specs.terms.coin.Coin.{Coin}
@@ -21,7 +21,6 @@ use Rattle.cct_model.specs.lines.command.Step.{Step}
 use Rattle.cct_model.specs.lines.entry.End.{End}
 use Rattle.cct_model.specs.lines.entry.Entry.{Entry}
 use Rattle.cct_model.specs.lines.entry.Entry.TheVariants as entry
-use Rattle.cct_model.specs.History.{Met}
 use Rattle.cct_model.specs.Setup.{IsSoundSetup}
 use Rattle.cct_model.specs.Reply as reply
 use Rattle.cct_model.specs.Line.{Line, exchange, scanned, put, taken, ended, restarted}
@@ -30,29 +29,30 @@ use Rattle.cct_model.specs.Order.{order, close, life_between}
 use Rattle.cct_model.specs.Reading.{distance, posted_of, shows_break, shows_move, accepted_between, judge}
 use Rattle.cct_model.specs.Job.{Job, free, works, job, with_line, epoch, puts, address_of, judged_by, judged_in, noted_in, credits_read, mask_read, accepts_line, accepts_read, accepts_before}
 use Rattle.cct_model.specs.Rows.{Due, new_epoch, reading, epoch_end, new_order, order_end, sale, row, rows_of, done}
-use Rattle.cct_model.specs.Transcript.{met, owner, lines_of, onto, pending, heard_by_devices, heard_after, got_by, doses_of}
-use Rattle.cct_model.proofs.Doses.{AreDoses, job_undosed}
+use Rattle.cct_model.specs.Transcript.{met, lines_of, onto, pending, heard_by_devices, heard_after, got_by, doses_of}
+use Rattle.cct_model.proofs.Doses.{job_undosed}
 use Rattle.cct_model.proofs.Rows.{RowHolds, JudgedHolds, DueHolds, is_at_device, device_puts, each_put}
 use Rattle.cct_laws.specs.Ids.{Ids}
 use Rattle.cct_laws.specs.Law.{IsOf, EachEntry}
-use Rattle.cct_laws.proofs.jobs.Brought.{Comes, takes_coin, leaves_coin, takes_bill, leaves_bill, leaves_alien, drops_coin, drops_none, jams, jams_none, is_reset, AtWork, AtDevice, came, took, halted, idled, made_exchange, made_put, Brought, wire_of, wire_end, record_end, row_after, begun_at_work}
-use Rattle.cct_laws.proofs.jobs.Seen.{Passes, Lost, bare, kept_here, kept_elsewhere, seen_here, seen_aside, seen_lost, seen_from, along, passed_job, loose, loose_line, lines_wire, lines_with_end, lines_put, lines_taken, lines_kept, lines_kept_elsewhere}
+use Rattle.cct_laws.proofs.jobs.Brought.{AtWork, AtDevice, came, took, halted, idled, made_exchange, made_put, Brought, wire_of, wire_end, record_end, row_after, begun_at_work}
+use Rattle.cct_laws.proofs.jobs.Seen.{Lost, bare, kept_here, kept_elsewhere, seen_here, seen_aside, seen_lost, seen_from, along, passed_job, loose, loose_line, lines_wire, lines_with_end, lines_put, lines_taken, lines_kept, lines_kept_elsewhere}
 use Rattle.cct_laws.proofs.jobs.Telling.{any_steps}
 use Rattle.cct_model.specs.Exchange.{ask, asked, asks_of}
 use Rattle.cct_laws.specs.DeviceJobs.{with_ended, suits}
 use Rattle.cct_laws.proofs.orders.Ids.{put_owned}
 use Rattle.cct_lives.proofs.Sends.{asks_it}
 use Rattle.cct_lives.proofs.InTurn.{HeardAs, InTurn, IsReading, Obeys, reading_turn, obeys_asked, obeys_put}
-use Rattle.cct_lives.proofs.Fronts.{EachFront, front_aside, front_each, front_with_end}
+use Rattle.cct_lives.proofs.Fronts.{EachFront, front_each}
+use Rattle.cct_lives.proofs.Recording.{step_recorded}
 use Rattle.cct_lives.specs.Posts.{HasOver, Has, HaveInTurn, since_taken, credits_heard, mask_heard, accepts_heard, PostedBy, PostOf, PostAt}
 
 -- lines are among others, in their order
-abbrev Within : List Line → List Line → Type 0
+abbrev pub Within : List Line → List Line → Type 0
 Within [] lines = ⊤
 Within (x ∷ xs) [] = ⊥
 Within (x ∷ xs) (y ∷ lines) = ((x ≡ y) × Within xs lines) ⊎ Within (x ∷ xs) lines
 
-within_more : (since lines : List Line) (l : Line) → Within since lines → Within since (l ∷ lines)
+pub within_more : (since lines : List Line) (l : Line) → Within since lines → Within since (l ∷ lines)
 within_more [] lines l within = tt
 within_more (x ∷ xs) lines l within = inr within
 
@@ -66,11 +66,11 @@ has_within (x ∷ xs) (y ∷ lines) l P Q on (inr within) has =
 has_within (x ∷ xs) (y ∷ lines) l P Q on (inl both) (inl has) = inl (sym both.0 ∙ has.0, on xs lines both.1 has.1)
 has_within (x ∷ xs) (y ∷ lines) l P Q on (inl both) (inr has) = inr (has_within xs lines l P Q on both.1 has)
 
-has_all : (since lines : List Line) (l : Line) → Within since lines → Has since l → Has lines l
+pub has_all : (since lines : List Line) (l : Line) → Within since lines → Has since l → Has lines l
 has_all since lines l = has_within since lines l (λ older. ⊤) (λ older. ⊤) (λ older all within any. tt)
 
 -- the lines of a job are among those since its command was taken
-line_within : (l : Line) (lines : List Line) (c : Command) (since : List Line) (j : Job) →
+pub line_within : (l : Line) (lines : List Line) (c : Command) (since : List Line) (j : Job) →
     ((d : Command) (older : List Line) → j ≡ works d older → Within older lines) → with_line l j ≡ works c since →
     Within since (l ∷ lines)
 line_within l lines c since free before is = absurd cc
@@ -86,7 +86,7 @@ begun_within (command.Halt addr) lines c since before is =
 begun_within a lines c since before is =
     let none : [] ≡ since = cc in subst (λ ls. Within ls (since_taken (taken a ∷ lines))) none tt
 
-job_within : (lines : List Line) (c : Command) (since : List Line) → job lines ≡ works c since →
+pub job_within : (lines : List Line) (c : Command) (since : List Line) → job lines ≡ works c since →
     Within since (since_taken lines)
 job_within [] c since is = absurd cc
 job_within (taken a ∷ lines) c since is = begun_within a lines c since (job_within lines) is
@@ -100,7 +100,7 @@ job_within (put r ∷ lines) c since is =
     line_within (put r) (since_taken lines) c since (job lines) (job_within lines) is
 job_within (l ∷ lines) c since is = within_more since (since_taken lines) l (job_within lines c since is)
 
-turn_within : (since lines before : List Line) → Within since lines → HaveInTurn since before → HaveInTurn lines before
+pub turn_within : (since lines before : List Line) → Within since lines → HaveInTurn since before → HaveInTurn lines before
 turn_within since lines [] within turn = tt
 turn_within since lines (l ∷ before) within turn =
     has_within since lines l (λ older. HaveInTurn older before) (λ older. HaveInTurn older before)
@@ -263,18 +263,6 @@ put_posts d past c since r at_work is orderly =
     (row_posts lines d c since (order lines) (job_within lines c since at_work.job_is)) in
     posts (job_turn d past c since r at_work is orderly)
 
--- also after the power was cut
-kept_posts : (d : DeviceSetup) (past : List Entry) (c : Command) (since : List Line) (r : Record) →
-    AtWork d past c since → row_after d past c since ≡ puts r → Orderly d (lines_of d past) →
-    PostOf d.body (restarted ∷ lines_of d past) r
-kept_posts d past c since r at_work is orderly =
-    let lines = lines_of d past in
-    let posts : PostsIf d.body (restarted ∷ lines) since r =
-    subst (RowHolds (λ q. ⊤) (PostsIf d.body (restarted ∷ lines) since)) is
-    (row_posts (restarted ∷ lines) d c since (order lines)
-    (within_more since (since_taken lines) restarted (job_within lines c since at_work.job_is))) in
-    posts (job_turn d past c since r at_work is orderly)
-
 -- each step keeps that
 orderly_ended : (d : DeviceSetup) (end : Option End) (lines : List Line) → Orderly d lines → Orderly d (with_ended end lines)
 orderly_ended d None lines orderly = orderly
@@ -285,7 +273,7 @@ begins_orderly d c lines suited = subst (ObeysJob d) (sym (begun_at_work d.body 
 
 halted_orderly : (d : DeviceSetup) (addr : ℕ) (j : Job) → ObeysJob d j → ObeysJob d (with_line (taken (command.Halt addr)) j)
 halted_orderly d addr free orderly = tt
-halted_orderly d addr (works c since) orderly = orderly
+halted_orderly d addr (works c since) orderly = (tt, orderly)
 
 orderly_there : (capacity : ℕ) (setup : Setup) (d : DeviceSetup) (past news : List Entry) (s : Step) →
     IsSoundSetup setup → IsOf setup d → Ids setup past → AtDevice capacity setup d past s news →
@@ -331,71 +319,31 @@ orderly_lost d past _ (kept_here c since r at_work is_row owned) =
 orderly_lost d past _ (kept_elsewhere r away caused) =
     subst (Orderly d) (sym (lines_kept_elsewhere d past r away)) tt
 
--- what is none of the device posts nothing of it
-no_record : (d : DeviceSetup) (addr : ℕ) (r : Record) → AreDoses (cond (addr == d.addr) (put r ∷ []) []) → addr ≡ d.addr → ⊥
-no_record d addr r are here = subst (λ b. AreDoses (cond b (put r ∷ []) [])) (eq-eqb addr d.addr here) are
-
-away_posts : (d : DeviceSetup) (past : List Entry) (e : Entry) → Passes d past e → PostAt d past e
-away_posts d past (entry.Put r) passes = λ here. absurd (no_record d (owner past r) r passes.dosed here)
-away_posts d past (entry.Kept r) passes = λ here. absurd (no_record d (owner past r) r passes.dosed here)
-away_posts d past e passes = tt
-
-came_posts : (d : DeviceSetup) (before : List Met) (past : List Entry) (s : Step) (e : Entry) (m : Met) (ls : List Line) →
-    Comes d before s e m ls → PostAt d past e
-came_posts d before past _ _ _ _ (takes_coin place accepting test) = tt
-came_posts d before past _ _ _ _ (leaves_coin place accepting test) = tt
-came_posts d before past _ _ _ _ (takes_bill place banking test) = tt
-came_posts d before past _ _ _ _ (leaves_bill place banking test) = tt
-came_posts d before past _ _ _ _ (leaves_alien accepting) = tt
-came_posts d before past _ _ _ _ (drops_coin paying test) = tt
-came_posts d before past _ _ _ _ (drops_none paying test) = tt
-came_posts d before past _ _ _ _ (jams paying test) = tt
-came_posts d before past _ _ _ _ (jams_none paying test) = tt
-came_posts d before past _ _ _ _ is_reset = tt
-
-posts_there : (capacity : ℕ) (setup : Setup) (d : DeviceSetup) (past news : List Entry) (s : Step) →
-    AtDevice capacity setup d past s news → Orderly d (lines_of d past) → EachFront (PostAt d) news past
-posts_there capacity setup d past _ _ (came s e m ls comes) orderly = (came_posts d (met d past) past s e m ls comes, tt)
-posts_there capacity setup d past _ _ (took s c gives suited here is_free is_taken is_owed lets) orderly = (tt, tt)
-posts_there capacity setup d past _ _ (halted paying can) orderly = (tt, tt)
-posts_there capacity setup d past _ _ (idled is_free) orderly = (tt, tt)
-posts_there capacity setup d past _ _ (made_exchange c since q at_work is_row) orderly =
-    front_with_end (PostAt d) past d.addr (wire_of setup d past q) (wire_end setup d past c since q) tt
-    (λ older found. tt)
-posts_there capacity setup d past _ _ (made_put c since r at_work is_row) orderly =
-    front_with_end (PostAt d) past d.addr (entry.Put r) (record_end d past c since r)
-    (λ here. put_posts d past c since r at_work is_row orderly) (λ older found. tt)
-
-posts_lost : (d : DeviceSetup) (past news : List Entry) → Lost d past news → Orderly d (lines_of d past) →
-    EachFront (PostAt d) news past
-posts_lost d past _ bare orderly = (tt, tt)
-posts_lost d past _ (kept_here c since r at_work is_row owned) orderly =
-    (λ here. kept_posts d past c since r at_work is_row orderly, (tt, tt))
-posts_lost d past _ (kept_elsewhere r away caused) orderly = (λ here. absurd (away here), (tt, tt))
-
 -- so each step keeps that, and posts what was heard
 pub record PostsWell (d : DeviceSetup) (past news : List Entry) : Type 0 where
   pub orderly : Orderly d (lines_of d (news ++ past))
   pub posts : EachFront (PostAt d) news past
 
+-- so each step keeps that
+pub orderly_step : (capacity : ℕ) (setup : Setup) (d : DeviceSetup) → IsSoundSetup setup → IsOf setup d →
+    (past news : List Entry) (s : Step) → Ids setup past → Brought capacity setup past s news →
+    Orderly d (lines_of d past) → Orderly d (lines_of d (news ++ past))
+orderly_step capacity setup d sound own past news s ids told orderly =
+    elim (seen_from capacity setup d past news s sound own ids told) [
+      | seen_here at ↦ orderly_there capacity setup d past news s sound own ids at orderly
+      | seen_aside aside ↦ subst (ObeysJob d) (sym (passed_job d past news aside.passes)) orderly
+      | seen_lost lost no_next ↦ orderly_lost d past news lost
+    ]
+
 pub posts_step : (capacity : ℕ) (setup : Setup) (d : DeviceSetup) → IsSoundSetup setup → IsOf setup d →
     (past news : List Entry) (s : Step) → Ids setup past → Brought capacity setup past s news →
     Orderly d (lines_of d past) → PostsWell d past news
-posts_step capacity setup d sound own past news s ids told orderly =
-    elim (seen_from capacity setup d past news s sound own ids told) [
-      | seen_here at ↦ record {
-        orderly = orderly_there capacity setup d past news s sound own ids at orderly;
-        posts = posts_there capacity setup d past news s at orderly;
-      }
-      | seen_aside aside ↦ record {
-        orderly = subst (ObeysJob d) (sym (passed_job d past news aside.passes)) orderly;
-        posts = front_aside (PostAt d) d past news (away_posts d) aside.passes;
-      }
-      | seen_lost lost no_next ↦ record {
-        orderly = orderly_lost d past news lost;
-        posts = posts_lost d past news lost orderly;
-      }
-    ]
+posts_step capacity setup d sound own past news s ids told orderly = record {
+  orderly = orderly_step capacity setup d sound own past news s ids told orderly;
+  posts =
+      step_recorded (PostOf d.body) d capacity setup past news s sound own ids told
+      (λ c since r at_work is. put_posts d past c since r at_work is orderly);
+}
 
 -- each record that posts posts what was heard
 pub legal_posts : (capacity : ℕ) (setup : Setup) (steps : List Step) (transcript : List Entry) (d : DeviceSetup) →

@@ -52,7 +52,7 @@ abbrev pub IfFirst : (Request → Type 0) → List TableRow → Type 0
 IfFirst P (asks_once q behind without ∷ rows) = P q
 IfFirst P rows = ⊤
 
-first_weaker : (P Q : Request → Type 0) → ((q : Request) → P q → Q q) → (rows : List TableRow) → IfFirst P rows →
+pub first_weaker : (P Q : Request → Type 0) → ((q : Request) → P q → Q q) → (rows : List TableRow) → IfFirst P rows →
     IfFirst Q rows
 first_weaker P Q weaker [] holds = tt
 first_weaker P Q weaker (asks_for q behind ∷ rows) holds = tt
@@ -60,14 +60,14 @@ first_weaker P Q weaker (asks_once q behind without ∷ rows) holds = weaker q h
 first_weaker P Q weaker (waits_for_coins ∷ rows) holds = tt
 first_weaker P Q weaker (puts_due due behind ∷ rows) holds = tt
 
-first_again : (P : Request → Type 0) (rows : List TableRow) → sent_once rows ≡ false → IfFirst P rows
+pub first_again : (P : Request → Type 0) (rows : List TableRow) → sent_once rows ≡ false → IfFirst P rows
 first_again P [] again = tt
 first_again P (asks_for q behind ∷ rows) again = tt
 first_again P (asks_once q behind without ∷ rows) again = absurd (true≢false again)
 first_again P (waits_for_coins ∷ rows) again = tt
 first_again P (puts_due due behind ∷ rows) again = tt
 
-first_sent : (P : Request → Type 0) (addr : ℕ) (means : Judged) (p : Noted) (rows : List TableRow) (q : Request) →
+pub first_sent : (P : Request → Type 0) (addr : ℕ) (means : Judged) (p : Noted) (rows : List TableRow) (q : Request) →
     first addr means p rows ≡ sends q → sent_once rows ≡ true → IfFirst P rows → P q
 first_sent P addr means p [] q is once holds = absurd cc
 first_sent P addr means p (asks_for x behind ∷ rows) q is once holds = absurd cc

@@ -20,7 +20,7 @@ use Rattle.cct_model.specs.Order.{order}
 use Rattle.cct_model.specs.Paid.{anew_by}
 use Rattle.cct_model.specs.Records.{owner_in, records}
 use Rattle.cct_model.specs.Reply.{Reply}
-use Rattle.cct_model.specs.Transcript.{dispensed_by, doses, doses_of, got_by, heard_by_devices, lines_of, met, onto, own, owner, pending, stacked_line}
+use Rattle.cct_model.specs.Transcript.{dispensed_by, doses, doses_of, got_by, heard_by_devices, lines_of, met, onto, own, pending, stacked_line}
 use Rattle.cct_laws.specs.Law.{EachEntry, IsOf, lines_in}
 use Rattle.cct_lives.specs.Live.{EachLive, shown}
 use Rattle.cct_lives.specs.Posts.{Has, HasOver, HaveInTurn, accepts_heard, credits_heard, mask_heard, PostAt, PostOf, PostedBy, since_taken}
@@ -29,6 +29,7 @@ use Rattle.cct_lives.proofs.Carrying.{by_law, each_shown}
 use Rattle.cct_lives.proofs.Followed.{alike_shown}
 use Rattle.cct_lives.proofs.Onward.{order_same}
 use Rattle.cct_lives.proofs.Posting.{legal_posts}
+use Rattle.cct_lives.proofs.Recording.{recorded_shown}
 use Rattle.cct_lives.proofs.Sends.{legal_few_sent, legal_sent}
 
 -- lines without the dispenses that were taken and without what was accepted
@@ -143,6 +144,7 @@ since_undosed : (lines : List Line) → undosed (since_taken lines) ≡ since_ta
 since_undosed [] = refl
 since_undosed (dispensed count ∷ lines) = since_undosed lines
 since_undosed (accepted coin ∷ lines) = since_undosed lines
+since_undosed (restarted ∷ lines) = refl
 since_undosed (taken (command.Halt addr) ∷ lines) = ap (λ ls. taken (command.Halt addr) ∷ ls) (since_undosed lines)
 since_undosed (taken c ∷ lines) = refl
 since_undosed (l ∷ lines) = ap (λ ls. l ∷ ls) (since_undosed lines)
@@ -183,10 +185,10 @@ has_dosed : (q : Option Request) (y : Option Reply) (lines : List Line) → Has 
 has_dosed q y lines has = over_dosed q y (λ older. ⊤) (λ older. ⊤) (λ older any. tt) lines has
 
 -- so it is among lines that are the same but for these
-since_same : (lines others : List Line) → SameUndosed lines others → SameUndosed (since_taken lines) (since_taken others)
+pub since_same : (lines others : List Line) → SameUndosed lines others → SameUndosed (since_taken lines) (since_taken others)
 since_same lines others same = since_undosed lines ∙ ap since_taken same ∙ sym (since_undosed others)
 
-has_same : (q : Option Request) (y : Option Reply) (lines others : List Line) → SameUndosed lines others →
+pub has_same : (q : Option Request) (y : Option Reply) (lines others : List Line) → SameUndosed lines others →
     Has lines (exchange q y) → Has others (exchange q y)
 has_same q y lines others same has =
     has_dosed q y others (subst (λ ls. Has ls (exchange q y)) same (has_undosed q y lines has))
@@ -197,7 +199,7 @@ AreExchanges [] = ⊤
 AreExchanges (exchange q y ∷ ls) = AreExchanges ls
 AreExchanges (l ∷ ls) = ⊥
 
-turn_same : (lines others before : List Line) → AreExchanges before → SameUndosed lines others → HaveInTurn lines before →
+pub turn_same : (lines others before : List Line) → AreExchanges before → SameUndosed lines others → HaveInTurn lines before →
     HaveInTurn others before
 turn_same lines others [] are same turn = tt
 turn_same lines others (exchange q y ∷ before) are same turn =
@@ -242,16 +244,10 @@ post_same body lines others (record_of.Broken addr seen counter lost accepts pos
     (of.0, posted_same body lines others true of.0 seen counter lost accepts posted same of.1)
 post_same body lines others r same of = tt
 
-post_shown : (d : DeviceSetup) (past : List Entry) (r : Record) → (owner past r ≡ d.addr → PostOf d.body (lines_of d past) r) →
-    owner (shown past) r ≡ d.addr → PostOf d.body (lines_of d (shown past)) r
-post_shown d past r of own =
-    post_same d.body (lines_of d past) (lines_of d (shown past)) r (lines_shown d past)
-    (of (ap (λ rs. owner_in rs r) (alike_shown past).recorded ∙ own))
-
 pub posts_shown : (d : DeviceSetup) (past : List Entry) (e : Entry) → PostAt d past e → PostAt d (shown past) e
-posts_shown d past (entry.Put r) of = post_shown d past r of
-posts_shown d past (entry.Kept r) of = post_shown d past r of
-posts_shown d past e of = tt
+posts_shown d =
+    recorded_shown (PostOf d.body) (PostOf d.body) d
+    (λ past r of. post_same d.body (lines_of d past) (lines_of d (shown past)) r (lines_shown d past) of)
 
 pub live_posts : EachLive (λ capacity setup transcript. (d : DeviceSetup) → IsOf setup d →
     EachEntry (PostAt d) (onto [] transcript))

@@ -1,6 +1,6 @@
 -- Two lives of a host, one after the other over one journal, on a line that is silent, damaged, and well. A life over an
 -- epoch that was found, on a line that lies about counters, and one over that of a bill acceptor. And what no host does that
--- finds an order open.
+-- finds an order open, or that holds a bill.
 use Rattle.std.proofs.Common.{◌≡◌, ℕ, ◌≤◌, arith, false, List, [], ◌∷◌, ◌++◌, inr, replicate, refl, Some, None, All}
 use Rattle.std.specs.Prelude.{⊤, codes}
 use Rattle.std.proofs.lemmas.List.Elements.{All-nil, All-cons}
@@ -30,53 +30,56 @@ use Rattle.cct_lives.specs.Life.{IsLife, IsLifeStep}
 use Rattle.cct_lives.specs.LiveStep.{LiveStep}
 use Rattle.cct_lives.specs.LiveStep as live
 use Rattle.cct_lives.specs.Live.{LiveEntries, LiveFrom, started}
+use Rattle.cct_lives.specs.Posts.{PostAt}
+use Rattle.cct_lives.specs.Routes.{RoutedAt, routed_in}
 use Rattle.cct_lives.specs.Sends.{SentAt}
 
 -- a coin acceptor at address 2, and a bill acceptor at address 4
-abbrev texts : Texts
+abbrev pub texts : Texts
 texts = record { maker = codes "BENCH"; product = codes "CCT"; software = codes "1"; build = codes "1" }
 
-abbrev setup : Setup
-setup = record {
-  devices =
-      record {
-        addr = 2;
-        kind = Simple;
-        serial = 1;
-        texts = texts;
-        named = false;
-        body = Acceptor 0 (replicate 16 100) (replicate 16 (codes "XX100A"));
-      }
-      ∷ record {
-        addr = 4;
-        kind = Simple;
-        serial = 9;
-        texts = texts;
-        named = false;
-        body = Bill 0 (replicate 16 500) (replicate 16 (codes "XX500A"));
-      }
-      ∷ [];
+abbrev banker : DeviceSetup
+banker = record {
+  addr = 4;
+  kind = Simple;
+  serial = 9;
+  texts = texts;
+  named = false;
+  body = Bill 0 (replicate 16 500) (replicate 16 (codes "XX500A"));
 }
 
+abbrev pub taker : DeviceSetup
+taker = record {
+  addr = 2;
+  kind = Simple;
+  serial = 1;
+  texts = texts;
+  named = false;
+  body = Acceptor 0 (replicate 16 100) (replicate 16 (codes "XX100A"));
+}
+
+abbrev setup : Setup
+setup = record { devices = taker ∷ banker ∷ [] }
+
 -- one step of a run with its entries, newest first
-record Row : Type 0 where
-  step : LiveStep
-  news : List Entry
+pub record Row : Type 0 where
+  pub step : LiveStep
+  pub news : List Entry
 
 -- each of these rows has the entries of its step, after the rows before it
-abbrev Lives : List Entry → List Row → Type 0
-Lives past [] = ⊤
-Lives past (row ∷ rows) = LiveEntries 65535 setup past row.step row.news × Lives (row.news ++ past) rows
+abbrev pub Lives : Setup → List Entry → List Row → Type 0
+Lives the past [] = ⊤
+Lives the past (row ∷ rows) = LiveEntries 65535 the past row.step row.news × Lives the (row.news ++ past) rows
 
-abbrev after : List Entry → List Row → List Entry
+abbrev pub after : List Entry → List Row → List Entry
 after past [] = past
 after past (row ∷ rows) = after (row.news ++ past) rows
 
-abbrev steps_of : List Row → List LiveStep
+abbrev pub steps_of : List Row → List LiveStep
 steps_of [] = []
 steps_of (row ∷ rows) = row.step ∷ steps_of rows
 
-abbrev one : LiveStep → Entry → Row
+abbrev pub one : LiveStep → Entry → Row
 one step e = record { step = step; news = e ∷ [] }
 
 -- the acceptor is silent, and then its reply is damaged; the process ends, and the next one begins anew, hears well, and
@@ -100,7 +103,7 @@ two_lives =
     ∷ one (live.command (command.Round 2)) (entry.Taken (command.Round 2))
     ∷ []
 
-two_lived : Lives [] two_lives
+two_lived : Lives setup [] two_lives
 unfolding message spelling data_of request_of requests_with form_of reply_data reply_in has_place ask asked asks_of after_echo got
     got_by distance accepted_between judge
 two_lived = (
@@ -147,9 +150,10 @@ no_round_without_an_epoch : LiveEntries 65535 setup [] (live.command (command.Ro
 no_round_without_an_epoch e = cc e
 
 -- a life over an epoch that was found
-lives_on : (past : List Entry) (rows : List Row) → Lives past rows → LiveFrom 65535 setup past (steps_of rows) (after past rows)
-lives_on past [] lives = refl
-lives_on past (row ∷ rows) lives = (row.news, lives.0, lives_on (row.news ++ past) rows lives.1)
+pub lives_on : (the : Setup) (past : List Entry) (rows : List Row) → Lives the past rows →
+    LiveFrom 65535 the past (steps_of rows) (after past rows)
+lives_on the past [] lives = refl
+lives_on the past (row ∷ rows) lives = (row.news, lives.0, lives_on the (row.news ++ past) rows lives.1)
 
 abbrev AreLifeSteps : List Row → Type 0
 AreLifeSteps [] = ⊤
@@ -162,24 +166,29 @@ all_steps (row ∷ rows) are = All-cons IsLifeStep row.step (steps_of rows) are.
 abbrev begun : List Record
 begun = record_of.Epoch 2 65535 0 ∷ []
 
-abbrev coin : Coin
+abbrev pub coin : Coin
 coin = record { place = 1; path = 1 }
 
 -- the event counter tells one event, and the accept counter no coin
-abbrev one_round : List Row
-one_round =
+abbrev heard_round : List Row
+heard_round =
     one (live.command (command.Round 2)) (entry.Taken (command.Round 2))
     ∷ one (live.next 2) (entry.Wire 2 (2 ∷ 0 ∷ 1 ∷ 225 ∷ 28 ∷ []) (2 ∷ 0 ∷ 1 ∷ 225 ∷ 28 ∷ 1 ∷ 3 ∷ 2 ∷ 0 ∷ 0 ∷ 0 ∷ 0 ∷ 250 ∷ []))
     ∷ one (live.next 2) (entry.Wire 2 (2 ∷ 0 ∷ 1 ∷ 229 ∷ 24 ∷ []) (2 ∷ 0 ∷ 1 ∷ 229 ∷ 24 ∷ 1 ∷ 11 ∷ 2 ∷ 0 ∷ 1 ∷ 1 ∷ 1 ∷ 0 ∷ 0 ∷ 0 ∷ 0 ∷ 0 ∷ 0 ∷ 0 ∷ 0 ∷ 239 ∷ []))
     ∷ one (live.next 2) (entry.Wire 2 (2 ∷ 0 ∷ 1 ∷ 230 ∷ 23 ∷ []) (2 ∷ 0 ∷ 1 ∷ 230 ∷ 23 ∷ 1 ∷ 2 ∷ 2 ∷ 0 ∷ 255 ∷ 255 ∷ 253 ∷ []))
     ∷ one (live.next 2) (entry.Wire 2 (2 ∷ 0 ∷ 1 ∷ 225 ∷ 28 ∷ []) (2 ∷ 0 ∷ 1 ∷ 225 ∷ 28 ∷ 1 ∷ 3 ∷ 2 ∷ 0 ∷ 0 ∷ 0 ∷ 0 ∷ 250 ∷ []))
-    ∷ record {
+    ∷ []
+
+abbrev one_round : List Row
+one_round =
+    heard_round
+    ++ record {
       step = live.next 2;
       news = entry.Ended 2 Posted ∷ entry.Put (record_of.Reading 2 1 0 0 (coin ∷ [])) ∷ [];
     }
     ∷ []
 
-one_round_lived : Lives (started begun) one_round
+one_round_lived : Lives setup (started begun) one_round
 unfolding message spelling data_of request_of requests_with form_of reply_data reply_in has_place ask asked asks_of after_echo got
     got_by distance accepted_between judge
 one_round_lived = (
@@ -207,8 +216,12 @@ unfolding has_place
 one_life = record {
   follow = refl;
   steps_are = all_steps one_round (tt, (tt, (tt, (tt, (tt, (tt, tt))))));
-  live = lives_on (started begun) one_round one_round_lived;
+  live = lives_on setup (started begun) one_round one_round_lived;
 }
+
+-- a new host doesn't put at once what the one before it heard
+not_by_a_new_host : PostAt taker (entry.Crash 1 ∷ after (started begun) heard_round) (entry.Put (record_of.Reading 2 1 0 0 (coin ∷ []))) → ⊥
+not_by_a_new_host at = (at refl).1.heard
 
 -- so a coin is posted that the accept counter doesn't tell
 more_than_accepted : (told_in 2 (records (after (started begun) one_round))
@@ -286,7 +299,7 @@ one_route =
     }
     ∷ []
 
-one_route_lived : Lives (started (record_of.Epoch 4 1 0 ∷ [])) one_route
+one_route_lived : Lives setup (started (record_of.Epoch 4 1 0 ∷ [])) one_route
 unfolding message spelling data_of request_of requests_with form_of reply_data reply_in has_place ask asked asks_of after_echo got
     got_by distance accepted_between judge
 one_route_lived = (
@@ -326,6 +339,50 @@ one_route_lived = (
     ),
   ),
 )
+
+-- in this life one request routes a bill: the job of the `route` sends it, by its way, and has sent none before
+abbrev routing : List Entry
+routing = entry.Taken (command.Route 4 1) ∷ started (record_of.Epoch 4 1 0 ∷ [])
+
+one_is_routed : (routed_in banker (after (started (record_of.Epoch 4 1 0 ∷ [])) one_route) ≡ 1)
+unfolding message spelling data_of request_of requests_with has_place ask asked asks_of
+one_is_routed = refl
+
+first_route : RoutedAt banker routing (entry.Wire 4 stacks stacks)
+unfolding message spelling data_of request_of requests_with form_of reply_data reply_in has_place ask asked asks_of after_echo got
+    got_by
+first_route = (refl, refl, refl)
+
+-- no host sends two requests for one `route`, whatever was heard of the first
+two_are_routed : (routed_in banker (entry.Wire 4 stacks stacks ∷ entry.Wire 4 stacks stacks ∷ routing) ≡ 2)
+unfolding message spelling data_of request_of requests_with has_place ask asked asks_of
+two_are_routed = refl
+
+no_second_route : RoutedAt banker (entry.Wire 4 stacks stacks ∷ routing) (entry.Wire 4 stacks stacks) → ⊥
+unfolding message spelling data_of request_of requests_with form_of reply_data reply_in has_place ask asked asks_of after_echo got
+    got_by
+no_second_route at = cc at.1
+
+-- nor one by the other way, one after a power cut, one for which no `route` was taken, or one in another device's job
+no_other_way : RoutedAt banker routing (entry.Wire 4 (4 ∷ 1 ∷ 1 ∷ 154 ∷ 0 ∷ 96 ∷ []) []) → ⊥
+unfolding message spelling data_of request_of requests_with form_of reply_data reply_in has_place ask asked asks_of after_echo got
+    got_by
+no_other_way at = cc at.2
+
+none_after_a_restart : RoutedAt banker (entry.Crash 1 ∷ routing) (entry.Wire 4 stacks stacks) → ⊥
+unfolding message spelling data_of request_of requests_with form_of reply_data reply_in has_place ask asked asks_of after_echo got
+    got_by
+none_after_a_restart at = cc at.2
+
+none_untaken : RoutedAt banker (started (record_of.Epoch 4 1 0 ∷ [])) (entry.Wire 4 stacks stacks) → ⊥
+unfolding message spelling data_of request_of requests_with form_of reply_data reply_in has_place ask asked asks_of after_echo got
+    got_by
+none_untaken at = cc at.2
+
+none_from_elsewhere : RoutedAt banker routing (entry.Wire 2 stacks stacks) → ⊥
+unfolding message spelling data_of request_of requests_with form_of reply_data reply_in has_place ask asked asks_of after_echo got
+    got_by
+none_from_elsewhere at = cc at.0
 
 -- a hopper at address 3
 abbrev hopper : DeviceSetup

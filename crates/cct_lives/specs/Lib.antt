@@ -1,8 +1,11 @@
+pub mod Closes
 pub mod Counters
 pub mod Life
 pub mod Live
 pub mod LiveStep
 pub mod Posts
+pub mod Recording
+pub mod Routes
 pub mod Sends
 pub mod Texts
 pub mod Tries

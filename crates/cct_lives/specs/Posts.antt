@@ -11,13 +11,12 @@ use Rattle.cct_model.specs.declared.judging.EpochState.TheVariants.{Running}
 use Rattle.cct_model.specs.lines.record.Record.{Record}
 use Rattle.cct_model.specs.lines.record.Record.TheVariants as record_of
 use Rattle.cct_model.specs.lines.entry.Entry.{Entry}
-use Rattle.cct_model.specs.lines.entry.Entry.TheVariants as entry
 use Rattle.cct_model.specs.lines.command.Command.TheVariants as command
-use Rattle.cct_model.specs.Line.{Line, exchange, taken}
+use Rattle.cct_model.specs.Line.{Line, exchange, taken, restarted}
 use Rattle.cct_model.specs.Job.{credits_request, epoch, settled}
 use Rattle.cct_model.specs.Reading.{distance, posted_of, shows_break, accepted_between}
 use Rattle.cct_model.specs.Reply as reply
-use Rattle.cct_model.specs.Transcript.{owner, lines_of}
+use Rattle.cct_lives.specs.Recording.{IsRecordedBy}
 
 -- A line is among lines, newest first, and this is so of those before it.
 abbrev pub HasOver : List Line → Line → (List Line → Type 0) → Type 0
@@ -33,9 +32,10 @@ abbrev pub HaveInTurn : List Line → List Line → Type 0
 HaveInTurn lines [] = ⊤
 HaveInTurn lines (l ∷ before) = HasOver lines l (λ older. HaveInTurn older before)
 
--- The lines since the command of a job was taken; a halt is a line of the job that it stops.
+-- The lines since the command of a job was taken, or since a host started; a halt is a line of the job that it stops.
 abbrev pub since_taken : List Line → List Line
 since_taken [] = []
+since_taken (restarted ∷ past) = []
 since_taken (taken (command.Halt addr) ∷ past) = taken (command.Halt addr) ∷ since_taken past
 since_taken (taken c ∷ past) = []
 since_taken (line ∷ past) = line ∷ since_taken past
@@ -89,6 +89,4 @@ PostOf body lines r = ⊤
 
 -- So does each record of a device that is put, or kept when the power was cut.
 abbrev pub PostAt : DeviceSetup → List Entry → Entry → Type 0
-PostAt d past (entry.Put r) = owner past r ≡ d.addr → PostOf d.body (lines_of d past) r
-PostAt d past (entry.Kept r) = owner past r ≡ d.addr → PostOf d.body (lines_of d past) r
-PostAt d past e = ⊤
+PostAt d past e = IsRecordedBy (PostOf d.body) d past e

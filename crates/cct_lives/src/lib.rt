@@ -10,8 +10,9 @@
 //! cites `followed_from` of `proofs/Followed.antt`; `by_law` of `proofs/Carrying.antt`, by which a further law of all legal
 //! transcripts goes over; `live_over` of `proofs/Joining.antt`, by which one past goes on as another one that has the
 //! same jobs and records; `life_begins`, `life_command`, `life_next` and `life_balance` of `proofs/Life.antt`, by which one
-//! life begins and goes on; and `life_kept` of `proofs/LifeBooks.antt`, and `life_along` of `proofs/LifeLaws.antt`, by which
-//! ids and books, and a further fact that each legal step keeps, go along one life.
+//! life begins and goes on; `life_kept` of `proofs/LifeBooks.antt`, and `life_along` of `proofs/LifeLaws.antt`, by which
+//! ids and books, and a further fact that each legal step keeps, go along one life; and
+//! `fits_by` of `proofs/InTurn.antt`, by which a reply that was got is in the form that its request wants.
 #![tactic(auto)]
 
 ghost use Rattle.std.specs.Prelude.{ℕ, ◌≡◌, ◌≢◌, ◌<◌, ◌≤◌, ◌+◌, ◌-◌, true, List, [], ◌++◌, length, Option, Some};
@@ -31,6 +32,7 @@ ghost use Rattle.cct_model.specs.Transcript.{lines_of, onto, scan_lines};
 ghost use Rattle.cct_laws.specs.Balanced.{IsBalanced, IsConserved};
 ghost use Rattle.cct_laws.specs.Law.{EachEntry, IsOf, lines_in};
 ghost use Rattle.cct_laws.specs.Recorded.{open_orders};
+ghost use Rattle.cct_lives.specs.Closes.{CloseAt, WasHeardOpen, WasOpened};
 ghost use Rattle.cct_lives.specs.Counters.{IsTallied, told_in};
 ghost use Rattle.cct_lives.specs.Life.{EachLife, EachSinceStart, room_over};
 ghost use Rattle.cct_lives.specs.Live.{EachLive, GoesOnAs, IsOneWith, IsShown, LiveFrom, started};
@@ -39,6 +41,7 @@ ghost use Rattle.cct_model.specs.terms.device.DeviceSetup.{DeviceSetup};
 ghost use Rattle.cct_model.specs.lines.command.Step.{Step};
 ghost use Rattle.cct_model.specs.Setup.{IsSoundSetup};
 ghost use Rattle.cct_lives.specs.Posts.{PostAt};
+ghost use Rattle.cct_lives.specs.Routes.{RoutedAt, routed_in};
 ghost use Rattle.cct_lives.specs.Sends.{SentAt, sent_in};
 ghost use Rattle.cct_lives.specs.Texts.{IsInBytes, IsLifeInBytes};
 ghost use Rattle.cct_model.specs.Text.{text};
@@ -157,6 +160,28 @@ pub fn each_order_is_sent_once()
         → sent_in (lines_of d past) ≤ 1) }
 {}
 
+/// Each `route` is sent at most once, whatever the wire does: to each device of a sound setup, in every live and in every
+/// legal transcript, over all lives and any power cuts. A second request 154 would stack the next customer's bill. Since a
+/// `route` was last taken for a bill acceptor, at most one request to route a bill was sent to it. Each one that is sent, by
+/// whatever job, is an exchange of the bill acceptor's own job; that is the job of a `route`, the way is the one that was
+/// given with it, and none was sent since it was taken. A loss of power ends that job, so nothing is sent for it again. So it
+/// is in one life over any journal, too. It doesn't say what the bill acceptor hears, nor that a bill is held.
+pub fn each_route_is_sent_once()
+    ensures each { (capacity : ℕ) (setup : Setup) (steps : List Step) (transcript : List Entry) (d : DeviceSetup)
+        → IsSoundSetup setup → IsOf setup d → Legal capacity setup steps transcript
+        → EachEntry (RoutedAt d) (onto [] transcript) }
+    ensures few { (capacity : ℕ) (setup : Setup) (steps : List Step) (transcript : List Entry) (d : DeviceSetup)
+        → IsSoundSetup setup → IsOf setup d → Legal capacity setup steps transcript
+        → routed_in d (onto [] transcript) ≤ 1 }
+    ensures live_each { EachLive (λ capacity setup transcript. (d : DeviceSetup) → IsOf setup d
+        → EachEntry (RoutedAt d) (onto [] transcript)) }
+    ensures live_few { EachLive (λ capacity setup transcript. (d : DeviceSetup) → IsOf setup d
+        → routed_in d (onto [] transcript) ≤ 1) }
+    ensures life_each { EachLife (λ capacity setup found past. (d : DeviceSetup) → IsOf setup d
+        → EachEntry (RoutedAt d) past) }
+    ensures life_few { EachLife (λ capacity setup found past. (d : DeviceSetup) → IsOf setup d → routed_in d past ≤ 1) }
+{}
+
 /// What is posted was heard, whatever the wire does, in every live and in every legal transcript, over all lives and any
 /// power cuts. Each reading and each break of an acceptor is of four replies that its job heard since its command was taken,
 /// in their turn: the accept counter, the credits, the inhibit mask, and the accept counter again. It posts the coins of
@@ -174,6 +199,24 @@ pub fn what_is_posted_was_heard()
         → EachEntry (PostAt d) (onto [] transcript)) }
     ensures life { EachLife (λ capacity setup found past. (d : DeviceSetup) → IsOf setup d
         → EachSinceStart (PostAt d) past) }
+{}
+
+/// What closes an order was heard, whatever the wire does, in every live and in every legal transcript, over all lives and any
+/// power cuts. Each order is closed at two life counts of its hopper. The first one was heard in the job that opened the
+/// order, which may be one of an earlier life. The second one was heard in the job that closes it: since that began, and
+/// since it sent its dispense, if it did, the hopper was heard to have no coin left to pay, and then this life count. Paid
+/// are just as many coins as the two counts tell, modulo 2^24, and unpaid the others of its count; where they tell more than
+/// that, both counts are recorded. It is the order that is open then, so none is closed twice. In one life over any journal
+/// it is so of what was closed since the start; of an order that was found open the first count is the recorded one. It says
+/// nothing of coins: a hopper that lies about its life count makes any number of them paid.
+pub fn what_is_closed_was_heard()
+    ensures legal { (capacity : ℕ) (setup : Setup) (steps : List Step) (transcript : List Entry) (d : DeviceSetup)
+        → IsSoundSetup setup → IsOf setup d → Legal capacity setup steps transcript
+        → EachEntry (CloseAt WasHeardOpen d) (onto [] transcript) }
+    ensures live { EachLive (λ capacity setup transcript. (d : DeviceSetup) → IsOf setup d
+        → EachEntry (CloseAt WasHeardOpen d) (onto [] transcript)) }
+    ensures life { EachLife (λ capacity setup found past. (d : DeviceSetup) → IsOf setup d
+        → EachSinceStart (CloseAt WasOpened d) past) }
 {}
 
 /// No event is posted twice by the counters' own account, whatever the wire does: in the newest epoch of each acceptor, in

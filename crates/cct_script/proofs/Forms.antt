@@ -8,7 +8,7 @@ use Rattle.cct_lines.specs.Grammar.{counting_line, hopper_line, value_line, text
 use Rattle.cct_lines.specs.Grammar.{place_step, fault_step, start_step, pay_step, path_step, route_step, vend_step, stock_step, change_step, crash_step}
 use Rattle.std.specs.List.{slice_split}
 use Rattle.cct_script.specs.Capture.{tap_form, watch_form}
-use Rattle.cct_script.specs.Live.{do_form}
+use Rattle.cct_script.specs.Live.{do_form, order_form}
 use Rattle.cct_script.proofs.Splits.{split_some}
 
 pub no_counting : (make : DeviceSetup → SetupLine) (plain : ℕ → DeviceBody) (fields : List (List ℕ)) → length fields ≢ 4 →
@@ -35,6 +35,10 @@ no_step_at make fields other = refl
 pub no_do : (fields : List (List ℕ)) → length fields ≢ 1 → do_form fields ≡ None
 no_do (a ∷ []) other = absurd (other refl)
 no_do fields other = refl
+
+pub no_order : (fields : List (List ℕ)) → length fields ≢ 1 → order_form fields ≡ None
+no_order (a ∷ []) other = absurd (other refl)
+no_order fields other = refl
 
 pub no_place : (make : ℕ → ℕ → Step) (fields : List (List ℕ)) → length fields ≢ 2 → place_step make fields ≡ None
 no_place make (a ∷ b ∷ []) other = absurd (other refl)

@@ -1,12 +1,12 @@
 -- What a line says to a host on a real line.
-use Rattle.std.specs.Prelude.{ℕ, List, [], ◌∷◌, if◌then◌else◌, Option, None, Result, Ok, Err, codes, bytes_eq, ⊤}
+use Rattle.std.specs.Prelude.{ℕ, List, [], ◌∷◌, if◌then◌else◌, Option, None, Result, Ok, Err, codes, bytes_eq, ⊤, ◌≤◌}
 use Rattle.std.specs.Option.{ok_or, option_map}
 use Rattle.std.specs.List.{slice_split}
 use Rattle.cct_lines.specs.declared.command.Step.{Step}
 use Rattle.cct_lines.specs.declared.command.Step.TheVariants as step
 use Rattle.cct_lines.specs.declared.entry.LineKind.{LineKind}
 use Rattle.cct_lines.specs.declared.entry.LineKind.TheVariants as kind
-use Rattle.cct_lines.specs.Grammar.{address_in, alone, is_space, step_line}
+use Rattle.cct_lines.specs.Grammar.{address_in, alone, is_space, ranged, step_line}
 use Rattle.cct_lines.specs.Script.{IsCommand}
 use Rattle.cct_script.specs.declared.live.LiveLine.{LiveLine}
 use Rattle.cct_script.specs.declared.live.LiveLine.TheVariants as says
@@ -15,6 +15,11 @@ use Rattle.cct_script.specs.declared.live.LiveLine.TheVariants as says
 abbrev pub do_form : List (List ℕ) → Option LiveLine
 do_form (a ∷ []) = option_map says.Do (address_in a)
 do_form fields = None
+
+-- What stands after the word `order`: the number of an order, as a payment has it.
+abbrev pub order_form : List (List ℕ) → Option LiveLine
+order_form (i ∷ []) = option_map says.Order (ranged 1 4294967295 i)
+order_form fields = None
 
 -- A step line of a script that a host on a real line knows: a command, `next`, `balance` or `end`.
 abbrev pub of_step : Result Step LineKind → Result LiveLine LineKind
@@ -31,6 +36,7 @@ live_word word fields line =
     if bytes_eq word (codes "do") then ok_or (do_form fields) kind.Form
     else if bytes_eq word (codes "poll") then ok_or (alone says.Poll fields) kind.Form
     else if bytes_eq word (codes "status") then ok_or (alone says.Status fields) kind.Form
+    else if bytes_eq word (codes "order") then ok_or (order_form fields) kind.Form
     else of_step (step_line line)
 
 -- Its fields, the first one its word.
@@ -42,7 +48,8 @@ live_fields (word ∷ fields) line = live_word word fields line
 unfoldable pub live_line : List ℕ → Result LiveLine LineKind
 live_line line = live_fields (slice_split is_space line) line
 
--- The numbers of a command are in their ranges.
+-- The numbers of a command are in their ranges, as the number of an order is.
 abbrev pub IsTold : LiveLine → Type 0
 IsTold (says.Command c) = IsCommand c
+IsTold (says.Order id) = (1 ≤ id) × (id ≤ 4294967295)
 IsTold line = ⊤

@@ -1,16 +1,18 @@
 //! The lines of a host on a real line (`docs/LIVE.md`).
 ghost use Rattle.std.specs.Prelude.{◌≡◌, IfOk};
 ghost use Rattle.cct_script.specs.Fields.{fields_after};
-ghost use Rattle.cct_script.specs.Live.{IsTold, live_line, do_form, live_word, of_step};
+ghost use Rattle.cct_script.specs.Live.{IsTold, live_line, do_form, order_form, live_word, of_step};
 ghost use Rattle.cct_lines.specs.Grammar.{step_line};
 ghost use Rattle.std.specs.Option.{ok_or};
 
 use crate::fields::{alone, first_field, one};
-use crate::numbers::ranged_u8;
+use crate::numbers::{ranged_u8, ranged_u32};
 use crate::step::read_step_line;
 use cct_lines::{Command, LineKind, Step};
 
 const DO: &[u8] = b"do";
+
+const ORDER: &[u8] = b"order";
 
 const POLL: &[u8] = b"poll";
 
@@ -31,12 +33,14 @@ pub enum LiveLine {
     Balance,
     /// `status`: how each device stands is told.
     Status,
+    /// `order ID`: what is known of the order with this number is told.
+    Order { id: u32 },
     /// `end`: the host is to end.
     End,
 }
 
 /// What a line says to a host on a real line, without its line feed: a command, `next`, `balance` or `end` as in a script,
-/// or `do A`, `poll` or `status`. `Word` where the first field is no word of these, a bench's `coin` or `crash` among them;
+/// or `do A`, `poll`, `status` or `order ID`. `Word` where the first field is no word of these, a bench's `coin` or `crash` among them;
 /// else `Form` where the line isn't in a form of its word.
 #[tactic(auto, unfolding(crate::specs::Live::live_line))]
 pub fn read_live_line(line: &[u8]) -> Result<LiveLine, LineKind>
@@ -48,6 +52,7 @@ pub fn read_live_line(line: &[u8]) -> Result<LiveLine, LineKind>
         _ if word == DO => read_do(rest),
         _ if word == POLL => alone(LiveLine::Poll, rest).ok_or(LineKind::Form),
         _ if word == STATUS => alone(LiveLine::Status, rest).ok_or(LineKind::Form),
+        _ if word == ORDER => read_order(rest),
         _ => read_step(line),
     }
 }
@@ -63,6 +68,19 @@ fn read_do(rest: Option<&[u8]>) -> Result<LiveLine, LineKind>
         None => return Err(LineKind::Form),
     };
     Ok(LiveLine::Do { addr })
+}
+
+/// What stands after `order`: the number of an order alone, 1 to 4294967295, as `pay` has it.
+#[tactic(auto, using(crate::proofs::Forms::no_order))]
+fn read_order(rest: Option<&[u8]>) -> Result<LiveLine, LineKind>
+    ensures reads { result ≡ ok_or (order_form (fields_after rest.entry)) LineKind.Form }
+    ensures told { IfOk result IsTold }
+{
+    let id = match one(rest) {
+        Some(field) => ranged_u32(1, u32::MAX, field).ok_or(LineKind::Form)?,
+        None => return Err(LineKind::Form),
+    };
+    Ok(LiveLine::Order { id })
 }
 
 /// What a step line of a script says to a host on a real line. The words of a bench are none here.

@@ -1,0 +1,4 @@
+pub mod Escrow
+pub mod Held
+pub mod Places
+pub mod Routes
