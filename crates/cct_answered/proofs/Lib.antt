@@ -1,0 +1,11 @@
+pub mod Among
+pub mod Asked
+pub mod Growing
+pub mod Lost
+pub mod Mending
+pub mod Real
+pub mod Questions
+pub mod Rehearing
+pub mod Surveyed
+pub mod Unseen
+pub mod Worked

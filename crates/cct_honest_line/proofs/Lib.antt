@@ -1,0 +1,11 @@
+pub mod Befallen
+pub mod Exchanging
+pub mod Explaining
+pub mod Fronts
+pub mod Giving
+pub mod Going
+pub mod Living
+pub mod Sending
+pub mod Single
+pub mod Standing
+pub mod Worked

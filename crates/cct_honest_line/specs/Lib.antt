@@ -1,0 +1,4 @@
+pub mod AtOnce
+pub mod Devices
+pub mod Explained
+pub mod Lives

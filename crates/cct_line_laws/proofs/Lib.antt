@@ -1,0 +1,5 @@
+pub mod HandingOn
+pub mod Linked
+pub mod Rolls
+pub mod Serving
+pub mod Surveys
