@@ -1,3 +1,4 @@
-mod Apart
+mod Chosen
 mod Inquiring
+mod Rolling
 mod Trying

@@ -1,4 +1,7 @@
 pub mod Asking
-pub mod Survey
+pub mod Category
+pub mod Coins
+pub mod Finding
+pub mod Roll
+pub mod Room
 pub mod Twins
-pub mod Worth

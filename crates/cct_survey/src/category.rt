@@ -1,6 +1,6 @@
 //! The equipment category by which a device says what it is.
 ghost use Rattle.std.specs.Prelude.{◌≡◌, ◌≤◌, length, take};
-ghost use Rattle.cct_survey.specs.Survey.{family_told};
+ghost use Rattle.cct_survey.specs.Category.{family_told};
 
 use cct_terms::{Bytes, Family};
 use std::marker::Model;

@@ -1,12 +1,12 @@
 //! A question over a link: it is asked until it is answered, three times at most.
-ghost use Rattle.std.specs.Prelude.{◌≡◌, ◌≤◌, is_some};
+ghost use Rattle.std.specs.Prelude.{◌≡◌, ◌≤◌, is_some, true};
 ghost use Rattle.std.specs.Option.{option_map};
 ghost use Rattle.cct_terms.specs.Exchange.{after_echo, ask, got};
 ghost use Rattle.cct_terms.specs.Reply.{reply_shown};
 ghost use Rattle.cct_terms.specs.declared.request.Request.TheVariants as request;
 ghost use Rattle.cct_terms.specs.declared.request.ReplyForm.TheVariants as form;
 ghost use Rattle.cct_survey.specs.declared.question.TheConstants.{TRIES};
-ghost use Rattle.cct_survey.specs.Asking.{Asked, Asks, answers_to_all, category_told, id_told, reply_to, serial_told};
+ghost use Rattle.cct_survey.specs.Asking.{Asked, Asks, Inquires, answers_to_all, category_told, id_told, is_identity, reply_to, serial_told};
 
 use crate::category::Category;
 use crate::room::Room;
@@ -15,7 +15,7 @@ use cct_terms::{BROADCAST, CheckKind, Reply, ReplyForm, Request};
 use cct_wire::{Link, bare_after_echo};
 
 /// How often a question is asked at most.
-pub(crate) const TRIES: u8 = 3;
+pub const TRIES: u8 = 3;
 
 /// Asks a request of an address until the reply in the form that is wanted is heard, or so many times.
 fn question<L: Link>(
@@ -27,10 +27,12 @@ fn question<L: Link>(
     tries: u8,
     room: &mut Room,
 )
+    requires known { is_identity request ≡ true }
     requires some { 1 ≤ tries }
     requires few { tries ≤ TRIES }
-    ensures asked { Asked L.gives (ask kind addr request) (reply_to kind addr request form) link.old
+    ensures asked { Asked L.gives tries (ask kind addr request) (reply_to kind addr request form) link.old
         (reply_to kind addr request form room.new.heard.items) link.new }
+    ensures inquires { (first : L) → Inquires L.gives first link.old → Inquires L.gives first link.new }
     ensures sent { room.new.sent.items ≡ ask kind addr request }
 {
     encode_request(kind, addr, &request, &mut room.sent);
@@ -53,7 +55,7 @@ fn is_answered<L: Link>(
     ensures sent { room.new.sent.items ≡ room.old.sent.items }
     ensures answered { result ≡ is_some (got kind addr form room.new.sent.items room.new.heard.items) }
 {
-    link.exchange(room.sent.as_slice(), &mut room.heard);
+    room.exchange(link);
     wanted_reply(
         kind,
         addr,
@@ -64,14 +66,18 @@ fn is_answered<L: Link>(
     .is_some()
 }
 
-/// The serial number that the device at an address tells under a check.
-pub(crate) fn serial_of<L: Link>(
+/// The serial number that the device at an address tells under a check, asked so many times at most.
+pub fn serial_of<L: Link>(
     link: &mut L,
     kind: CheckKind,
     addr: u8,
+    tries: u8,
     room: &mut Room,
 ) -> Option<u32>
-    ensures { Asks L.gives kind addr request.SerialNumber form.Serial serial_told link.old result link.new }
+    requires some { 1 ≤ tries }
+    requires few { tries ≤ TRIES }
+    ensures asks { Asks L.gives tries kind addr request.SerialNumber form.Serial serial_told link.old result link.new }
+    ensures inquires { (first : L) → Inquires L.gives first link.old → Inquires L.gives first link.new }
 {
     question(
         link,
@@ -79,7 +85,7 @@ pub(crate) fn serial_of<L: Link>(
         addr,
         Request::SerialNumber,
         ReplyForm::Serial,
-        TRIES,
+        tries,
         room,
     );
     match wanted_reply(
@@ -94,14 +100,18 @@ pub(crate) fn serial_of<L: Link>(
     }
 }
 
-/// The category that the device at an address tells under a check.
-pub(crate) fn category_of<L: Link>(
+/// The category that the device at an address tells under a check, asked so many times at most.
+pub fn category_of<L: Link>(
     link: &mut L,
     kind: CheckKind,
     addr: u8,
+    tries: u8,
     room: &mut Room,
 ) -> Option<Category>
-    ensures { Asks L.gives kind addr request.Category form.Text category_told link.old result link.new }
+    requires some { 1 ≤ tries }
+    requires few { tries ≤ TRIES }
+    ensures asks { Asks L.gives tries kind addr request.Category form.Text category_told link.old result link.new }
+    ensures inquires { (first : L) → Inquires L.gives first link.old → Inquires L.gives first link.new }
 {
     question(
         link,
@@ -109,7 +119,7 @@ pub(crate) fn category_of<L: Link>(
         addr,
         Request::Category,
         ReplyForm::Text,
-        TRIES,
+        tries,
         room,
     );
     match wanted_reply(
@@ -124,15 +134,20 @@ pub(crate) fn category_of<L: Link>(
     }
 }
 
-/// The identification of the coin of a place that the device at an address tells under a check.
-pub(crate) fn coin_id_of<L: Link>(
+/// The identification of the coin of a place that the device at an address tells under a check, asked so many times at
+/// most.
+pub fn coin_id_of<L: Link>(
     link: &mut L,
     kind: CheckKind,
     addr: u8,
     place: u8,
+    tries: u8,
     room: &mut Room,
 ) -> Option<[u8; 6]>
-    ensures { Asks L.gives kind addr (request.CoinId place) form.CoinId id_told link.old result link.new }
+    requires some { 1 ≤ tries }
+    requires few { tries ≤ TRIES }
+    ensures asks { Asks L.gives tries kind addr (request.CoinId place) form.CoinId id_told link.old result link.new }
+    ensures inquires { (first : L) → Inquires L.gives first link.old → Inquires L.gives first link.new }
 {
     question(
         link,
@@ -140,7 +155,7 @@ pub(crate) fn coin_id_of<L: Link>(
         addr,
         Request::CoinId { place },
         ReplyForm::CoinId,
-        TRIES,
+        tries,
         room,
     );
     match wanted_reply(
@@ -156,7 +171,7 @@ pub(crate) fn coin_id_of<L: Link>(
 }
 
 /// Whether the device at an address acknowledges one of so many polls under a check.
-pub(crate) fn is_there<L: Link>(
+pub fn is_there<L: Link>(
     link: &mut L,
     kind: CheckKind,
     addr: u8,
@@ -165,7 +180,8 @@ pub(crate) fn is_there<L: Link>(
 ) -> bool
     requires some { 1 ≤ tries }
     requires few { tries ≤ TRIES }
-    ensures { Asks L.gives kind addr request.SimplePoll form.Ack is_some link.old result link.new }
+    ensures asks { Asks L.gives tries kind addr request.SimplePoll form.Ack is_some link.old result link.new }
+    ensures inquires { (first : L) → Inquires L.gives first link.old → Inquires L.gives first link.new }
 {
     question(
         link,
@@ -188,9 +204,10 @@ pub(crate) fn is_there<L: Link>(
 
 /// Polls all devices under a check until the echo is good, three times at most. The addresses that answer, bare bytes, are
 /// what follows the echo of what is in the room then.
-pub(crate) fn poll_all<L: Link>(link: &mut L, kind: CheckKind, room: &mut Room)
-    ensures asked { Asked L.gives (ask kind BROADCAST request.AddressPoll) (answers_to_all kind)
+pub fn poll_all<L: Link>(link: &mut L, kind: CheckKind, room: &mut Room)
+    ensures asked { Asked L.gives 3 (ask kind BROADCAST request.AddressPoll) (answers_to_all kind)
         link.old (answers_to_all kind room.new.heard.items) link.new }
+    ensures inquires { (first : L) → Inquires L.gives first link.old → Inquires L.gives first link.new }
     ensures sent { room.new.sent.items ≡ ask kind BROADCAST request.AddressPoll }
 {
     encode_request(kind, BROADCAST, &Request::AddressPoll, &mut room.sent);
@@ -207,6 +224,6 @@ fn is_echoed<L: Link>(link: &mut L, room: &mut Room) -> bool
     ensures sent { room.new.sent.items ≡ room.old.sent.items }
     ensures echoed { result ≡ is_some (after_echo room.new.sent.items room.new.heard.items) }
 {
-    link.exchange(room.sent.as_slice(), &mut room.heard);
+    room.exchange(link);
     bare_after_echo(room.sent.as_slice(), room.heard.as_slice()).is_ok()
 }

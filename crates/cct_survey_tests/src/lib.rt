@@ -1,5 +1,5 @@
-//! Tests of a survey: what is told of devices that aren't as the setup says, the setup that is drafted of a line, and the
-//! values of coins.
+//! Tests of a survey: what is found of devices that aren't as the setup says, the setup that is drafted of a line, and the
+//! values of coins and bills.
 #![tactic(auto)]
 
 #[cfg(test)]
@@ -7,6 +7,8 @@ mod drafting;
 #[cfg(test)]
 mod line;
 #[cfg(test)]
-mod surveying;
+mod roll;
+#[cfg(test)]
+mod telling;
 #[cfg(test)]
 mod worth;

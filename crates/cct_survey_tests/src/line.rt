@@ -35,6 +35,23 @@ impl Link for Lossy<'_> {
     }
 }
 
+/// A line without devices, which gives the echo or doesn't.
+#[derive(Drop)]
+pub(crate) struct Empty {
+    pub(crate) echoes: bool,
+}
+
+impl Link for Empty {
+    ghost gives = { λ _ _ _ _. Unit {0} };
+
+    fn exchange(&mut self, sent: &[u8], heard: &mut ArrayVec<u8, MOST_HEARD>) {
+        heard.clear();
+        if self.echoes {
+            let _ = heard.try_extend_from_slice(sent);
+        }
+    }
+}
+
 /// What a text says of a setup.
 pub(crate) fn read_of(alloc: Global, text: &[u8]) -> Result<Result<Setup, SetupNo>, AllocError>
     ensures { IfOk result (λ read. IfOk read IsSoundSetup) }

@@ -1,6 +1,6 @@
 //! The values of coins by their identifications, worked out by hand.
 
-use cct_survey::value_told;
+use cct_draft::{bill_value, value_told};
 use std::test::Fail;
 
 #[test]
@@ -28,5 +28,18 @@ fn what_tells_no_value_has_none(rt: HostRuntime) -> Result<(), Fail> {
     assert_eq!(rt; value_told(*b"E1100A"), None);
     assert_eq!(rt; value_told(*b"TK001A"), None);
     assert_eq!(rt; value_told(*b"......"), None);
+    Ok(())
+}
+
+#[test]
+fn a_bill_is_worth_its_figures_times_the_scaling(rt: HostRuntime) -> Result<(), Fail> {
+    assert_eq!(rt; bill_value(*b"EU0005A", 100), Some(500));
+    assert_eq!(rt; bill_value(*b"EU0500B", 100), Some(50_000));
+    assert_eq!(rt; bill_value(*b"JP1000A", 1), Some(1_000));
+    assert_eq!(rt; bill_value(*b"EU0005A", 0), None);
+    assert_eq!(rt; bill_value(*b"EU0000A", 100), None);
+    assert_eq!(rt; bill_value(*b"EU9999A", 1_000), None);
+    assert_eq!(rt; bill_value(*b"EU1K00A", 1), None);
+    assert_eq!(rt; bill_value(*b"TK0005A", 100), None);
     Ok(())
 }

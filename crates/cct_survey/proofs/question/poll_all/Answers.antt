@@ -2,7 +2,7 @@ use Rattle.std.proofs.Common.{◌≡◌, ◌∙◌, ◌+◌, ◌≤◌, None, ap
 use Rattle.cct_terms.specs.declared.wire.TheConstants.{BROADCAST}
 use Rattle.cct_terms.specs.declared.request.Request.TheVariants.{AddressPoll}
 use Rattle.cct_terms.specs.Exchange.{after_echo, ask}
-use Rattle.cct_survey.specs.Asking.{Tries, answers_to_all, untried}
+use Rattle.cct_survey.specs.Asking.{Tries, answers_to_all, asks_all, untried}
 use Rattle.cct_survey.proofs.Trying.{none_there, tried_once}
 use Rattle.cct_survey.proofs.question.poll_all.Goals as goal
 
@@ -40,3 +40,9 @@ returns-clause-asked g c =
       tries = subst (λ found. Tries g.L.Link.gives (ask c.args.kind BROADCAST AddressPoll) (answers_to_all c.args.kind) c.args.link.now c.loop.counter found c.loop.link)
           (sym (c.loop.invariant.nothing some)) c.loop.invariant.tries;
     }
+
+pub returns-then-is_echoed-clause-inquires : goal.returns-then-is_echoed-clause-inquires
+returns-then-is_echoed-clause-inquires g c = λ first before. asks_all c.args.kind _ _ _ before (returns-then-is_echoed-clause-asked g c)
+
+pub returns-clause-inquires : goal.returns-clause-inquires
+returns-clause-inquires g c = λ first before. asks_all c.args.kind _ _ _ before (returns-clause-asked g c)

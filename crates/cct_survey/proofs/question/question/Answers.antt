@@ -1,6 +1,6 @@
 use Rattle.std.proofs.Common.{◌≡◌, ◌∙◌, ◌+◌, ◌≤◌, None, ap, sym, subst, is_some, arith}
 use Rattle.cct_terms.specs.Exchange.{ask, got}
-use Rattle.cct_survey.specs.Asking.{Tries, reply_to, untried}
+use Rattle.cct_survey.specs.Asking.{Asked, Tries, asks_one, reply_to, untried}
 use Rattle.cct_survey.proofs.Trying.{none_there, tried_once}
 use Rattle.cct_survey.proofs.question.question.Goals as goal
 
@@ -24,7 +24,7 @@ pub returns-then-is_answered-clause-asked : goal.returns-then-is_answered-clause
 returns-then-is_answered-clause-asked g c = record {
   made = c.loop.counter + 1;
   some = omega arith;
-  few = omega (arith, c.loop-test.true, c.requires.some, c.requires.few);
+  few = omega (arith, c.loop-test.true);
   tries = tried_once _ _ _ c.args.link.now c.loop.link c.is_answered.new.link c.loop.counter c.is_answered.new.room.heard.items c.loop.invariant.sent c.loop.invariant.tries c.is_answered.ensures.gives;
 }
 
@@ -34,7 +34,15 @@ returns-clause-asked g c =
     record {
       made = c.loop.counter;
       some = some;
-      few = omega (arith, c.loop-test.false, c.loop.auto.counter-end, c.requires.some, c.requires.few);
+      few = omega (arith, c.loop-test.false, c.loop.auto.counter-end);
       tries = subst (λ found. Tries g.L.Link.gives (ask c.args.kind c.args.addr c.args.request) (reply_to c.args.kind c.args.addr c.args.request c.args.form) c.args.link.now c.loop.counter found c.loop.link)
           (sym (c.loop.invariant.nothing some)) c.loop.invariant.tries;
     }
+
+pub returns-then-is_answered-clause-inquires : goal.returns-then-is_answered-clause-inquires
+returns-then-is_answered-clause-inquires g c = λ first before.
+    asks_one c.args.tries c.args.kind c.args.addr c.args.request c.args.form _ _ _ before c.requires.known c.requires.few (returns-then-is_answered-clause-asked g c)
+
+pub returns-clause-inquires : goal.returns-clause-inquires
+returns-clause-inquires g c = λ first before.
+    asks_one c.args.tries c.args.kind c.args.addr c.args.request c.args.form _ _ _ before c.requires.known c.requires.few (returns-clause-asked g c)
