@@ -1,10 +1,12 @@
-//! How the program ends, with its exit status (`docs/OPERATING.md`, "Exit statuses").
+//! How the program ends, with its last line and its exit status (`docs/OPERATING.md`, "Exit statuses"; `docs/LIVE.md`).
 
 use cct_edge::Failed;
 use cct_lines::LineKind;
 use cct_script::SetupNo;
 use cct_service::Served;
-use std::fmt;
+use cct_setup_copy::What;
+use std::alloc::AllocError;
+use std::{fmt, io};
 
 /// The exit status of a program that did what it was to do.
 pub(crate) const DONE: u8 = 0;
@@ -28,6 +30,28 @@ const DISK_SIZE: u8 = 7;
 
 const JOURNAL_LOST: u8 = 9;
 
+const IN_USE: u8 = 11;
+
+const PORT_UNFIT: u8 = 12;
+
+const OTHER_SETUP: u8 = 13;
+
+const NOTHING_HEARD: u8 = 14;
+
+/// The command that sets a terminal up for the program.
+#[derive(Drop)]
+pub(crate) struct Setting<'w>(pub(crate) &'w str);
+
+impl fmt::Display for Setting<'_> {
+    fn fmt<W: fmt::Write>(&self, f: &mut fmt::Formatter<W>) -> fmt::Result {
+        let port = self.0;
+        write!(
+            f,
+            "stty -F {port} 9600 cs8 -parenb -cstopb raw -echo clocal -crtscts -hupcl min 0 time 1"
+        )
+    }
+}
+
 /// Why the program stops before it serves.
 #[derive(Clone, Copy, Debug, Drop, PartialEq, Eq)]
 pub(crate) enum Stop {
@@ -37,6 +61,26 @@ pub(crate) enum Stop {
     SetupUnread,
     /// The port couldn't be opened.
     NoPort,
+    /// Another process has the journal.
+    JournalInUse,
+    /// Another process has the port.
+    PortInUse,
+    /// The port is no terminal.
+    NoTerminal,
+    /// The port isn't set up, or what is sent doesn't come back though the line gives the echo.
+    Unset,
+    /// The journal was made for another setup, which first differs at this address.
+    OtherSetup { addr: u8, what: What },
+    /// The setup beside the journal wasn't written whole, by its line of this number.
+    CopyTorn { number: u32, kind: LineKind },
+    /// The setup beside the journal couldn't be opened or read.
+    CopyUnread,
+    /// The setup beside the journal couldn't be written.
+    CopyUnwritten,
+    /// A search of the line heard nothing.
+    NothingHeard,
+    /// There was no memory.
+    OutOfMemory,
     /// Standard output couldn't be written.
     Unwritten,
 }
@@ -46,27 +90,108 @@ impl Stop {
     pub(crate) fn code(&self) -> u8 {
         match self {
             Stop::Setup { .. } => LINE_REFUSED,
-            Stop::SetupUnread => READ_FAULT,
-            Stop::NoPort => READ_FAULT,
+            Stop::SetupUnread | Stop::NoPort => READ_FAULT,
+            Stop::JournalInUse | Stop::PortInUse => IN_USE,
+            Stop::NoTerminal | Stop::Unset => PORT_UNFIT,
+            Stop::OtherSetup { .. } | Stop::CopyTorn { .. } => OTHER_SETUP,
+            Stop::CopyUnread | Stop::CopyUnwritten => DISK_FAULT,
+            Stop::NothingHeard => NOTHING_HEARD,
+            Stop::OutOfMemory => OUT_OF_MEMORY,
             Stop::Unwritten => WRITE_FAULT,
+        }
+    }
+
+    /// Writes the last line on standard output, where there is one.
+    pub(crate) fn print(&self, rt: &impl Print) -> io::Result<()> {
+        match self {
+            Stop::JournalInUse => rt.println("inuse journal"),
+            Stop::PortInUse => rt.println("inuse port"),
+            Stop::NoTerminal => rt.println("noterminal"),
+            Stop::Unset => rt.println("unset"),
+            Stop::OtherSetup { addr, what } => println!(rt; "othersetup {addr} {what}"),
+            Stop::CopyTorn { number, .. } => println!(rt; "setupbad {number}"),
+            Stop::CopyUnread | Stop::CopyUnwritten => rt.println("diskfault"),
+            _ => Ok(()),
         }
     }
 }
 
-impl fmt::Display for Stop {
+/// What is said on standard error of why the program stops: over this port and this journal.
+#[derive(Drop)]
+pub(crate) struct Cause<'w> {
+    pub(crate) stop: Stop,
+    pub(crate) port: &'w str,
+    pub(crate) journal: &'w str,
+}
+
+impl fmt::Display for Cause<'_> {
     fn fmt<W: fmt::Write>(&self, f: &mut fmt::Formatter<W>) -> fmt::Result {
-        match self {
+        let port = self.port;
+        let journal = self.journal;
+        match self.stop {
             Stop::Setup { number, kind } => write!(f, "setup line {number}: {kind}"),
             Stop::SetupUnread => f.write_str("the setup can't be opened or read"),
-            Stop::NoPort => f.write_str("the port can't be opened"),
+            Stop::NoPort => write!(f, "the port {port} can't be opened"),
+            Stop::JournalInUse => write!(f, "another process has the journal {journal}"),
+            Stop::PortInUse => write!(f, "another process has the port {port}"),
+            Stop::NoTerminal => write!(f, "{port} is no terminal, and nothing was written into it"),
+            Stop::Unset => {
+                let setting = Setting(port);
+                write!(
+                    f,
+                    "{port} isn't set up, or what is sent doesn't come back (--echo no, if the line gives no echo): {setting}"
+                )
+            }
+            Stop::OtherSetup { addr, what } => write_other(addr, what, journal, f),
+            Stop::CopyTorn { number, kind } => write!(
+                f,
+                "{journal}.setup, line {number}: {kind}; cct_live adopt SETUP --journal {journal} writes it anew (docs/OPERATING.md, \"Another setup\")"
+            ),
+            Stop::CopyUnread => write!(f, "{journal}.setup can't be opened or read"),
+            Stop::CopyUnwritten => write!(
+                f,
+                "{journal}.setup can't be made, written or synced (docs/OPERATING.md, \"A full disk\")"
+            ),
+            Stop::NothingHeard => write!(
+                f,
+                "nothing is heard on {port}: no power, no ground, another speed, or --echo is wrong"
+            ),
+            Stop::OutOfMemory => f.write_str("there was no memory"),
             Stop::Unwritten => f.write_str("standard output couldn't be written"),
         }
     }
 }
 
+/// Writes in what a setup differs from the one that the journal was made for.
+fn write_other<W: fmt::Write>(
+    addr: u8,
+    what: What,
+    journal: &str,
+    f: &mut fmt::Formatter<W>,
+) -> fmt::Result {
+    match what {
+        What::Missing => write!(f, "the device at {addr} is missing")?,
+        What::New => write!(f, "the device at {addr} is new")?,
+        What::Kind => write!(f, "the device at {addr} is of another kind")?,
+        What::Check => write!(f, "the device at {addr} has another check")?,
+        What::Serial => write!(f, "the device at {addr} has another serial number")?,
+        What::Value => write!(f, "the device at {addr} has another value")?,
+    }
+    write!(
+        f,
+        ", by {journal}.setup, for which {journal} was made (docs/OPERATING.md, \"Another setup\")"
+    )
+}
+
 impl From<Failed> for Stop {
     fn from(_: Failed) -> Stop {
         Stop::Unwritten
+    }
+}
+
+impl From<AllocError> for Stop {
+    fn from(_: AllocError) -> Stop {
+        Stop::OutOfMemory
     }
 }
 

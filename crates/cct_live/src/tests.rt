@@ -1,6 +1,6 @@
 //! What the words of the command line ask for.
 
-use crate::words::{Echo, LineWords, Words, read_words};
+use crate::words::{Echo, HostWords, LineWords, Words, read_words};
 use std::alloc::{AllocError, Global};
 use std::test::Fail;
 
@@ -13,23 +13,34 @@ fn words(alloc: Global, texts: &[&str]) -> Result<Vec<String>, AllocError> {
     Ok(words)
 }
 
-#[test]
-fn a_host_has_a_setup_and_a_port(rt: HostRuntime) -> Result<(), Fail> {
-    let said = words(rt.alloc(), ["machine", "tty"].as_slice())?;
-    let line = LineWords {
+/// The line of the port `tty` where no option is given.
+fn plain_line() -> LineWords<'static> {
+    LineWords {
         port: "tty",
         echo: Echo::Yes,
         longest: 12,
-        gap: None,
-    };
-    let wanted = Words::Host {
+        gap: 0,
+    }
+}
+
+/// A host of the setup `machine` on it where no option is given.
+fn plain_host() -> HostWords<'static> {
+    HostWords {
         setup: "machine",
         journal: "cctalk.jnl",
-        line,
-    };
+        line: plain_line(),
+        is_quiet: false,
+        trusts_coins: false,
+        stops: false,
+    }
+}
+
+#[test]
+fn a_host_has_a_setup_and_a_port(rt: HostRuntime) -> Result<(), Fail> {
+    let said = words(rt.alloc(), ["machine", "tty"].as_slice())?;
     assert_eq!(rt;
         read_words(rt.alloc(), said.as_slice()).ok().flatten(),
-        Some(wanted)
+        Some(Words::Host(plain_host()))
     );
     Ok(())
 }
@@ -45,7 +56,10 @@ fn options_are_read(rt: HostRuntime) -> Result<(), Fail> {
         "--answer",
         "1000",
         "--gap",
-        "0",
+        "1",
+        "--quiet",
+        "--trust-setup",
+        "--stop-at-end",
         "tty",
     ];
     let said = words(rt.alloc(), texts.as_slice())?;
@@ -53,16 +67,19 @@ fn options_are_read(rt: HostRuntime) -> Result<(), Fail> {
         port: "tty",
         echo: Echo::Find,
         longest: 1000,
-        gap: Some(0),
+        gap: 1,
     };
-    let wanted = Words::Host {
+    let wanted = HostWords {
         setup: "machine",
         journal: "day.jnl",
         line,
+        is_quiet: true,
+        trusts_coins: true,
+        stops: true,
     };
     assert_eq!(rt;
         read_words(rt.alloc(), said.as_slice()).ok().flatten(),
-        Some(wanted)
+        Some(Words::Host(wanted))
     );
     Ok(())
 }
@@ -71,14 +88,29 @@ fn options_are_read(rt: HostRuntime) -> Result<(), Fail> {
 fn a_setup_is_asked_for(rt: HostRuntime) -> Result<(), Fail> {
     let said = words(rt.alloc(), ["setup", "tty", "--echo", "no"].as_slice())?;
     let line = LineWords {
-        port: "tty",
         echo: Echo::No,
-        longest: 12,
-        gap: None,
+        ..plain_line()
     };
     assert_eq!(rt;
         read_words(rt.alloc(), said.as_slice()).ok().flatten(),
         Some(Words::Draft { line })
+    );
+    Ok(())
+}
+
+#[test]
+fn a_setup_is_taken_over(rt: HostRuntime) -> Result<(), Fail> {
+    let said = words(
+        rt.alloc(),
+        ["adopt", "machine", "--journal", "day.jnl"].as_slice(),
+    )?;
+    let wanted = Words::Adopt {
+        setup: "machine",
+        journal: "day.jnl",
+    };
+    assert_eq!(rt;
+        read_words(rt.alloc(), said.as_slice()).ok().flatten(),
+        Some(wanted)
     );
     Ok(())
 }
@@ -91,23 +123,17 @@ fn are_refused(alloc: Global, texts: &[&str]) -> Result<bool, AllocError> {
 
 #[test]
 fn wrong_words_are_refused(rt: HostRuntime) -> Result<(), Fail> {
-    assert!(rt; are_refused(rt.alloc(), [].as_slice())?);
-    assert!(rt; are_refused(rt.alloc(), ["machine"].as_slice())?);
-    assert!(rt; are_refused(rt.alloc(), ["machine", "tty", "more"].as_slice())?);
-    assert!(rt;
-        are_refused(
-            rt.alloc(),
-            ["machine", "tty", "--answer", "1001"].as_slice()
-        )?
-    );
-    assert!(rt; are_refused(rt.alloc(), ["machine", "tty", "--gap", "-1"].as_slice())?);
-    assert!(rt; are_refused(rt.alloc(), ["machine", "tty", "--echo", "maybe"].as_slice())?);
-    assert!(rt; are_refused(rt.alloc(), ["setup"].as_slice())?);
-    assert!(rt;
-        are_refused(
-            rt.alloc(),
-            ["setup", "tty", "--journal", "day.jnl"].as_slice()
-        )?
-    );
+    let alloc = rt.alloc();
+    assert!(rt; are_refused(alloc, [].as_slice())?);
+    assert!(rt; are_refused(alloc, ["machine"].as_slice())?);
+    assert!(rt; are_refused(alloc, ["machine", "tty", "more"].as_slice())?);
+    assert!(rt; are_refused(alloc, ["machine", "tty", "--answer", "1001"].as_slice())?);
+    assert!(rt; are_refused(alloc, ["machine", "tty", "--gap", "-1"].as_slice())?);
+    assert!(rt; are_refused(alloc, ["machine", "tty", "--echo", "maybe"].as_slice())?);
+    assert!(rt; are_refused(alloc, ["setup"].as_slice())?);
+    assert!(rt; are_refused(alloc, ["setup", "tty", "--journal", "day.jnl"].as_slice())?);
+    assert!(rt; are_refused(alloc, ["adopt"].as_slice())?);
+    assert!(rt; are_refused(alloc, ["adopt", "machine", "tty"].as_slice())?);
+    assert!(rt; are_refused(alloc, ["adopt", "machine", "--quiet"].as_slice())?);
     Ok(())
 }

@@ -9,30 +9,48 @@ static ECHOES: [&str; 3] = ["yes", "no", "find"];
 /// What the program does, in one sentence.
 const ABOUT: &str = "The host of the coin machine on a serial line (docs/LIVE.md)";
 
+/// What `--version` says: the version of the program, and that of the lines that it reads and writes (`docs/LIVE.md`).
+const VERSION: &str = "1.0.0 protocol 1";
+
 /// What is said below the list of the words.
 const MORE: &str = "\
-A file that is named setup is given as ./setup.
-Standard input: the commands of a script, next A, do A, poll, status, balance, end.
+A file that is named setup or adopt is given as ./setup or ./adopt.
+Standard input: the commands of a script, next A, do A, poll, status, balance, order ID, end.
 Standard output: the lines of docs/LIVE.md and docs/TRANSCRIPT.md.
 Exit status 0: at end; 1: a line of the setup is refused; 2: wrong words; 3: a file or the port can't be opened or read;
-4: writing failed; 5, 7, 9: the journal (docs/OPERATING.md); 8: no memory";
+4: writing failed; 5, 7, 9: the journal (docs/OPERATING.md); 8: no memory; 11: the journal or the port is in use;
+12: the port is no terminal, or isn't set up; 13: the journal was made for another setup; 14: setup heard nothing";
 
-/// What is said of the other form.
+/// What is said of the form that drafts a setup.
 const DRAFT: &str = "Write a setup of the devices that answer on a line to standard output";
+
+/// What is said of the form that takes a new setup over.
+const ADOPT: &str =
+    "Take a changed setup over for the journal, on purpose; the balance is told before and after";
 
 /// What the program is to do.
 #[derive(Clone, Copy, Debug, PartialEq, Eq)]
 pub(crate) enum Words<'w> {
     /// To be the host of the machine that a setup file tells, over a journal.
-    Host {
-        setup: &'w str,
-        journal: &'w str,
-        line: LineWords<'w>,
-    },
+    Host(HostWords<'w>),
     /// To write a setup of what is on a line.
-    Draft {
-        line: LineWords<'w>,
-    },
+    Draft { line: LineWords<'w> },
+    /// To take a setup over for a journal.
+    Adopt { setup: &'w str, journal: &'w str },
+}
+
+/// What a host is over, and how it goes on.
+#[derive(Clone, Copy, Debug, PartialEq, Eq)]
+pub(crate) struct HostWords<'w> {
+    pub(crate) setup: &'w str,
+    pub(crate) journal: &'w str,
+    pub(crate) line: LineWords<'w>,
+    /// Whether the lines `wire` are left out.
+    pub(crate) is_quiet: bool,
+    /// Whether coins aren't asked for what they are.
+    pub(crate) trusts_coins: bool,
+    /// Whether the acceptors that run are stopped at the end.
+    pub(crate) stops: bool,
 }
 
 /// The line, and how it is used.
@@ -43,8 +61,8 @@ pub(crate) struct LineWords<'w> {
     pub(crate) echo: Echo,
     /// How many silent reads are the longest time in which a device answers.
     pub(crate) longest: u16,
-    /// How many silent reads come before a send after a whole reply, if it is told.
-    pub(crate) gap: Option<u16>,
+    /// How many silent reads come before a send after a whole reply.
+    pub(crate) gap: u16,
 }
 
 /// Whether the line gives back what is sent.
@@ -58,22 +76,37 @@ pub(crate) enum Echo {
     Find,
 }
 
-/// Reads the words of the command line, without the program's name: `SETUP PORT [options]`, or `setup PORT [options]`. The
-/// parser's error says why there are none, or has the help that was asked for.
+/// Reads the words of the command line, without the program's name: `SETUP PORT [options]`, `setup PORT [options]` or
+/// `adopt SETUP [options]`. The parser's error says why there are none, or has the help or the version that was asked for.
 pub(crate) fn read_words<'w>(
     alloc: Global,
     words: &'w [String],
 ) -> Result<Option<Words<'w>>, Error> {
     let matches = words_command(alloc)?.try_get_matches_from(words)?;
     Ok(match matches.subcommand() {
+        Some(("adopt", found)) => adopt_words(found),
         Some((_, found)) => draft_words(found),
         None => host_words(&matches),
     })
 }
 
-/// The command: a setup file and a port, or the subcommand `setup`.
+/// The command: a setup file and a port, or a subcommand.
 fn words_command<'w>(alloc: Global) -> Result<Command<'w>, AllocError> {
+    let host = host_command(alloc)?;
+    let draft = Command::new(alloc, "setup")
+        .about(DRAFT)
+        .arg(port_word(alloc))?;
+    let adopt = Command::new(alloc, "adopt")
+        .about(ADOPT)
+        .arg(setup_word(alloc))?
+        .arg(journal_word(alloc))?;
+    host.subcommand(with_line(alloc, draft)?)?.subcommand(adopt)
+}
+
+/// The command of a host, without the subcommands.
+fn host_command<'w>(alloc: Global) -> Result<Command<'w>, AllocError> {
     let host = Command::new(alloc, "cct_live")
+        .version(VERSION)
         .no_binary_name(true)
         .about(ABOUT)
         .after_help(MORE)
@@ -83,10 +116,18 @@ fn words_command<'w>(alloc: Global) -> Result<Command<'w>, AllocError> {
         .arg(setup_word(alloc))?
         .arg(port_word(alloc))?
         .arg(journal_word(alloc))?;
-    let draft = Command::new(alloc, "setup")
-        .about(DRAFT)
-        .arg(port_word(alloc))?;
-    with_line(alloc, host)?.subcommand(with_line(alloc, draft)?)
+    with_line(alloc, host)?
+        .arg(flag_word(alloc, "quiet", "Leave out the lines wire"))?
+        .arg(flag_word(
+            alloc,
+            "trust-setup",
+            "Don't ask the acceptors which coins they know",
+        ))?
+        .arg(flag_word(
+            alloc,
+            "stop-at-end",
+            "Stop each acceptor that runs at end, and at the end of the input",
+        ))
 }
 
 /// The command with the options of a line.
@@ -113,7 +154,7 @@ fn port_word<'w>(alloc: Global) -> Arg<'w> {
         .required(true)
         .action(ArgAction::Set)
         .help(
-            "Terminal where a read gives 0 bytes at a silence: stty -F PORT raw -echo min 0 time 1",
+            "Terminal of the line: stty -F PORT 9600 cs8 -parenb -cstopb raw -echo clocal -crtscts -hupcl min 0 time 1",
         )
 }
 
@@ -123,7 +164,9 @@ fn journal_word<'w>(alloc: Global) -> Arg<'w> {
         .long("journal")
         .value_name("FILE")
         .default_value("cctalk.jnl")
-        .help("The journal: it is gone on with, or made where it is missing or blank")
+        .help(
+            "The journal: it is gone on with, or made where it is missing or blank; FILE.setup has its setup",
+        )
 }
 
 /// `--echo yes|no|find`
@@ -152,18 +195,30 @@ fn gap_word<'w>(alloc: Global) -> Arg<'w> {
         .long("gap")
         .value_name("READS")
         .value_parser(value_parser!(u16).range(0..=1000))
+        .default_value("0")
         .help(
-            "Silent reads before a message, after a whole reply: 0 to 1000; 0 if the line gives the echo, else 1",
+            "Silent reads before a message, after a whole reply: 0 to 1000; 1 where devices send a reply twice",
         )
+}
+
+/// A word that is there or isn't.
+fn flag_word<'w>(alloc: Global, name: &'w str, help: &'w str) -> Arg<'w> {
+    Arg::new(alloc, name)
+        .long(name)
+        .action(ArgAction::SetTrue)
+        .help(help)
 }
 
 /// What the words of the first form say, if each is there.
 fn host_words<'w>(found: &ArgMatches<'w>) -> Option<Words<'w>> {
-    Some(Words::Host {
+    Some(Words::Host(HostWords {
         setup: found.get_str("SETUP")?,
         journal: found.get_str("journal")?,
         line: line_words(found)?,
-    })
+        is_quiet: found.get_flag("quiet"),
+        trusts_coins: found.get_flag("trust-setup"),
+        stops: found.get_flag("stop-at-end"),
+    }))
 }
 
 /// What the words after `setup` say, if each is there.
@@ -173,13 +228,21 @@ fn draft_words<'w>(found: &ArgMatches<'w>) -> Option<Words<'w>> {
     })
 }
 
+/// What the words after `adopt` say, if each is there.
+fn adopt_words<'w>(found: &ArgMatches<'w>) -> Option<Words<'w>> {
+    Some(Words::Adopt {
+        setup: found.get_str("SETUP")?,
+        journal: found.get_str("journal")?,
+    })
+}
+
 /// What the words say of the line, if each is there.
 fn line_words<'w>(found: &ArgMatches<'w>) -> Option<LineWords<'w>> {
     Some(LineWords {
         port: found.get_str("PORT")?,
         echo: echo_told(found.get_str("echo")?)?,
         longest: found.get_one::<u16>("answer")?,
-        gap: found.get_one::<u16>("gap"),
+        gap: found.get_one::<u16>("gap")?,
     })
 }
 

@@ -102,7 +102,7 @@ close_size (Err failed) how result len is e = inr is
 pub not_true : IsTrue false → ⊥
 not_true e = cc e
 
-same_bytes : (a b : List ℕ) → Some a ≡ Some b → a ≡ b
+pub same_bytes : (a b : List ℕ) → Some a ≡ Some b → a ≡ b
 same_bytes a b e = cc e
 
 no_size : (n : ℕ) → n ≡ MADE_LEN → n < least_size → ⊥
@@ -235,7 +235,7 @@ module _ {D : Type 0} {g : Ghosts D} where
       (journals.used_of journal ≡ 0 → ⊥) →
       OnlyReads g.size g.honest g.seen g.may_leave g.moment g.left_since g.cuts (journals.disk_of journal) back →
       Refuses g.size g.honest g.seen g.may_leave g.moment g.left_since g.cuts g.faults given back setup (unstarted_by why)
-  refuses_start given back journal setup false why sized opened serves stops cause some reads = absurd (some opened)
+  refuses_start given back journal setup false why sized opened serves stops cause some reads = absurd (some opened.0)
   refuses_start given back journal setup true reading.Disk sized opened serves stops cause some reads =
       refuses_fault g.size g.honest g.seen g.may_leave g.moment g.left_since g.cuts g.faults given back setup sized
       (disk_then g.size g.honest g.seen g.cuts g.faults given (journals.disk_of journal) back ⊥ ⊤ serves

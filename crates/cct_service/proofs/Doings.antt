@@ -1,101 +1,24 @@
 -- What is done for a line, made of its parts.
-use Rattle.std.proofs.Common.{◌≡◌, ◌≤◌, ◌+◌, ℕ, suc, List, [], ◌∷◌, ◌++◌, Bool, true, false, length, refl, sym, ap, subst, arith}
-use Rattle.std.specs.List.{All}
-use Rattle.std.proofs.lemmas.List.{append-nil, length-append}
-use Rattle.std.proofs.lemmas.List.Elements.{All-append, All-cons, All-nil, All-weaker}
+use Rattle.std.proofs.Common.{◌≡◌, ◌≤◌, ◌+◌, ◌∙◌, ℕ, zero, suc, List, [], ◌∷◌, ◌++◌, length, Bool, false, refl, sym, ap, subst, inl, inr, append_assoc, arith}
+use Rattle.std.proofs.lemmas.List.{append-nil}
+use Rattle.std.proofs.lemmas.List.Elements.{All-nil}
+use Rattle.cct_model.specs.lines.command.Command.{Command}
 use Rattle.cct_model.specs.lines.command.Command.TheVariants as command
-use Rattle.cct_model.specs.lines.device_set.DeviceSet.{DeviceSet}
-use Rattle.cct_model.specs.lines.entry.Entry.{Entry}
 use Rattle.cct_lives.specs.LiveStep.{LiveStep}
 use Rattle.cct_lives.specs.LiveStep as live
-use Rattle.cct_service.specs.Doing.{AreAttempts, DoesLines, DoesLine, FrontOf, IsAttempt, IsOfPoll, IsPoll, ServesLines, TellsOne, TellsOpening}
+use Rattle.cct_survey.specs.declared.finding.Finding.{Finding}
+use Rattle.cct_service.specs.declared.stopping.AtEnd.{AtEnd}
+use Rattle.cct_service.specs.declared.stopping.AtEnd.TheVariants as at_end
+use Rattle.cct_service.specs.declared.notice.Notice.{Notice}
+use Rattle.cct_service.specs.Held.{IsAfter}
+use Rattle.cct_service.specs.Doing.{AreAttempts, DoesLine, DoesLines, FrontOf, IsAttempt, IsAttemptSent, IsStepOf, Many, PlaysLines, ServesLines, StopsBy, Tells, TellsOne, Times}
 use Rattle.cct_service.specs.Said.{Said}
-use Rattle.cct_service.specs.Told.{IsOfAttempt, Told, as_told, entry, fault_told}
+use Rattle.cct_service.specs.Told.{Told, attempt_told, findings_in, notice}
 
--- the entries of an attempt, and perhaps that the port failed
-entries_plain : (entries : List Entry) → All IsOfAttempt (as_told entries)
-entries_plain [] = All-nil IsOfAttempt
-entries_plain (e ∷ entries) = All-cons IsOfAttempt (entry e) (as_told entries) tt (entries_plain entries)
-
-fault_plain : (told : Bool) → All IsOfAttempt (fault_told told)
-fault_plain true = All-cons IsOfAttempt _ [] tt (All-nil IsOfAttempt)
-fault_plain false = All-nil IsOfAttempt
-
-pub attempt_plain : (entries : List Entry) (told : Bool) → All IsOfAttempt (as_told entries ++ fault_told told)
-attempt_plain entries told =
-    All-append IsOfAttempt (as_told entries) (fault_told told) (entries_plain entries) (fault_plain told)
-
--- an attempt that isn't made breaks one off
-pub attempt_broken : (addr : ℕ) → FrontOf (IsAttempt addr) [] []
-attempt_broken addr = record { undone = live.next addr ∷ []; untold = []; whole = (refl, All-nil IsOfAttempt) }
-
-pub no_attempts : (addr : ℕ) → AreAttempts addr 0 [] []
-no_attempts addr = record { all = All-nil (λ s. s ≡ live.next addr); few = omega arith; plain = All-nil IsOfAttempt }
-
--- attempts, and one more
-pub attempts_more : (addr made : ℕ) (s1 s2 : List LiveStep) (t1 t2 : List Told) → AreAttempts addr made s1 t1 →
-    IsAttempt addr s2 t2 → AreAttempts addr (made + 1) (s1 ++ s2) (t1 ++ t2)
-attempts_more addr made s1 s2 t1 t2 h k =
-    let is : LiveStep → Type 0 = λ s. s ≡ live.next addr in
-    record {
-      all = All-append is s1 s2 h.all
-          (subst (All is) (sym k.0) (All-cons is (live.next addr) [] refl (All-nil is)));
-      few = one_more (length s1) (length s2) (length (s1 ++ s2)) made (length-append s1 s2) (ap length k.0) h.few;
-      plain = All-append IsOfAttempt t1 t2 h.plain k.1;
-    }
-  where
-    one_more : (a b c made : ℕ) → c ≡ a + b → b ≡ 1 → a ≤ made → c ≤ made + 1
-    one_more a b c made sum one few = omega (arith, sum, one, few)
-
--- fewer attempts are made
-pub attempts_less : (addr less most : ℕ) → less ≤ most → (steps : List LiveStep) (told : List Told) →
-    AreAttempts addr less steps told → AreAttempts addr most steps told
-attempts_less addr less most le steps told h =
-    record { all = h.all; few = at_most (length steps) h.few; plain = h.plain }
-  where
-    at_most : (n : ℕ) → n ≤ less → n ≤ most
-    at_most n few = omega (arith, few, le)
-
-next_polled : (addr : ℕ) (s : LiveStep) → s ≡ live.next addr → IsOfPoll s
-next_polled addr s is = subst IsOfPoll (sym is) tt
-
--- attempts are of a poll
-pub attempts_polled : (addr most : ℕ) (steps : List LiveStep) (told : List Told) → AreAttempts addr most steps told →
-    IsPoll steps told
-attempts_polled addr most steps told h = record {
-  all = All-weaker (λ s. s ≡ live.next addr) IsOfPoll (next_polled addr) steps h.all;
-  plain = h.plain;
-}
-
--- so is a round that is begun
-pub round_polled : (addr : ℕ) (steps : List LiveStep) (told : List Told) →
-    TellsOne (live.command (command.Round addr)) steps told → IsPoll steps told
-round_polled addr steps told h =
-    let round = live.command (command.Round addr) in
-    record {
-      all = subst (All IsOfPoll) (sym h.0) (All-cons IsOfPoll round [] tt (All-nil IsOfPoll));
-      plain = subst (All IsOfAttempt) (sym h.1.1) (All-cons IsOfAttempt (entry h.1.0) [] tt (All-nil IsOfAttempt));
-    }
-
-pub poll_none : IsPoll [] []
-poll_none = record { all = All-nil IsOfPoll; plain = All-nil IsOfAttempt }
-
-pub poll_then : (s1 s2 : List LiveStep) (t1 t2 : List Told) → IsPoll s1 t1 → IsPoll s2 t2 → IsPoll (s1 ++ s2) (t1 ++ t2)
-poll_then s1 s2 t1 t2 h k = record {
-  all = All-append IsOfPoll s1 s2 h.all k.all;
-  plain = All-append IsOfAttempt t1 t2 h.plain k.plain;
-}
-
--- the same, where a round is begun first
-pub round_then : (addr : ℕ) (s1 s2 : List LiveStep) (t1 t2 : List Told) →
-    TellsOne (live.command (command.Round addr)) s1 t1 → IsPoll s2 t2 → IsPoll (s1 ++ s2) (t1 ++ t2)
-round_then addr s1 s2 t1 t2 h k = poll_then s1 s2 t1 t2 (round_polled addr s1 t1 h) k
-
--- lines, and the next one
-pub line_then : (withheld : DeviceSet) (lines : List Said) (number : ℕ) (said : Said) → suc (length lines) ≡ number →
-    (s1 s2 : List LiveStep) (t1 t2 : List Told) → DoesLines withheld lines s1 t1 → DoesLine withheld number said s2 t2 →
-    DoesLines withheld (said ∷ lines) (s1 ++ s2) (t1 ++ t2)
-line_then withheld lines number said is s1 s2 t1 t2 h k = record {
+-- something once more
+pub times_more : (P : List LiveStep → List Told → Type 0) (n : ℕ) (s1 s2 : List LiveStep) (t1 t2 : List Told) →
+    Times n P s1 t1 → P s2 t2 → Times (suc n) P (s1 ++ s2) (t1 ++ t2)
+times_more P n s1 s2 t1 t2 h k = record {
   before = s1;
   after = s2;
   said = t1;
@@ -103,14 +26,134 @@ line_then withheld lines number said is s1 s2 t1 t2 h k = record {
   steps_are = refl;
   told_is = refl;
   first = h;
-  next = subst (λ n. DoesLine withheld n said s2 t2) (sym is) k;
+  next = k;
+}
+
+pub many_none : (P : List LiveStep → List Told → Type 0) → Many P [] []
+many_none P = (0, (refl, refl))
+
+pub many_one : (P : List LiveStep → List Told → Type 0) (steps : List LiveStep) (told : List Told) → P steps told →
+    Many P steps told
+many_one P steps told h = (1, times_more P 0 [] steps [] told (refl, refl) h)
+
+nothing_after : (P : List LiveStep → List Told → Type 0) (s1 s2 : List LiveStep) (t1 t2 : List Told) → s2 ≡ [] → t2 ≡ [] →
+    P s1 t1 → P (s1 ++ s2) (t1 ++ t2)
+nothing_after P s1 s2 t1 t2 s t h =
+    subst (λ steps. P steps (t1 ++ t2)) (sym (ap (λ more. s1 ++ more) s ∙ append-nil s1))
+    (subst (P s1) (sym (ap (λ more. t1 ++ more) t ∙ append-nil t1)) h)
+
+many_times : (P : List LiveStep → List Told → Type 0) (m : ℕ) (s1 s2 : List LiveStep) (t1 t2 : List Told) →
+    Many P s1 t1 → Times m P s2 t2 → Many P (s1 ++ s2) (t1 ++ t2)
+many_times P zero s1 s2 t1 t2 h k = nothing_after (Many P) s1 s2 t1 t2 k.0 k.1 h
+many_times P (suc m) s1 s2 t1 t2 h k =
+    let r = many_times P m s1 k.before t1 k.said h k.first in (
+      suc r.0,
+      record {
+        before = s1 ++ k.before;
+        after = k.after;
+        said = t1 ++ k.said;
+        added = k.added;
+        steps_are = ap (λ s. s1 ++ s) k.steps_are ∙ sym (append_assoc s1 k.before k.after);
+        told_is = ap (λ t. t1 ++ t) k.told_is ∙ sym (append_assoc t1 k.said k.added);
+        first = r.1;
+        next = k.next;
+      },
+    )
+
+-- many, and many more
+pub many_then : (P : List LiveStep → List Told → Type 0) (s1 s2 : List LiveStep) (t1 t2 : List Told) → Many P s1 t1 →
+    Many P s2 t2 → Many P (s1 ++ s2) (t1 ++ t2)
+many_then P s1 s2 t1 t2 h k = many_times P k.0 s1 s2 t1 t2 h k.1
+
+-- what is one thing is also another
+times_weaker : (P Q : List LiveStep → List Told → Type 0) →
+    ((steps : List LiveStep) (told : List Told) → P steps told → Q steps told) → (n : ℕ) (steps : List LiveStep)
+    (told : List Told) → Times n P steps told → Times n Q steps told
+times_weaker P Q to zero steps told h = h
+times_weaker P Q to (suc n) steps told h = record {
+  before = h.before;
+  after = h.after;
+  said = h.said;
+  added = h.added;
+  steps_are = h.steps_are;
+  told_is = h.told_is;
+  first = times_weaker P Q to n h.before h.said h.first;
+  next = to h.after h.added h.next;
+}
+
+pub many_weaker : (P Q : List LiveStep → List Told → Type 0) →
+    ((steps : List LiveStep) (told : List Told) → P steps told → Q steps told) → (steps : List LiveStep) (told : List Told) →
+    Many P steps told → Many Q steps told
+many_weaker P Q to steps told h = (h.0, times_weaker P Q to h.0 steps told h.1)
+
+-- an attempt that isn't made breaks one off
+pub attempt_broken : (sent : Bool) (addr : ℕ) → FrontOf (IsAttemptSent sent addr) [] []
+attempt_broken sent addr = record {
+  undone = live.next addr ∷ [];
+  untold = attempt_told sent [] ++ [];
+  whole = (refl, ([], [], (false, All-nil (IsAfter false [])), refl));
+}
+
+-- one that is made
+pub attempt_made : (sent : Bool) (addr : ℕ) (steps : List LiveStep) (told : List Told) → IsAttemptSent sent addr steps told →
+    IsAttempt addr steps told
+attempt_made sent addr steps told h = (sent, h)
+
+-- no attempt yet
+pub no_attempts : (addr : ℕ) → AreAttempts addr 0 [] []
+no_attempts addr = (0, omega arith, (refl, refl))
+
+-- attempts, and one more
+pub attempts_more : (addr made : ℕ) (sent : Bool) (s1 s2 : List LiveStep) (t1 t2 : List Told) → AreAttempts addr made s1 t1 →
+    IsAttemptSent sent addr s2 t2 → AreAttempts addr (made + 1) (s1 ++ s2) (t1 ++ t2)
+attempts_more addr made sent s1 s2 t1 t2 h k =
+    (suc h.0, one_more h.0 h.1, times_more (IsAttempt addr) h.0 s1 s2 t1 t2 h.2 (sent, k))
+  where
+    one_more : (n : ℕ) → n ≤ made → suc n ≤ made + 1
+    one_more n few = omega (arith, few)
+
+-- fewer attempts are made
+pub attempts_less : (addr less most : ℕ) → less ≤ most → (steps : List LiveStep) (told : List Told) →
+    AreAttempts addr less steps told → AreAttempts addr most steps told
+attempts_less addr less most le steps told h = (h.0, at_most h.0 h.1, h.2)
+  where
+    at_most : (n : ℕ) → n ≤ less → n ≤ most
+    at_most n few = omega (arith, few, le)
+
+-- an attempt, or attempts, or a command: steps of a kind
+pub attempt_step : (begun : ℕ → Command) (sent : Bool) (addr : ℕ) (steps : List LiveStep) (told : List Told) →
+    IsAttemptSent sent addr steps told → Many (IsStepOf begun) steps told
+attempt_step begun sent addr steps told h = many_one (IsStepOf begun) steps told (inr (addr, (sent, h)))
+
+pub attempts_steps : (begun : ℕ → Command) (addr most : ℕ) (steps : List LiveStep) (told : List Told) →
+    AreAttempts addr most steps told → Many (IsStepOf begun) steps told
+attempts_steps begun addr most steps told h =
+    (h.0, times_weaker (IsAttempt addr) (IsStepOf begun) (λ s t k. inr (addr, k)) h.0 steps told h.2)
+
+pub command_step : (begun : ℕ → Command) (addr : ℕ) (steps : List LiveStep) (told : List Told) →
+    TellsOne (live.command (begun addr)) steps told → Many (IsStepOf begun) steps told
+command_step begun addr steps told h = many_one (IsStepOf begun) steps told (inl (addr, h))
+
+-- lines, and the next one, by what was found up to then
+pub line_then : (findings now : List Finding) (lines : List Said) (number : ℕ) (said : Said) → suc (length lines) ≡ number →
+    (s1 s2 : List LiveStep) (t1 t2 : List Told) → DoesLines findings lines s1 t1 → now ≡ findings ++ findings_in t1 →
+    DoesLine now number said s2 t2 → DoesLines findings (said ∷ lines) (s1 ++ s2) (t1 ++ t2)
+line_then findings now lines number said is s1 s2 t1 t2 h found k = record {
+  before = s1;
+  after = s2;
+  said = t1;
+  added = t2;
+  steps_are = refl;
+  told_is = refl;
+  first = h;
+  next = subst (λ f. DoesLine f (suc (length lines)) said s2 t2) found (subst (λ n. DoesLine now n said s2 t2) (sym is) k);
 }
 
 -- what is told first, and then lines
-pub opening_then : (was_there : Bool) (withheld : DeviceSet) (lines : List Said) (s1 s2 : List LiveStep)
-    (t1 t2 : List Told) → TellsOpening was_there s1 t1 → DoesLines withheld lines s2 t2 →
-    ServesLines was_there withheld lines (s1 ++ s2) (t1 ++ t2)
-opening_then was_there withheld lines s1 s2 t1 t2 h k = record {
+pub opening_then : (opening : Notice) (findings : List Finding) (lines : List Said) (s1 s2 : List LiveStep)
+    (t1 t2 : List Told) → Tells (notice opening) s1 t1 → DoesLines findings lines s2 t2 →
+    PlaysLines opening findings lines (s1 ++ s2) (t1 ++ t2)
+opening_then opening findings lines s1 s2 t1 t2 h k = record {
   before = s1;
   after = s2;
   said = t1;
@@ -122,9 +165,9 @@ opening_then was_there withheld lines s1 s2 t1 t2 h k = record {
 }
 
 -- that alone
-pub opening_alone : (was_there : Bool) (withheld : DeviceSet) (steps : List LiveStep) (told : List Told) →
-    TellsOpening was_there steps told → ServesLines was_there withheld [] steps told
-opening_alone was_there withheld steps told h = record {
+pub opening_alone : (opening : Notice) (findings : List Finding) (steps : List LiveStep) (told : List Told) →
+    Tells (notice opening) steps told → PlaysLines opening findings [] steps told
+opening_alone opening findings steps told h = record {
   before = steps;
   after = [];
   said = told;
@@ -133,6 +176,40 @@ opening_alone was_there withheld steps told h = record {
   told_is = sym (append-nil told);
   first = h;
   next = (refl, refl);
+}
+
+-- lines, and the end
+pub end_then : (opening : Notice) (findings : List Finding) (ends : AtEnd) (lines : List Said) (s1 s2 : List LiveStep)
+    (t1 t2 : List Told) → PlaysLines opening findings lines s1 t1 → StopsBy ends s2 t2 →
+    ServesLines opening findings ends lines (s1 ++ s2) (t1 ++ t2)
+end_then opening findings ends lines s1 s2 t1 t2 h k = record {
+  before = s1;
+  after = s2;
+  said = t1;
+  added = t2;
+  steps_are = refl;
+  told_is = refl;
+  first = h;
+  next = k;
+}
+
+no_stop : (ends : AtEnd) → StopsBy ends [] []
+no_stop at_end.Leave = (refl, refl)
+no_stop at_end.Stop = many_none (IsStepOf (λ addr. command.Stop addr))
+
+-- lines, and nothing at the end
+pub end_none : (opening : Notice) (findings : List Finding) (ends : AtEnd) (lines : List Said) (steps : List LiveStep)
+    (told : List Told) → PlaysLines opening findings lines steps told →
+    ServesLines opening findings ends lines steps told
+end_none opening findings ends lines steps told h = record {
+  before = steps;
+  after = [];
+  said = told;
+  added = [];
+  steps_are = sym (append-nil steps);
+  told_is = sym (append-nil told);
+  first = h;
+  next = no_stop ends;
 }
 
 -- the number of the next line

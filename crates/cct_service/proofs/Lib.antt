@@ -1,9 +1,13 @@
 pub mod Suiting
 pub mod Telling
+pub mod Since
 pub mod Parts
+pub mod Linking
 pub mod Doings
+pub mod Found
 pub mod Saying
 pub mod Causing
+pub mod Counting
 pub mod Begins
 pub mod Lawful
 pub mod Living

@@ -1,7 +1,9 @@
 -- A service whose host lived to an end.
-use Rattle.std.proofs.Common.{◌≡◌, ℕ, Bool, true, false, List, [], ◌++◌, reverse, sym, ap, subst, Option, Some, None, Result, Ok, Err}
+use Rattle.std.proofs.Common.{◌≡◌, ◌+◌, ℕ, Bool, true, List, [], ◌∷◌, ◌++◌, length, length-append, arith, reverse, sym, ap, subst, inl, inr, ◌∙◌, Option, Some, None, Result, Ok, Err}
+use Rattle.std.proofs.lemmas.List.{nil_from_length, reverse-reverse}
 use Rattle.cct_edge.specs.declared.fault.Failed.{Failed}
-use Rattle.cct_model.specs.lines.device_set.DeviceSet.{DeviceSet}
+use Rattle.cct_survey.specs.Roll.{Rolled}
+use Rattle.cct_service.specs.declared.stopping.AtEnd.{AtEnd}
 use Rattle.cct_model.specs.terms.device.Setup.{Setup}
 use Rattle.cct_model.specs.lines.record.Record.{Record}
 use Rattle.cct_model.specs.lines.entry.Entry.{Entry}
@@ -9,52 +11,71 @@ use Rattle.cct_model.specs.Following.{all_follow}
 use Rattle.cct_model.specs.Records.{records}
 use Rattle.cct_model.specs.Setup.{IsSoundSetup}
 use Rattle.cct_disk.specs.declared.disk.Disk.{Ghosts}
-use Rattle.cct_disk.specs.Disk.{IsTrusted}
+use Rattle.cct_disk.specs.Disk.{Holds, IsTrusted, LeavesOnly, OnlyReads}
 use Rattle.cct_journal.specs.declared.format.TheConstants.{MOST_RECORDS}
 use Rattle.cct_journal.proofs.Calls.{settled_leaves, stands_settled}
 use Rattle.cct_host.specs.declared.host.Host.{Host}
 use Rattle.cct_host.specs.Host.{StandsFor, disk_of, setup_of}
 use Rattle.cct_host.specs.OnDisk.{LeavesRecords}
+use Rattle.cct_host.proofs.Records.{rest_follow}
 use Rattle.cct_lives.specs.Life.{IsLife}
 use Rattle.cct_lives.specs.Live.{started}
 use Rattle.cct_lives.specs.LiveStep.{LiveStep}
 use Rattle.cct_lives.proofs.Life.{life_begins}
 use Rattle.cct_service.specs.declared.served.Served.{Served}
 use Rattle.cct_service.specs.declared.served.Served.TheVariants as served
-use Rattle.cct_service.specs.Found.{FoundOn}
+use Rattle.cct_service.specs.Found.{Begun, FoundOn, found_there, made_new, was_found}
+use Rattle.cct_service.specs.Opening.{BegunOn, given_as, opening_of, opening_over}
 use Rattle.cct_service.specs.Laws.{IsLawful}
-use Rattle.cct_service.specs.Lived.{LeftBy, Lived}
+use Rattle.cct_service.specs.Linked.{UsesLink}
+use Rattle.cct_service.specs.Lived.{LeftBy, LeftSince, Lived}
 use Rattle.cct_service.specs.Doing.{FrontOf, ServesLines}
 use Rattle.cct_service.specs.Causes.{SuitsDisk}
-use Rattle.cct_service.specs.Parts.{FailedToPut, LivesTo, Part, Plays}
+use Rattle.cct_service.specs.Parts.{FailedSince, FailedToPut, LivesTo, Part, Plays}
+use Rattle.cct_service.specs.Since.{Given, MayStand, StandsSince}
 use Rattle.cct_service.specs.Told.{Told, news_of}
 use Rattle.cct_service.proofs.Lawful.{lawful}
 
 -- the records that are found follow one another
 found_follow : {D : Type 0} (honest : D → Bool) (seen : D → Option (List ℕ)) (may_leave : D → List ℕ → Type 0) (disk : D)
-    (setup : Setup) (was_there : Bool) (found : List Record) → FoundOn honest seen may_leave disk setup was_there found →
-    all_follow setup found ≡ true
-found_follow honest seen may_leave disk setup true found on = on.follow
-found_follow honest seen may_leave disk setup false found on = ap (all_follow setup) on
+    (setup : Setup) (begun : Begun) (found : List Record) → IsSoundSetup setup → BegunOn seen disk setup begun →
+    FoundOn honest seen may_leave disk setup begun found → all_follow setup found ≡ true
+found_follow honest seen may_leave disk setup made_new found sound began on = ap (all_follow setup) on
+found_follow honest seen may_leave disk setup (found_there base c rest) found sound began (inl told) = told.follow
+found_follow honest seen may_leave disk setup (found_there base c rest) found sound began (inr ends) =
+    ap (all_follow setup) (sym (reverse-reverse found))
+    ∙ rest_follow setup base c rest (reverse found) sound ends.continues ends.follow began.follow
+
+none_long : (n m : ℕ) → n + m ≡ m → n ≡ 0
+none_long n m is = omega (arith, is)
+
+none_before : (more rs : List Record) → more ++ rs ≡ rs → more ≡ []
+none_before more rs is =
+    nil_from_length more
+    (none_long (length more) (length rs) (sym (length-append more rs) ∙ ap length is))
 
 module _ {K : Type 0} (written : K → Option (List ℕ)) (puts : K → List ℕ → Result (Unit {0}) Failed → K → Type 0)
-    {D : Type 0} {g : Ghosts D} (given back : D) (host last : Host D g) (was_there : Bool)
-    (withheld : DeviceSet) (left : Option (List ℕ))
+    {L : Type 0} (gives : L → List ℕ → List ℕ → L → Type 0) (sent : L → Bool) (failures : L → ℕ)
+    {D : Type 0} {g : Ghosts D} (given back : D) (host last : Host D g) (begun : Begun)
+    (roll now : Rolled) (ends : AtEnd) (left : Option (List ℕ)) (line next : L)
     (same : setup_of host ≡ setup_of last) (sound : IsSoundSetup (setup_of last)) (back_is : back ≡ disk_of last)
-    (opens : (found : List Record) → FoundOn g.honest g.seen g.may_leave given (setup_of last) was_there found
-    → StandsFor host (started found)) where
-  part_lived : (a b : K) (answer : Result (Unit {0}) Failed) (After : List Entry → Type 0)
-      (Doing : List LiveStep → List Told → Type 0)
-      (part : Part written puts a b answer (setup_of host) (StandsFor host) After Doing) (found : List Record) →
-      FoundOn g.honest g.seen g.may_leave given (setup_of last) was_there found →
+    (began : BegunOn g.seen given (setup_of last) begun)
+    (numbered : (found : List Record) → FoundOn g.honest g.seen g.may_leave given (setup_of last) begun found
+    → opening_of (setup_of last) begun ≡ opening_over (setup_of last) begun found)
+    (opens : (found : List Record) → FoundOn g.honest g.seen g.may_leave given (setup_of last) begun found
+    → (image : List ℕ) → StandsSince host (given_as given image begun) found (started found)) where
+  part_lived : (a b : K) (answer : Result (Unit {0}) Failed) (After : Given D → List Record → List Entry → Type 0)
+      (Linked : List Told → Type 0) (Doing : List LiveStep → List Told → Type 0)
+      (part : Part written puts a b answer (setup_of host) (StandsSince host) After Linked Doing) (found : List Record) →
+      FoundOn g.honest g.seen g.may_leave given (setup_of last) begun found → (image : List ℕ) →
       IsLife MOST_RECORDS (setup_of last) found part.steps (news_of part.told ++ started found)
       × IsLawful (setup_of last) found (news_of part.told ++ started found)
-      × After (news_of part.told ++ started found)
-  part_lived a b answer After Doing part found on =
-      let follow = found_follow g.honest g.seen g.may_leave given (setup_of last) was_there found on in
-      let begun = life_begins MOST_RECORDS (setup_of last) found follow in
-      let goes = part.goes found [] (started found)
-      (subst (λ setup. IsLife MOST_RECORDS setup found [] (started found)) (sym same) begun) (opens found on) in
+      × After (given_as given image begun) found (news_of part.told ++ started found)
+  part_lived a b answer After Linked Doing part found on image =
+      let follow = found_follow g.honest g.seen g.may_leave given (setup_of last) begun found sound began on in
+      let begins = life_begins MOST_RECORDS (setup_of last) found follow in
+      let goes = part.goes (given_as given image begun) found [] (started found)
+      (subst (λ setup. IsLife MOST_RECORDS setup found [] (started found)) (sym same) begins) (opens found on image) in
       let life = subst (λ setup. IsLife MOST_RECORDS setup found part.steps (news_of part.told ++ started found)) same goes.0 in
       (life, lawful (setup_of last) found part.steps (news_of part.told ++ started found) sound life, goes.1)
 
@@ -76,11 +97,45 @@ module _ {K : Type 0} (written : K → Option (List ℕ)) (puts : K → List ℕ
         (sym back_is) (failed.left (subst (λ d. IsTrusted g.honest g.seen d) back_is trusted)),
   )
 
+  -- and what one might have left at a moment of it
+  moments_standing : (found : List Record) (image : List ℕ) (past : List Entry) →
+      StandsSince last (given_as given image begun) found past → Holds g.honest g.seen g.may_leave given image →
+      LeavesOnly g.moment g.left_since given back
+      (MayStand (setup_of last) (was_found begun) image found (records past))
+  moments_standing found image past since holds =
+      subst (λ d. LeavesOnly g.moment g.left_since given d
+      (MayStand (setup_of last) (was_found begun) image found (records past))) (sym back_is) (since.left holds)
+
+  moments_failed : (found : List Record) (image : List ℕ) (past : List Entry) →
+      FailedSince last (given_as given image begun) found past → Holds g.honest g.seen g.may_leave given image →
+      LeftSince g.moment g.left_since given back (setup_of last) served.Disk (was_found begun) image found past
+  moments_failed found image past since holds = (
+    since.failed.addr,
+    since.failed.r,
+    since.failed.due,
+    subst (λ d. LeavesOnly g.moment g.left_since given d
+        (MayStand (setup_of last) (was_found begun) image found (since.failed.r ∷ records past))) (sym back_is)
+        (since.left holds),
+  )
+
+  read_standing : (found : List Record) (past : List Entry) → StandsSince last (given_as given [] begun) found past →
+      was_found begun ≡ true → records past ≡ found →
+      OnlyReads g.size g.honest g.seen g.may_leave g.moment g.left_since g.cuts given back
+  read_standing found past since there none =
+      subst (OnlyReads g.size g.honest g.seen g.may_leave g.moment g.left_since g.cuts given) (sym back_is)
+      (since.read there (none_before since.put found (sym since.put_are ∙ none)))
+
+  devices_same : (told : List Told) → UsesLink gives sent failures (setup_of host).devices roll now line next told →
+      UsesLink gives sent failures (setup_of last).devices roll now line next told
+  devices_same told h = subst (λ s. UsesLink gives sent failures s.devices roll now line next told) same h
+
   pub lived_by : (how : Served) (a b : K) →
-      Plays written puts (ServesLines was_there withheld) left how a b host last →
-      Lived written puts g.honest g.seen g.may_leave given back (setup_of last) withheld left how a b
+      Plays written puts (UsesLink gives sent failures (setup_of host).devices roll now line next)
+      (ServesLines (opening_of (setup_of last) begun) roll.findings ends) left how a b host last →
+      Lived written puts gives sent failures g.size g.honest g.seen g.may_leave g.moment g.left_since g.cuts given back (setup_of last) roll now ends left how a b
+      line next
   lived_by served.Done a b plays = record {
-    was_there = was_there;
+    begun = begun;
     lines = plays.lines;
     steps = plays.lives.steps;
     told = plays.lives.told;
@@ -88,11 +143,20 @@ module _ {K : Type 0} (written : K → Option (List ℕ)) (puts : K → List ℕ
     does = plays.lives.does;
     wrote = plays.lives.wrote;
     lived = λ found on.
-        let l = part_lived a b (Ok tt) (StandsFor last) (ServesLines was_there withheld plays.lines) plays.lives found on in
-        (l.0, l.1, left_standing (news_of plays.lives.told ++ started found) l.2);
+        let l = part_lived a b (Ok tt) (StandsSince last) (UsesLink gives sent failures (setup_of host).devices roll now line next) (ServesLines (opening_of (setup_of last) begun) roll.findings ends plays.lines) plays.lives found on [] in
+        (l.0, l.1, left_standing (news_of plays.lives.told ++ started found) l.2.stands);
+    linked = devices_same plays.lives.told plays.lives.linked;
+    on = began;
+    numbers = numbered;
+    moments = λ found on image holds.
+        let l = part_lived a b (Ok tt) (StandsSince last) (UsesLink gives sent failures (setup_of host).devices roll now line next) (ServesLines (opening_of (setup_of last) begun) roll.findings ends plays.lines) plays.lives found on image in
+        moments_standing found image (news_of plays.lives.told ++ started found) l.2 holds;
+    read = λ found on there whole none.
+        let l = part_lived a b (Ok tt) (StandsSince last) (UsesLink gives sent failures (setup_of host).devices roll now line next) (ServesLines (opening_of (setup_of last) begun) roll.findings ends plays.lines) plays.lives found on [] in
+        read_standing found (news_of plays.lives.told ++ started found) l.2 there none;
   }
   lived_by (served.Refused number kind) a b plays = record {
-    was_there = was_there;
+    begun = begun;
     lines = plays.lines;
     steps = plays.lives.steps;
     told = plays.lives.told;
@@ -100,11 +164,20 @@ module _ {K : Type 0} (written : K → Option (List ℕ)) (puts : K → List ℕ
     does = plays.lives.does;
     wrote = plays.lives.wrote;
     lived = λ found on.
-        let l = part_lived a b (Ok tt) (StandsFor last) (ServesLines was_there withheld plays.lines) plays.lives found on in
-        (l.0, l.1, left_standing (news_of plays.lives.told ++ started found) l.2);
+        let l = part_lived a b (Ok tt) (StandsSince last) (UsesLink gives sent failures (setup_of host).devices roll now line next) (ServesLines (opening_of (setup_of last) begun) roll.findings ends plays.lines) plays.lives found on [] in
+        (l.0, l.1, left_standing (news_of plays.lives.told ++ started found) l.2.stands);
+    linked = devices_same plays.lives.told plays.lives.linked;
+    on = began;
+    numbers = numbered;
+    moments = λ found on image holds.
+        let l = part_lived a b (Ok tt) (StandsSince last) (UsesLink gives sent failures (setup_of host).devices roll now line next) (ServesLines (opening_of (setup_of last) begun) roll.findings ends plays.lines) plays.lives found on image in
+        moments_standing found image (news_of plays.lives.told ++ started found) l.2 holds;
+    read = λ found on there whole none.
+        let l = part_lived a b (Ok tt) (StandsSince last) (UsesLink gives sent failures (setup_of host).devices roll now line next) (ServesLines (opening_of (setup_of last) begun) roll.findings ends plays.lines) plays.lives found on [] in
+        read_standing found (news_of plays.lives.told ++ started found) l.2 there none;
   }
   lived_by served.Unread a b plays = record {
-    was_there = was_there;
+    begun = begun;
     lines = plays.lines;
     steps = plays.lives.steps;
     told = plays.lives.told;
@@ -112,11 +185,20 @@ module _ {K : Type 0} (written : K → Option (List ℕ)) (puts : K → List ℕ
     does = plays.lives.does;
     wrote = plays.lives.wrote;
     lived = λ found on.
-        let l = part_lived a b (Ok tt) (StandsFor last) (ServesLines was_there withheld plays.lines) plays.lives found on in
-        (l.0, l.1, left_standing (news_of plays.lives.told ++ started found) l.2);
+        let l = part_lived a b (Ok tt) (StandsSince last) (UsesLink gives sent failures (setup_of host).devices roll now line next) (ServesLines (opening_of (setup_of last) begun) roll.findings ends plays.lines) plays.lives found on [] in
+        (l.0, l.1, left_standing (news_of plays.lives.told ++ started found) l.2.stands);
+    linked = devices_same plays.lives.told plays.lives.linked;
+    on = began;
+    numbers = numbered;
+    moments = λ found on image holds.
+        let l = part_lived a b (Ok tt) (StandsSince last) (UsesLink gives sent failures (setup_of host).devices roll now line next) (ServesLines (opening_of (setup_of last) begun) roll.findings ends plays.lines) plays.lives found on image in
+        moments_standing found image (news_of plays.lives.told ++ started found) l.2 holds;
+    read = λ found on there whole none.
+        let l = part_lived a b (Ok tt) (StandsSince last) (UsesLink gives sent failures (setup_of host).devices roll now line next) (ServesLines (opening_of (setup_of last) begun) roll.findings ends plays.lines) plays.lives found on [] in
+        read_standing found (news_of plays.lives.told ++ started found) l.2 there none;
   }
   lived_by served.Unwritten a b plays = record {
-    was_there = was_there;
+    begun = begun;
     lines = plays.lines;
     steps = plays.lives.1.steps;
     told = plays.lives.1.told;
@@ -124,11 +206,20 @@ module _ {K : Type 0} (written : K → Option (List ℕ)) (puts : K → List ℕ
     does = plays.lives.1.does;
     wrote = (plays.lives.0, plays.lives.1.wrote);
     lived = λ found on.
-        let l = part_lived a b (Err plays.lives.0) (StandsFor last) (FrontOf (ServesLines was_there withheld plays.lines)) plays.lives.1 found on in
-        (l.0, l.1, left_standing (news_of plays.lives.1.told ++ started found) l.2);
+        let l = part_lived a b (Err plays.lives.0) (StandsSince last) (UsesLink gives sent failures (setup_of host).devices roll now line next) (FrontOf (ServesLines (opening_of (setup_of last) begun) roll.findings ends plays.lines)) plays.lives.1 found on [] in
+        (l.0, l.1, left_standing (news_of plays.lives.1.told ++ started found) l.2.stands);
+    linked = devices_same plays.lives.1.told plays.lives.1.linked;
+    on = began;
+    numbers = numbered;
+    moments = λ found on image holds.
+        let l = part_lived a b (Err plays.lives.0) (StandsSince last) (UsesLink gives sent failures (setup_of host).devices roll now line next) (FrontOf (ServesLines (opening_of (setup_of last) begun) roll.findings ends plays.lines)) plays.lives.1 found on image in
+        moments_standing found image (news_of plays.lives.1.told ++ started found) l.2 holds;
+    read = λ found on there whole none.
+        let l = part_lived a b (Err plays.lives.0) (StandsSince last) (UsesLink gives sent failures (setup_of host).devices roll now line next) (FrontOf (ServesLines (opening_of (setup_of last) begun) roll.findings ends plays.lines)) plays.lives.1 found on [] in
+        read_standing found (news_of plays.lives.1.told ++ started found) l.2 there none;
   }
   lived_by served.Disk a b plays = record {
-    was_there = was_there;
+    begun = begun;
     lines = plays.lines;
     steps = plays.lives.steps;
     told = plays.lives.told;
@@ -136,8 +227,15 @@ module _ {K : Type 0} (written : K → Option (List ℕ)) (puts : K → List ℕ
     does = plays.lives.does;
     wrote = plays.lives.wrote;
     lived = λ found on.
-        let l = part_lived a b (Ok tt) (FailedToPut last) (FrontOf (ServesLines was_there withheld plays.lines)) plays.lives found on in
-        (l.0, l.1, left_failed (news_of plays.lives.told ++ started found) l.2);
+        let l = part_lived a b (Ok tt) (FailedSince last) (UsesLink gives sent failures (setup_of host).devices roll now line next) (FrontOf (ServesLines (opening_of (setup_of last) begun) roll.findings ends plays.lines)) plays.lives found on [] in
+        (l.0, l.1, left_failed (news_of plays.lives.told ++ started found) l.2.failed);
+    linked = devices_same plays.lives.told plays.lives.linked;
+    on = began;
+    numbers = numbered;
+    moments = λ found on image holds.
+        let l = part_lived a b (Ok tt) (FailedSince last) (UsesLink gives sent failures (setup_of host).devices roll now line next) (FrontOf (ServesLines (opening_of (setup_of last) begun) roll.findings ends plays.lines)) plays.lives found on image in
+        moments_failed found image (news_of plays.lives.told ++ started found) l.2 holds;
+    read = λ found on there whole none. absurd (whole tt);
   }
   lived_by (served.OtherSize len) a b plays = absurd plays.lives
   lived_by served.Alien a b plays = absurd plays.lives
@@ -145,14 +243,14 @@ module _ {K : Type 0} (written : K → Option (List ℕ)) (puts : K → List ℕ
 
 -- a host that lived had a disk that it could be started over
 pub lived_suits : {K D : Type 0} (written : K → Option (List ℕ)) (puts : K → List ℕ → Result (Unit {0}) Failed → K → Type 0)
-    {g : Ghosts D} (given back : D) (setup : Setup) (P : List LiveStep → List Told → Type 0) (how : Served) (a b : K)
-    (old new : Host D g) → LivesTo written puts P how a b old new →
+    {g : Ghosts D} (given back : D) (setup : Setup) (S : List Told → Type 0) (P : List LiveStep → List Told → Type 0)
+    (how : Served) (a b : K) (old new : Host D g) → LivesTo written puts S P how a b old new →
     SuitsDisk g.size g.honest g.seen g.may_leave g.moment g.left_since g.cuts given back setup how
-lived_suits written puts given back setup P served.Done a b old new lives = tt
-lived_suits written puts given back setup P (served.Refused number kind) a b old new lives = tt
-lived_suits written puts given back setup P served.Unread a b old new lives = tt
-lived_suits written puts given back setup P served.Unwritten a b old new lives = tt
-lived_suits written puts given back setup P served.Disk a b old new lives = tt
-lived_suits written puts given back setup P (served.OtherSize len) a b old new lives = absurd lives
-lived_suits written puts given back setup P served.Alien a b old new lives = absurd lives
-lived_suits written puts given back setup P (served.BadRecord index) a b old new lives = absurd lives
+lived_suits written puts given back setup S P served.Done a b old new lives = tt
+lived_suits written puts given back setup S P (served.Refused number kind) a b old new lives = tt
+lived_suits written puts given back setup S P served.Unread a b old new lives = tt
+lived_suits written puts given back setup S P served.Unwritten a b old new lives = tt
+lived_suits written puts given back setup S P served.Disk a b old new lives = tt
+lived_suits written puts given back setup S P (served.OtherSize len) a b old new lives = absurd lives
+lived_suits written puts given back setup S P served.Alien a b old new lives = absurd lives
+lived_suits written puts given back setup S P (served.BadRecord index) a b old new lives = absurd lives

@@ -1,5 +1,5 @@
 -- One part of a life after another.
-use Rattle.std.proofs.Common.{◌≡◌, ◌≤◌, ◌⊎◌, ℕ, List, [], ◌∷◌, ◌++◌, Bool, false, length, Option, Result, OnOk, IsErr}
+use Rattle.std.proofs.Common.{◌≡◌, ◌≤◌, ◌⊎◌, ℕ, List, [], ◌∷◌, ◌++◌, Bool, false, length, reverse, Option, Some, Result, OnOk, IsErr}
 use Rattle.std.specs.Prelude.{⊤}
 use Rattle.std.proofs.Common.{Ok, Err, refl, ap, sym, ◌∙◌, subst, append_assoc, arith, inr, ⊎_elim}
 use Rattle.std.proofs.lemmas.List.{append-nil}
@@ -13,89 +13,122 @@ use Rattle.cct_model.specs.lines.command.CommandNo.{CommandNo}
 use Rattle.cct_model.specs.lines.entry.Entry.{Entry}
 use Rattle.cct_model.specs.lines.entry.Entry.TheVariants as entry_of
 use Rattle.cct_model.specs.lines.entry.Totals.{Totals}
+use Rattle.cct_model.specs.lines.record.Record.{Record}
 use Rattle.cct_model.specs.Legal.{command_entry}
+use Rattle.cct_model.specs.Records.{records}
 use Rattle.cct_model.specs.Money.{totals}
 use Rattle.cct_model.specs.Script.{IsCommand}
 use Rattle.cct_disk.specs.declared.disk.Disk.{Ghosts}
-use Rattle.cct_disk.specs.Disk.{GoesOn}
+use Rattle.cct_disk.specs.Disk.{GoesOn, LeavesOnly}
+use Rattle.cct_journal.specs.Journal as journals
 use Rattle.cct_journal.specs.declared.format.TheConstants.{MOST_RECORDS}
 use Rattle.cct_host.specs.declared.host.Host.{Host}
 use Rattle.cct_host.specs.Attempt.{Attempt, HeardBy, Links, asked, idle, put}
 use Rattle.cct_host.specs.Attempt as attempt
 use Rattle.cct_host.specs.Desk.{no_of}
-use Rattle.cct_host.specs.Host.{Answers, Fails, Keeps, Nexts, StandsFor, disk_of, has_failed, setup_of}
+use Rattle.cct_host.specs.OnDisk.{StandsUpTo}
+use Rattle.cct_host.specs.Host.{Answers, Fails, FailsBetween, Keeps, Nexts, disk_of, has_failed, setup_of}
 use Rattle.cct_host.proofs.Quiet.{balance_quiet, host_quiet}
 use Rattle.cct_lives.specs.Life.{IsLife}
 use Rattle.cct_lives.specs.LiveStep.{LiveStep}
 use Rattle.cct_lives.specs.LiveStep as live
 use Rattle.cct_lives.proofs.Life.{life_balance, life_command, life_next}
+use Rattle.cct_service.specs.declared.notice.Notice.{Notice}
 use Rattle.cct_service.specs.declared.served.Served.{Served}
 use Rattle.cct_service.specs.declared.served.Served.TheVariants as served
 use Rattle.cct_service.specs.Causes.{DiskServes, EndsBy, IsDiskFault, IsUnwritten}
 use Rattle.cct_service.specs.Doing.{FrontOf, Tells}
 use Rattle.cct_service.specs.Ending.{by_writing}
-use Rattle.cct_service.specs.Parts.{Acts, FailedToPut, LifeGoes, LivesOn, LivesTo, Part}
+use Rattle.cct_service.specs.Parts.{Acts, FailedSince, LifeGoes, LivesOn, LivesTo, Part}
+use Rattle.cct_service.specs.Since.{Given, StandsSince}
 use Rattle.cct_service.specs.Said.{IsOfInput}
-use Rattle.cct_service.specs.Told.{Told, WritesTold, as_told, fault_told, news_of, told_line}
+use Rattle.cct_service.specs.Told.{Told, WritesTold, as_told, attempt_told, news_of, notices_told, told_line}
 use Rattle.cct_text.specs.Writing.{PutsLine}
+use Rattle.cct_service.proofs.Since.{attempt_records, command_records, since_left, since_put, since_same}
 use Rattle.cct_service.proofs.Suiting.{life_suits}
 use Rattle.cct_service.proofs.Telling.{news_next, news_then, told_none, told_one, told_then}
 
 -- a life goes on by one part, and then by another
-pub goes_then : (setup : Setup) (A B C : List Entry → Type 0) (first then : List LiveStep) (told later : List Told) →
+pub goes_then : {I : Type 0} (setup : Setup) (A B C : I → List Record → List Entry → Type 0) (first then : List LiveStep) (told later : List Told) →
     LifeGoes setup A first told B → LifeGoes setup B then later C → LifeGoes setup A (first ++ then) (told ++ later) C
-goes_then setup A B C first then told later h k found before past life is =
-    let one = h found before past life is in
-    let two = k found (before ++ first) (news_of told ++ past) one.0 one.1 in
+goes_then setup A B C first then told later h k given found before past life is =
+    let one = h given found before past life is in
+    let two = k given found (before ++ first) (news_of told ++ past) one.0 one.1 in
     let all = append_assoc (news_of later) (news_of told) past in
     let same : news_of later ++ (news_of told ++ past) ≡ news_of (told ++ later) ++ past =
     sym all ∙ ap (λ news. news ++ past) (sym (news_then told later)) in (
       subst (λ steps. IsLife MOST_RECORDS setup found steps (news_of (told ++ later) ++ past))
           (append_assoc before first then)
           (subst (IsLife MOST_RECORDS setup found ((before ++ first) ++ then)) same two.0),
-      subst C same two.1,
+      subst (C given found) same two.1,
     )
 
 -- nothing is done
-pub goes_none : (setup : Setup) (A B : List Entry → Type 0) (told : List Told) → news_of told ≡ [] →
-    ((past : List Entry) → A past → B past) → LifeGoes setup A [] told B
-goes_none setup A B told none keeps found before past life is = (
+pub goes_none : {I : Type 0} (setup : Setup) (A B : I → List Record → List Entry → Type 0) (told : List Told) → news_of told ≡ [] →
+    ((given : I) (found : List Record) (past : List Entry) → A given found past → B given found past) →
+    LifeGoes setup A [] told B
+goes_none setup A B told none keeps given found before past life is = (
   subst (λ steps. IsLife MOST_RECORDS setup found steps (news_of told ++ past)) (sym (append-nil before))
       (subst (λ news. IsLife MOST_RECORDS setup found before (news ++ past)) (sym none) life),
-  subst (λ news. B (news ++ past)) (sym none) (keeps past is),
+  subst (λ news. B given found (news ++ past)) (sym none) (keeps given found past is),
 )
 
 module _ {K : Type 0} (written : K → Option (List ℕ)) (puts : K → List ℕ → Result (Unit {0}) Failed → K → Type 0) where
   -- the same part is also this
-  pub part_weaker : (a b : K) (answer : Result (Unit {0}) Failed) (setup : Setup) (A B : List Entry → Type 0)
-      (P Q : List LiveStep → List Told → Type 0) → ((steps : List LiveStep) (told : List Told) → P steps told → Q steps told) →
-      Part written puts a b answer setup A B P → Part written puts a b answer setup A B Q
-  part_weaker a b answer setup A B P Q to h =
-      record { steps = h.steps; told = h.told; wrote = h.wrote; goes = h.goes; does = to h.steps h.told h.does }
+  pub part_weaker : {I : Type 0} (S : List Told → Type 0) (a b : K) (answer : Result (Unit {0}) Failed) (setup : Setup)
+      (A B : I → List Record → List Entry → Type 0) (P Q : List LiveStep → List Told → Type 0) →
+      ((steps : List LiveStep) (told : List Told) → P steps told → Q steps told) →
+      Part written puts a b answer setup A B S P → Part written puts a b answer setup A B S Q
+  part_weaker S a b answer setup A B P Q to h = record {
+    steps = h.steps;
+    told = h.told;
+    wrote = h.wrote;
+    goes = h.goes;
+    does = to h.steps h.told h.does;
+    linked = h.linked;
+  }
+
+  -- the same part is so linked, too
+  pub part_linked : {I : Type 0} (S T : List Told → Type 0) → ((told : List Told) → S told → T told) → (a b : K)
+      (answer : Result (Unit {0}) Failed) (setup : Setup) (A B : I → List Record → List Entry → Type 0)
+      (P : List LiveStep → List Told → Type 0) → Part written puts a b answer setup A B S P →
+      Part written puts a b answer setup A B T P
+  part_linked S T links a b answer setup A B P h = record {
+    steps = h.steps;
+    told = h.told;
+    wrote = h.wrote;
+    goes = h.goes;
+    does = h.does;
+    linked = links h.told h.linked;
+  }
 
   -- nothing is done, and one line is told that isn't an entry
-  pub part_line : (a b : K) (answer : Result (Unit {0}) Failed) (setup : Setup) (A : List Entry → Type 0) (what : Told)
-      (P : List LiveStep → List Told → Type 0) → news_of (what ∷ []) ≡ [] → PutsLine written puts a (told_line what) answer b →
-      P [] (what ∷ []) → Part written puts a b answer setup A A P
-  part_line a b answer setup A what P none line is = record {
+  pub part_line : {I : Type 0} (S : List Told → Type 0) (a b : K) (answer : Result (Unit {0}) Failed) (setup : Setup)
+      (A : I → List Record → List Entry → Type 0) (what : Told) (P : List LiveStep → List Told → Type 0) → news_of (what ∷ []) ≡ [] →
+      PutsLine written puts a (told_line what) answer b → P [] (what ∷ []) → S (what ∷ []) →
+      Part written puts a b answer setup A A S P
+  part_line S a b answer setup A what P none line is linked = record {
     steps = [];
     told = what ∷ [];
     wrote = told_one written puts a b what answer line;
-    goes = goes_none setup A A (what ∷ []) none (λ past is. is);
+    goes = goes_none setup A A (what ∷ []) none (λ given found past is. is);
     does = is;
+    linked = linked;
   }
 
-  pub part_then : (a b c : K) (answer : Result (Unit {0}) Failed) (setup : Setup) (A B C : List Entry → Type 0)
+  pub part_then : {I : Type 0} (S T U : List Told → Type 0) → ((t1 t2 : List Told) → S t1 → T t2 → U (t1 ++ t2)) → (a b c : K)
+      (answer : Result (Unit {0}) Failed) (setup : Setup) (A B C : I → List Record → List Entry → Type 0)
       (P Q R : List LiveStep → List Told → Type 0) →
       ((s1 s2 : List LiveStep) (t1 t2 : List Told) → P s1 t1 → Q s2 t2 → R (s1 ++ s2) (t1 ++ t2)) →
-      Part written puts a b (Ok tt) setup A B P → Part written puts b c answer setup B C Q →
-      Part written puts a c answer setup A C R
-  part_then a b c answer setup A B C P Q R to h k = record {
+      Part written puts a b (Ok tt) setup A B S P → Part written puts b c answer setup B C T Q →
+      Part written puts a c answer setup A C U R
+  part_then S T U links a b c answer setup A B C P Q R to h k = record {
     steps = h.steps ++ k.steps;
     told = h.told ++ k.told;
     wrote = told_then written puts a b c h.told k.told answer h.wrote k.wrote;
     goes = goes_then setup A B C h.steps k.steps h.told k.told h.goes k.goes;
     does = to h.steps k.steps h.told k.told h.does k.does;
+    linked = links h.told k.told h.linked k.linked;
   }
 
 -- what an attempt heard
@@ -122,61 +155,77 @@ module _ {D : Type 0} {g : Ghosts D} where
   -- an attempt of a job, and its entries
   pub next_goes : {L : Type 0} (gives : L → List ℕ → List ℕ → L → Type 0) →
       ((old : L) (sent heard : List ℕ) (new : L) → gives old sent heard new → length heard ≤ MOST_HEARD) →
-      (old new : L) (addr : ℕ) (before after : Host D g) (reported : List Entry) (failed : Bool) →
+      (old new : L) (addr : ℕ) (before after : Host D g) (reported : List Entry) (is_sent : Bool)
+      (notices : List Notice) → setup_of after ≡ setup_of before →
+      GoesOn g.size g.honest g.seen g.cuts (disk_of before) (disk_of after) →
       Nexts gives old new addr before after [] reported →
-      LifeGoes (setup_of before) (StandsFor before) (live.next addr ∷ []) (as_told reported ++ fault_told failed)
-      (StandsFor after)
-  next_goes gives few old new addr before after reported failed nexts found steps past life stands =
+      LifeGoes (setup_of before) (StandsSince before) (live.next addr ∷ [])
+      (attempt_told is_sent reported ++ notices_told notices) (StandsSince after)
+  next_goes gives few old new addr before after reported is_sent notices kept on nexts given found steps past life since =
       let what = nexts.what in
       let news = attempt.news_of addr what in
       let setup = setup_of before in
-      let suits = life_suits MOST_RECORDS setup found steps past addr stands.keeps.desks.sound life in
-      let went = nexts.goes (λ sent. heard_of what) past (heard_by what) stands suits in
-      let same : news_of (as_told reported ++ fault_told failed) ≡ news =
-      ap (λ es. news_of (as_told es ++ fault_told failed)) nexts.reported_is ∙ news_next news failed in (
+      let suits = life_suits MOST_RECORDS setup found steps past addr since.stands.keeps.desks.sound life in
+      let went = nexts.goes (λ sent. heard_of what) past (heard_by what) since.stands suits in
+      let same : news_of (attempt_told is_sent reported ++ notices_told notices) ≡ news =
+      ap (λ es. news_of (attempt_told is_sent es ++ notices_told notices)) nexts.reported_is
+      ∙ news_next news is_sent notices in (
         subst (λ es. IsLife MOST_RECORDS setup found (steps ++ live.next addr ∷ []) (es ++ past)) (sym same)
             (life_next MOST_RECORDS setup found steps past addr (heard_of what) news life
             (few_heard gives few old new what nexts.link) went.0),
-        subst (λ es. StandsFor after (es ++ past)) (sym same) went.1,
+        subst (λ es. StandsSince after given found (es ++ past)) (sym same)
+            (since_put before after given found past (news ++ past) (attempt.put_of what) since kept on
+            (attempt_records addr what past) (nexts.moments past since.stands) (λ none. ap journals.disk_of (nexts.quiet none))
+            went.1),
       )
 
   -- a command that is answered
   pub command_goes : (before after : Host D g) (c : Command) (result : Result (Unit {0}) CommandNo) → IsCommand c →
-      Answers before after c result →
-      LifeGoes (setup_of before) (StandsFor before) (live.command c ∷ []) (as_told (command_entry c (no_of result) ∷ []))
-      (StandsFor after)
-  command_goes before after c result is answers found steps past life stands =
+      setup_of after ≡ setup_of before → disk_of after ≡ disk_of before → Answers before after c result →
+      LifeGoes (setup_of before) (StandsSince before) (live.command c ∷ []) (as_told (command_entry c (no_of result) ∷ []))
+      (StandsSince after)
+  command_goes before after c result is kept disk answers given found steps past life since =
       let setup = setup_of before in
-      let answered = answers past stands in
+      let answered = answers past since.stands in
       let why = answered.0 in (
         subst (λ no. IsLife MOST_RECORDS setup found (steps ++ live.command c ∷ []) (command_entry c no ∷ past)) (sym why)
             (life_command MOST_RECORDS setup found steps past c life is),
-        answered.1,
+        since_same before after given found past (command_entry c (no_of result) ∷ past) since kept disk
+            (command_records c (no_of result) past) answered.1,
       )
 
   -- a balance that is told
   pub balance_goes : (host : Host D g) (told : Totals) →
       ((past : List Entry) → Keeps host past → told ≡ totals (setup_of host) past) →
-      LifeGoes (setup_of host) (StandsFor host) (live.balance ∷ []) (as_told (entry_of.Balance told ∷ [])) (StandsFor host)
-  balance_goes host told tells found steps past life stands =
+      LifeGoes (setup_of host) (StandsSince host) (live.balance ∷ []) (as_told (entry_of.Balance told ∷ []))
+      (StandsSince host)
+  balance_goes host told tells given found steps past life since =
       let setup = setup_of host in (
         subst (λ t. IsLife MOST_RECORDS setup found (steps ++ live.balance ∷ []) (entry_of.Balance t ∷ past))
-            (sym (tells past stands.keeps)) (life_balance MOST_RECORDS setup found steps past life),
-        host_quiet host past (entry_of.Balance told) (balance_quiet past told) stands,
+            (sym (tells past since.stands.keeps)) (life_balance MOST_RECORDS setup found steps past life),
+        since_same host host given found past (entry_of.Balance told ∷ past) since refl refl refl
+            (host_quiet host past (entry_of.Balance told) (balance_quiet past told) since.stands),
       )
 
   -- a put that failed
   pub put_failed : (before after : Host D g) (addr : ℕ) → setup_of after ≡ setup_of before → Fails before after addr →
-      GoesOn g.size g.honest g.seen g.cuts (disk_of before) (disk_of after) →
-      (past : List Entry) → StandsFor before past → FailedToPut after past
-  put_failed before after addr same fails on past stands =
-      let failed = fails past stands in
+      FailsBetween before after addr → GoesOn g.size g.honest g.seen g.cuts (disk_of before) (disk_of after) →
+      (given : Given D) (found : List Record) (past : List Entry) → StandsSince before given found past →
+      FailedSince after given found past
+  put_failed before after addr same fails between on given found past since =
+      let failed = fails past since.stands in
       record {
-        keeps = failed.0;
-        addr = addr;
-        r = failed.1.0;
-        due = rw same failed.1.1;
-        left = λ trusted. rw same (failed.1.2 (sym on.same_honest ∙ trusted.0, sym on.same_telling ∙ trusted.1));
+        failed = record {
+          keeps = failed.0;
+          addr = addr;
+          r = failed.1.0;
+          due = rw same failed.1.1;
+          left = λ trusted. rw same (failed.1.2 (sym on.same_honest ∙ trusted.0, sym on.same_telling ∙ trusted.1));
+        };
+        left = since_left before after given found past (failed.1.0 ∷ records past) (Some failed.1.0) since same refl
+            (λ trusted. subst
+            (λ d. LeavesOnly g.moment g.left_since (disk_of before) (disk_of after)
+            (StandsUpTo (setup_of before) d (reverse (records past)))) failed.1.1 (between past since.stands trusted));
       }
 
 later_later : (a b c : ℕ) → a ≤ b → b ≤ c → a ≤ c
@@ -199,6 +248,19 @@ front_weaker P Q to steps told h = record {
   untold = h.untold;
   whole = to (steps ++ h.undone) (told ++ h.untold) h.whole;
 }
+
+-- a front of what is a front of another thing
+pub front_front : (P Q : List LiveStep → List Told → Type 0) →
+    ((steps : List LiveStep) (told : List Told) → P steps told → FrontOf Q steps told) → (steps : List LiveStep)
+    (told : List Told) → FrontOf P steps told → FrontOf Q steps told
+front_front P Q to steps told h =
+    let k = to (steps ++ h.undone) (told ++ h.untold) h.whole in
+    record {
+      undone = h.undone ++ k.undone;
+      untold = h.untold ++ k.untold;
+      whole = subst (λ s. Q s (told ++ (h.untold ++ k.untold))) (append_assoc steps h.undone k.undone)
+          (subst (Q ((steps ++ h.undone) ++ k.undone)) (append_assoc told h.untold k.untold) k.whole);
+    }
 
 -- a whole, and then a front
 pub front_then : (P Q R : List LiveStep → List Told → Type 0) →
@@ -274,103 +336,157 @@ module _ {D : Type 0} (size : D → ℕ) (honest : D → Bool) (seen : D → Opt
 module _ {K : Type 0} (written : K → Option (List ℕ)) (puts : K → List ℕ → Result (Unit {0}) Failed → K → Type 0)
     {D : Type 0} {g : Ghosts D} where
   -- the same life is also this
-  pub lives_weaker : (result : Result (Unit {0}) Served) (a b : K) (old new : Host D g)
+  pub lives_weaker : (S : List Told → Type 0) (result : Result (Unit {0}) Served) (a b : K) (old new : Host D g)
       (P Q : List LiveStep → List Told → Type 0) → ((steps : List LiveStep) (told : List Told) → P steps told → Q steps told) →
-      LivesOn written puts P result a b old new → LivesOn written puts Q result a b old new
-  lives_weaker (Ok done) a b old new P Q to h =
-      part_weaker written puts a b (Ok tt) (setup_of old) (StandsFor old) (StandsFor new) P Q to h
-  lives_weaker (Err served.Unwritten) a b old new P Q to h = (
+      LivesOn written puts S P result a b old new → LivesOn written puts S Q result a b old new
+  lives_weaker S (Ok done) a b old new P Q to h =
+      part_weaker written puts S a b (Ok tt) (setup_of old) (StandsSince old) (StandsSince new) P Q to h
+  lives_weaker S (Err served.Unwritten) a b old new P Q to h = (
     h.0,
-    part_weaker written puts a b (Err h.0) (setup_of old) (StandsFor old) (StandsFor new) (FrontOf P) (FrontOf Q)
+    part_weaker written puts S a b (Err h.0) (setup_of old) (StandsSince old) (StandsSince new) (FrontOf P) (FrontOf Q)
         (front_weaker P Q to) h.1,
   )
-  lives_weaker (Err served.Disk) a b old new P Q to h =
-      part_weaker written puts a b (Ok tt) (setup_of old) (StandsFor old) (FailedToPut new) (FrontOf P) (FrontOf Q)
+  lives_weaker S (Err served.Disk) a b old new P Q to h =
+      part_weaker written puts S a b (Ok tt) (setup_of old) (StandsSince old) (FailedSince new) (FrontOf P) (FrontOf Q)
       (front_weaker P Q to) h
-  lives_weaker (Err served.Done) a b old new P Q to h = absurd h
-  lives_weaker (Err (served.Refused number kind)) a b old new P Q to h = absurd h
-  lives_weaker (Err served.Unread) a b old new P Q to h = absurd h
-  lives_weaker (Err (served.OtherSize len)) a b old new P Q to h = absurd h
-  lives_weaker (Err served.Alien) a b old new P Q to h = absurd h
-  lives_weaker (Err (served.BadRecord index)) a b old new P Q to h = absurd h
+  lives_weaker S (Err served.Done) a b old new P Q to h = absurd h
+  lives_weaker S (Err (served.Refused number kind)) a b old new P Q to h = absurd h
+  lives_weaker S (Err served.Unread) a b old new P Q to h = absurd h
+  lives_weaker S (Err (served.OtherSize len)) a b old new P Q to h = absurd h
+  lives_weaker S (Err served.Alien) a b old new P Q to h = absurd h
+  lives_weaker S (Err (served.BadRecord index)) a b old new P Q to h = absurd h
+
+  -- an end within one thing is one within another
+  lives_front : (S : List Told → Type 0) (how : Served) (a b : K) (old new : Host D g)
+      (P Q : List LiveStep → List Told → Type 0) →
+      ((steps : List LiveStep) (told : List Told) → P steps told → FrontOf Q steps told) →
+      LivesOn written puts S P (Err how) a b old new → LivesOn written puts S Q (Err how) a b old new
+  lives_front S served.Unwritten a b old new P Q to h = (
+    h.0,
+    part_weaker written puts S a b (Err h.0) (setup_of old) (StandsSince old) (StandsSince new) (FrontOf P) (FrontOf Q)
+        (front_front P Q to) h.1,
+  )
+  lives_front S served.Disk a b old new P Q to h =
+      part_weaker written puts S a b (Ok tt) (setup_of old) (StandsSince old) (FailedSince new) (FrontOf P) (FrontOf Q)
+      (front_front P Q to) h
+  lives_front S served.Done a b old new P Q to h = absurd h
+  lives_front S (served.Refused number kind) a b old new P Q to h = absurd h
+  lives_front S served.Unread a b old new P Q to h = absurd h
+  lives_front S (served.OtherSize len) a b old new P Q to h = absurd h
+  lives_front S served.Alien a b old new P Q to h = absurd h
+  lives_front S (served.BadRecord index) a b old new P Q to h = absurd h
+
+  -- the same life is so linked, too
+  lives_linked : (S T : List Told → Type 0) → ((told : List Told) → S told → T told) →
+      (result : Result (Unit {0}) Served) (a b : K) (old new : Host D g) (P : List LiveStep → List Told → Type 0) →
+      LivesOn written puts S P result a b old new → LivesOn written puts T P result a b old new
+  lives_linked S T links (Ok done) a b old new P h =
+      part_linked written puts S T links a b (Ok tt) (setup_of old) (StandsSince old) (StandsSince new) P h
+  lives_linked S T links (Err served.Unwritten) a b old new P h = (
+    h.0,
+    part_linked written puts S T links a b (Err h.0) (setup_of old) (StandsSince old) (StandsSince new) (FrontOf P) h.1,
+  )
+  lives_linked S T links (Err served.Disk) a b old new P h =
+      part_linked written puts S T links a b (Ok tt) (setup_of old) (StandsSince old) (FailedSince new) (FrontOf P) h
+  lives_linked S T links (Err served.Done) a b old new P h = absurd h
+  lives_linked S T links (Err (served.Refused number kind)) a b old new P h = absurd h
+  lives_linked S T links (Err served.Unread) a b old new P h = absurd h
+  lives_linked S T links (Err (served.OtherSize len)) a b old new P h = absurd h
+  lives_linked S T links (Err served.Alien) a b old new P h = absurd h
+  lives_linked S T links (Err (served.BadRecord index)) a b old new P h = absurd h
 
   -- one part, and then more
-  pub lives_then : (result : Result (Unit {0}) Served) (a b c : K) (first between last : Host D g)
+  pub lives_then : (S T U : List Told → Type 0) → ((t1 t2 : List Told) → S t1 → T t2 → U (t1 ++ t2)) →
+      (result : Result (Unit {0}) Served) (a b c : K) (first between last : Host D g)
       (P Q R : List LiveStep → List Told → Type 0) →
       ((s1 s2 : List LiveStep) (t1 t2 : List Told) → P s1 t1 → Q s2 t2 → R (s1 ++ s2) (t1 ++ t2)) →
       setup_of between ≡ setup_of first →
-      Part written puts a b (Ok tt) (setup_of first) (StandsFor first) (StandsFor between) P →
-      LivesOn written puts Q result b c between last → LivesOn written puts R result a c first last
-  lives_then (Ok done) a b c first between last P Q R to same h k =
-      part_then written puts a b c (Ok tt) (setup_of first) (StandsFor first) (StandsFor between) (StandsFor last) P Q R to h
-      (subst (λ setup. Part written puts b c (Ok tt) setup (StandsFor between) (StandsFor last) Q) same k)
-  lives_then (Err served.Unwritten) a b c first between last P Q R to same h k = (
+      Part written puts a b (Ok tt) (setup_of first) (StandsSince first) (StandsSince between) S P →
+      LivesOn written puts T Q result b c between last → LivesOn written puts U R result a c first last
+  lives_then S T U links (Ok done) a b c first between last P Q R to same h k =
+      part_then written puts S T U links a b c (Ok tt) (setup_of first) (StandsSince first) (StandsSince between) (StandsSince last) P Q R to h
+      (subst (λ setup. Part written puts b c (Ok tt) setup (StandsSince between) (StandsSince last) T Q) same k)
+  lives_then S T U links (Err served.Unwritten) a b c first between last P Q R to same h k = (
     k.0,
-    part_then written puts a b c (Err k.0) (setup_of first) (StandsFor first) (StandsFor between) (StandsFor last) P
+    part_then written puts S T U links a b c (Err k.0) (setup_of first) (StandsSince first) (StandsSince between) (StandsSince last) P
         (FrontOf Q) (FrontOf R) (front_then P Q R to) h
-        (subst (λ setup. Part written puts b c (Err k.0) setup (StandsFor between) (StandsFor last) (FrontOf Q)) same k.1),
+        (subst (λ setup. Part written puts b c (Err k.0) setup (StandsSince between) (StandsSince last) T (FrontOf Q)) same k.1),
   )
-  lives_then (Err served.Disk) a b c first between last P Q R to same h k =
-      part_then written puts a b c (Ok tt) (setup_of first) (StandsFor first) (StandsFor between) (FailedToPut last) P
+  lives_then S T U links (Err served.Disk) a b c first between last P Q R to same h k =
+      part_then written puts S T U links a b c (Ok tt) (setup_of first) (StandsSince first) (StandsSince between) (FailedSince last) P
       (FrontOf Q) (FrontOf R) (front_then P Q R to) h
-      (subst (λ setup. Part written puts b c (Ok tt) setup (StandsFor between) (FailedToPut last) (FrontOf Q)) same k)
-  lives_then (Err served.Done) a b c first between last P Q R to same h k = absurd k
-  lives_then (Err (served.Refused number kind)) a b c first between last P Q R to same h k = absurd k
-  lives_then (Err served.Unread) a b c first between last P Q R to same h k = absurd k
-  lives_then (Err (served.OtherSize len)) a b c first between last P Q R to same h k = absurd k
-  lives_then (Err served.Alien) a b c first between last P Q R to same h k = absurd k
-  lives_then (Err (served.BadRecord index)) a b c first between last P Q R to same h k = absurd k
+      (subst (λ setup. Part written puts b c (Ok tt) setup (StandsSince between) (FailedSince last) T (FrontOf Q)) same k)
+  lives_then S T U links (Err served.Done) a b c first between last P Q R to same h k = absurd k
+  lives_then S T U links (Err (served.Refused number kind)) a b c first between last P Q R to same h k = absurd k
+  lives_then S T U links (Err served.Unread) a b c first between last P Q R to same h k = absurd k
+  lives_then S T U links (Err (served.OtherSize len)) a b c first between last P Q R to same h k = absurd k
+  lives_then S T U links (Err served.Alien) a b c first between last P Q R to same h k = absurd k
+  lives_then S T U links (Err (served.BadRecord index)) a b c first between last P Q R to same h k = absurd k
 
   -- a life to an end is one by the answer of that
-  pub lives_to : (how : Served) (a b c : K) (first between last : Host D g) (P Q R : List LiveStep → List Told → Type 0) →
+  pub lives_to : (S T U : List Told → Type 0) → ((t1 t2 : List Told) → S t1 → T t2 → U (t1 ++ t2)) → (how : Served)
+      (a b c : K) (first between last : Host D g) (P Q R : List LiveStep → List Told → Type 0) →
       ((s1 s2 : List LiveStep) (t1 t2 : List Told) → P s1 t1 → Q s2 t2 → R (s1 ++ s2) (t1 ++ t2)) →
       setup_of between ≡ setup_of first →
-      Part written puts a b (Ok tt) (setup_of first) (StandsFor first) (StandsFor between) P →
-      LivesTo written puts Q how b c between last → LivesTo written puts R how a c first last
-  lives_to served.Done = lives_then (Ok tt)
-  lives_to (served.Refused number kind) = lives_then (Ok tt)
-  lives_to served.Unread = lives_then (Ok tt)
-  lives_to served.Unwritten = lives_then (Err served.Unwritten)
-  lives_to served.Disk = lives_then (Err served.Disk)
-  lives_to (served.OtherSize len) = lives_then (Err (served.OtherSize len))
-  lives_to served.Alien = lives_then (Err served.Alien)
-  lives_to (served.BadRecord index) = lives_then (Err (served.BadRecord index))
+      Part written puts a b (Ok tt) (setup_of first) (StandsSince first) (StandsSince between) S P →
+      LivesTo written puts T Q how b c between last → LivesTo written puts U R how a c first last
+  lives_to S T U links served.Done = lives_then S T U links (Ok tt)
+  lives_to S T U links (served.Refused number kind) = lives_then S T U links (Ok tt)
+  lives_to S T U links served.Unread = lives_then S T U links (Ok tt)
+  lives_to S T U links served.Unwritten = lives_then S T U links (Err served.Unwritten)
+  lives_to S T U links served.Disk = lives_then S T U links (Err served.Disk)
+  lives_to S T U links (served.OtherSize len) = lives_then S T U links (Err (served.OtherSize len))
+  lives_to S T U links served.Alien = lives_then S T U links (Err served.Alien)
+  lives_to S T U links (served.BadRecord index) = lives_then S T U links (Err (served.BadRecord index))
+
+  -- the same life to an end is also this
+  pub lives_to_weaker : (S : List Told → Type 0) (how : Served) (a b : K) (old new : Host D g)
+      (P Q : List LiveStep → List Told → Type 0) → ((steps : List LiveStep) (told : List Told) → P steps told → Q steps told) →
+      LivesTo written puts S P how a b old new → LivesTo written puts S Q how a b old new
+  lives_to_weaker S served.Done = lives_weaker S (Ok tt)
+  lives_to_weaker S (served.Refused number kind) = lives_weaker S (Ok tt)
+  lives_to_weaker S served.Unread = lives_weaker S (Ok tt)
+  lives_to_weaker S served.Unwritten = lives_weaker S (Err served.Unwritten)
+  lives_to_weaker S served.Disk = lives_weaker S (Err served.Disk)
+  lives_to_weaker S (served.OtherSize len) = lives_weaker S (Err (served.OtherSize len))
+  lives_to_weaker S served.Alien = lives_weaker S (Err served.Alien)
+  lives_to_weaker S (served.BadRecord index) = lives_weaker S (Err (served.BadRecord index))
 
   -- an end that a step brings
-  pub ends_to : (how : Served) (P : List LiveStep → List Told → Type 0) (a b : K) (old new : Host D g) →
-      LivesOn written puts P (Err how) a b old new → LivesTo written puts P how a b old new
-  ends_to served.Unwritten P a b old new h = h
-  ends_to served.Disk P a b old new h = h
-  ends_to served.Done P a b old new h = absurd h
-  ends_to (served.Refused number kind) P a b old new h = absurd h
-  ends_to served.Unread P a b old new h = absurd h
-  ends_to (served.OtherSize len) P a b old new h = absurd h
-  ends_to served.Alien P a b old new h = absurd h
-  ends_to (served.BadRecord index) P a b old new h = absurd h
+  pub ends_to : (S : List Told → Type 0) (how : Served) (P : List LiveStep → List Told → Type 0) (a b : K) (old new : Host D g) →
+      LivesOn written puts S P (Err how) a b old new → LivesTo written puts S P how a b old new
+  ends_to S served.Unwritten P a b old new h = h
+  ends_to S served.Disk P a b old new h = h
+  ends_to S served.Done P a b old new h = absurd h
+  ends_to S (served.Refused number kind) P a b old new h = absurd h
+  ends_to S served.Unread P a b old new h = absurd h
+  ends_to S (served.OtherSize len) P a b old new h = absurd h
+  ends_to S served.Alien P a b old new h = absurd h
+  ends_to S (served.BadRecord index) P a b old new h = absurd h
 
   -- no end that the input brings
-  pub breaks : (how : Served) (P : List LiveStep → List Told → Type 0) (a b : K) (old new : Host D g) →
-      LivesOn written puts P (Err how) a b old new → IsOfInput how → ⊥
-  breaks served.Done P a b old new h is = h
-  breaks (served.Refused number kind) P a b old new h is = h
-  breaks served.Unread P a b old new h is = h
-  breaks served.Unwritten P a b old new h is = is
-  breaks served.Disk P a b old new h is = is
-  breaks (served.OtherSize len) P a b old new h is = is
-  breaks served.Alien P a b old new h is = is
-  breaks (served.BadRecord index) P a b old new h is = is
+  pub breaks : (S : List Told → Type 0) (how : Served) (P : List LiveStep → List Told → Type 0) (a b : K) (old new : Host D g) →
+      LivesOn written puts S P (Err how) a b old new → IsOfInput how → ⊥
+  breaks S served.Done P a b old new h is = h
+  breaks S (served.Refused number kind) P a b old new h is = h
+  breaks S served.Unread P a b old new h is = h
+  breaks S served.Unwritten P a b old new h is = is
+  breaks S served.Disk P a b old new h is = is
+  breaks S (served.OtherSize len) P a b old new h is = is
+  breaks S served.Alien P a b old new h is = is
+  breaks S (served.BadRecord index) P a b old new h is = is
 
   -- an end that the input brings
-  pub stops_to : (how : Served) (P : List LiveStep → List Told → Type 0) (a b : K) (old new : Host D g) → IsOfInput how →
-      LivesOn written puts P (Ok tt) a b old new → LivesTo written puts P how a b old new
-  stops_to served.Done P a b old new is h = h
-  stops_to (served.Refused number kind) P a b old new is h = h
-  stops_to served.Unread P a b old new is h = h
-  stops_to served.Unwritten P a b old new is h = absurd is
-  stops_to served.Disk P a b old new is h = absurd is
-  stops_to (served.OtherSize len) P a b old new is h = absurd is
-  stops_to served.Alien P a b old new is h = absurd is
-  stops_to (served.BadRecord index) P a b old new is h = absurd is
+  pub stops_to : (S : List Told → Type 0) (how : Served) (P : List LiveStep → List Told → Type 0) (a b : K) (old new : Host D g) → IsOfInput how →
+      LivesOn written puts S P (Ok tt) a b old new → LivesTo written puts S P how a b old new
+  stops_to S served.Done P a b old new is h = h
+  stops_to S (served.Refused number kind) P a b old new is h = h
+  stops_to S served.Unread P a b old new is h = h
+  stops_to S served.Unwritten P a b old new is h = absurd is
+  stops_to S served.Disk P a b old new is h = absurd is
+  stops_to S (served.OtherSize len) P a b old new is h = absurd is
+  stops_to S served.Alien P a b old new is h = absurd is
+  stops_to S (served.BadRecord index) P a b old new is h = absurd is
 
 -- no error
 pub no_error : (done : Unit {0}) → IsErr {T = Unit {0}} {E = Failed} (Ok done) → ⊥
@@ -392,26 +508,51 @@ no_disk_fault (Err failed) ends = ends
 -- of a sink with a count of faults
 module _ {K : Type 0} (written : K → Option (List ℕ)) (puts : K → List ℕ → Result (Unit {0}) Failed → K → Type 0)
     (faults : K → ℕ) {D : Type 0} {g : Ghosts D} where
-  pub acts_weaker : (result : Result (Unit {0}) Served) (a b : K) (old new : Host D g)
+  pub acts_weaker : {S : List Told → Type 0} (result : Result (Unit {0}) Served) (a b : K) (old new : Host D g)
       (P Q : List LiveStep → List Told → Type 0) → ((steps : List LiveStep) (told : List Told) → P steps told → Q steps told) →
-      Acts written puts faults P result a b old new → Acts written puts faults Q result a b old new
-  acts_weaker result a b old new P Q to h = record {
+      Acts written puts faults S P result a b old new → Acts written puts faults S Q result a b old new
+  acts_weaker {S} result a b old new P Q to h = record {
     whole = h.whole;
     setup = h.setup;
-    lives = lives_weaker written puts result a b old new P Q to h.lives;
+    lives = lives_weaker written puts S result a b old new P Q to h.lives;
     sink = h.sink;
     disk = h.disk;
   }
 
-  pub acts_then : (result : Result (Unit {0}) Served) (a b c : K) (first between last : Host D g)
+  pub acts_front : {S : List Told → Type 0} (how : Served) (a b : K) (old new : Host D g)
+      (P Q : List LiveStep → List Told → Type 0) →
+      ((steps : List LiveStep) (told : List Told) → P steps told → FrontOf Q steps told) →
+      Acts written puts faults S P (Err how) a b old new → Acts written puts faults S Q (Err how) a b old new
+  acts_front {S} how a b old new P Q to h = record {
+    whole = h.whole;
+    setup = h.setup;
+    lives = lives_front written puts S how a b old new P Q to h.lives;
+    sink = h.sink;
+    disk = h.disk;
+  }
+
+  -- it is so linked, too
+  pub acts_linked : (S T : List Told → Type 0) → ((told : List Told) → S told → T told) →
+      (result : Result (Unit {0}) Served) (a b : K) (old new : Host D g) (P : List LiveStep → List Told → Type 0) →
+      Acts written puts faults S P result a b old new → Acts written puts faults T P result a b old new
+  acts_linked S T links result a b old new P h = record {
+    whole = h.whole;
+    setup = h.setup;
+    lives = lives_linked written puts S T links result a b old new P h.lives;
+    sink = h.sink;
+    disk = h.disk;
+  }
+
+  pub acts_then : (S T U : List Told → Type 0) → ((t1 t2 : List Told) → S t1 → T t2 → U (t1 ++ t2)) →
+      (result : Result (Unit {0}) Served) (a b c : K) (first between last : Host D g)
       (P Q R : List LiveStep → List Told → Type 0) →
       ((s1 s2 : List LiveStep) (t1 t2 : List Told) → P s1 t1 → Q s2 t2 → R (s1 ++ s2) (t1 ++ t2)) →
-      Acts written puts faults P (Ok tt) a b first between → Acts written puts faults Q result b c between last →
-      Acts written puts faults R result a c first last
-  acts_then result a b c first between last P Q R to h k = record {
+      Acts written puts faults S P (Ok tt) a b first between → Acts written puts faults T Q result b c between last →
+      Acts written puts faults U R result a c first last
+  acts_then S T U links result a b c first between last P Q R to h k = record {
     whole = k.whole;
     setup = k.setup ∙ h.setup;
-    lives = lives_then written puts result a b c first between last P Q R to h.setup h.lives k.lives;
+    lives = lives_then written puts S T U links result a b c first between last P Q R to h.setup h.lives k.lives;
     sink = serves_then written faults a b c ⊥ (EndsBy IsUnwritten result) h.sink k.sink
         (EndsBy IsUnwritten result) (λ fails. inr fails);
     disk = disk_then g.size g.honest g.seen g.cuts g.faults (disk_of first) (disk_of between) (disk_of last)
@@ -420,100 +561,106 @@ module _ {K : Type 0} (written : K → Option (List ℕ)) (puts : K → List ℕ
   }
 
   -- nothing is done and told
-  pub acts_none : (a : K) (host : Host D g) (P : List LiveStep → List Told → Type 0) → has_failed host ≡ false → P [] [] →
-      Acts written puts faults P (Ok tt) a a host host
-  acts_none a host P whole is = record {
+  pub acts_none : (S : List Told → Type 0) → S [] → (a : K) (host : Host D g) (P : List LiveStep → List Told → Type 0) →
+      has_failed host ≡ false → P [] [] → Acts written puts faults S P (Ok tt) a a host host
+  acts_none S linked a host P whole is = record {
     whole = whole;
     setup = refl;
     lives = record {
       steps = [];
       told = [];
       wrote = told_none written puts a;
-      goes = goes_none (setup_of host) (StandsFor host) (StandsFor host) [] refl (λ past is. is);
+      goes = goes_none (setup_of host) (StandsSince host) (StandsSince host) [] refl (λ given found past is. is);
       does = is;
+      linked = linked;
     };
     sink = serves_none written faults a ⊥ (λ fails. fails);
     disk = disk_none g.size g.honest g.seen g.cuts g.faults (disk_of host) ⊥ (λ fails. fails);
   }
 
-  lives_written : (answer : Result (Unit {0}) Failed) (a b : K) (old new : Host D g)
+  lives_written : (S : List Told → Type 0) (answer : Result (Unit {0}) Failed) (a b : K) (old new : Host D g)
       (P : List LiveStep → List Told → Type 0) →
-      Part written puts a b answer (setup_of old) (StandsFor old) (StandsFor new) P →
-      LivesOn written puts P (by_writing answer) a b old new
-  lives_written (Ok done) a b old new P h = h
-  lives_written (Err failed) a b old new P h = (
+      Part written puts a b answer (setup_of old) (StandsSince old) (StandsSince new) S P →
+      LivesOn written puts S P (by_writing answer) a b old new
+  lives_written S (Ok done) a b old new P h = h
+  lives_written S (Err failed) a b old new P h = (
     failed,
-    part_weaker written puts a b (Err failed) (setup_of old) (StandsFor old) (StandsFor new) P (FrontOf P)
+    part_weaker written puts S a b (Err failed) (setup_of old) (StandsSince old) (StandsSince new) P (FrontOf P)
         (front_whole P) h,
   )
 
   -- a part of a life, by how it was written
-  pub acts_written : (answer : Result (Unit {0}) Failed) (a b : K) (old new : Host D g)
+  acts_written : (S : List Told → Type 0) (answer : Result (Unit {0}) Failed) (a b : K) (old new : Host D g)
       (P : List LiveStep → List Told → Type 0) →
-      Part written puts a b answer (setup_of old) (StandsFor old) (StandsFor new) P → has_failed new ≡ false →
+      Part written puts a b answer (setup_of old) (StandsSince old) (StandsSince new) S P → has_failed new ≡ false →
       setup_of new ≡ setup_of old → Serves written faults a b (IsErr answer) →
       DiskServes g.size g.honest g.seen g.cuts g.faults (disk_of old) (disk_of new) ⊥ →
-      Acts written puts faults P (by_writing answer) a b old new
-  acts_written answer a b old new P part whole same sink disk = record {
+      Acts written puts faults S P (by_writing answer) a b old new
+  acts_written S answer a b old new P part whole same sink disk = record {
     whole = whole_written answer (has_failed new ≡ false) whole;
     setup = same;
-    lives = lives_written answer a b old new P part;
+    lives = lives_written S answer a b old new P part;
     sink = serves_weaker written faults a b (IsErr answer) (EndsBy IsUnwritten (by_writing answer)) (unwritten answer) sink;
     disk = disk_weaker g.size g.honest g.seen g.cuts g.faults (disk_of old) (disk_of new) ⊥
         (EndsBy IsDiskFault (by_writing answer)) (no_disk_fault answer) disk;
   }
 
   -- lines that tell no entry
-  pub acts_told : (answer : Result (Unit {0}) Failed) (a b : K) (host : Host D g) (told : List Told)
-      (P : List LiveStep → List Told → Type 0) → news_of told ≡ [] → WritesTold written puts a told answer b →
-      has_failed host ≡ false → Serves written faults a b (IsErr answer) → P [] told →
-      Acts written puts faults P (by_writing answer) a b host host
-  acts_told answer a b host told P none wrote whole sink is =
-      acts_written answer a b host host P
+  pub acts_told : (S : List Told → Type 0) (answer : Result (Unit {0}) Failed) (a b : K) (host : Host D g)
+      (told : List Told) → S told → (P : List LiveStep → List Told → Type 0) → news_of told ≡ [] →
+      WritesTold written puts a told answer b → has_failed host ≡ false → Serves written faults a b (IsErr answer) →
+      P [] told → Acts written puts faults S P (by_writing answer) a b host host
+  acts_told S answer a b host told linked P none wrote whole sink is =
+      acts_written S answer a b host host P
       (record {
         steps = [];
         told = told;
         wrote = wrote;
-        goes = goes_none (setup_of host) (StandsFor host) (StandsFor host) told none (λ past is. is);
+        goes = goes_none (setup_of host) (StandsSince host) (StandsSince host) told none (λ given found past is. is);
         does = is;
+        linked = linked;
       })
       whole refl sink
       (disk_none g.size g.honest g.seen g.cuts g.faults (disk_of host) ⊥ (λ fails. fails))
 
   -- one line that tells no entry
-  pub acts_line : (answer : Result (Unit {0}) Failed) (a b : K) (host : Host D g) (what : Told) → news_of (what ∷ []) ≡ [] →
-      PutsLine written puts a (told_line what) answer b → has_failed host ≡ false →
-      Serves written faults a b (IsErr answer) → Acts written puts faults (Tells what) (by_writing answer) a b host host
-  acts_line answer a b host what none line whole sink =
-      acts_told answer a b host (what ∷ []) (Tells what) none (told_one written puts a b what answer line) whole sink
+  pub acts_line : (S : List Told → Type 0) (answer : Result (Unit {0}) Failed) (a b : K) (host : Host D g) (what : Told) →
+      S (what ∷ []) → news_of (what ∷ []) ≡ [] → PutsLine written puts a (told_line what) answer b →
+      has_failed host ≡ false → Serves written faults a b (IsErr answer) →
+      Acts written puts faults S (Tells what) (by_writing answer) a b host host
+  acts_line S answer a b host what linked none line whole sink =
+      acts_told S answer a b host (what ∷ []) linked (Tells what) none (told_one written puts a b what answer line) whole sink
       (refl, refl)
 
   -- a step, and its entries
-  pub acts_step : (answer : Result (Unit {0}) Failed) (a b : K) (old new : Host D g) (s : LiveStep) (told : List Told)
-      (P : List LiveStep → List Told → Type 0) → WritesTold written puts a told answer b →
-      LifeGoes (setup_of old) (StandsFor old) (s ∷ []) told (StandsFor new) → P (s ∷ []) told → has_failed new ≡ false →
+  pub acts_step : (S : List Told → Type 0) (answer : Result (Unit {0}) Failed) (a b : K) (old new : Host D g)
+      (s : LiveStep) (told : List Told) → S told → (P : List LiveStep → List Told → Type 0) →
+      WritesTold written puts a told answer b →
+      LifeGoes (setup_of old) (StandsSince old) (s ∷ []) told (StandsSince new) → P (s ∷ []) told → has_failed new ≡ false →
       setup_of new ≡ setup_of old → Serves written faults a b (IsErr answer) →
       DiskServes g.size g.honest g.seen g.cuts g.faults (disk_of old) (disk_of new) ⊥ →
-      Acts written puts faults P (by_writing answer) a b old new
-  acts_step answer a b old new s told P wrote goes is whole same sink disk =
-      acts_written answer a b old new P
-      (record { steps = s ∷ []; told = told; wrote = wrote; goes = goes; does = is }) whole same sink disk
+      Acts written puts faults S P (by_writing answer) a b old new
+  acts_step S answer a b old new s told linked P wrote goes is whole same sink disk =
+      acts_written S answer a b old new P
+      (record { steps = s ∷ []; told = told; wrote = wrote; goes = goes; does = is; linked = linked }) whole same sink disk
 
   -- a put that failed
-  pub acts_broke : (a : K) (before after : Host D g) (addr : ℕ) (P : List LiveStep → List Told → Type 0) →
-      setup_of after ≡ setup_of before → Fails before after addr →
+  pub acts_broke : (S : List Told → Type 0) → S [] → (a : K) (before after : Host D g) (addr : ℕ)
+      (P : List LiveStep → List Told → Type 0) →
+      setup_of after ≡ setup_of before → Fails before after addr → FailsBetween before after addr →
       DiskServes g.size g.honest g.seen g.cuts g.faults (disk_of before) (disk_of after) ⊤ → FrontOf P [] [] →
-      Acts written puts faults P (Err served.Disk) a a before after
-  acts_broke a before after addr P same fails disk is = record {
+      Acts written puts faults S P (Err served.Disk) a a before after
+  acts_broke S linked a before after addr P same fails between disk is = record {
     whole = tt;
     setup = same;
     lives = record {
       steps = [];
       told = [];
       wrote = told_none written puts a;
-      goes = goes_none (setup_of before) (StandsFor before) (FailedToPut after) [] refl
-          (put_failed before after addr same fails disk.goes_on);
+      goes = goes_none (setup_of before) (StandsSince before) (FailedSince after) [] refl
+          (put_failed before after addr same fails between disk.goes_on);
       does = is;
+      linked = linked;
     };
     sink = serves_none written faults a ⊥ (λ fails. fails);
     disk = disk;

@@ -110,6 +110,7 @@ module _ (number : ℕ) (held kept : List ℕ) (left now : Option (List ℕ)) wh
   comes_said line (Ok says.Poll) is gives = comes_text line (Ok says.Poll) is gives
   comes_said line (Ok says.Balance) is gives = comes_text line (Ok says.Balance) is gives
   comes_said line (Ok says.Status) is gives = comes_text line (Ok says.Status) is gives
+  comes_said line (Ok (says.Order id)) is gives = comes_text line (Ok (says.Order id)) is gives
   comes_said line (Err why) is gives = comes_text line (Err why) is gives
 
   -- no line any more
@@ -132,6 +133,7 @@ said_sayable (Ok (says.Do addr)) is = tt
 said_sayable (Ok says.Poll) is = tt
 said_sayable (Ok says.Balance) is = tt
 said_sayable (Ok says.Status) is = tt
+said_sayable (Ok (says.Order id)) is = tt
 said_sayable (Err why) is = tt
 
 pub said_ends : (said : Said) → IfErr (unless_end said) IsOfInput
@@ -142,6 +144,7 @@ said_ends (Ok (says.Do addr)) = tt
 said_ends (Ok says.Poll) = tt
 said_ends (Ok says.Balance) = tt
 said_ends (Ok says.Status) = tt
+said_ends (Ok (says.Order id)) = tt
 said_ends (Err why) = tt
 
 pub said_not_unread : (said : Said) → EndsBy IsUnread (unless_end said) → ⊥
@@ -152,6 +155,7 @@ said_not_unread (Ok (says.Do addr)) is = is
 said_not_unread (Ok says.Poll) is = is
 said_not_unread (Ok says.Balance) is = is
 said_not_unread (Ok says.Status) is = is
+said_not_unread (Ok (says.Order id)) is = is
 said_not_unread (Err why) is = is
 
 pub stopped_ends : (number : ℕ) (why : LinesNo) → IsOfInput (stopped_by number why)
@@ -220,6 +224,16 @@ said_broken how first now held lines other has = record {
   all = λ bytes told.
       let before = has bytes told in
       (held ++ before.0, before.2, breaks_ends how (length lines) (held ++ before.0) other);
+}
+
+-- what was said up to the end is said still where something else ends the service then
+pub said_ended : (how : Served) (first : Option (List ℕ)) (lines : List Said) → (IsOfInput how → ⊥) →
+    Says first lines served.Done → Says first lines how
+said_ended how first lines other says = record {
+  numbered = breaks_numbered how (length lines) other;
+  all = λ bytes told.
+      let before = says.all bytes told in
+      (before.0, before.1, breaks_ends how (length lines) before.0 other);
 }
 
 -- so many lines were said that no number is left

@@ -1,19 +1,23 @@
 -- What writing does to a sink, one part of what is told after another.
-use Rattle.std.proofs.Common.{◌≡◌, ℕ, List, [], ◌∷◌, ◌++◌, map, reverse, Bool, true, false, Option, Result}
+use Rattle.std.proofs.Common.{◌≡◌, ◌≤◌, ◌-◌, ℕ, zero, suc, take, drop, get_or, length, arith, List, [], ◌∷◌, ◌++◌, map, reverse, Bool, true, false, Option, Some, None, Result}
 use Rattle.std.proofs.Common.{Ok, Err, refl, ap, sym, ◌∙◌, subst, append_assoc, inl, inr}
 use Rattle.std.specs.Prelude.{OnOk, OnErr, MatchResult}
 use Rattle.std.specs.Io.KnownBytes.{Appends}
+use Rattle.std.specs.List.{All}
+use Rattle.std.specs.Option.{IfSome, option_to_list}
 use Rattle.std.proofs.lemmas.List.{append-nil, map-append, reverse-append, reverse-reverse}
 use Rattle.std.proofs.lemmas.List.Concat.{flat_map-append}
-use Rattle.std.proofs.lemmas.List.Elements.{All-nil, All-push}
+use Rattle.std.proofs.lemmas.List.Elements.{All-append, All-cons, All-nil}
 use Rattle.cct_edge.specs.Bytes.{AppendsFront}
 use Rattle.cct_edge.specs.declared.fault.Failed.{Failed}
 use Rattle.cct_edge.proofs.Chains.{Appends-nil, Appends-trans, Appends-then_front}
 use Rattle.cct_model.specs.lines.entry.Entry.{Entry}
+use Rattle.cct_model.specs.lines.entry.Entry.TheVariants as entry_of
 use Rattle.cct_model.specs.Text.{line_of, text}
 use Rattle.cct_text.specs.Writing.{Puts, PutsLine, Writes}
 use Rattle.cct_service.specs.declared.notice.Notice.{Notice}
-use Rattle.cct_service.specs.Told.{IsOfStatus, TellsNotice, TellsStatus, Told, WritesTold, as_told, entry, fault_told, last, news_of, notice, refused, told_line, told_text}
+use Rattle.cct_service.specs.Notice.{notice_line}
+use Rattle.cct_service.specs.Told.{IsOfStatus, TellsStatus, Told, WritesTold, as_told, attempt_told, entry, finding, last, maybe_told, news_of, notice, notices_told, refused, told_line, told_text, told_unsent, unheard, unsent}
 
 -- the news of what is told first and then
 pub news_then : (first then : List Told) → news_of (first ++ then) ≡ news_of then ++ news_of first
@@ -21,7 +25,11 @@ news_then [] then = sym (append-nil (news_of then))
 news_then (entry e ∷ first) then =
     ap (λ news. news ++ e ∷ []) (news_then first then) ∙ append_assoc (news_of then) (news_of first) (e ∷ [])
 news_then (refused number why ∷ first) then = news_then first then
+news_then (unsent addr sent ∷ first) then =
+    ap (λ news. news ++ entry_of.Wire addr sent [] ∷ []) (news_then first then)
+    ∙ append_assoc (news_of then) (news_of first) (entry_of.Wire addr sent [] ∷ [])
 news_then (notice n ∷ first) then = news_then first then
+news_then (finding f ∷ first) then = news_then first then
 news_then (last e ∷ first) then = news_then first then
 
 -- entries that are told as they are
@@ -38,17 +46,54 @@ text_as : (entries : List Entry) → told_text (as_told entries) ≡ text entrie
 text_as [] = refl
 text_as (e ∷ entries) = ap (λ bytes. line_of e ++ bytes) (text_as entries)
 
--- the news of a `next`, behind which perhaps the port is told as failing
-pub news_next : (news : List Entry) (failed : Bool) → news_of (as_told (reverse news) ++ fault_told failed) ≡ news
-news_next news false =
-    ap news_of (append-nil (as_told (reverse news))) ∙ news_as (reverse news) ∙ reverse-reverse news
-news_next news true =
-    news_then (as_told (reverse news)) (fault_told true) ∙ news_as (reverse news) ∙ reverse-reverse news
-
 -- notices aren't news
-pub news_notices : (notices : List Notice) → news_of (map (λ n. notice n) notices) ≡ []
+pub news_notices : (notices : List Notice) → news_of (notices_told notices) ≡ []
 news_notices [] = refl
 news_notices (n ∷ notices) = news_notices notices
+
+rest_whole : (n : ℕ) (entries : List Entry) → length entries ≤ n → take n entries ≡ entries
+rest_whole zero [] few = refl
+rest_whole zero (e ∷ entries) few = absurd (never (length entries) few)
+  where
+    never : (m : ℕ) → suc m ≤ 0 → ⊥
+    never m le = omega (arith, le)
+rest_whole (suc n) [] few = refl
+rest_whole (suc n) (e ∷ entries) few = ap (λ es. e ∷ es) (rest_whole n entries (less (length entries) few))
+  where
+    less : (m : ℕ) → suc m ≤ suc n → m ≤ n
+    less m le = omega (arith, le)
+
+-- the first of some entries, and the others
+pub first_apart : (entries : List Entry) (first : Entry) → 1 ≤ length entries → first ≡ get_or entries 0 first →
+    entries ≡ first ∷ take (length entries - 1) (drop 1 entries)
+first_apart [] first some is = absurd (never some)
+  where
+    never : 1 ≤ 0 → ⊥
+    never le = omega (arith, le)
+first_apart (e ∷ entries) first some is =
+    let rest : take (suc (length entries) - 1) entries ≡ entries =
+    rest_whole (suc (length entries) - 1) entries (omega arith) in
+    ap (λ x. x ∷ entries) (sym is) ∙ ap (λ es. first ∷ es) (sym rest)
+
+-- an entry is its own news, also where it is told as unsent
+news_unsent : (e : Entry) (told : List Told) → news_of (told_unsent e (unheard e) ∷ told) ≡ news_of told ++ e ∷ []
+news_unsent (entry_of.Wire addr sent []) told = refl
+news_unsent (entry_of.Wire addr sent (byte ∷ heard)) told = refl
+news_unsent e told = refl
+
+-- the entries of an attempt, however they are told
+news_attempt : (is_sent : Bool) (entries : List Entry) → news_of (attempt_told is_sent entries) ≡ reverse entries
+news_attempt true entries = news_as entries
+news_attempt false [] = refl
+news_attempt false (e ∷ entries) = news_unsent e (as_told entries) ∙ news_as (e ∷ entries)
+
+-- the news of a `next`, after which notices are told
+pub news_next : (news : List Entry) (is_sent : Bool) (notices : List Notice) →
+    news_of (attempt_told is_sent (reverse news) ++ notices_told notices) ≡ news
+news_next news is_sent notices =
+    news_then (attempt_told is_sent (reverse news)) (notices_told notices)
+    ∙ ap (λ more. more ++ news_of (attempt_told is_sent (reverse news))) (news_notices notices)
+    ∙ news_attempt is_sent (reverse news) ∙ reverse-reverse news
 
 module _ {K : Type 0} (written : K → Option (List ℕ)) (puts : K → List ℕ → Result (Unit {0}) Failed → K → Type 0) where
   -- some puts, and then more
@@ -108,26 +153,70 @@ module _ {K : Type 0} (written : K → Option (List ℕ)) (puts : K → List ℕ
         (bytes_one (written a) (written b) (told_line x) result put.ok put.err);
   }
 
-  -- entries, and nothing behind them
-  pub told_alone : (a b : K) (entries : List Entry) (result : Result (Unit {0}) Failed) →
-      Writes written puts a entries result b → WritesTold written puts a (as_told entries ++ fault_told false) result b
-  told_alone a b entries result h =
-      subst (λ told. WritesTold written puts a told result b) (sym (append-nil (as_told entries)))
-      (told_entries a b entries result h)
+  -- a line whose put failed, before others
+  pub told_cut : (a b : K) (x : Told) (more : List Told) (failed : Failed) →
+      PutsLine written puts a (told_line x) (Err failed) b → WritesTold written puts a (x ∷ more) (Err failed) b
+  told_cut a b x more failed put = record {
+    put = inr (failed, refl, put.one);
+    bytes = (
+      put.err.0,
+      put.err.1 ++ told_text more,
+      ap (λ bytes. bytes ++ told_text more) put.err.2 ∙ append_assoc put.err.0 put.err.1 (told_text more),
+      put.err.3,
+    );
+  }
+
+  -- entries, and no notice after them
+  pub told_alone : (a b : K) (told : List Told) (result : Result (Unit {0}) Failed) →
+      WritesTold written puts a told result b → WritesTold written puts a (told ++ notices_told []) result b
+  told_alone a b told result h = subst (λ all. WritesTold written puts a all result b) (sym (append-nil told)) h
+
+  -- and one notice or none after them
+  pub told_maybe : (a b c : K) (told : List Told) (n : Option Notice) (result : Result (Unit {0}) Failed) →
+      WritesTold written puts a told (Ok tt) b → WritesTold written puts b (maybe_told n) result c →
+      WritesTold written puts a (told ++ notices_told (option_to_list n)) result c
+  told_maybe a b c told n result h k = told_then a b c told (maybe_told n) result h k
+
+  -- and another one
+  pub told_two : (a b c : K) (told : List Told) (first second : Option Notice) (result : Result (Unit {0}) Failed) →
+      WritesTold written puts a (told ++ notices_told (option_to_list first)) (Ok tt) b →
+      WritesTold written puts b (maybe_told second) result c →
+      WritesTold written puts a (told ++ notices_told (option_to_list first ++ option_to_list second)) result c
+  told_two a b c told first second result h k =
+      let one = option_to_list first in
+      let two = option_to_list second in
+      subst (λ all. WritesTold written puts a all result c)
+      (append_assoc told (notices_told one) (notices_told two)
+      ∙ ap (λ more. told ++ more) (sym (map-append (λ n. notice n) one two)))
+      (told_then a b c (told ++ notices_told one) (maybe_told second) result h k)
+
+-- what holds of a notice, if there is one
+pub all_maybe : (P : Notice → Type 0) (n : Option Notice) → IfSome n P → All P (option_to_list n)
+all_maybe P None h = All-nil P
+all_maybe P (Some n) h = All-cons P n [] h (All-nil P)
 
 -- how a host stands is told, of nothing yet
 pub status_none : {K : Type 0} (written : K → Option (List ℕ)) (puts : K → List ℕ → Result (Unit {0}) Failed → K → Type 0)
     (a : K) → TellsStatus written puts a (Ok tt) a
 status_none written puts a = ([], All-nil IsOfStatus, told_none written puts a)
 
--- and of one thing more
-pub status_more : {K : Type 0} (written : K → Option (List ℕ)) (puts : K → List ℕ → Result (Unit {0}) Failed → K → Type 0)
+-- one thing of it
+pub status_one : {K : Type 0} (written : K → Option (List ℕ)) (puts : K → List ℕ → Result (Unit {0}) Failed → K → Type 0)
+    (a b : K) (n : Notice) (answer : Result (Unit {0}) Failed) → IsOfStatus n →
+    PutsLine written puts a (notice_line n) answer b → TellsStatus written puts a answer b
+status_one written puts a b n answer is put = (
+  n ∷ [],
+  All-cons IsOfStatus n [] is (All-nil IsOfStatus),
+  told_one written puts a b (notice n) answer put,
+)
+
+-- and more
+pub status_then : {K : Type 0} (written : K → Option (List ℕ)) (puts : K → List ℕ → Result (Unit {0}) Failed → K → Type 0)
     (a b c : K) (answer : Result (Unit {0}) Failed) → TellsStatus written puts a (Ok tt) b →
-    TellsNotice IsOfStatus written puts b answer c → TellsStatus written puts a answer c
-status_more written puts a b c answer h k = (
-  h.0 ++ k.0 ∷ [],
-  All-push IsOfStatus h.0 k.0 h.1 k.1,
-  subst (λ told. WritesTold written puts a told answer c) (sym (map-append (λ n. notice n) h.0 (k.0 ∷ [])))
-      (told_then written puts a b c (map (λ n. notice n) h.0) (notice k.0 ∷ []) answer h.2
-      (told_one written puts b c (notice k.0) answer k.2)),
+    TellsStatus written puts b answer c → TellsStatus written puts a answer c
+status_then written puts a b c answer h k = (
+  h.0 ++ k.0,
+  All-append IsOfStatus h.0 k.0 h.1 k.1,
+  subst (λ told. WritesTold written puts a told answer c) (sym (map-append (λ n. notice n) h.0 k.0))
+      (told_then written puts a b c (notices_told h.0) (notices_told k.0) answer h.2 k.2),
 )

@@ -2,12 +2,15 @@
 use Rattle.std.specs.Prelude.{◌≡◌, ◌≢◌, ◌⊎◌, ℕ, Bool, true, false, List, Option, Some, Result, Ok, Err, ⊤}
 use Rattle.cct_edge.specs.Faults.{Caused}
 use Rattle.cct_model.specs.terms.device.Setup.{Setup}
-use Rattle.cct_disk.specs.Disk.{GoesOn, OnlyReads}
+use Rattle.cct_model.specs.lines.carry.Carry.{Carry}
+use Rattle.cct_model.specs.lines.record.Record.{Record}
+use Rattle.cct_disk.specs.Disk.{GoesOn, Holds, LeavesOnly, OnlyReads}
 use Rattle.cct_disk.specs.declared.disk.Disk.{Ghosts}
 use Rattle.cct_disk.specs.declared.file.TheConstants.{MADE_LEN}
-use Rattle.cct_journal.specs.Creating.{RefusesCreate}
-use Rattle.cct_journal.specs.Image.{IsAlien, IsBadAt, IsFirstByteFrom}
+use Rattle.cct_journal.specs.Creating.{IsCreated, RefusesCreate}
+use Rattle.cct_journal.specs.Image.{IsAlien, IsBadAt, IsBlank, IsFirstByteFrom}
 use Rattle.cct_journal.specs.Opening.{Finds}
+use Rattle.cct_journal.specs.Stands.{Settled}
 use Rattle.cct_journal.specs.declared.refusal.CreateNo.{CreateNo}
 use Rattle.cct_journal.specs.declared.refusal.CreateNo.TheVariants as making
 use Rattle.cct_journal.specs.declared.journal.Journal.{Journal}
@@ -89,9 +92,15 @@ module _ {D : Type 0} (size : D → ℕ) (honest : D → Bool) (seen : D → Opt
     pub serves : DiskServes size honest seen cuts faults given back (why ≡ making.Disk)
 
 module _ {D : Type 0} {g : Ghosts D} where
-  -- A journal stands on a disk, which was only read; or it was made there, and has no record.
+  -- A journal stands on a disk, which was only read, and has just what the disk keeps; or it was made there, where no byte but
+  -- 0 was, and has no record. Then each power cut might have left what stood there, no journal, or this one.
   abbrev pub WasOpened : D → Journal D g → Bool → Type 0
   WasOpened disk journal true =
       Finds g.seen disk (journals.disk_of journal) (journals.place_of journal)
       × OnlyReads g.size g.honest g.seen g.may_leave g.moment g.left_since g.cuts disk (journals.disk_of journal)
-  WasOpened disk journal false = journals.used_of journal ≡ 0
+      × ((of : List Record → Carry) (rs : List Record) → Settled of g.honest g.seen g.may_leave disk rs
+      → journals.JournalStands of journal rs)
+  WasOpened disk journal false =
+      (journals.used_of journal ≡ 0) × ((image : List ℕ) → g.seen disk ≡ Some image → IsBlank image)
+      × ((image : List ℕ) → Holds g.honest g.seen g.may_leave disk image
+      → LeavesOnly g.moment g.left_since disk (journals.disk_of journal) (IsCreated image))

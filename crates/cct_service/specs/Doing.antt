@@ -1,23 +1,29 @@
 -- What a host does for each line of its input, and what is told of it.
-use Rattle.std.specs.Prelude.{◌≡◌, ◌≤◌, ℕ, suc, Bool, if◌then◌else◌, List, [], ◌∷◌, ◌++◌, length, Option, Some, None, Ok, Err, ⊤}
+use Rattle.std.specs.Prelude.{◌≡◌, ◌≤◌, ◌⊎◌, ℕ, zero, suc, Bool, List, [], ◌∷◌, ◌++◌, length, Option, Some, None, Ok, Err}
 use Rattle.std.specs.List.{All}
 use Rattle.cct_model.specs.lines.command.Command.{Command}
 use Rattle.cct_model.specs.lines.command.Command.TheVariants as command
-use Rattle.cct_model.specs.lines.device_set.DeviceSet.{DeviceSet}
 use Rattle.cct_model.specs.lines.entry.Entry.{Entry}
-use Rattle.cct_model.specs.DeviceSet.{has}
 use Rattle.cct_script.specs.declared.live.LiveLine.{LiveLine}
 use Rattle.cct_script.specs.declared.live.LiveLine.TheVariants as says
+use Rattle.cct_survey.specs.declared.finding.Finding.{Finding}
+use Rattle.cct_survey.specs.declared.withholding.Withheld.{Withheld}
+use Rattle.cct_survey.specs.Finding.{withheld_by}
 use Rattle.cct_lives.specs.LiveStep.{LiveStep}
 use Rattle.cct_lives.specs.LiveStep as live
-use Rattle.cct_service.specs.declared.play.TheConstants.{MOST_ATTEMPTS}
+use Rattle.cct_service.specs.declared.attempts.TheConstants.{MOST_ATTEMPTS}
 use Rattle.cct_service.specs.declared.notice.Notice.{Notice}
 use Rattle.cct_service.specs.declared.notice.Notice.TheVariants as notice_of
+use Rattle.cct_service.specs.declared.outside.OrderTold.{OrderTold}
+use Rattle.cct_service.specs.declared.stopping.AtEnd.{AtEnd}
+use Rattle.cct_service.specs.declared.stopping.AtEnd.TheVariants as at_end
+use Rattle.cct_service.specs.Held.{IsAfter}
 use Rattle.cct_service.specs.Said.{Said}
-use Rattle.cct_service.specs.Told.{AreOfStatus, IsOfAttempt, IsOpening, Told, entry, notice, refused}
+use Rattle.cct_service.specs.Told.{AreOfStatus, Told, attempt_told, entry, findings_in, found_told, notice, notices_told, refused}
 
--- One thing is done and told, and then the other.
-pub record Then (First Next : List LiveStep → List Told → Type 0) (steps : List LiveStep) (told : List Told) : Type 0 where
+-- One thing is done and told, and then another one, which goes by what was told.
+pub record ThenBy (First : List LiveStep → List Told → Type 0) (Next : List Told → List LiveStep → List Told → Type 0)
+    (steps : List LiveStep) (told : List Told) : Type 0 where
   pub before : List LiveStep
   pub after : List LiveStep
   pub said : List Told
@@ -25,7 +31,12 @@ pub record Then (First Next : List LiveStep → List Told → Type 0) (steps : L
   pub steps_are : steps ≡ before ++ after
   pub told_is : told ≡ said ++ added
   pub first : First before said
-  pub next : Next after added
+  pub next : Next said after added
+
+-- One thing is done and told, and then the other.
+abbrev pub Then : (List LiveStep → List Told → Type 0) → (List LiveStep → List Told → Type 0) → List LiveStep → List Told
+    → Type 0
+Then First Next = ThenBy First (λ said. Next)
 
 -- It is done and told up to where it broke off.
 pub record FrontOf (Whole : List LiveStep → List Told → Type 0) (steps : List LiveStep) (told : List Told) : Type 0 where
@@ -49,62 +60,112 @@ Tells what steps told = (steps ≡ []) × (told ≡ what ∷ [])
 abbrev pub IsStatus : List LiveStep → List Told → Type 0
 IsStatus steps told = (steps ≡ []) × AreOfStatus told
 
+-- It is done and told so many times in a row.
+abbrev pub Times : ℕ → (List LiveStep → List Told → Type 0) → List LiveStep → List Told → Type 0
+Times zero Each = IsNothing
+Times (suc n) Each = Then (Times n Each) Each
+
+-- It is done and told any number of times in a row.
+abbrev pub Many : (List LiveStep → List Told → Type 0) → List LiveStep → List Told → Type 0
+Many Each steps told = (n : ℕ) × Times n Each steps told
+
+-- What is told of an attempt, whose message was written or not, where it made an exchange: its entries, and notices that the
+-- exchange bears out, which failed or not.
+abbrev pub TellsAttempt : Bool → List Told → Type 0
+TellsAttempt is_sent told =
+    (entries : List Entry) × (notices : List Notice) × ((has_failed : Bool) × All (IsAfter has_failed entries) notices)
+    × (told ≡ attempt_told is_sent entries ++ notices_told notices)
+
+-- The job at an address makes one attempt, whose message was written or not, where it made an exchange.
+abbrev pub IsAttemptSent : Bool → ℕ → List LiveStep → List Told → Type 0
+IsAttemptSent is_sent addr steps told = (steps ≡ live.next addr ∷ []) × TellsAttempt is_sent told
+
 -- The job at an address makes one attempt.
 abbrev pub IsAttempt : ℕ → List LiveStep → List Told → Type 0
-IsAttempt addr steps told = (steps ≡ live.next addr ∷ []) × All IsOfAttempt told
+IsAttempt addr steps told = (is_sent : Bool) × IsAttemptSent is_sent addr steps told
 
 -- The job at an address makes so many attempts at most.
-pub record AreAttempts (addr most : ℕ) (steps : List LiveStep) (told : List Told) : Type 0 where
-  pub all : All (λ s. s ≡ live.next addr) steps
-  pub few : length steps ≤ most
-  pub plain : All IsOfAttempt told
+abbrev pub AreAttempts : ℕ → ℕ → List LiveStep → List Told → Type 0
+AreAttempts addr most steps told = (n : ℕ) × (n ≤ most) × Times n (IsAttempt addr) steps told
 
--- A round is begun, or a job makes an attempt.
-abbrev pub IsOfPoll : LiveStep → Type 0
-IsOfPoll (live.command (command.Round addr)) = ⊤
-IsOfPoll (live.next addr) = ⊤
-IsOfPoll s = ⊥
+-- A command of this kind is given to the host, or a job makes an attempt.
+abbrev pub IsStepOf : (ℕ → Command) → List LiveStep → List Told → Type 0
+IsStepOf begun steps told =
+    ((addr : ℕ) × TellsOne (live.command (begun addr)) steps told) ⊎ ((addr : ℕ) × IsAttempt addr steps told)
 
 -- Rounds are begun, and jobs make attempts.
-pub record IsPoll (steps : List LiveStep) (told : List Told) : Type 0 where
-  pub all : All IsOfPoll steps
-  pub plain : All IsOfAttempt told
+abbrev pub IsVisit : List LiveStep → List Told → Type 0
+IsVisit = Many (IsStepOf (λ addr. command.Round addr))
 
--- The notice of a command that isn't given to the host: a payment of a hopper that is withheld.
-abbrev pub withheld_by : DeviceSet → Command → Option Notice
-withheld_by withheld (command.Pay addr id count) =
-    if has withheld addr then Some (notice_of.OtherSerial addr id count) else None
-withheld_by withheld c = None
+-- These findings are told.
+abbrev pub IsFound : List Finding → List LiveStep → List Told → Type 0
+IsFound findings steps told = (steps ≡ []) × (told ≡ found_told findings)
 
--- A command is given to the host, which answers; or it is told that it isn't.
-abbrev pub DoesCommand : Command → Option Notice → List LiveStep → List Told → Type 0
+-- Findings are told.
+abbrev pub IsAsking : List LiveStep → List Told → Type 0
+IsAsking steps told = (findings : List Finding) × IsFound findings steps told
+
+-- What a poll does: rounds are begun, jobs make attempts, and findings are told.
+abbrev pub IsOfPoll : List LiveStep → List Told → Type 0
+IsOfPoll steps told = IsStepOf (λ addr. command.Round addr) steps told ⊎ IsAsking steps told
+
+-- Such things are done any number of times.
+abbrev pub IsPoll : List LiveStep → List Told → Type 0
+IsPoll = Many IsOfPoll
+
+-- A command is given to the host, which answers; or it is told that it isn't, and why.
+abbrev pub DoesCommand : Command → Option Withheld → List LiveStep → List Told → Type 0
 DoesCommand c None = TellsOne (live.command c)
-DoesCommand c (Some n) = Tells (notice n)
+DoesCommand c (Some why) = Tells (notice (notice_of.Withheld c why))
 
--- What is done for what a line says. One that ends the service is none of these.
-abbrev pub Does : DeviceSet → LiveLine → List LiveStep → List Told → Type 0
-Does withheld (says.Command c) = DoesCommand c (withheld_by withheld c)
-Does withheld (says.Next addr) = IsAttempt addr
-Does withheld (says.Do addr) = AreAttempts addr MOST_ATTEMPTS
-Does withheld says.Poll = IsPoll
-Does withheld says.Balance = TellsOne live.balance
-Does withheld says.Status = IsStatus
-Does withheld says.End = λ steps told. ⊥
+-- A command is decided by what is found: what was found before, and what is told first.
+abbrev pub Decides : List Finding → Command → List LiveStep → List Told → Type 0
+Decides findings c = ThenBy IsAsking (λ said. DoesCommand c (withheld_by (findings ++ findings_in said) c))
+
+-- It is told what is known of an order.
+abbrev pub IsOrder : ℕ → List LiveStep → List Told → Type 0
+IsOrder id steps told = (steps ≡ []) × ((known : OrderTold) × (told ≡ notice (notice_of.Order id known) ∷ []))
+
+-- What is done for what a line says, by what was found before. One that ends the service is none of these.
+abbrev pub Does : List Finding → LiveLine → List LiveStep → List Told → Type 0
+Does findings (says.Command c) = Decides findings c
+Does findings (says.Next addr) = IsAttempt addr
+Does findings (says.Do addr) = AreAttempts addr MOST_ATTEMPTS
+Does findings says.Poll = IsPoll
+Does findings says.Balance = TellsOne live.balance
+Does findings says.Status = IsStatus
+Does findings (says.Order id) = IsOrder id
+Does findings says.End = λ steps told. ⊥
 
 -- What is done for the line of a number: what it says, or it is told that it says nothing.
-abbrev pub DoesLine : DeviceSet → ℕ → Said → List LiveStep → List Told → Type 0
-DoesLine withheld number (Ok said) = Does withheld said
-DoesLine withheld number (Err why) = Tells (refused number why)
+abbrev pub DoesLine : List Finding → ℕ → Said → List LiveStep → List Told → Type 0
+DoesLine findings number (Ok said) = Does findings said
+DoesLine findings number (Err why) = Tells (refused number why)
 
--- What was done for lines, newest first: each one is done behind those before it.
-abbrev pub DoesLines : DeviceSet → List Said → List LiveStep → List Told → Type 0
-DoesLines withheld [] = IsNothing
-DoesLines withheld (said ∷ before) = Then (DoesLines withheld before) (DoesLine withheld (suc (length before)) said)
+-- What was done for lines, newest first: each one is done after those before it, by what was found up to then.
+abbrev pub DoesLines : List Finding → List Said → List LiveStep → List Told → Type 0
+DoesLines findings [] = IsNothing
+DoesLines findings (said ∷ before) =
+    ThenBy (DoesLines findings before)
+    (λ told. DoesLine (findings ++ findings_in told) (suc (length before)) said)
 
--- A host that has just started tells what it found.
-abbrev pub TellsOpening : Bool → List LiveStep → List Told → Type 0
-TellsOpening was_there steps told = (steps ≡ []) × ((n : Notice) × IsOpening was_there n × (told ≡ notice n ∷ []))
+-- It was done so, and what is found then is what was found before and what was told.
+abbrev pub Finds : List Finding → List Finding → (List LiveStep → List Told → Type 0) → List LiveStep → List Told → Type 0
+Finds before now Doing steps told = Doing steps told × (now ≡ before ++ findings_in told)
 
--- What a service does for lines, newest first.
-abbrev pub ServesLines : Bool → DeviceSet → List Said → List LiveStep → List Told → Type 0
-ServesLines was_there withheld lines = Then (TellsOpening was_there) (DoesLines withheld lines)
+-- Acceptors are stopped: stops are begun, and jobs make attempts.
+abbrev pub IsStopping : List LiveStep → List Told → Type 0
+IsStopping = Many (IsStepOf (λ addr. command.Stop addr))
+
+-- What is done at the end.
+abbrev pub StopsBy : AtEnd → List LiveStep → List Told → Type 0
+StopsBy at_end.Leave = IsNothing
+StopsBy at_end.Stop = IsStopping
+
+-- What a service does for lines, newest first, up to its end: it tells first what it begins with.
+abbrev pub PlaysLines : Notice → List Finding → List Said → List LiveStep → List Told → Type 0
+PlaysLines opening findings lines = Then (Tells (notice opening)) (DoesLines findings lines)
+
+-- And what it does at the end.
+abbrev pub ServesLines : Notice → List Finding → AtEnd → List Said → List LiveStep → List Told → Type 0
+ServesLines opening findings ends lines = Then (PlaysLines opening findings lines) (StopsBy ends)

@@ -1,10 +1,15 @@
 pub mod Notice
+pub mod Held
 pub mod Told
 pub mod Said
 pub mod Doing
+pub mod Asked
+pub mod Linked
+pub mod Since
 pub mod Causes
 pub mod Parts
 pub mod Ending
 pub mod Found
+pub mod Opening
 pub mod Laws
 pub mod Lived

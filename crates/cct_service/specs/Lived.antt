@@ -1,13 +1,14 @@
 -- What a service of a host leaves: what it told of its life, what stands on its disk, and how it ended.
-use Rattle.std.specs.Prelude.{◌≡◌, ◌⊎◌, Bool, ℕ, List, ◌++◌, Option, Some, None, Result, Ok, Err, reverse}
+use Rattle.std.specs.Prelude.{◌≡◌, ◌⊎◌, Bool, true, ℕ, List, ◌∷◌, ◌++◌, Option, Some, None, Result, Ok, Err, reverse}
 use Rattle.cct_edge.specs.declared.fault.Failed.{Failed}
-use Rattle.cct_model.specs.lines.device_set.DeviceSet.{DeviceSet}
+use Rattle.cct_survey.specs.Roll.{Rolled}
+use Rattle.cct_service.specs.declared.stopping.AtEnd.{AtEnd}
 use Rattle.cct_model.specs.terms.device.Setup.{Setup}
 use Rattle.cct_model.specs.lines.record.Record.{Record}
 use Rattle.cct_model.specs.lines.entry.Entry.{Entry}
 use Rattle.cct_model.specs.Legal.{due_at}
 use Rattle.cct_model.specs.Records.{records}
-use Rattle.cct_disk.specs.Disk.{IsTrusted}
+use Rattle.cct_disk.specs.Disk.{Holds, IsTrusted, LeavesOnly, OnlyReads}
 use Rattle.cct_journal.specs.declared.format.TheConstants.{MOST_RECORDS}
 use Rattle.cct_host.specs.OnDisk.{LeavesRecords}
 use Rattle.cct_lives.specs.Life.{IsLife}
@@ -15,10 +16,14 @@ use Rattle.cct_lives.specs.Live.{started}
 use Rattle.cct_lives.specs.LiveStep.{LiveStep}
 use Rattle.cct_service.specs.declared.served.Served.{Served}
 use Rattle.cct_service.specs.declared.served.Served.TheVariants as served
+use Rattle.cct_service.specs.Causes.{IsDiskFault}
 use Rattle.cct_service.specs.Doing.{FrontOf, ServesLines}
 use Rattle.cct_service.specs.Ending.{IsOfDisk, closed_by, last_told}
-use Rattle.cct_service.specs.Found.{FoundOn}
+use Rattle.cct_service.specs.Found.{Begun, FoundOn, was_found}
 use Rattle.cct_service.specs.Laws.{IsLawful}
+use Rattle.cct_service.specs.Linked.{UsesLink}
+use Rattle.cct_service.specs.Opening.{BegunOn, opening_of, opening_over}
+use Rattle.cct_service.specs.Since.{MayStand}
 use Rattle.cct_service.specs.Said.{Said, Says}
 use Rattle.cct_service.specs.Told.{Told, WritesTold, news_of}
 
@@ -49,36 +54,64 @@ module _ {D : Type 0} (honest : D → Bool) (seen : D → Option (List ℕ)) (ma
   LeftBy setup how past =
       IsTrusted honest seen back → LeavesRecords setup honest seen may_leave back None (reverse (records past))
 
--- of a sink, and of a disk as it was given and as it came back
-module _ {K : Type 0} (written : K → Option (List ℕ)) (puts : K → List ℕ → Result (Unit {0}) Failed → K → Type 0)
-    {D : Type 0} (honest : D → Bool) (seen : D → Option (List ℕ)) (may_leave : D → List ℕ → Type 0) (given back : D) where
-  -- A host lived. Its steps and what it told are those of the lines that its input said, in their order. What it told was
-  -- written, and the entries among it are those of the steps of one life over the records that were found on the disk,
-  -- whichever these are; and the disk has the records of that life.
-  pub record Lived (setup : Setup) (withheld : DeviceSet) (left : Option (List ℕ)) (how : Served) (old new : K) : Type 0
-    where
-      pub was_there : Bool
-      pub lines : List Said
-      pub steps : List LiveStep
-      pub told : List Told
-      pub says : Says left lines how
-      pub does : DoesTo (ServesLines was_there withheld lines) how steps told
-      pub wrote : TellsTo written puts how old told new
-      pub lived : (found : List Record) → FoundOn honest seen may_leave given setup was_there found
-          → IsLife MOST_RECORDS setup found steps (news_of told ++ started found)
-          × IsLawful setup found (news_of told ++ started found)
-          × LeftBy honest seen may_leave back setup how (news_of told ++ started found)
+-- of a kind of disk with a clock, and of one as it was given and as it came back
+module _ {D : Type 0} (moment : D → ℕ) (left_since : D → ℕ → List ℕ → Type 0) (given back : D) where
+  -- What a power cut at a moment of a service might have left, after a past: the first ones of its records, the found ones at
+  -- least; and where a put failed, also of these and the record that was due at an address.
+  abbrev pub LeftSince : Setup → Served → Bool → List ℕ → List Record → List Entry → Type 0
+  LeftSince setup served.Disk there image found past =
+      (addr : ℕ) × (r : Record) × (due_at setup past addr ≡ Some r)
+      × LeavesOnly moment left_since given back (MayStand setup there image found (r ∷ records past))
+  LeftSince setup how there image found past =
+      LeavesOnly moment left_since given back (MayStand setup there image found (records past))
 
-  -- A host lived; or none was started, by what the disk had, and nothing was told.
-  abbrev pub LivedOrNot : Setup → DeviceSet → Option (List ℕ) → Served → K → K → Type 0
-  LivedOrNot setup withheld left how old new = Lived setup withheld left how old new ⊎ (IsOfDisk how × (new ≡ old))
+-- of a sink, of a link, and of a disk as it was given and as it came back
+module _ {K : Type 0} (written : K → Option (List ℕ)) (puts : K → List ℕ → Result (Unit {0}) Failed → K → Type 0)
+    {L : Type 0} (gives : L → List ℕ → List ℕ → L → Type 0) (sent : L → Bool) (failures : L → ℕ)
+    {D : Type 0} (size : D → ℕ) (honest : D → Bool) (seen : D → Option (List ℕ)) (may_leave : D → List ℕ → Type 0)
+    (moment : D → ℕ) (left_since : D → ℕ → List ℕ → Type 0) (cuts : D → ℕ) (given back : D) where
+  -- A host lived. Its steps and what it told are those of the lines that its input said, in their order. What it told was
+  -- written: first what it began with, by the disk that was given; and the entries among it are those of the steps of one life
+  -- over the records that were found on the disk, whichever these are; and the disk has the records of that life. What went
+  -- over the link are the exchanges that were told, and questions of the roll.
+  pub record Lived (setup : Setup) (roll now : Rolled) (ends : AtEnd) (left : Option (List ℕ)) (how : Served) (old new : K)
+      (line last : L) : Type 0 where
+    pub begun : Begun
+    pub lines : List Said
+    pub steps : List LiveStep
+    pub told : List Told
+    pub says : Says left lines how
+    pub does : DoesTo (ServesLines (opening_of setup begun) roll.findings ends lines) how steps told
+    pub wrote : TellsTo written puts how old told new
+    pub lived : (found : List Record) → FoundOn honest seen may_leave given setup begun found
+        → IsLife MOST_RECORDS setup found steps (news_of told ++ started found)
+        × IsLawful setup found (news_of told ++ started found)
+        × LeftBy honest seen may_leave back setup how (news_of told ++ started found)
+    pub linked : UsesLink gives sent failures setup.devices roll now line last told
+    pub on : BegunOn seen given setup begun
+    pub numbers : (found : List Record) → FoundOn honest seen may_leave given setup begun found
+        → opening_of setup begun ≡ opening_over setup begun found
+    -- At each moment a power cut might have left only the first ones of the records, if the disk held one image alone.
+    pub moments : (found : List Record) → FoundOn honest seen may_leave given setup begun found → (image : List ℕ)
+        → Holds honest seen may_leave given image
+        → LeftSince moment left_since given back setup how (was_found begun) image found (news_of told ++ started found)
+    -- Where a journal was found and no record was put, the disk was only read.
+    pub read : (found : List Record) → FoundOn honest seen may_leave given setup begun found → was_found begun ≡ true
+        → (IsDiskFault how → ⊥) → records (news_of told ++ started found) ≡ found
+        → OnlyReads size honest seen may_leave moment left_since cuts given back
+
+  -- A host lived; or none was started, by what the disk had, nothing was told, and the link wasn't used.
+  abbrev pub LivedOrNot : Setup → Rolled → Rolled → AtEnd → Option (List ℕ) → Served → K → K → L → L → Type 0
+  LivedOrNot setup roll now ends left how old new line last =
+      Lived setup roll now ends left how old new line last
+      ⊎ (IsOfDisk how × (new ≡ old) × (now ≡ roll) × (last ≡ line))
 
   -- And then the last line was told, where there is one.
-  pub record Closed (setup : Setup) (withheld : DeviceSet) (left : Option (List ℕ)) (result : Served) (old new : K) : Type 0
-    where
-      pub how : Served
-      pub between : K
-      pub answer : Result (Unit {0}) Failed
-      pub lived : LivedOrNot setup withheld left how old between
-      pub wrote : WritesTold written puts between (last_told how) answer new
-      pub result_is : result ≡ closed_by answer how
+  pub record Closed (setup : Setup) (roll now : Rolled) (ends : AtEnd) (left : Option (List ℕ)) (result : Served)
+      (old new : K) (line last : L) : Type 0 where
+    pub how : Served
+    pub between : K
+    pub answer : Result (Unit {0}) Failed
+    pub lived : LivedOrNot setup roll now ends left how old between line last
+    pub wrote : WritesTold written puts between (last_told how) answer new
+    pub result_is : result ≡ closed_by answer how

@@ -1,30 +1,38 @@
 -- What a host on a real line tells, and what writing it does to a sink.
-use Rattle.std.specs.Prelude.{◌≡◌, ℕ, List, [], ◌∷◌, ◌++◌, flat_map, map, Bool, true, false, Option, Result, MatchResult, ⊤}
+use Rattle.std.specs.Prelude.{◌≡◌, ℕ, List, [], ◌∷◌, ◌++◌, flat_map, map, Bool, true, false, Option, Some, None, Result, MatchResult, ⊤}
 use Rattle.std.specs.Io.KnownBytes.{Appends}
 use Rattle.std.specs.List.{All}
+use Rattle.std.specs.Option.{option_to_list}
 use Rattle.cct_edge.specs.Bytes.{AppendsFront}
 use Rattle.cct_edge.specs.declared.fault.Failed.{Failed}
 use Rattle.cct_model.specs.lines.entry.Entry.{Entry}
 use Rattle.cct_model.specs.lines.entry.Entry.TheVariants as entry_of
 use Rattle.cct_model.specs.lines.entry.LineKind.{LineKind}
 use Rattle.cct_model.specs.Text.{line_of}
-use Rattle.cct_text.specs.Writing.{Puts, PutsLine}
+use Rattle.cct_text.specs.Writing.{Puts}
 use Rattle.cct_service.specs.declared.notice.Notice.{Notice}
 use Rattle.cct_service.specs.declared.notice.Notice.TheVariants as notice_of
-use Rattle.cct_service.specs.Notice.{notice_line}
+use Rattle.cct_service.specs.Notice.{notice_line, unsent_line}
+use Rattle.cct_survey.specs.declared.finding.Finding.{Finding}
+use Rattle.cct_survey.specs.Finding.{finding_line}
 
--- An entry of a step, a line of the input that is refused, by its number and kind, a notice, or the last line.
+-- An entry of a step, that of an exchange whose message wasn't written, so that nothing was heard, a line of the input that is refused, by its
+-- number and kind, a notice, what a device said of itself, or the last line.
 pub data Told : Type 0 where
   entry : (e : Entry) → Told
+  unsent : (addr : ℕ) (sent : List ℕ) → Told
   refused : (number : ℕ) (why : LineKind) → Told
   notice : (n : Notice) → Told
+  finding : (f : Finding) → Told
   last : (e : Entry) → Told
 
 -- The line of each.
 abbrev pub told_line : Told → List ℕ
 told_line (entry e) = line_of e
+told_line (unsent addr sent) = unsent_line addr sent
 told_line (refused number why) = line_of (entry_of.Line number why)
 told_line (notice n) = notice_line n
+told_line (finding f) = finding_line f
 told_line (last e) = line_of e
 
 -- All lines.
@@ -35,18 +43,54 @@ told_text told = flat_map told_line told
 abbrev pub news_of : List Told → List Entry
 news_of [] = []
 news_of (entry e ∷ told) = news_of told ++ e ∷ []
+news_of (unsent addr sent ∷ told) = news_of told ++ entry_of.Wire addr sent [] ∷ []
 news_of (refused number why ∷ told) = news_of told
 news_of (notice n ∷ told) = news_of told
+news_of (finding f ∷ told) = news_of told
 news_of (last e ∷ told) = news_of told
 
 -- Entries are told as they are.
 abbrev pub as_told : List Entry → List Told
 as_told entries = map (λ e. entry e) entries
 
--- The port is told as failing, or not.
-abbrev pub fault_told : Bool → List Told
-fault_told true = notice notice_of.LineFault ∷ []
-fault_told false = []
+-- The address and the message of an exchange in which nothing was heard.
+abbrev pub unheard : Entry → Option (ℕ × List ℕ)
+unheard (entry_of.Wire addr sent []) = Some (addr, sent)
+unheard e = None
+
+-- An entry as it is told where the message of its exchange wasn't written.
+abbrev pub told_unsent : Entry → Option (ℕ × List ℕ) → Told
+told_unsent e None = entry e
+told_unsent e (Some message) = unsent message.0 message.1
+
+-- The entries of an attempt as they are told. An exchange in which nothing was heard, since its message wasn't written, is
+-- told as unsent.
+abbrev pub attempt_told : Bool → List Entry → List Told
+attempt_told true entries = as_told entries
+attempt_told false [] = []
+attempt_told false (e ∷ entries) = told_unsent e (unheard e) ∷ as_told entries
+
+-- Notices are told.
+abbrev pub notices_told : List Notice → List Told
+notices_told notices = map (λ n. notice n) notices
+
+-- A notice is told, if there is one.
+abbrev pub maybe_told : Option Notice → List Told
+maybe_told n = notices_told (option_to_list n)
+
+-- What devices said of themselves is told.
+abbrev pub found_told : List Finding → List Told
+found_told findings = map (λ f. finding f) findings
+
+-- What devices said of themselves among what is told, in its order.
+abbrev pub findings_in : List Told → List Finding
+findings_in [] = []
+findings_in (finding f ∷ told) = f ∷ findings_in told
+findings_in (entry e ∷ told) = findings_in told
+findings_in (unsent addr sent ∷ told) = findings_in told
+findings_in (refused number why ∷ told) = findings_in told
+findings_in (notice n ∷ told) = findings_in told
+findings_in (last e ∷ told) = findings_in told
 
 -- These were written to a sink: the line of each was put once, in their order, up to the first whose put failed; and what is
 -- told of the bytes grew by their text, or by a front of it where a put failed.
@@ -57,37 +101,21 @@ pub record WritesTold {K : Type 0} (written : K → Option (List ℕ))
   pub bytes : MatchResult result (λ _. Appends (written before) (written now) (told_text told))
       (λ _. AppendsFront (written before) (written now) (told_text told))
 
--- A notice of this kind was written.
-abbrev pub TellsNotice : {K : Type 0} → (Notice → Type 0) → (K → Option (List ℕ))
-    → (K → List ℕ → Result (Unit {0}) Failed → K → Type 0) → K → Result (Unit {0}) Failed → K → Type 0
-TellsNotice Is written puts before result now =
-    (n : Notice) × Is n × PutsLine written puts before (notice_line n) result now
-
--- What a host that has just started tells: that its journal was made, or what was found in it.
-abbrev pub IsOpening : Bool → Notice → Type 0
-IsOpening false notice_of.Made = ⊤
-IsOpening true (notice_of.Found records orders epochs) = ⊤
-IsOpening was_there n = ⊥
-
--- How a host stands is told by its devices, and the room of its journal.
+-- How a host stands is told by its devices, the bills that they hold, the last id, and the room of its journal.
 abbrev pub IsOfStatus : Notice → Type 0
 IsOfStatus (notice_of.Device addr job epoch order) = ⊤
+IsOfStatus (notice_of.Held addr place) = ⊤
+IsOfStatus (notice_of.Last id) = ⊤
 IsOfStatus (notice_of.Room records) = ⊤
 IsOfStatus n = ⊥
 
 -- Such notices are told.
 abbrev pub AreOfStatus : List Told → Type 0
-AreOfStatus told = (notices : List Notice) × All IsOfStatus notices × (told ≡ map (λ n. notice n) notices)
+AreOfStatus told = (notices : List Notice) × All IsOfStatus notices × (told ≡ notices_told notices)
 
 -- It was written how a host stands.
 abbrev pub TellsStatus : {K : Type 0} → (K → Option (List ℕ)) → (K → List ℕ → Result (Unit {0}) Failed → K → Type 0) → K
     → Result (Unit {0}) Failed → K → Type 0
 TellsStatus written puts before result now =
     (notices : List Notice) × All IsOfStatus notices
-    × WritesTold written puts before (map (λ n. notice n) notices) result now
-
--- An attempt is told by its entries, and perhaps by a failure of the port.
-abbrev pub IsOfAttempt : Told → Type 0
-IsOfAttempt (entry e) = ⊤
-IsOfAttempt (notice notice_of.LineFault) = ⊤
-IsOfAttempt told = ⊥
+    × WritesTold written puts before (notices_told notices) result now

@@ -2,16 +2,29 @@
 //! entry is written before the next line is read (`docs/LIVE.md`).
 #![tactic(auto)]
 
+mod asking;
+mod attempts;
+mod commands;
+mod fields;
+mod holds;
 mod notice;
 mod opening;
+mod outside;
 mod page;
 mod play;
 mod poll;
+mod rests;
 mod served;
 mod serving;
 mod standing;
+mod stopping;
+mod unsent;
+mod visit;
 
+pub use holds::Hold;
 pub use notice::Notice;
+pub use outside::{OrderTold, Outside};
 pub use page::Page;
 pub use served::Served;
 pub use serving::serve;
+pub use stopping::AtEnd;

@@ -1,15 +1,19 @@
 //! Lines that tell no entry of a transcript.
-ghost use Rattle.std.specs.Prelude.{◌≡◌, ◌≤◌, ◌+◌, ◌<◌, ◌++◌, ◌∷◌, ℕ, List, [], length, IsErr};
+ghost use Rattle.std.specs.Prelude.{◌≡◌, ◌<◌, ◌++◌, ◌∷◌, [], length, IsErr};
 ghost use Rattle.cct_edge.specs.Bytes.{Serves};
-ghost use Rattle.cct_text.specs.Adding.{Adds};
 ghost use Rattle.cct_text.specs.Writing.{PutsLine};
-ghost use Rattle.cct_service.specs.Notice.{epoch_field, job_word, notice_line, notice_text, number_field, order_field};
+ghost use Rattle.cct_service.specs.Notice.{notice_line, notice_text};
 
+use crate::fields::{
+    write_epoch, write_job, write_number, write_open_order, write_order_told, write_withheld,
+};
+use crate::outside::OrderTold;
 use cct_edge::{Failed, Sink};
 use cct_model::{Command, EpochState, MOST_TEXT, OpenOrder};
+use cct_survey::Withheld;
 use cct_text::TextLine;
 
-/// What a host on a real line tells beside the entries of its transcript: a line each.
+/// What a host on a real line tells beside the entries of its transcript and what its devices say of themselves: a line each.
 #[derive(Clone, Copy, Debug, PartialEq, Eq)]
 pub enum Notice {
     /// `made 0 0 0`: the disk was blank, and a journal without records was made on it.
@@ -29,19 +33,35 @@ pub enum Notice {
         epoch: EpochState,
         order: Option<OpenOrder>,
     },
+    /// `held ADDRESS PLACE`: the bill acceptor there holds a bill of this place, by the newest event of its last reading.
+    Held {
+        addr: u8,
+        place: u8,
+    },
+    /// `last ID`: the greatest id that was used in this journal, or 0.
+    Last {
+        id: u32,
+    },
     /// `room RECORDS`: so many records more than are put and held find room in the journal.
     Room {
         records: u32,
     },
-    /// `no pay ADDRESS ID COUNT otherserial`: this payment wasn't given to the host, since the device that answers there
-    /// has another serial number than the setup names.
-    OtherSerial {
-        addr: u8,
+    /// `order ID ..`: what is known of an order.
+    Order {
         id: u32,
-        count: u8,
+        told: OrderTold,
+    },
+    /// `no pay ADDRESS ID COUNT otherserial` or `no start ADDRESS MASK othercoin`: this command wasn't given to the host,
+    /// since the device that answers there has another serial number than the setup names, or another coin at a place of
+    /// the mask.
+    Withheld {
+        command: Command,
+        why: Withheld,
     },
     /// `linefault`: an exchange failed, and not for want of an answer. It is told again only after one that went through.
     LineFault,
+    /// `lineback`: the first exchange after a `linefault` went through.
+    LineBack,
 }
 
 /// Writes the line of a notice by one put.
@@ -82,77 +102,33 @@ fn write_notice(line: &mut TextLine, notice: &Notice)
         } => {
             line.push(b"device");
             write_number(line, u32::from(*addr));
-            line.push(b" ");
-            line.push(job_word(job));
+            write_job(line, job);
             write_epoch(line, *epoch);
-            write_order(line, *order);
+            write_open_order(line, *order);
+        }
+        Notice::Held { addr, place } => {
+            line.push(b"held");
+            write_number(line, u32::from(*addr));
+            write_number(line, u32::from(*place));
+        }
+        Notice::Last { id } => {
+            line.push(b"last");
+            write_number(line, *id);
         }
         Notice::Room { records } => {
             line.push(b"room");
             write_number(line, *records);
         }
-        Notice::OtherSerial { addr, id, count } => {
-            line.push(b"no pay");
-            write_number(line, u32::from(*addr));
+        Notice::Order { id, told } => {
+            line.push(b"order");
             write_number(line, *id);
-            write_number(line, u32::from(*count));
-            line.push(b" otherserial");
+            write_order_told(line, told);
+        }
+        Notice::Withheld { command, why } => {
+            line.push(b"no");
+            write_withheld(line, command, why);
         }
         Notice::LineFault => line.push(b"linefault"),
-    }
-}
-
-/// Writes a number as the next field.
-fn write_number(line: &mut TextLine, number: u32)
-    requires { length line.old + 21 ≤ MOST_TEXT }
-    ensures { Adds line.old line.new (number_field number) 21 }
-{
-    line.push(b" ");
-    line.push_number(u64::from(number));
-}
-
-/// Writes the inhibit mask of an epoch that runs as the next field.
-fn write_epoch(line: &mut TextLine, epoch: EpochState)
-    requires { length line.old + 5 ≤ MOST_TEXT }
-    ensures { Adds line.old line.new (epoch_field epoch) 5 }
-{
-    match epoch {
-        EpochState::Idle => line.push(b" -"),
-        EpochState::Running { mask, .. } => {
-            line.push(b" ");
-            line.push_hex(&mask.to_be_bytes());
-        }
-    }
-}
-
-/// Writes the id of an open order as the next field.
-fn write_order(line: &mut TextLine, order: Option<OpenOrder>)
-    requires { length line.old + 21 ≤ MOST_TEXT }
-    ensures { Adds line.old line.new (order_field order) 21 }
-{
-    match order {
-        None => line.push(b" -"),
-        Some(order) => write_number(line, order.id),
-    }
-}
-
-/// The word of the command whose job it is.
-fn job_word(job: &Option<Command>) -> &'static [u8]
-    ensures word { result.now ≡ job_word job.now }
-    ensures len { length result.now ≤ 6 }
-{
-    match job {
-        None => b"-",
-        Some(Command::Start { .. }) => b"start",
-        Some(Command::Round { .. }) => b"round",
-        Some(Command::Stop { .. }) => b"stop",
-        Some(Command::Pay { .. }) => b"pay",
-        Some(Command::Settle { .. }) => b"settle",
-        Some(Command::Halt { .. }) => b"halt",
-        Some(Command::Scan) => b"scan",
-        Some(Command::Ident { .. }) => b"ident",
-        Some(Command::Path { .. }) => b"path",
-        Some(Command::Route { .. }) => b"route",
-        Some(Command::Vend { .. }) => b"vend",
+        Notice::LineBack => line.push(b"lineback"),
     }
 }

@@ -3,14 +3,14 @@ ghost use Rattle.std.specs.Prelude.{◌≡◌, [], List, false, IfErr, IfOk};
 ghost use Rattle.cct_disk.specs.declared.file.TheConstants as files;
 ghost use Rattle.cct_host.specs.Host as hosts;
 ghost use Rattle.cct_journal.specs.Journal as journals;
-ghost use Rattle.cct_lives.specs.Live.{started};
 ghost use Rattle.cct_model.specs.lines.record.Record.{Record};
 ghost use Rattle.cct_model.specs.Setup.{IsSoundSetup};
 ghost use Rattle.cct_model.specs.terms.device.Setup.{Setup};
 ghost use Rattle.cct_journal.specs.declared.refusal.CreateNo.{CreateNo};
 ghost use Rattle.cct_service.specs.Causes.{DiskServes, Refuses, RefusesMaking, WasOpened};
 ghost use Rattle.cct_service.specs.Ending.{unmade_by};
-ghost use Rattle.cct_service.specs.Found.{FoundOn, Opens};
+ghost use Rattle.cct_service.specs.Found.{Opens, ToldOn};
+ghost use Rattle.cct_service.specs.Opening.{Opened};
 
 use crate::served::{Served, unmade, unstarted};
 use cct_disk::{Disk, MADE_LEN};
@@ -26,8 +26,8 @@ pub(crate) fn open_host<'s, D: Disk>(
     requires sound { IsSoundSetup setup.now }
     ensures whole { IfOk result (λ opened. hosts.has_failed opened.0 ≡ false) }
     ensures setup { IfOk result (λ opened. hosts.setup_of opened.0 ≡ setup.now) }
-    ensures stands { IfOk result (λ opened. (found : List Record)
-        → FoundOn D.honest D.seen D.may_leave disk setup.now opened.1 found → hosts.StandsFor opened.0 (started found)) }
+    // It begins with what the disk had. A journal is made only where no byte but 0 is.
+    ensures opened { IfOk result (λ opened. Opened disk setup.now opened.0 opened.1) }
     ensures sized { IfOk result (λ opened. D.size disk ≡ files.MADE_LEN) }
     ensures serves { IfOk result (λ opened. DiskServes D.size D.honest D.seen D.cuts D.faults disk
         (hosts.disk_of opened.0) ⊥) }
@@ -48,7 +48,7 @@ pub(crate) fn open_host<'s, D: Disk>(
 fn open_journal<D: Disk>(disk: D) -> Result<(Journal<D>, bool), (Served, D)>
     ensures whole { IfOk result (λ opened. journals.has_failed opened.0 ≡ false) }
     ensures opens { IfOk result (λ opened. (setup : Setup) (found : List Record) → IsSoundSetup setup
-        → FoundOn D.honest D.seen D.may_leave disk setup opened.1 found → Opens opened.0 setup opened.1 found) }
+        → ToldOn D.honest D.seen D.may_leave disk setup opened.1 found → Opens opened.0 setup opened.1 found) }
     ensures opened { IfOk result (λ opened. WasOpened disk opened.0 opened.1) }
     ensures sized { IfOk result (λ opened. D.size disk ≡ files.MADE_LEN) }
     ensures serves { IfOk result (λ opened. DiskServes D.size D.honest D.seen D.cuts D.faults disk
@@ -78,7 +78,7 @@ fn make_journal<D: Disk>(disk: D) -> Result<Journal<D>, (Served, D)>
     ensures whole { IfOk result (λ journal. journals.has_failed journal ≡ false) }
     ensures opens { IfOk result (λ journal. (setup : Setup) (found : List Record) → found ≡ []
         → Opens journal setup false found) }
-    ensures none { IfOk result (λ journal. journals.used_of journal ≡ 0) }
+    ensures made { IfOk result (λ journal. WasOpened disk journal false) }
     ensures serves { IfOk result (λ journal. DiskServes D.size D.honest D.seen D.cuts D.faults disk
         (journals.disk_of journal) ⊥) }
     ensures refuses { IfErr result (λ e. (why : CreateNo) × (e.0 ≡ unmade_by why) × RefusesMaking D.size D.honest D.seen

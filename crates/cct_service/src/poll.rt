@@ -1,85 +1,75 @@
 //! The line `poll`: all that is to be done for a while.
 ghost use Rattle.std.specs.Prelude.{◌≡◌, false};
-ghost use Rattle.cct_host.specs.Host.{has_failed};
-ghost use Rattle.cct_service.specs.Doing.{IsPoll};
+ghost use Rattle.cct_host.specs.Host.{has_failed, setup_of};
+ghost use Rattle.cct_service.specs.Doing.{Finds, IsPoll, IsVisit};
+ghost use Rattle.cct_service.specs.Linked.{Exchanges, UsesLink};
 ghost use Rattle.cct_service.specs.Parts.{Acts};
 
+use crate::asking::ask_some;
 use crate::page::Page;
-use crate::play::{MOST_ATTEMPTS, answer, attempts};
 use crate::served::Served;
-use crate::standing::runs;
+use crate::visit::{has_task, visit};
 use cct_disk::Disk;
 use cct_edge::Sink;
 use cct_host::Host;
-use cct_model::Command;
 use cct_port::CountedLink;
+use cct_survey::Roll;
 
-/// What is done at each address.
-#[derive(Clone, Copy)]
-enum Visit {
-    /// The acceptor is read out by a round, up to its end, where its epoch runs and no job is there.
-    ReadOut,
-    /// The job, if there is one, makes one attempt.
-    Attempt,
-}
+/// How many addresses there are.
+const ADDRESSES: u16 = 256;
 
-/// Each acceptor whose epoch runs, and that has no job, is read out by a round, up to its end. Then each job that there is
-/// makes one attempt. Both in rising order of address.
+/// The devices that aren't doubtful are visited in rising order of address, from where the last poll stopped, up to the first
+/// try that isn't answered. Where each was answered, and no acceptor takes coins faster than it is read out, one doubtful
+/// device is visited, and some of the questions that are left are asked; no more than one try of a poll isn't answered.
 pub(crate) fn poll<K: Sink, D: Disk, L: CountedLink>(
     host: &mut Host<'_, D>,
+    roll: &mut Roll,
     link: &mut L,
     out: &mut K,
     page: &mut Page,
 ) -> Result<(), Served>
     requires whole { has_failed host.old ≡ false }
-    ensures acts { Acts K.written K.puts K.faults IsPoll result out.old out.new host.old host.new }
+    ensures acts { Acts K.written K.puts K.faults
+        (UsesLink L.gives L.sent L.failures (setup_of host.old).devices roll.old roll.new link.old link.new)
+        (Finds roll.old.findings roll.new.findings IsPoll) result out.old out.new host.old host.new }
 {
-    match visit_all(host, Visit::ReadOut, link, out, page) {
-        Ok(()) => visit_all(host, Visit::Attempt, link, out, page),
+    page.rests.begin_poll();
+    match visit_sound(host, link, out, page) {
+        Ok(()) => try_others(host, roll, link, out, page),
         Err(how) => Err(how),
     }
 }
 
-/// Goes over all addresses.
-fn visit_all<K: Sink, D: Disk, L: CountedLink>(
+/// Visits the devices that are neither doubtful nor left alone, up to the first try that isn't answered. The next poll begins
+/// after that device.
+fn visit_sound<K: Sink, D: Disk, L: CountedLink>(
     host: &mut Host<'_, D>,
-    what: Visit,
     link: &mut L,
     out: &mut K,
     page: &mut Page,
 ) -> Result<(), Served>
     requires whole { has_failed host.old ≡ false }
-    ensures acts { Acts K.written K.puts K.faults IsPoll result out.old out.new host.old host.new }
+    ensures acts { Acts K.written K.puts K.faults (Exchanges L.gives L.sent L.failures link.old link.new)
+        IsVisit result out.old out.new host.old host.new }
 {
-    for addr in 0..=u8::MAX {
-        match do_at(host, what, addr, link, out, page) {
+    let first = page.rests.first();
+    for step in 0..ADDRESSES {
+        let addr = first.wrapping_add(step as u8);
+        match visit_if_sound(host, addr, link, out, page) {
             Ok(()) => {}
             Err(how) => return Err(how),
         }
+        if page.rests.has_failed() {
+            page.rests.begin_after(addr);
+            return Ok(());
+        }
     }
+    page.rests.begin_after(u8::MAX);
     Ok(())
 }
 
-/// Does at an address what is to be done there.
-fn do_at<K: Sink, D: Disk, L: CountedLink>(
-    host: &mut Host<'_, D>,
-    what: Visit,
-    addr: u8,
-    link: &mut L,
-    out: &mut K,
-    page: &mut Page,
-) -> Result<(), Served>
-    requires whole { has_failed host.old ≡ false }
-    ensures acts { Acts K.written K.puts K.faults IsPoll result out.old out.new host.old host.new }
-{
-    match what {
-        Visit::ReadOut => read_out(host, addr, link, out, page),
-        Visit::Attempt => go_on(host, addr, 1, link, out, page),
-    }
-}
-
-/// The acceptor at an address is read out by a round, where its epoch runs and no job is there.
-fn read_out<K: Sink, D: Disk, L: CountedLink>(
+/// Visits the device at an address, unless it is doubtful or left alone.
+fn visit_if_sound<K: Sink, D: Disk, L: CountedLink>(
     host: &mut Host<'_, D>,
     addr: u8,
     link: &mut L,
@@ -87,47 +77,127 @@ fn read_out<K: Sink, D: Disk, L: CountedLink>(
     page: &mut Page,
 ) -> Result<(), Served>
     requires whole { has_failed host.old ≡ false }
-    ensures acts { Acts K.written K.puts K.faults IsPoll result out.old out.new host.old host.new }
+    ensures acts { Acts K.written K.puts K.faults (Exchanges L.gives L.sent L.failures link.old link.new)
+        IsVisit result out.old out.new host.old host.new }
 {
-    if host.command_at(addr).is_none() && runs(host.epoch_at(addr)) {
-        round(host, addr, link, out, page)
+    if page.rests.is_sound(addr) {
+        visit(host, addr, link, out, page)
     } else {
         Ok(())
     }
 }
 
-/// A round is begun at an address, and done up to its end, if it is taken.
-fn round<K: Sink, D: Disk, L: CountedLink>(
+/// What is done after the visits of a poll: the doubtful device whose turn it is, and questions that are left. Which of both
+/// comes first changes from poll to poll.
+fn try_others<K: Sink, D: Disk, L: CountedLink>(
     host: &mut Host<'_, D>,
-    addr: u8,
+    roll: &mut Roll,
     link: &mut L,
     out: &mut K,
     page: &mut Page,
 ) -> Result<(), Served>
     requires whole { has_failed host.old ≡ false }
-    ensures acts { Acts K.written K.puts K.faults IsPoll result out.old out.new host.old host.new }
+    ensures acts { Acts K.written K.puts K.faults
+        (UsesLink L.gives L.sent L.failures (setup_of host.old).devices roll.old roll.new link.old link.new)
+        (Finds roll.old.findings roll.new.findings IsPoll) result out.old out.new host.old host.new }
 {
-    match answer(host, &Command::Round { addr }, out, page) {
-        Ok(()) => go_on(host, addr, MOST_ATTEMPTS, link, out, page),
+    if page.rests.asks_first() {
+        ask_then_visit(host, roll, link, out, page)
+    } else {
+        visit_then_ask(host, roll, link, out, page)
+    }
+}
+
+/// Asks some of the questions that are left, and then visits a doubtful device, unless the poll is spent before.
+fn ask_then_visit<K: Sink, D: Disk, L: CountedLink>(
+    host: &mut Host<'_, D>,
+    roll: &mut Roll,
+    link: &mut L,
+    out: &mut K,
+    page: &mut Page,
+) -> Result<(), Served>
+    requires whole { has_failed host.old ≡ false }
+    ensures acts { Acts K.written K.puts K.faults
+        (UsesLink L.gives L.sent L.failures (setup_of host.old).devices roll.old roll.new link.old link.new)
+        (Finds roll.old.findings roll.new.findings IsPoll) result out.old out.new host.old host.new }
+{
+    match ask_if_unspent(host, roll, link, out, page) {
+        Ok(()) => visit_doubtful(host, link, out, page),
         Err(how) => Err(how),
     }
 }
 
-/// The job at an address, if there is one, makes attempts until it has ended, or so many.
-fn go_on<K: Sink, D: Disk, L: CountedLink>(
+/// Visits a doubtful device, and then asks some of the questions that are left, unless the poll is spent before.
+fn visit_then_ask<K: Sink, D: Disk, L: CountedLink>(
     host: &mut Host<'_, D>,
-    addr: u8,
-    most: u32,
+    roll: &mut Roll,
     link: &mut L,
     out: &mut K,
     page: &mut Page,
 ) -> Result<(), Served>
     requires whole { has_failed host.old ≡ false }
-    ensures acts { Acts K.written K.puts K.faults IsPoll result out.old out.new host.old host.new }
+    ensures acts { Acts K.written K.puts K.faults
+        (UsesLink L.gives L.sent L.failures (setup_of host.old).devices roll.old roll.new link.old link.new)
+        (Finds roll.old.findings roll.new.findings IsPoll) result out.old out.new host.old host.new }
 {
-    if host.command_at(addr).is_some() {
-        attempts(host, addr, most, link, out, page)
-    } else {
-        Ok(())
+    match visit_doubtful(host, link, out, page) {
+        Ok(()) => ask_if_unspent(host, roll, link, out, page),
+        Err(how) => Err(how),
     }
+}
+
+/// Asks some of the questions that are left, unless the poll is spent.
+fn ask_if_unspent<K: Sink, D: Disk, L: CountedLink>(
+    host: &mut Host<'_, D>,
+    roll: &mut Roll,
+    link: &mut L,
+    out: &mut K,
+    page: &mut Page,
+) -> Result<(), Served>
+    requires whole { has_failed host.old ≡ false }
+    ensures acts { Acts K.written K.puts K.faults
+        (UsesLink L.gives L.sent L.failures (setup_of host.old).devices roll.old roll.new link.old link.new)
+        (Finds roll.old.findings roll.new.findings IsPoll) result out.old out.new host.old host.new }
+{
+    if page.rests.is_spent() {
+        Ok(())
+    } else {
+        ask_some(host, roll, link, out, page)
+    }
+}
+
+/// Visits the doubtful device whose turn it is, if there is one, unless the poll is spent.
+fn visit_doubtful<K: Sink, D: Disk, L: CountedLink>(
+    host: &mut Host<'_, D>,
+    link: &mut L,
+    out: &mut K,
+    page: &mut Page,
+) -> Result<(), Served>
+    requires whole { has_failed host.old ≡ false }
+    ensures acts { Acts K.written K.puts K.faults (Exchanges L.gives L.sent L.failures link.old link.new)
+        IsVisit result out.old out.new host.old host.new }
+{
+    match next_doubtful(host, page) {
+        Some(addr) => {
+            page.rests.take_turn(addr);
+            visit(host, addr, link, out, page)
+        }
+        None => Ok(()),
+    }
+}
+
+/// The address of the doubtful device whose turn it is: the first with something to do after the one that had the last turn.
+/// None where the poll is spent.
+fn next_doubtful<D: Disk>(host: &Host<'_, D>, page: &Page) -> Option<u8> {
+    if page.rests.is_spent() {
+        return None;
+    }
+    let first = page.rests.next_turn();
+    for step in 0..=u8::MAX {
+        let addr = first.wrapping_add(step);
+        if page.rests.is_due(addr) && has_task(host, addr) {
+            return Some(addr);
+        }
+    }
+    None
 }

@@ -16,7 +16,8 @@ use cct_text::{TextLine, write_entry};
 pub enum Served {
     /// At the line `end`, or where the input ended.
     Done,
-    /// At a line that can't be passed over: it has 1,048,576 bytes or more, or 4,294,967,294 lines came before it.
+    /// At a line that can't be passed over: 1,048,576 pieces of it were taken and it goes on, or 4,294,967,294 lines came before
+    /// it.
     Refused { number: u32, kind: LineKind },
     /// The input couldn't be read.
     Unread,

@@ -13,6 +13,10 @@ returns-in-Ok-clause-opens g c setup found none =
           (carry_of_none setup),
     )
 
+pub returns-in-Ok-clause-made : goal.returns-in-Ok-clause-made
+returns-in-Ok-clause-made g c =
+    (c.in-Ok.ensures.created.none, c.in-Ok.ensures.created.blank, c.in-Ok.ensures.moments)
+
 pub returns-in-Ok-clause-serves : goal.returns-in-Ok-clause-serves
 returns-in-Ok-clause-serves g c = record {
   goes_on = c.in-Ok.ensures.goes_on;

@@ -2,17 +2,18 @@ use Rattle.std.proofs.Common.{inr, sym, subst}
 use Rattle.cct_host.specs.Host as hosts
 use Rattle.cct_journal.specs.Journal as journals
 use Rattle.cct_service.specs.Causes.{Refuses}
-use Rattle.cct_service.proofs.Begins.{begins_by}
+use Rattle.cct_service.proofs.Begins.{opened_by}
 use Rattle.cct_service.proofs.Causing.{not_true, reads_serve, refuses_start}
 use Rattle.cct_service.proofs.Parts.{disk_then}
 use Rattle.cct_service.proofs.opening.open_host.Goals as goal
 
-pub returns-in-Ok-start-clause-stands : goal.returns-in-Ok-start-clause-stands
-returns-in-Ok-start-clause-stands g c found on =
+pub returns-in-Ok-start-clause-opened : goal.returns-in-Ok-start-clause-opened
+returns-in-Ok-start-clause-opened g c =
     let setup = c.args.setup.now in
     let start = c.in-Ok-start.ensures in
-    begins_by {g = g.D.Disk} c.in-Ok-start.host c.in-Ok.opened.0 setup c.in-Ok.opened.1 found start.setup start.knows
-    start.fresh start.stands start.reads (c.in-Ok.ensures.opens setup found c.requires.sound on)
+    opened_by {g = g.D.Disk} c.args.disk c.in-Ok.opened.0 c.in-Ok-start.host setup c.in-Ok.opened.1 start.setup
+    c.requires.sound c.in-Ok.ensures.opened (λ found told. c.in-Ok.ensures.opens setup found c.requires.sound told)
+    start.begins start.resumes start.knows start.fresh start.stands start.reads c.in-Ok.ensures.serves start.untouched
 
 pub returns-in-Ok-start-clause-serves : goal.returns-in-Ok-start-clause-serves
 returns-in-Ok-start-clause-serves g c =

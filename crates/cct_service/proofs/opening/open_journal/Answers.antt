@@ -1,8 +1,10 @@
-use Rattle.std.proofs.Common.{◌≡◌, ◌∙◌, inr, sym, subst}
+use Rattle.std.proofs.Common.{◌≡◌, ◌∙◌, inl, inr, sym, subst}
 use Rattle.std.specs.Prelude.{⊤}
 use Rattle.cct_journal.specs.declared.refusal.OpenNo.TheVariants.{Disk}
 use Rattle.cct_journal.specs.Opening.{RefusesOpen}
+use Rattle.cct_journal.specs.Creating.{IsCreated}
 use Rattle.cct_journal.specs.Journal as journals
+use Rattle.cct_journal.proofs.Moments.{reads_hold, then, weaker}
 use Rattle.cct_service.specs.Causes.{Refuses}
 use Rattle.cct_service.proofs.Begins.{opens_there}
 use Rattle.cct_service.proofs.Causing.{reads_serve, refuses_bad, refuses_fault, refuses_made, refuses_other}
@@ -22,7 +24,7 @@ returns-in-Ok-clause-opens g c setup found sound tells =
     c.in-Ok.ensures.reads tells
 
 pub returns-in-Ok-clause-opened : goal.returns-in-Ok-clause-opened
-returns-in-Ok-clause-opened g c = (c.in-Ok.ensures.finds, c.in-Ok.ensures.reads)
+returns-in-Ok-clause-opened g c = (c.in-Ok.ensures.finds, c.in-Ok.ensures.reads, c.in-Ok.ensures.stands)
 
 pub returns-in-Ok-clause-serves : goal.returns-in-Ok-clause-serves
 returns-in-Ok-clause-serves g c =
@@ -34,6 +36,22 @@ returns-in-Ok-clause-serves g c =
 pub returns-in-Ok-make_journal-clause-opens : goal.returns-in-Ok-make_journal-clause-opens
 returns-in-Ok-make_journal-clause-opens g c setup found sound none =
     c.in-Ok-make_journal.ensures.opens setup found none
+
+pub returns-in-Ok-make_journal-clause-opened : goal.returns-in-Ok-make_journal-clause-opened
+returns-in-Ok-make_journal-clause-opened g c =
+    let disk = g.D.Disk in
+    let made = c.in-Ok-make_journal.ensures.made in
+    let reads = c.in-Err.ensures.reads in (
+      made.0,
+      λ image told. made.1 image (reads.same_seen ∙ told),
+      λ image holds.
+          let here = reads_hold reads image holds in
+          then disk.moment disk.left_since c.args.disk c.in-Err.disk (journals.disk_of c.in-Ok-make_journal.journal)
+          (IsCreated image)
+          (weaker disk.moment disk.left_since c.args.disk c.in-Err.disk (disk.may_leave c.args.disk) (IsCreated image)
+          (λ bytes left. inl (holds.only bytes left)) (reads.moments holds.keeps_synced))
+          (made.2 image here),
+    )
 
 pub returns-in-Ok-make_journal-clause-serves : goal.returns-in-Ok-make_journal-clause-serves
 returns-in-Ok-make_journal-clause-serves g c =

@@ -1,6 +1,135 @@
-use Rattle.std.proofs.Common.{Ok, subst}
+use Rattle.std.proofs.Common.{Ok, subst, sym}
+use Rattle.cct_host.specs.Host.{setup_of}
+use Rattle.cct_lives.specs.LiveStep as live
+use Rattle.cct_service.specs.declared.attempts.TheConstants.{MOST_ATTEMPTS}
+use Rattle.cct_service.specs.Doing.{AreAttempts, Does, Finds, IsAttempt, IsOrder, IsStatus, TellsOne}
+use Rattle.cct_service.specs.Linked.{UsesLink}
+use Rattle.cct_service.specs.Parts.{Acts}
 use Rattle.cct_service.specs.Said.{IsSayable}
+use Rattle.cct_service.proofs.Found.{attempt_finds, attempts_find, finds_none, one_finds, order_finds, status_finds}
+use Rattle.cct_service.proofs.Linking.{roll_quiet, roll_told}
+use Rattle.cct_service.proofs.Parts.{acts_weaker}
 use Rattle.cct_service.proofs.play.obey.Goals as goal
 
 pub returns-in-End : goal.returns-in-End
 returns-in-End g c = absurd (subst (λ said. IsSayable (Ok said)) c.in-End.is c.requires.sayable)
+
+pub returns-in-Next : goal.returns-in-Next
+returns-in-Next g c =
+    let sink = g.K.Sink in
+    let link = g.L.CountedLink in
+    let roll = c.args.roll.now in
+    let known = roll.findings in
+    let line = c.args.link.now in
+    let host = c.args.host.now in
+    let devices = (setup_of host).devices in
+    let does = IsAttempt c.in-Next.addr in
+    let uses = UsesLink g.L.Link.gives link.sent link.failures devices roll roll line c.next.new.link in
+    let result = c.next.result in
+    let out = c.args.out.now in
+    let out1 = c.next.new.out in
+    let after = c.next.new.host in
+    record {
+      acts = subst (λ said. Acts sink.written sink.puts sink.faults uses (Finds known known (Does known said)) result out out1
+          host after) (sym c.in-Next.is)
+          (roll_told sink.written sink.puts sink.faults g.L.Link.gives link.sent link.failures devices roll line c.next.new.link
+          result out out1 host after (Finds known known does)
+          (acts_weaker sink.written sink.puts sink.faults result out out1 host after does (Finds known known does)
+          (finds_none known does (attempt_finds c.in-Next.addr)) c.next.ensures.acts));
+    }
+
+pub returns-in-Do : goal.returns-in-Do
+returns-in-Do g c =
+    let sink = g.K.Sink in
+    let link = g.L.CountedLink in
+    let roll = c.args.roll.now in
+    let known = roll.findings in
+    let line = c.args.link.now in
+    let host = c.args.host.now in
+    let devices = (setup_of host).devices in
+    let does = AreAttempts c.in-Do.addr MOST_ATTEMPTS in
+    let uses = UsesLink g.L.Link.gives link.sent link.failures devices roll roll line c.do_job.new.link in
+    let result = c.do_job.result in
+    let out = c.args.out.now in
+    let out1 = c.do_job.new.out in
+    let after = c.do_job.new.host in
+    record {
+      acts = subst (λ said. Acts sink.written sink.puts sink.faults uses (Finds known known (Does known said)) result out out1
+          host after) (sym c.in-Do.is)
+          (roll_told sink.written sink.puts sink.faults g.L.Link.gives link.sent link.failures devices roll line c.do_job.new.link
+          result out out1 host after (Finds known known does)
+          (acts_weaker sink.written sink.puts sink.faults result out out1 host after does (Finds known known does)
+          (finds_none known does (attempts_find c.in-Do.addr MOST_ATTEMPTS)) c.do_job.ensures.acts));
+    }
+
+pub returns-in-Balance : goal.returns-in-Balance
+returns-in-Balance g c =
+    let sink = g.K.Sink in
+    let link = g.L.CountedLink in
+    let roll = c.args.roll.now in
+    let known = roll.findings in
+    let line = c.args.link.now in
+    let host = c.args.host.now in
+    let devices = (setup_of host).devices in
+    let does = TellsOne live.balance in
+    let uses = UsesLink g.L.Link.gives link.sent link.failures devices roll roll line line in
+    let result = c.balance.result in
+    let out = c.args.out.now in
+    let out1 = c.balance.new.out in
+    let after = c.balance.new.host in
+    record {
+      acts = subst (λ said. Acts sink.written sink.puts sink.faults uses (Finds known known (Does known said)) result out out1
+          host after) (sym c.in-Balance.is)
+          (roll_quiet sink.written sink.puts sink.faults g.L.Link.gives link.sent link.failures devices roll line
+          result out out1 host after (Finds known known does)
+          (acts_weaker sink.written sink.puts sink.faults result out out1 host after does (Finds known known does)
+          (finds_none known does (one_finds live.balance)) c.balance.ensures.acts));
+    }
+
+pub returns-in-Status : goal.returns-in-Status
+returns-in-Status g c =
+    let sink = g.K.Sink in
+    let link = g.L.CountedLink in
+    let roll = c.args.roll.now in
+    let known = roll.findings in
+    let line = c.args.link.now in
+    let host = c.args.host.now in
+    let devices = (setup_of host).devices in
+    let does = IsStatus in
+    let uses = UsesLink g.L.Link.gives link.sent link.failures devices roll roll line line in
+    let result = c.status.result in
+    let out = c.args.out.now in
+    let out1 = c.status.new.out in
+    let after = c.status.new.host in
+    record {
+      acts = subst (λ said. Acts sink.written sink.puts sink.faults uses (Finds known known (Does known said)) result out out1
+          host after) (sym c.in-Status.is)
+          (roll_quiet sink.written sink.puts sink.faults g.L.Link.gives link.sent link.failures devices roll line
+          result out out1 host after (Finds known known does)
+          (acts_weaker sink.written sink.puts sink.faults result out out1 host after does (Finds known known does)
+          (finds_none known does status_finds) c.status.ensures.acts));
+    }
+
+pub returns-in-Order : goal.returns-in-Order
+returns-in-Order g c =
+    let sink = g.K.Sink in
+    let link = g.L.CountedLink in
+    let roll = c.args.roll.now in
+    let known = roll.findings in
+    let line = c.args.link.now in
+    let host = c.args.host.now in
+    let devices = (setup_of host).devices in
+    let does = IsOrder c.in-Order.id in
+    let uses = UsesLink g.L.Link.gives link.sent link.failures devices roll roll line line in
+    let result = c.order.result in
+    let out = c.args.out.now in
+    let out1 = c.order.new.out in
+    let after = c.order.new.host in
+    record {
+      acts = subst (λ said. Acts sink.written sink.puts sink.faults uses (Finds known known (Does known said)) result out out1
+          host after) (sym c.in-Order.is)
+          (roll_quiet sink.written sink.puts sink.faults g.L.Link.gives link.sent link.failures devices roll line
+          result out out1 host after (Finds known known does)
+          (acts_weaker sink.written sink.puts sink.faults result out out1 host after does (Finds known known does)
+          (finds_none known does (order_finds c.in-Order.id)) c.order.ensures.acts));
+    }

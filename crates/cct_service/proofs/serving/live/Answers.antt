@@ -1,10 +1,13 @@
-use Rattle.std.proofs.Common.{inl, inr, refl, sym, ◌∙◌, subst}
-use Rattle.cct_host.specs.Host.{disk_of}
+use Rattle.std.proofs.Common.{◌≡◌, inl, inr, refl, sym, ◌∙◌, subst}
+use Rattle.cct_host.specs.Host.{disk_of, setup_of}
 use Rattle.cct_model.specs.Setup.{IsSoundSetup}
 use Rattle.cct_service.specs.Causes.{DiskServes, IsDiskFault, IsUnread, IsUnwritten}
 use Rattle.cct_service.specs.Doing.{ServesLines}
 use Rattle.cct_service.specs.Found.{FoundOn}
+use Rattle.cct_service.specs.Linked.{UsesLink}
 use Rattle.cct_service.specs.Lived.{Lived}
+use Rattle.cct_service.specs.Opening.{BegunOn, opening_of, opening_over}
+use Rattle.cct_service.specs.Parts.{Plays}
 use Rattle.cct_service.proofs.Causing.{disk_not_unread, disk_not_unwritten}
 use Rattle.cct_service.proofs.Living.{lived_by, lived_suits}
 use Rattle.cct_service.proofs.Parts.{disk_then, serves_none}
@@ -15,24 +18,41 @@ returns g c =
     let sink = g.K.Sink in
     let disk = g.D.Disk in
     let host = c.in-Ok.opened.0 in
-    let was_there = c.in-Ok.opened.1 in
+    let opened = c.in-Ok.ensures.opened in
+    let begun = opened.begun in
     let last = c.live_on-how.new.host in
     let back = c.into_disk.result in
     let how = c.live_on-how.result in
     let left = g.S.Source.left c.args.input.now in
-    let withheld = c.args.withheld.now in
-    let plays = c.live_on-how.ensures.plays in
+    let link = g.L.CountedLink in
+    let roll = c.args.roll.now in
+    let now = c.live_on-how.new.roll in
+    let line = c.args.link.now in
+    let next = c.live_on-how.new.link in
+    let ends = c.args.ends in
+    let plays = c.live_on-how.ensures.plays begun opened.has opened.there_is in
+    let opening = opening_of (setup_of host) begun in
     let p = c.live_on-how.ensures.setup ∙ c.in-Ok.ensures.setup in
     record {
-      lived = inl (subst (λ s. Lived sink.written sink.puts disk.honest disk.seen disk.may_leave c.args.disk back s withheld
-          left how c.args.out.now c.live_on-how.new.out) p
-          (lived_by sink.written sink.puts c.args.disk back host last was_there withheld left
+      lived = inl (subst (λ s. Lived sink.written sink.puts g.L.Link.gives link.sent link.failures disk.size disk.honest
+          disk.seen disk.may_leave disk.moment disk.left_since disk.cuts c.args.disk back s roll now ends left how c.args.out.now c.live_on-how.new.out line next) p
+          (lived_by sink.written sink.puts g.L.Link.gives link.sent link.failures c.args.disk back host last begun roll now
+          ends left line next
           (sym c.live_on-how.ensures.setup) (subst IsSoundSetup (sym p) c.requires.sound) c.into_disk.ensures
-          (λ found on. c.in-Ok.ensures.stands found
-          (subst (λ s. FoundOn disk.honest disk.seen disk.may_leave c.args.disk s was_there found) p on))
-          how c.args.out.now c.live_on-how.new.out plays));
+          (subst (λ s. BegunOn disk.seen c.args.disk s begun) (sym p) opened.on)
+          (λ found on. subst (λ s. opening_of s begun ≡ opening_over s begun found) (sym p)
+          (opened.numbers found
+          (subst (λ s. FoundOn disk.honest disk.seen disk.may_leave c.args.disk s begun found) p on)))
+          (λ found on. opened.since found
+          (subst (λ s. FoundOn disk.honest disk.seen disk.may_leave c.args.disk s begun found) p on))
+          how c.args.out.now c.live_on-how.new.out
+          (subst (λ s. Plays sink.written sink.puts
+          (UsesLink g.L.Link.gives link.sent link.failures (setup_of host).devices roll now line next)
+          (ServesLines (opening_of s begun) roll.findings ends) left how c.args.out.now c.live_on-how.new.out host last)
+          (sym c.live_on-how.ensures.setup) plays)));
       suits = lived_suits sink.written sink.puts {g = disk} c.args.disk back c.args.setup.now
-          (ServesLines was_there withheld plays.lines) how c.args.out.now c.live_on-how.new.out host last plays.lives;
+          (UsesLink g.L.Link.gives link.sent link.failures (setup_of host).devices roll now line next)
+          (ServesLines opening roll.findings ends plays.lines) how c.args.out.now c.live_on-how.new.out host last plays.lives;
       size = λ other. absurd (other c.in-Ok.ensures.sized);
       input = c.live_on-how.ensures.input;
       sink = c.live_on-how.ensures.sink;
@@ -49,7 +69,7 @@ returns-in-Err g c =
     let how = c.in-Err.ended.0 in
     let refuses = c.in-Err.ensures.refuses in
     record {
-      lived = inr (refuses.of_disk, refl);
+      lived = inr (refuses.of_disk, refl, refl, refl);
       suits = refuses.suits;
       size = refuses.other;
       input = serves_none source.left source.faults c.args.input.now (IsUnread how) (disk_not_unread how refuses.of_disk);

@@ -1,75 +1,140 @@
-use Rattle.std.proofs.Common.{◌∷◌, [], IsErr, Ok, Err, Result, refl, inr}
-use Rattle.cct_edge.specs.declared.fault.Failed.{Failed}
-use Rattle.cct_host.specs.Host.{StandsFor, disk_of, setup_of}
-use Rattle.cct_service.specs.Causes.{IsUnwritten}
-use Rattle.cct_service.specs.declared.served.Served.TheVariants.{Unwritten}
-use Rattle.cct_service.specs.Doing.{DoesLines, FrontOf, ServesLines, TellsOpening}
-use Rattle.cct_service.specs.Told.{notice}
-use Rattle.cct_service.proofs.Doings.{opening_alone, opening_then}
-use Rattle.cct_service.proofs.Parts.{disk_none, front_whole, lives_to, part_line, serves_none, serves_then, serves_weaker}
-use Rattle.cct_service.proofs.Saying.{said_broken, said_none}
+use Rattle.std.proofs.Common.{◌∙◌, Ok, Err, inr}
+use Rattle.cct_host.specs.Host.{disk_of, setup_of}
+use Rattle.cct_service.specs.Causes.{IsDiskFault, IsUnread, IsUnwritten}
+use Rattle.cct_service.specs.Doing.{PlaysLines, ServesLines, StopsBy}
+use Rattle.cct_service.specs.Linked.{UsesLink}
+use Rattle.cct_service.specs.Opening.{opening_of}
+use Rattle.cct_service.proofs.Causing.{unread_of_input}
+use Rattle.cct_service.proofs.Doings.{end_none, end_then}
+use Rattle.cct_service.proofs.Linking.{roll_told, uses_then}
+use Rattle.cct_service.proofs.Parts.{breaks, disk_then, ends_to, lives_then, lives_to_weaker, serves_then, serves_weaker}
+use Rattle.cct_service.proofs.Saying.{said_ended}
 use Rattle.cct_service.proofs.serving.live_on.Goals as goal
+
+pub stop_at_end-requires : goal.stop_at_end-requires
+stop_at_end-requires g c = record { whole = c.in-Done.ensures.whole tt }
 
 pub returns-in-Ok : goal.returns-in-Ok
 returns-in-Ok g c =
     let sink = g.K.Sink in
+    let link = g.L.CountedLink in
+    let disk = g.D.Disk in
+    let known = c.args.roll.now.findings in
+    let ends = c.args.ends in
     let host = c.args.host.now in
+    let mid = c.open_and_play.new.host in
+    let last = c.stop_at_end.new.host in
     let out = c.args.out.now in
-    let between = c.tell_found.new.out in
-    let tells = c.in-Ok.ensures.tells in
-    let plays = c.play.ensures.plays in
-    let there = c.args.was_there in
-    let withheld = c.args.withheld.now in
-    let went : Result (Unit {0}) Failed = Ok tt in
+    let between = c.open_and_play.new.out in
+    let told = c.stop_at_end.new.out in
+    let before = c.in-Done.ensures in
+    let roll = c.args.roll.now in
+    let between_roll = c.open_and_play.new.roll in
+    let line = c.args.link.now in
+    let between_line = c.open_and_play.new.link in
+    let last_line = c.stop_at_end.new.link in
+    let played = UsesLink g.L.Link.gives link.sent link.failures (setup_of host).devices roll between_roll line between_line in
+    let stopped = UsesLink g.L.Link.gives link.sent link.failures (setup_of mid).devices between_roll between_roll between_line
+    last_line in
+    let uses = UsesLink g.L.Link.gives link.sent link.failures (setup_of host).devices roll between_roll line last_line in
+    let links = uses_then g.L.Link.gives link.sent link.failures (setup_of host) (setup_of mid) before.setup roll between_roll
+    between_roll line between_line last_line in
+    let acts = roll_told sink.written sink.puts sink.faults g.L.Link.gives link.sent link.failures (setup_of mid).devices
+    between_roll between_line last_line (Ok tt) between told mid last (StopsBy ends) c.in-Ok.ensures.acts in
     record {
-      setup = c.play.ensures.setup;
-      plays = record {
-        lines = plays.lines;
-        lives = lives_to sink.written sink.puts c.play.result out between c.play.new.out host host c.play.new.host
-            (TellsOpening there) (DoesLines withheld plays.lines) (ServesLines there withheld plays.lines)
-            (opening_then there withheld plays.lines) refl
-            (part_line sink.written sink.puts out between (Ok tt) (setup_of host) (StandsFor host) (notice tells.0)
-            (TellsOpening there) refl tells.2 (refl, (tells.0, tells.1, refl)))
-            plays.lives;
-        says = plays.says;
-      };
-      input = c.play.ensures.input;
-      sink = serves_then sink.written sink.faults out between c.play.new.out (IsErr went) (IsUnwritten c.play.result)
-          c.in-Ok.ensures.serves c.play.ensures.sink (IsUnwritten c.play.result) (λ fails. inr fails);
-      disk = c.play.ensures.disk;
+      setup = acts.setup ∙ before.setup;
+      plays = λ begun has there.
+          let plays = before.plays begun has there in
+          let lines = plays.lines in
+          let opening = opening_of (setup_of host) begun in
+          record {
+            lines = lines;
+            lives = lives_then sink.written sink.puts played stopped uses links (Ok tt) out between told host mid last (PlaysLines opening known lines)
+                (StopsBy ends) (ServesLines opening known ends lines) (end_then opening known ends lines) before.setup
+                plays.lives acts.lives;
+            says = plays.says;
+          };
+      input = before.input;
+      sink = serves_then sink.written sink.faults out between told ⊥ ⊥ before.sink acts.sink ⊥ (λ fails. inr fails);
+      disk = disk_then disk.size disk.honest disk.seen disk.cuts disk.faults (disk_of host) (disk_of mid) (disk_of last) ⊥ ⊥
+          before.disk acts.disk ⊥ (λ fails. inr fails);
     }
 
 pub returns-in-Err : goal.returns-in-Err
 returns-in-Err g c =
     let sink = g.K.Sink in
+    let link = g.L.CountedLink in
     let source = g.S.Source in
     let disk = g.D.Disk in
+    let known = c.args.roll.now.findings in
+    let ends = c.args.ends in
     let host = c.args.host.now in
+    let mid = c.open_and_play.new.host in
+    let last = c.stop_at_end.new.host in
     let out = c.args.out.now in
-    let between = c.tell_found.new.out in
-    let tells = c.in-Err.ensures.tells in
-    let why = c.in-Err.field-0 in
-    let there = c.args.was_there in
-    let withheld = c.args.withheld.now in
-    let left = source.left c.args.input.now in
-    let whole = ServesLines there withheld [] in
-    let what = notice tells.0 in
-    let broke : Result (Unit {0}) Failed = Err why in
+    let between = c.open_and_play.new.out in
+    let told = c.stop_at_end.new.out in
+    let before = c.in-Done.ensures in
+    let how = c.in-Err.how in
+    let roll = c.args.roll.now in
+    let between_roll = c.open_and_play.new.roll in
+    let line = c.args.link.now in
+    let between_line = c.open_and_play.new.link in
+    let last_line = c.stop_at_end.new.link in
+    let played = UsesLink g.L.Link.gives link.sent link.failures (setup_of host).devices roll between_roll line between_line in
+    let stopped = UsesLink g.L.Link.gives link.sent link.failures (setup_of mid).devices between_roll between_roll between_line
+    last_line in
+    let uses = UsesLink g.L.Link.gives link.sent link.failures (setup_of host).devices roll between_roll line last_line in
+    let links = uses_then g.L.Link.gives link.sent link.failures (setup_of host) (setup_of mid) before.setup roll between_roll
+    between_roll line between_line last_line in
+    let acts = roll_told sink.written sink.puts sink.faults g.L.Link.gives link.sent link.failures (setup_of mid).devices
+    between_roll between_line last_line (Err how) between told mid last (StopsBy ends) c.in-Err.ensures.acts in
+    let other = breaks sink.written sink.puts stopped how (StopsBy ends) between told mid last acts.lives in
     record {
-      setup = refl;
-      plays = record {
-        lines = [];
-        lives = (
-          why,
-          part_line sink.written sink.puts out between (Err why) (setup_of host) (StandsFor host) what (FrontOf whole) refl
-              tells.2
-              (front_whole whole [] (what ∷ [])
-              (opening_alone there withheld [] (what ∷ []) (refl, (tells.0, tells.1, refl)))),
-        );
-        says = said_broken Unwritten left left [] [] (λ is. is) (said_none left);
-      };
-      input = serves_none source.left source.faults c.args.input.now ⊥ (λ fails. fails);
-      sink = serves_weaker sink.written sink.faults out between (IsErr broke) (IsUnwritten Unwritten) (λ _. refl)
-          c.in-Err.ensures.serves;
-      disk = disk_none disk.size disk.honest disk.seen disk.cuts disk.faults (disk_of host) ⊥ (λ fails. fails);
+      setup = acts.setup ∙ before.setup;
+      plays = λ begun has there.
+          let plays = before.plays begun has there in
+          let lines = plays.lines in
+          let opening = opening_of (setup_of host) begun in
+          record {
+            lines = lines;
+            lives = ends_to sink.written sink.puts uses how (ServesLines opening known ends lines) out told host last
+                (lives_then sink.written sink.puts played stopped uses links (Err how) out between told host mid last (PlaysLines opening known lines)
+                (StopsBy ends) (ServesLines opening known ends lines) (end_then opening known ends lines) before.setup plays.lives acts.lives);
+            says = said_ended how (source.left c.args.input.now) lines other plays.says;
+          };
+      input = serves_weaker source.left source.faults c.args.input.now c.open_and_play.new.input ⊥ (IsUnread how)
+          (λ fails. other (unread_of_input how fails)) before.input;
+      sink = serves_then sink.written sink.faults out between told ⊥ (IsUnwritten how) before.sink acts.sink
+          (IsUnwritten how) (λ fails. inr fails);
+      disk = disk_then disk.size disk.honest disk.seen disk.cuts disk.faults (disk_of host) (disk_of mid) (disk_of last) ⊥
+          (IsDiskFault how) before.disk acts.disk (IsDiskFault how) (λ fails. inr fails);
+    }
+
+pub returns-in_default : goal.returns-in_default
+returns-in_default g c =
+    let sink = g.K.Sink in
+    let link = g.L.CountedLink in
+    let known = c.args.roll.now.findings in
+    let ends = c.args.ends in
+    let host = c.args.host.now in
+    let before = c.open_and_play.ensures in
+    let uses = UsesLink g.L.Link.gives link.sent link.failures (setup_of c.args.host.now).devices c.args.roll.now
+    c.open_and_play.new.roll c.args.link.now c.open_and_play.new.link in
+    record {
+      setup = before.setup;
+      plays = λ begun has there.
+          let plays = before.plays begun has there in
+          let lines = plays.lines in
+          let opening = opening_of (setup_of host) begun in
+          record {
+            lines = lines;
+            lives = lives_to_weaker sink.written sink.puts uses c.open_and_play.result c.args.out.now c.open_and_play.new.out
+                host c.open_and_play.new.host (PlaysLines opening known lines) (ServesLines opening known ends lines)
+                (end_none opening known ends lines) plays.lives;
+            says = plays.says;
+          };
+      input = before.input;
+      sink = before.sink;
+      disk = before.disk;
     }

@@ -1,7 +1,7 @@
 use Rattle.std.proofs.Common.{IsErr, Ok, Err, Result, inr}
 use Rattle.cct_edge.specs.declared.fault.Failed.{Failed}
 use Rattle.cct_service.proofs.Parts.{serves_none, serves_on, serves_then}
-use Rattle.cct_service.proofs.Telling.{status_more, status_none}
+use Rattle.cct_service.proofs.Telling.{status_then, status_none}
 use Rattle.cct_service.proofs.standing.tell_status.Goals as goal
 
 pub loop-device-init : goal.loop-device-init
@@ -17,7 +17,7 @@ loop-device-preserved g c =
     let sink = g.K.Sink in
     let before = c.loop-device.invariant in
     record {
-      tells = status_more sink.written sink.puts c.args.out.now c.loop-device.out c.tell_device.new.out (Ok tt) before.tells
+      tells = status_then sink.written sink.puts c.args.out.now c.loop-device.out c.tell_device.new.out (Ok tt) before.tells
           c.in-Ok.ensures.tells;
       serves = serves_on sink.written sink.faults c.args.out.now c.loop-device.out c.tell_device.new.out before.serves
           c.in-Ok.ensures.serves;
@@ -29,7 +29,7 @@ returns-in-Err g c =
     let before = c.loop-device.invariant in
     let answer : Result (Unit {0}) Failed = Err c.in-Err.failed in
     record {
-      tells = status_more sink.written sink.puts c.args.out.now c.loop-device.out c.tell_device.new.out answer before.tells
+      tells = status_then sink.written sink.puts c.args.out.now c.loop-device.out c.tell_device.new.out answer before.tells
           c.in-Err.ensures.tells;
       serves = serves_then sink.written sink.faults c.args.out.now c.loop-device.out c.tell_device.new.out ⊥ (IsErr answer)
           before.serves c.in-Err.ensures.serves (IsErr answer) (λ fails. inr fails);
@@ -39,10 +39,10 @@ pub returns : goal.returns
 returns g c =
     let sink = g.K.Sink in
     let before = c.loop-device.invariant in
-    let answer = c.tell_room.result in
+    let answer = c.tell_two.result in
     record {
-      tells = status_more sink.written sink.puts c.args.out.now c.loop-device.out c.tell_room.new.out answer before.tells
-          c.tell_room.ensures.tells;
-      serves = serves_then sink.written sink.faults c.args.out.now c.loop-device.out c.tell_room.new.out ⊥ (IsErr answer)
-          before.serves c.tell_room.ensures.serves (IsErr answer) (λ fails. inr fails);
+      tells = status_then sink.written sink.puts c.args.out.now c.loop-device.out c.tell_two.new.out answer before.tells
+          c.tell_two.ensures.tells;
+      serves = serves_then sink.written sink.faults c.args.out.now c.loop-device.out c.tell_two.new.out ⊥ (IsErr answer)
+          before.serves c.tell_two.ensures.serves (IsErr answer) (λ fails. inr fails);
     }

@@ -1,0 +1,21 @@
+use Rattle.std.proofs.Common.{Some, refl, sym, subst}
+use Rattle.cct_service.specs.declared.notice.Notice.TheVariants as notice_of
+use Rattle.cct_service.specs.Doing.{DoesCommand}
+use Rattle.cct_service.specs.Linked.{AreQuiet}
+use Rattle.cct_service.specs.Parts.{Acts}
+use Rattle.cct_service.specs.Told.{notice}
+use Rattle.cct_service.proofs.Parts.{acts_line}
+use Rattle.cct_service.proofs.commands.withhold.Goals as goal
+
+pub returns : goal.returns
+returns g c =
+    let sink = g.K.Sink in
+    let host = c.args.host.now in
+    let what = notice (notice_of.Withheld c.args.command.now c.args.why) in
+    let does = DoesCommand c.args.command.now (Some c.args.why) in
+    record {
+      acts = subst (λ r. Acts sink.written sink.puts sink.faults AreQuiet does r c.args.out.now c.tell.new.out host host)
+          (sym c.by_writing.ensures)
+          (acts_line sink.written sink.puts sink.faults AreQuiet c.tell.result c.args.out.now c.tell.new.out host what refl refl
+          c.tell.ensures.puts c.requires.whole c.tell.ensures.serves);
+    }

@@ -1,0 +1,13 @@
+use Rattle.std.proofs.Common.{Ok}
+use Rattle.cct_service.specs.Doing.{IsStopping}
+use Rattle.cct_service.specs.Linked.{Exchanges}
+use Rattle.cct_service.specs.Parts.{Acts}
+use Rattle.cct_service.proofs.stopping.stop_all.Given as goal
+
+-- The host lives on.
+abbrev pub invariant-loop-addr : goal.invariant-loop-addr
+invariant-loop-addr g l =
+    let sink = g.K.Sink in
+    let link = g.L.CountedLink in
+    Acts sink.written sink.puts sink.faults (Exchanges g.L.Link.gives link.sent link.failures l.fn.link l.link)
+    IsStopping (Ok tt) l.fn.out l.out l.fn.host l.host

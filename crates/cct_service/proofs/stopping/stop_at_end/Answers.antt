@@ -1,0 +1,20 @@
+use Rattle.std.proofs.Common.{Ok, refl, subst, sym}
+use Rattle.cct_service.specs.declared.stopping.AtEnd.TheVariants as at_end
+use Rattle.cct_service.specs.Doing.{StopsBy}
+use Rattle.cct_service.specs.Linked.{Exchanges}
+use Rattle.cct_service.specs.Parts.{Acts}
+use Rattle.cct_service.proofs.Linking.{link_none}
+use Rattle.cct_service.proofs.stopping.stop_at_end.Goals as goal
+
+pub returns-in-Leave : goal.returns-in-Leave
+returns-in-Leave g c =
+    let sink = g.K.Sink in
+    let link = g.L.CountedLink in
+    let out = c.args.out.now in
+    let host = c.args.host.now in
+    let line = c.args.link.now in
+    record {
+      acts = subst (λ ends. Acts sink.written sink.puts sink.faults (Exchanges g.L.Link.gives link.sent link.failures line line) (StopsBy ends) (Ok tt) out out host host)
+          (sym c.in-Leave.is)
+          (link_none sink.written sink.puts sink.faults g.L.Link.gives link.sent link.failures line out host (StopsBy at_end.Leave) c.requires.whole (refl, refl));
+    }

@@ -1,0 +1,40 @@
+use Rattle.std.proofs.Common.{ℕ, Ok, Err}
+use Rattle.cct_model.specs.lines.command.Command.{Command}
+use Rattle.cct_model.specs.lines.command.Command.TheVariants as command
+use Rattle.cct_service.specs.declared.attempts.TheConstants.{MOST_ATTEMPTS}
+use Rattle.cct_lives.specs.LiveStep as live
+use Rattle.cct_service.specs.Doing.{AreAttempts, IsStepOf, IsStopping, TellsOne}
+use Rattle.cct_service.proofs.Doings.{attempts_steps, command_step, many_then}
+use Rattle.cct_service.proofs.Linking.{link_quiet, link_then}
+use Rattle.cct_service.proofs.Parts.{acts_weaker}
+use Rattle.cct_service.proofs.stopping.stop_idle.Goals as goal
+
+pub returns-in-Ok : goal.returns-in-Ok
+returns-in-Ok g c =
+    let sink = g.K.Sink in
+    let link = g.L.CountedLink in
+    let begun : ℕ → Command = λ addr. command.Stop addr in
+    record {
+      acts = link_then sink.written sink.puts sink.faults g.L.Link.gives link.sent link.failures c.args.link.now c.args.link.now c.go_on.new.link c.go_on.result c.args.out.now c.answer.new.out c.go_on.new.out
+          c.args.host.now c.answer.new.host c.go_on.new.host IsStopping IsStopping IsStopping (many_then (IsStepOf begun))
+          (link_quiet sink.written sink.puts sink.faults g.L.Link.gives link.sent link.failures c.args.link.now (Ok tt)
+          c.args.out.now c.answer.new.out c.args.host.now c.answer.new.host IsStopping
+          (acts_weaker sink.written sink.puts sink.faults (Ok tt) c.args.out.now c.answer.new.out c.args.host.now
+          c.answer.new.host (TellsOne (live.command (command.Stop c.args.addr))) IsStopping
+          (command_step begun c.args.addr) c.in-Ok.ensures.acts))
+          (acts_weaker sink.written sink.puts sink.faults c.go_on.result c.answer.new.out c.go_on.new.out
+          c.answer.new.host c.go_on.new.host (AreAttempts c.args.addr MOST_ATTEMPTS) IsStopping
+          (attempts_steps begun c.args.addr MOST_ATTEMPTS) c.go_on.ensures.acts);
+    }
+
+pub returns-in-Err : goal.returns-in-Err
+returns-in-Err g c =
+    let sink = g.K.Sink in
+    let link = g.L.CountedLink in
+    record {
+      acts = link_quiet sink.written sink.puts sink.faults g.L.Link.gives link.sent link.failures c.args.link.now (Err c.in-Err.how)
+          c.args.out.now c.answer.new.out c.args.host.now c.answer.new.host IsStopping
+          (acts_weaker sink.written sink.puts sink.faults (Err c.in-Err.how) c.args.out.now c.answer.new.out
+          c.args.host.now c.answer.new.host (TellsOne (live.command (command.Stop c.args.addr))) IsStopping
+          (command_step (λ addr. command.Stop addr) c.args.addr) c.in-Err.ensures.acts);
+    }

@@ -1,0 +1,145 @@
+//! The acceptors that run are stopped at the end.
+ghost use Rattle.std.specs.Prelude.{◌≡◌, false};
+ghost use Rattle.cct_host.specs.Host.{has_failed};
+ghost use Rattle.cct_service.specs.Doing.{IsStopping, StopsBy};
+ghost use Rattle.cct_service.specs.Linked.{Exchanges};
+ghost use Rattle.cct_service.specs.Parts.{Acts};
+
+use crate::attempts::{MOST_ATTEMPTS, Until, go_on};
+use crate::commands::answer;
+use crate::page::Page;
+use crate::served::Served;
+use crate::standing::runs;
+use cct_disk::Disk;
+use cct_edge::Sink;
+use cct_host::Host;
+use cct_model::{Command, End, Entry};
+use cct_port::CountedLink;
+
+/// What is done with the acceptors that run where the input ended, or said `end`.
+#[derive(Clone, Copy, Debug, PartialEq, Eq)]
+pub enum AtEnd {
+    /// They go on accepting, and their epochs run.
+    Leave,
+    /// Each is stopped first: a job that is there makes attempts up to its end, and then a `stop`. One that doesn't answer three
+    /// times in succession is left as it is.
+    Stop,
+}
+
+/// Stops the acceptors that run, where it is wanted.
+pub(crate) fn stop_at_end<K: Sink, D: Disk, L: CountedLink>(
+    host: &mut Host<'_, D>,
+    ends: AtEnd,
+    link: &mut L,
+    out: &mut K,
+    page: &mut Page,
+) -> Result<(), Served>
+    requires whole { has_failed host.old ≡ false }
+    ensures acts { Acts K.written K.puts K.faults (Exchanges L.gives L.sent L.failures link.old link.new)
+        (StopsBy ends) result out.old out.new host.old host.new }
+{
+    match ends {
+        AtEnd::Leave => Ok(()),
+        AtEnd::Stop => stop_all(host, link, out, page),
+    }
+}
+
+/// Stops each acceptor that runs, in rising order of address.
+fn stop_all<K: Sink, D: Disk, L: CountedLink>(
+    host: &mut Host<'_, D>,
+    link: &mut L,
+    out: &mut K,
+    page: &mut Page,
+) -> Result<(), Served>
+    requires whole { has_failed host.old ≡ false }
+    ensures acts { Acts K.written K.puts K.faults (Exchanges L.gives L.sent L.failures link.old link.new)
+        IsStopping result out.old out.new host.old host.new }
+{
+    for addr in 0..=u8::MAX {
+        match stop_if_running(host, addr, link, out, page) {
+            Ok(()) => {}
+            Err(how) => return Err(how),
+        }
+    }
+    Ok(())
+}
+
+/// Stops the acceptor at an address, if one runs there.
+fn stop_if_running<K: Sink, D: Disk, L: CountedLink>(
+    host: &mut Host<'_, D>,
+    addr: u8,
+    link: &mut L,
+    out: &mut K,
+    page: &mut Page,
+) -> Result<(), Served>
+    requires whole { has_failed host.old ≡ false }
+    ensures acts { Acts K.written K.puts K.faults (Exchanges L.gives L.sent L.failures link.old link.new)
+        IsStopping result out.old out.new host.old host.new }
+{
+    if runs(host.epoch_at(addr)) {
+        stop(host, addr, link, out, page)
+    } else {
+        Ok(())
+    }
+}
+
+/// The job at an address makes attempts up to its end, and then a `stop` does, unless that job got no answer or ended the epoch.
+fn stop<K: Sink, D: Disk, L: CountedLink>(
+    host: &mut Host<'_, D>,
+    addr: u8,
+    link: &mut L,
+    out: &mut K,
+    page: &mut Page,
+) -> Result<(), Served>
+    requires whole { has_failed host.old ≡ false }
+    ensures acts { Acts K.written K.puts K.faults (Exchanges L.gives L.sent L.failures link.old link.new)
+        IsStopping result out.old out.new host.old host.new }
+{
+    page.report.clear();
+    match go_on(host, addr, MOST_ATTEMPTS, Until::Ended, link, out, page) {
+        Ok(()) => {}
+        Err(how) => return Err(how),
+    }
+    if is_to_stop(host, addr, page) {
+        stop_idle(host, addr, link, out, page)
+    } else {
+        Ok(())
+    }
+}
+
+/// Whether the acceptor at an address still runs, and the last job didn't end for want of an answer.
+fn is_to_stop<D: Disk>(host: &Host<'_, D>, addr: u8, page: &Page) -> bool {
+    runs(host.epoch_at(addr)) && !is_unanswered(page.report.as_slice())
+}
+
+/// Whether the last of these entries tells that a job got no answer.
+fn is_unanswered(entries: &[Entry]) -> bool {
+    matches!(
+        entries,
+        [
+            ..,
+            Entry::Ended {
+                end: End::NoAnswer,
+                ..
+            }
+        ]
+    )
+}
+
+/// A `stop` is begun at an address, and makes attempts up to its end, if it is taken.
+fn stop_idle<K: Sink, D: Disk, L: CountedLink>(
+    host: &mut Host<'_, D>,
+    addr: u8,
+    link: &mut L,
+    out: &mut K,
+    page: &mut Page,
+) -> Result<(), Served>
+    requires whole { has_failed host.old ≡ false }
+    ensures acts { Acts K.written K.puts K.faults (Exchanges L.gives L.sent L.failures link.old link.new)
+        IsStopping result out.old out.new host.old host.new }
+{
+    match answer(host, &Command::Stop { addr }, out, page) {
+        Ok(()) => go_on(host, addr, MOST_ATTEMPTS, Until::Ended, link, out, page),
+        Err(how) => Err(how),
+    }
+}
