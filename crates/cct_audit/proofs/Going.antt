@@ -54,7 +54,7 @@ going_opens left0 left left1 held rest number stage next past g r =
     }
 
 -- what came last stands after the others
-after_others : (c : Came) (past more : List Came) → reverse past ++ c ∷ more ≡ reverse (c ∷ past) ++ more
+pub after_others : (c : Came) (past more : List Came) → reverse past ++ c ∷ more ≡ reverse (c ∷ past) ++ more
 after_others c past more =
     sym (ap (λ xs. xs ++ more) (reverse-append (c ∷ []) past) ∙ append_assoc (reverse past) (c ∷ []) more)
 

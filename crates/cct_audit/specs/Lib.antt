@@ -3,3 +3,4 @@ pub mod Telling
 pub mod Reading
 pub mod Going
 pub mod Audit
+pub mod Joined

@@ -3,7 +3,9 @@
 #![tactic(auto)]
 
 mod auditing;
+mod laws;
 mod reading;
 mod writing;
 
 pub use auditing::{AuditEnd, audit};
+pub use laws::what_is_written_is_said;

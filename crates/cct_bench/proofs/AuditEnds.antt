@@ -1,37 +1,76 @@
 -- How an audit ends, by its status.
-use Rattle.std.proofs.Common.{◌≡◌, ◌≢◌, ℕ, List, [], ◌∷◌, ◌++◌, reverse, Option, Some, None, Result, Ok, Err, inl, inr, refl, ap, subst, sym, ◌∙◌}
-use Rattle.std.specs.Io.KnownBytes.{Consumes}
+use Rattle.std.proofs.Common.{◌≡◌, ◌≢◌, ℕ, map, All, append-nil, List, [], ◌∷◌, ◌++◌, reverse, Option, Some, None, Result, Ok, Err, inl, inr, refl, ap, subst, sym, ◌∙◌}
 use Rattle.cct_edge.proofs.Chains.{Consumes-nil}
 use Rattle.cct_edge.specs.declared.fault.Failed.{Failed}
 use Rattle.cct_model.specs.lines.entry.Entry.{Entry}
 use Rattle.cct_model.specs.lines.entry.Entry.TheVariants as entry
 use Rattle.cct_model.specs.lines.entry.LineKind.{LineKind}
-use Rattle.cct_monitor.specs.Watches.{Came}
+use Rattle.cct_monitor.specs.Watches.{Came, all_told, finally_of_all, made_tap, made_watch}
+use Rattle.cct_monitor.specs.Spans.{spans}
+use Rattle.cct_wild.specs.Claims.{IsPlain, IsToldWhole, IsTrue, looks}
+use Rattle.cct_wild.proofs.Complete.{plain_told}
+use Rattle.cct_wild.proofs.True.{all_true}
 use Rattle.cct_model.specs.Script.{Refusal}
 use Rattle.cct_script.specs.Source.{OfBytes, to_come}
 use Rattle.cct_script.specs.declared.stops.ScriptStop.TheVariants as stop
 use Rattle.cct_script.proofs.Sources.{told_by}
 use Rattle.cct_text.specs.Writing.{Broke, Writes, Wrote}
 use Rattle.cct_text.proofs.Writing.{writes_then}
-use Rattle.cct_audit.specs.Audit.{Audited}
+use Rattle.cct_audit.specs.Audit.{Audited, BreaksOff, at_end, at_tap}
 use Rattle.cct_audit.specs.declared.auditing.AuditEnd.TheVariants as ended
 use Rattle.cct_audit.specs.Capture.{Capture, capture}
+use Rattle.cct_audit.specs.Joined.{watches_in}
 use Rattle.cct_audit.specs.Telling.{told}
-use Rattle.cct_bench.specs.Audit.{AuditCloses, AuditEnds, AuditRan, IsOfAudit}
+use Rattle.cct_audit.proofs.Joined.{came_apart, joined, spoken_once}
+use Rattle.cct_bench.specs.Audit.{AuditCloses, AuditEnds, AuditRan, IsOfAudit, IsRightAudit}
 use Rattle.cct_bench.specs.Report.{IsOrMemory}
 use Rattle.cct_bench.specs.Run.{status_by}
 use Rattle.cct_bench.specs.declared.outcome.Status.{Status}
 use Rattle.cct_bench.specs.declared.outcome.Status.TheVariants as status
 
+-- what an audit says of what came of a capture
+right_audit : (bytes : List ℕ) (past more : List Came) → (capture bytes).came ≡ reverse past ++ more → IsRightAudit past
+right_audit bytes past more is = record {
+  is_true = λ setup steps run sound watched goes honest same.
+      joined (IsTrue setup run) bytes past more is
+      (subst (λ ts. All (IsTrue setup run) (all_told (map made_tap ts ++ map made_watch (watches_in past))
+      ++ finally_of_all (map made_tap ts ++ map made_watch (watches_in past)))) same
+      (all_true setup steps run (watches_in past) sound watched goes honest));
+  complete = λ setup steps run w d sound goes honest same among accepts own watched.
+      subst (λ came. All (λ span. IsPlain d run span → IsToldWhole d run (all_told came) span) (spans (looks d run)))
+      (ap (λ ts. map made_tap ts ++ map made_watch (watches_in past)) same ∙ sym (came_apart bytes past more is))
+      (plain_told setup steps run (watches_in past) w d sound goes honest among accepts own watched);
+  once = λ w first last among accepts. spoken_once bytes past more w first last is among accepts;
+}
+
+right_whole : (bytes : List ℕ) (past : List Came) → (capture bytes).came ≡ reverse past → IsRightAudit past
+right_whole bytes past is = right_audit bytes past [] (is ∙ sym (append-nil (reverse past)))
+
+right_broken : (bytes : List ℕ) (past : List Came) (B : List Entry → List Entry → Type 0) → BreaksOff bytes B past → IsRightAudit past
+right_broken bytes _ B (at_tap c before rest came broke) = right_audit bytes (c ∷ before) rest came
+right_broken bytes _ B (at_end past is broke) = right_whole bytes past (ap (λ (c : Capture). c.came) is)
+
 module _ {K : Type 0} (written : K → Option (List ℕ)) (puts : K → List ℕ → Result (Unit {0}) Failed → K → Type 0)
     (a b c : K) (bytes : List ℕ) (left : Option (List ℕ)) (F : Type 0) where
   pub audit_done : Audited bytes ended.Done left (Wrote written puts a b) (Broke written puts a b)
       → AuditRan bytes status.Done left F (Wrote written puts a b) (Broke written puts a b)
-  audit_done h = record { taken = h.taken; past = h.past; took = h.took; ends = h.ends }
+  audit_done h = record {
+    taken = h.taken;
+    past = h.past;
+    took = h.took;
+    ends = h.ends;
+    right = right_whole bytes h.past (ap (λ (c : Capture). c.came) h.ends.0);
+  }
 
   pub audit_unwritten : Audited bytes ended.Unwritten left (Wrote written puts a b) (Broke written puts a b)
       → AuditRan bytes status.WriteFault left F (Wrote written puts a b) (Broke written puts a b)
-  audit_unwritten h = record { taken = h.taken; past = h.past; took = h.took; ends = inl h.ends }
+  audit_unwritten h = record {
+    taken = h.taken;
+    past = h.past;
+    took = h.took;
+    ends = inl h.ends;
+    right = right_broken bytes h.past (Broke written puts a b) h.ends;
+  }
 
   -- the last line is written, or not
   refused_line : (taken : List ℕ) (past : List Came) (line : Entry) (answer : Result (Unit {0}) Failed)
@@ -65,6 +104,7 @@ module _ {K : Type 0} (written : K → Option (List ℕ)) (puts : K → List ℕ
         (λ x. AuditEnds bytes h.taken h.past F x (Wrote written puts a c) (Broke written puts a c)) (sym put.2)
         (refused_line h.taken h.past (entry.Line number why) put.0
         (record { number = number; why = why }, h.ends.0, refl) h.ends.1 put.1);
+    right = right_whole bytes h.past (ap (λ (c : Capture). c.came) h.ends.0);
   }
 
   pub audit_unread : (number : ℕ) (s : Status) → F
@@ -79,6 +119,7 @@ module _ {K : Type 0} (written : K → Option (List ℕ)) (puts : K → List ℕ
     ends = subst
         (λ x. AuditEnds bytes h.taken h.past F x (Wrote written puts a c) (Broke written puts a c)) (sym put.2)
         (unread_line h.taken h.past entry.ReadFault put.0 (h.ends.0, failed, refl) h.ends.1 put.1);
+    right = right_whole h.taken h.past h.ends.0;
   }
 
 -- there was no memory for the words
@@ -87,7 +128,13 @@ pub audit_no_memory : (left : Option (List ℕ)) (F : Type 0) (W : List Entry �
 audit_no_memory left F W B wrote = (
   to_come left,
   told_by left left [] (Consumes-nil left),
-  record { taken = []; past = []; took = refl; ends = (refl, wrote) },
+  record {
+    taken = [];
+    past = [];
+    took = refl;
+    ends = (refl, wrote);
+    right = right_audit [] [] (capture []).came refl;
+  },
 )
 
 -- where nothing failed and no line is refused, it is done

@@ -48,10 +48,12 @@ bytes_weaker P Q known f h = (h.0, h.1, f h.0 h.2)
 -- what is so before the first power cut, by what is so of the first of the steps
 pub early_right : (setup : Setup) (played : List Step) (transcript : List Entry) (now : Desk)
     → ((first later : List Step) (told : List Entry) → played ≡ first ++ later
-    → LegalAtDesk most_records setup first told → IsRight setup told)
+    → LegalAtDesk most_records setup first told
+    → IsRight setup told × (Honest told → ChangeIsPaid most_records setup first told))
     → LegalBeforeLoss most_records setup played transcript now → RightBeforeLoss setup played transcript
 early_right setup played transcript now rights e =
     let legal : LegalAtDesk most_records setup e.first e.told = (e.so.1, e.so.2) in
+    let right = rights e.first e.later e.told e.steps_are legal in
     record {
       first = e.first;
       later = e.later;
@@ -61,7 +63,7 @@ early_right setup played transcript now rights e =
       transcript_is = e.transcript_is;
       none = e.none;
       ends = e.ends;
-      so = (legal, rights e.first e.later e.told e.steps_are legal);
+      so = (legal, right.0, right.1);
     }
 
 -- the money of a script that was played up to a step is right, where its transcript is legal at the desk
@@ -73,11 +75,19 @@ desk_right bytes played rest transcript fronts legal =
 
 -- and its sessions of change pay what they tell
 desk_changes : (bytes : List ℕ) (played rest : List Step) (transcript : List Entry)
-    → (script bytes).steps ≡ played ++ rest → Honest transcript
+    → (script bytes).steps ≡ played ++ rest
+    → LegalAtDesk most_records (script bytes).setup played transcript → Honest transcript
     → ChangeIsPaid most_records (script bytes).setup played transcript
-desk_changes bytes played rest transcript fronts honest =
+desk_changes bytes played rest transcript fronts legal honest =
     change_paid most_records (script bytes).setup played transcript (setup_sound bytes)
-    (front_of_today bytes played rest fronts).in_range honest
+    (front_of_today bytes played rest fronts).in_range legal honest
+
+desk_rights : (bytes : List ℕ) (played rest : List Step) (transcript : List Entry)
+    → (script bytes).steps ≡ played ++ rest → LegalAtDesk most_records (script bytes).setup played transcript
+    → IsRight (script bytes).setup transcript
+    × (Honest transcript → ChangeIsPaid most_records (script bytes).setup played transcript)
+desk_rights bytes played rest transcript fronts legal =
+    (desk_right bytes played rest transcript fronts legal, desk_changes bytes played rest transcript fronts legal)
 
 -- a last line tells a fault of the source, or of the disk, only where the steps came to their end by one
 unread_tail : (how : Ending) → listed (last_entry how) ≡ entry.ReadFault ∷ [] → how ≡ ending.Unread
@@ -135,9 +145,9 @@ ran_by bytes how s tail left disks Before Written Broken Breaks source_failed di
       steps_are = p.steps_are;
       legal = p.legal;
       money = λ sure. desk_right bytes p.played p.unplayed p.transcript p.steps_are (p.legal sure);
-      change = λ honest. desk_changes bytes p.played p.unplayed p.transcript p.steps_are honest;
+      change = λ sure honest. desk_changes bytes p.played p.unplayed p.transcript p.steps_are (p.legal sure) honest;
       early = early_right (script bytes).setup p.played p.transcript p.early.0
-          (λ first later told fronts legal. desk_right bytes first (later ++ p.unplayed) told
+          (λ first later told fronts legal. desk_rights bytes first (later ++ p.unplayed) told
           (p.steps_are ∙ ap (λ xs. xs ++ p.unplayed) fronts ∙ append_assoc first later p.unplayed) legal) p.early.1;
       ends = ends;
       book = book;
@@ -376,9 +386,9 @@ no_memory left Written Breaks disks source_failed disk_failed uncut wrote =
         steps_are = refl;
         legal = λ sure. legal;
         money = λ sure. desk_right bytes [] (script bytes).steps [] refl legal;
-        change = λ honest. desk_changes bytes [] (script bytes).steps [] refl honest;
+        change = λ sure honest. desk_changes bytes [] (script bytes).steps [] refl legal honest;
         early = early_right (script bytes).setup [] [] (clear_desk (script bytes).setup)
-            (λ first later told fronts legal. desk_right bytes first (later ++ (script bytes).steps) told
+            (λ first later told fronts legal. desk_rights bytes first (later ++ (script bytes).steps) told
             (ap (λ xs. xs ++ (script bytes).steps) fronts ∙ append_assoc first later (script bytes).steps) legal)
             (early_none most_records (script bytes).setup);
         ends = (refl, refl, wrote);

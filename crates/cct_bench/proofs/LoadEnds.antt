@@ -49,6 +49,9 @@ use Rattle.cct_bench.specs.Disks.{Disks, IsReady, disks, most_records}
 use Rattle.cct_bench.specs.Load.{LoadCloses, LoadEnds, LoadPlayed, LoadStops, Loaded, load_ending}
 use Rattle.cct_bench.specs.Report.{IsOrMemory}
 use Rattle.cct_bench.specs.Run.{EndsLost, IsUnopened, RecordsLeftByLine, TellsLoss, last_entry, listed, status_by, status_of}
+use Rattle.cct_model.specs.Honest.{Honest}
+use Rattle.cct_change_laws.specs.Change.{ChangeIsPaid}
+use Rattle.cct_change_laws.proofs.Runs.{change_paid}
 use Rattle.cct_laws.specs.Right.{IsRight}
 use Rattle.cct_bench.proofs.Closing.{LastLine, blank_first, early_right, failed_tail, kept_by, last_line, lost_next, no_line, none_next, tells_loss}
 
@@ -65,13 +68,16 @@ played_in_range : (seed rounds : ℕ) (played unplayed : List Step) → load_ste
 played_in_range seed rounds played unplayed steps_are =
     all_front IsInRange played unplayed (subst (All IsInRange) steps_are (lines_in_range seed _))
 
--- the money of steps of a load
-load_right : (seed rounds : ℕ) (played rest : List Step) (transcript : List Entry) → load_steps seed rounds ≡ played ++ rest
-    → LegalAtDesk most_records load_setup played transcript → IsRight load_setup transcript
-load_right seed rounds played rest transcript fronts legal =
-    let range = played_in_range seed rounds played rest fronts in
-    legal_right most_records load_setup played transcript setup_sound range
-    (legal_at_desk most_records load_setup played transcript setup_sound range legal)
+-- the money of steps of a load, and their sessions of change
+load_rights : (seed rounds : ℕ) (played rest : List Step) (transcript : List Entry) → load_steps seed rounds ≡ played ++ rest
+    → LegalAtDesk most_records load_setup played transcript
+    → IsRight load_setup transcript × (Honest transcript → ChangeIsPaid most_records load_setup played transcript)
+load_rights seed rounds played rest transcript fronts legal =
+    let range = played_in_range seed rounds played rest fronts in (
+      legal_right most_records load_setup played transcript setup_sound range
+          (legal_at_desk most_records load_setup played transcript setup_sound range legal),
+      change_paid most_records load_setup played transcript setup_sound range legal,
+    )
 
 -- a load by its status, from how it came to its end
 loaded_by : (seed rounds : ℕ) (how : Ending) (s : Status) (tail : List Entry) (disks : Disks)
@@ -88,9 +94,9 @@ loaded_by seed rounds how s tail disks Before Written Broken Breaks disk_failed 
   tail = tail;
   steps_are = p.steps_are;
   legal = p.legal;
-  money = λ sure. load_right seed rounds p.played p.unplayed p.transcript p.steps_are (p.legal sure);
+  money = λ sure. (load_rights seed rounds p.played p.unplayed p.transcript p.steps_are (p.legal sure)).0;
   early = early_right load_setup p.played p.transcript p.early.0
-      (λ first later told fronts legal. load_right seed rounds first (later ++ p.unplayed) told
+      (λ first later told fronts legal. load_rights seed rounds first (later ++ p.unplayed) told
       (p.steps_are ∙ ap (λ xs. xs ++ p.unplayed) fronts ∙ append_assoc first later p.unplayed) legal) p.early.1;
   ends = ends;
   book = λ trusted some. subst (RecordsLeftByLine disks load_setup p.unplayed (onto [] p.transcript)) (sym is)

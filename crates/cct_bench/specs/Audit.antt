@@ -1,12 +1,24 @@
 -- What an audit of the bench leaves: what it took of its capture, and what it wrote, by its status.
-use Rattle.std.specs.Prelude.{◌≡◌, ◌⊎◌, ℕ, List, [], ◌∷◌, ◌++◌, reverse, Option, Some, None, ⊤}
+use Rattle.std.specs.Prelude.{◌≡◌, ◌⊎◌, ℕ, true, List, [], ◌∷◌, ◌++◌, map, length, reverse, Option, Some, None, ⊤}
+use Rattle.std.specs.List.{All, Contains, filter}
+use Rattle.cct_model.specs.terms.device.DeviceSetup.{DeviceSetup}
+use Rattle.cct_model.specs.terms.device.Setup.{Setup}
 use Rattle.cct_model.specs.lines.entry.Entry.{Entry}
 use Rattle.cct_model.specs.lines.entry.Entry.TheVariants as entry
+use Rattle.cct_model.specs.Honest.{HonestPast}
 use Rattle.cct_model.specs.Script.{Refusal}
-use Rattle.cct_monitor.specs.Watches.{Came}
+use Rattle.cct_model.specs.Setup.{IsSoundSetup}
+use Rattle.cct_monitor.specs.Once.{is_between, is_of_at}
+use Rattle.cct_monitor.specs.Spans.{spans}
+use Rattle.cct_monitor.specs.Taps.{shown}
+use Rattle.cct_monitor.specs.Watches.{Came, Watch, all_told, finally_of_all}
+use Rattle.cct_laws.specs.Law.{IsOf}
+use Rattle.cct_wild.specs.Claims.{IsPlain, IsToldWhole, IsTrue, IsWatchOf, IsWatched, looks}
+use Rattle.cct_wild.specs.Wild.{WildFrom, WildStep, taps}
 use Rattle.cct_script.specs.Source.{to_come}
 use Rattle.cct_audit.specs.Audit.{BreaksOff}
 use Rattle.cct_audit.specs.Capture.{capture}
+use Rattle.cct_audit.specs.Joined.{SaysSo, taps_among, watches_in}
 use Rattle.cct_audit.specs.Telling.{told, told_last}
 use Rattle.cct_bench.specs.declared.outcome.Status.{Status}
 use Rattle.cct_bench.specs.declared.outcome.Status.TheVariants as status
@@ -33,14 +45,33 @@ module _ (bytes taken : List ℕ) (past : List Came) (source_failed : Type 0) wh
   AuditEnds status.OutOfMemory Written Breaks = (taken ≡ []) × Written []
   AuditEnds s Written Breaks = (line : Entry) × AuditCloses s line × Written (told past ++ line ∷ [])
 
--- An audit of a capture of these bytes: what it took of them, what came of it, newest first, and what it wrote. The bytes are
--- those taken and those still to come; a source that tells none is taken to have no more.
+-- What an audit says of all that came, newest first, at its taps and at its end, is right.
+pub record IsRightAudit (past : List Came) : Type 0 where
+  -- Where the taps are those of a run of devices with any host, over a wire whose damage fails its check, and each device that
+  -- is watched is one of them, watched as what it is, each line is true.
+  pub is_true : (setup : Setup) (steps : List WildStep) (run : List Entry) → IsSoundSetup setup
+      → All (IsWatched setup) (watches_in past) → WildFrom setup [] steps run → HonestPast run → taps run ≡ taps_among past
+      → All (SaysSo (IsTrue setup run)) (told past ++ told_last past)
+  -- Each span that such a run makes plain is told to be sure, with just the coins that the acceptor accepted between its
+  -- readings.
+  pub complete : (setup : Setup) (steps : List WildStep) (run : List Entry) (w : Watch) (d : DeviceSetup) → IsSoundSetup setup
+      → WildFrom setup [] steps run → HonestPast run → taps run ≡ taps_among past → Contains (watches_in past) w
+      → w.acceptor ≡ true → IsOf setup d → IsWatchOf w d
+      → All (λ span. IsPlain d run span → IsToldWhole d run (all_told past) span) (spans (looks d run))
+  -- Over any wire each span of each acceptor that is watched is said once.
+  pub once : (w : Watch) (first last : ℕ) → Contains (watches_in past) w → w.acceptor ≡ true
+      → length (filter (is_of_at w.addr first last) (all_told past ++ finally_of_all past))
+      ≡ length (filter (is_between first last) (spans (map (shown w.kind w.addr) (taps_among past))))
+
+-- An audit of a capture of these bytes: what it took of them, what came of it, newest first, and what it wrote, which is
+-- right. The bytes are those taken and those still to come; a source that tells none is taken to have no more.
 pub record AuditRan (bytes : List ℕ) (s : Status) (left : Option (List ℕ)) (source_failed : Type 0)
     (Written : List Entry → Type 0) (Breaks : List Entry → List Entry → Type 0) : Type 0 where
   pub taken : List ℕ
   pub past : List Came
   pub took : bytes ≡ taken ++ to_come left
   pub ends : AuditEnds bytes taken past source_failed s Written Breaks
+  pub right : IsRightAudit past
 
 -- An audit may end with this status.
 abbrev pub IsOfAudit : Status → Type 0

@@ -24,7 +24,7 @@ IsUnbegun played past = (played ≡ []) × (past ≡ [])
 
 -- What was taken and played so far: whatever follows, the script says these steps and what the lines from here on say,
 -- and the entries are those of these steps and leave this desk at a machine of the script's setup, where their past may
--- be relied on, and in any case up to the first loss of power; this holds of the steps and the past, and the entries
+-- be relied on, and in any case up to the first power cut; this holds of the steps and the past, and the entries
 -- were written.
 pub record Going (Relies : List Entry → Type 0) (now : Setup → Desk) (left0 left : Option (List ℕ)) (held : List ℕ) (number : ℕ)
     (stage : Stage) (Stands : List Step → List Entry → Type 0) (Written : List Entry → Type 0) : Type 0 where

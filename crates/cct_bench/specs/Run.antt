@@ -132,8 +132,8 @@ module _ (disks : Disks) (bytes taken : List ℕ) (played unplayed : List Step) 
 -- second list; and what it left on its disk, once a byte of the script was taken. The bytes are those taken and those
 -- still to come; a source that tells none is taken to have no more.
 -- Where the disk was trusted, or no power cut is told, the entries are those of the steps at the operator's desk, and the
--- money is right. Over an honest wire sessions of change pay what they tell.
--- Over any disk both are so of the steps before the first power cut.
+-- money is right; and over an honest wire sessions of change pay what they tell.
+-- Over any disk all three are so of the steps before the first power cut.
 -- The last line tells a fault of the source or of the disk only where this one failed, also where it was torn.
 -- Over any disk each step that is a power cut is told, and no other is, and after each of them a host started again
 -- rightly, by what the disk told right after that cut; on a trusted disk no power cut leaves another journal than
@@ -153,8 +153,9 @@ pub record Ran (bytes : List ℕ) (s : Status) (left : Option (List ℕ)) (Writt
   -- And there the posts are accepted coins in order, none is lost in silence, each order is paid at most once, and no
   -- id is used twice.
   pub money : IsReliable disks.trusted (onto [] transcript) → IsRight (script bytes).setup transcript
-  -- Over an honest wire, sessions of change pay what they tell.
-  pub change : Honest transcript → ChangeIsPaid most_records (script bytes).setup played transcript
+  -- Over an honest wire, sessions of change pay what they tell, at each moment of the run.
+  pub change : IsReliable disks.trusted (onto [] transcript) → Honest transcript
+      → ChangeIsPaid most_records (script bytes).setup played transcript
   -- Over any disk the same holds of the steps before the first power cut.
   pub early : RightBeforeLoss (script bytes).setup played transcript
   -- The lines of the transcript, each by one put, then the last line of the status; a front of that if writing failed,

@@ -1,12 +1,12 @@
 -- What the script of an upgrade says: its setup, and the first line that is refused, with its kind (docs/SCRIPT.md).
-use Rattle.std.specs.Prelude.{◌≡◌, ◌==◌, ℕ, ◌+◌, nat_lt, List, [], ◌∷◌, ◌++◌, length, Option, Some, None, Result, Ok, Err}
+use Rattle.std.specs.Prelude.{◌≡◌, ◌==◌, ℕ, ◌+◌, List, [], ◌∷◌, ◌++◌, Option, Some, None, Result, Ok, Err}
 use Rattle.std.specs.Prelude.{if◌then◌else◌, codes, bytes_eq}
 use Rattle.std.specs.List.{position, slice_split}
 use Rattle.cct_model.specs.terms.device.Setup.{Setup}
 use Rattle.cct_model.specs.lines.entry.LineKind.{LineKind}
 use Rattle.cct_model.specs.lines.entry.LineKind.TheVariants as kind
 use Rattle.cct_model.specs.Script.{is_line_feed, Read, Script, Stage, at_setup, at_steps, closed_script, goes_on, is_over}
-use Rattle.cct_model.specs.Script.{most_bytes, most_lines, no_devices, read_form, refuses, setup_at, stage_after}
+use Rattle.cct_model.specs.Script.{no_devices, read_form, refuses, setup_at, stage_after}
 use Rattle.cct_model.specs.Script.{unfinished, word_of}
 use Rattle.cct_script.specs.Scripts.{Kind, tested}
 use Rattle.cct_script.specs.Source.{to_come}

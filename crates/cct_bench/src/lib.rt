@@ -107,7 +107,8 @@ pub fn bench<S: Source, K: Sink, D: Disk>(
         (λ lines answer. Writes K.written K.puts out.old lines answer out.new)) }
 
     // With the word `audit`: what was taken of the capture, what came of it, and what was written: all that a monitor says of
-    // it, in its order, and a last line where it isn't done. No call of the disk is made.
+    // it, in its order, and a last line where it isn't done; that what it says is true of any host's run with these taps, over
+    // an honest wire, sure wherever it can be, and each span once. No call of the disk is made.
     ensures audited { said_in words.now ≡ Some Words.Audit → OfBytes (S.left script.old) (λ bytes.
         AuditRan bytes result.0 (S.left script.new) (Rose (S.faults script.old) (S.faults script.new))
         (Wrote K.written K.puts out.old out.new) (Broke K.written K.puts out.old out.new)) }

@@ -21,7 +21,7 @@ use Rattle.cct_change_laws.proofs.Fresh.{fresh_lines}
 use Rattle.cct_change_laws.proofs.Sessions.{AreSure}
 
 -- a past, newest entry first, is that of its transcript
-past_back : (past : List Entry) → past ≡ onto [] (reverse past)
+pub past_back : (past : List Entry) → past ≡ onto [] (reverse past)
 past_back past = sym (onto_is [] (reverse past) ∙ append-nil (reverse (reverse past)) ∙ reverse-reverse past)
 
 pub sure_legal : (capacity : ℕ) (setup : Setup) (steps : List Step) (past : List Entry) → IsSoundSetup setup →

@@ -57,7 +57,7 @@ pub record IsOpened (addr : ℕ) (lines : List Line) (rs : List Record) (p : Pay
   pub used : list_any (uses p.id) rs ≡ true
   pub there : opened_in p.id rs ≡ addr
 
-there_by : (id : ℕ) (r : Record) (rs : List Record) → IsFresh rs r → list_any (uses id) rs ≡ true →
+pub there_by : (id : ℕ) (r : Record) (rs : List Record) → IsFresh rs r → list_any (uses id) rs ≡ true →
     named_by id r (order_named id rs) ≡ order_named id rs
 there_by id (record_of.Opened opened addr count life) rs fresh used =
     cond-false (opened == id) (Some (record { id = opened; addr = addr; count = count; life = life })) (order_named id rs)

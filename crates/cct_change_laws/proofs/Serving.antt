@@ -17,7 +17,7 @@ use Rattle.cct_model.specs.declared.change.Tray.{Tray}
 use Rattle.cct_model.specs.Change.{Desk, GoesOn, PaysNext, PaysOn, Serves, ServesDue, Settles, change_entry, changed, gone_on, pay_entries, restocked, served, served_by, served_due, settled, settled_trays, short_entry, stock_left}
 use Rattle.cct_model.specs.Money.{coins_of}
 use Rattle.cct_model.specs.Refusal.{refusal}
-use Rattle.cct_change_laws.specs.Change.{IsPaid, IsToldRight}
+use Rattle.cct_change_laws.specs.Change.{IsPaid, IsToldRight, told_paid}
 use Rattle.cct_change_laws.specs.Orders.{begun_anew}
 use Rattle.cct_change_laws.proofs.Sessions.{AreSure, Holds, HoldsBy, HoldsDue, IsAsked, Settled, holds_restocked, holds_stays, settled_over, settles}
 use Rattle.cct_change_laws.proofs.Trays.{AreTrays, first_is, restocked_trays}
@@ -49,6 +49,22 @@ short_paid : (setup : Setup) (past : List Entry) (orders : List Payment) (s told
 short_paid setup past orders s told same is =
     let sums = is.sums in (omega (arith, same, sums), omega (arith, sums))
 
+-- and from then on its orders are settled at what it told
+served_holds : (setup : Setup) (past : List Entry) (orders : List Payment) (s : Session) → s.rest ≡ 0 → AreSure setup past →
+    AreSure setup (entry.Served s.amount ∷ past) → Settled setup past orders s.amount s.rest →
+    Settled setup (entry.Served s.amount ∷ past) orders s.amount 0
+served_holds setup past orders s none before sure is =
+    subst (Settled setup (entry.Served s.amount ∷ past) orders s.amount) none
+    (settled_over setup (entry.Served s.amount ∷ []) past orders s.amount s.rest before sure is)
+
+short_holds : (setup : Setup) (news past : List Entry) (orders : List Payment) (s : Session) → AreSure setup past →
+    AreSure setup (news ++ past) → Settled setup past orders s.amount s.rest →
+    Settled setup (news ++ past) orders (s.amount - s.rest) 0
+short_holds setup news past orders s before sure is =
+    let later = settled_over setup news past orders s.amount s.rest before sure is in
+    let sums = later.sums in
+    record { closed = later.closed; sums = omega (arith, sums) }
+
 -- it pays on with a payment that fits the rest
 asks_next : (setup : Setup) (trays : List Tray) (s : Session) (p : Payment) → AreTrays setup trays → PaysNext trays s p →
     IsAsked setup trays s.rest p
@@ -61,58 +77,62 @@ asks_next setup trays s p are next =
     }
 
 pays_right : (setup : Setup) (past : List Entry) (orders : List Payment) (trays : List Tray) (s told : Session)
-    (p : Payment) (why : Option CommandNo) → told.amount ≡ s.amount → AreTrays setup trays → PaysNext trays s p →
-    AreSure setup past → Settled setup past orders s.amount s.rest →
+    (p : Payment) (why : Option CommandNo) → told_paid past ≡ None → told.amount ≡ s.amount → AreTrays setup trays →
+    PaysNext trays s p → AreSure setup past → Settled setup past orders s.amount s.rest →
     GoesRight setup past orders (Some told) (pay_entries s p why) orders (gone_on (pay_entries s p why) trays s)
-pays_right setup past orders trays s told p None same are next before is = record {
+pays_right setup past orders trays s told p None none same are next before is = record {
   told = one_told (IsToldRight setup past orders (Some told)) (entry.Taken (command.Pay p.addr p.id p.count)) tt;
   holds = λ sure. (
-    asks_next setup trays s p are next,
-    settled_over setup (entry.Taken (command.Pay p.addr p.id p.count) ∷ []) past orders s.amount s.rest before sure is,
+    none,
+    (
+      asks_next setup trays s p are next,
+      settled_over setup (entry.Taken (command.Pay p.addr p.id p.count) ∷ []) past orders s.amount s.rest before sure is,
+    ),
   );
 }
-pays_right setup past orders trays s told p (Some why) same are next before is = record {
+pays_right setup past orders trays s told p (Some why) none same are next before is = record {
   told = All-cons (IsToldRight setup past orders (Some told)) (short_entry s)
       (entry.No (command.Pay p.addr p.id p.count) why ∷ []) (short_paid setup past orders s told same is)
       (one_told (IsToldRight setup past orders (Some told)) (entry.No (command.Pay p.addr p.id p.count) why) tt);
-  holds = λ sure. tt;
+  holds = λ sure.
+      short_holds setup (short_entry s ∷ entry.No (command.Pay p.addr p.id p.count) why ∷ []) past orders s before sure is;
 }
 
 -- so it is with each way in which it goes on
 pays_on_right : (capacity : ℕ) (setup : Setup) (past news : List Entry) (orders : List Payment) (trays : List Tray)
-    (s told : Session) → told.amount ≡ s.amount → AreTrays setup trays → AreSure setup past →
+    (s told : Session) → told_paid past ≡ None → told.amount ≡ s.amount → AreTrays setup trays → AreSure setup past →
     Settled setup past orders s.amount s.rest → PaysOn capacity setup past trays s news →
     GoesRight setup past orders (Some told) news orders (gone_on news trays s)
-pays_on_right capacity setup past news orders trays s told same are before is (inl stuck) =
+pays_on_right capacity setup past news orders trays s told none same are before is (inl stuck) =
     right_as setup past orders (Some told) news (short_entry s ∷ []) orders (λ es. gone_on es trays s) stuck.1 (record {
       told = one_told (IsToldRight setup past orders (Some told)) (short_entry s)
           (short_paid setup past orders s told same is);
-      holds = λ sure. tt;
+      holds = λ sure. short_holds setup (short_entry s ∷ []) past orders s before sure is;
     })
-pays_on_right capacity setup past news orders trays s told same are before is (inr paid) =
+pays_on_right capacity setup past news orders trays s told none same are before is (inr paid) =
     let p = paid.0 in
     let why = refusal capacity setup past (command.Pay p.addr p.id p.count) in
     right_as setup past orders (Some told) news (pay_entries s p why) orders (λ es. gone_on es trays s) paid.2
-    (pays_right setup past orders trays s told p why same are paid.1 before is)
+    (pays_right setup past orders trays s told p why none same are paid.1 before is)
 
 goes_on_right : (capacity : ℕ) (setup : Setup) (past news : List Entry) (orders : List Payment) (trays : List Tray)
-    (s told : Session) → told.amount ≡ s.amount → AreTrays setup trays → AreSure setup past →
+    (s told : Session) → told_paid past ≡ None → told.amount ≡ s.amount → AreTrays setup trays → AreSure setup past →
     Settled setup past orders s.amount s.rest → GoesOn capacity setup past trays s news →
     GoesRight setup past orders (Some told) news orders (gone_on news trays s)
-goes_on_right capacity setup past news orders trays s told same are before is goes =
+goes_on_right capacity setup past news orders trays s told none same are before is goes =
     by_rest (s.rest == 0) refl goes
   where
-    by_rest : (none : Bool) → (s.rest == 0) ≡ none →
-        MatchBool none (news ≡ entry.Served s.amount ∷ []) (PaysOn capacity setup past trays s news) →
+    by_rest : (all : Bool) → (s.rest == 0) ≡ all →
+        MatchBool all (news ≡ entry.Served s.amount ∷ []) (PaysOn capacity setup past trays s news) →
         GoesRight setup past orders (Some told) news orders (gone_on news trays s)
-    by_rest true none gives =
+    by_rest true all gives =
         right_as setup past orders (Some told) news (entry.Served s.amount ∷ []) orders (λ es. gone_on es trays s) gives
         (record {
           told = one_told (IsToldRight setup past orders (Some told)) (entry.Served s.amount)
-              (served_paid setup past orders s told same (eqb-true s.rest 0 none) is);
-          holds = λ sure. tt;
+              (served_paid setup past orders s told same (eqb-true s.rest 0 all) is);
+          holds = λ sure. served_holds setup past orders s (eqb-true s.rest 0 all) before sure is;
         })
-    by_rest false some gives = pays_on_right capacity setup past news orders trays s told same are before is gives
+    by_rest false some gives = pays_on_right capacity setup past news orders trays s told none same are before is gives
 
 -- a session that waits stays as it is
 waits_right : (setup : Setup) (past news : List Entry) (orders : List Payment) (trays : List Tray) (s : Session)
@@ -122,7 +142,7 @@ waits_right setup past news orders trays s addr before is gives =
     right_as setup past orders (Some s) news (entry.ServeWait addr ∷ []) orders
     (λ es. record { session = Some s; trays = trays }) gives (record {
       told = one_told (IsToldRight setup past orders (Some s)) (entry.ServeWait addr) tt;
-      holds = λ sure. holds_stays setup trays (entry.ServeWait addr ∷ []) past orders (Some s) before sure is;
+      holds = λ sure. holds_stays setup trays (entry.ServeWait addr ∷ []) past orders (Some s) refl before sure is;
     })
 
 -- by what became of its last payment
@@ -131,40 +151,40 @@ owing amount rest next p phase =
     record { amount = amount; rest = rest; next = next; due = Some (record { payment = p; phase = phase }) }
 
 due_right : (capacity : ℕ) (setup : Setup) (past news : List Entry) (orders : List Payment) (trays : List Tray)
-    (amount rest next : ℕ) (p : Payment) (phase : Phase) → AreTrays setup trays → AreSure setup past →
-    HoldsDue setup trays past orders amount rest p phase →
+    (amount rest next : ℕ) (p : Payment) (phase : Phase) → told_paid past ≡ None → AreTrays setup trays →
+    AreSure setup past → HoldsDue setup trays past orders amount rest p phase →
     Settles capacity setup past trays (owing amount rest next p phase) (record { payment = p; phase = phase }) phase news →
     GoesRight setup past orders (Some (owing amount rest next p phase)) news orders
     (served_due news trays (owing amount rest next p phase) (record { payment = p; phase = phase }) phase)
-due_right capacity setup past news orders trays amount rest next p Begun are before is gives =
-    waits_right setup past news orders trays (owing amount rest next p Begun) p.addr before is gives
-due_right capacity setup past news orders trays amount rest next p Opened are before is gives =
-    waits_right setup past news orders trays (owing amount rest next p Opened) p.addr before is gives
-due_right capacity setup past news orders trays amount rest next p Odd are before is gives = absurd is
-due_right capacity setup past news orders trays amount rest next p (Closed paid unpaid) are before is gives =
+due_right capacity setup past news orders trays amount rest next p Begun none are before is gives =
+    waits_right setup past news orders trays (owing amount rest next p Begun) p.addr before (none, is) gives
+due_right capacity setup past news orders trays amount rest next p Opened none are before is gives =
+    waits_right setup past news orders trays (owing amount rest next p Opened) p.addr before (none, is) gives
+due_right capacity setup past news orders trays amount rest next p Odd none are before is gives = absurd is
+due_right capacity setup past news orders trays amount rest next p (Closed paid unpaid) none are before is gives =
     let due : Due = record { payment = p; phase = Closed paid unpaid } in
     let s = owing amount rest next p (Closed paid unpaid) in
-    goes_on_right capacity setup past news orders (settled_trays due trays) (settled trays due s) s refl
+    goes_on_right capacity setup past news orders (settled_trays due trays) (settled trays due s) s none refl
     (restocked_trays setup p.addr (stock_left (Closed paid unpaid)) trays are) before
     (settles setup trays past orders amount rest p (Closed paid unpaid) tt before is) gives
-due_right capacity setup past news orders trays amount rest next p Lost are before is gives =
+due_right capacity setup past news orders trays amount rest next p Lost none are before is gives =
     let due : Due = record { payment = p; phase = Lost } in
     let s = owing amount rest next p Lost in
-    goes_on_right capacity setup past news orders (settled_trays due trays) (settled trays due s) s refl
+    goes_on_right capacity setup past news orders (settled_trays due trays) (settled trays due s) s none refl
     (restocked_trays setup p.addr (stock_left Lost) trays are) before
     (settles setup trays past orders amount rest p Lost tt before is) gives
 
 by_right : (capacity : ℕ) (setup : Setup) (past news : List Entry) (orders : List Payment) (trays : List Tray)
-    (amount rest next : ℕ) (due : Option Due) → AreTrays setup trays → AreSure setup past →
+    (amount rest next : ℕ) (due : Option Due) → told_paid past ≡ None → AreTrays setup trays → AreSure setup past →
     HoldsBy setup trays past orders amount rest due →
     ServesDue capacity setup past trays (record { amount = amount; rest = rest; next = next; due = due }) due news →
     GoesRight setup past orders (Some (record { amount = amount; rest = rest; next = next; due = due })) news orders
     (served_by news trays (record { amount = amount; rest = rest; next = next; due = due }) due)
-by_right capacity setup past news orders trays amount rest next None are before is gives =
+by_right capacity setup past news orders trays amount rest next None none are before is gives =
     let s : Session = record { amount = amount; rest = rest; next = next; due = None } in
-    goes_on_right capacity setup past news orders trays s s refl are before is gives
-by_right capacity setup past news orders trays amount rest next (Some due) are before is gives =
-    due_right capacity setup past news orders trays amount rest next due.payment due.phase are before is gives
+    goes_on_right capacity setup past news orders trays s s none refl are before is gives
+by_right capacity setup past news orders trays amount rest next (Some due) none are before is gives =
+    due_right capacity setup past news orders trays amount rest next due.payment due.phase none are before is gives
 
 pub serves_right : (capacity : ℕ) (setup : Setup) (past news : List Entry) (orders : List Payment) (trays : List Tray)
     (session : Option Session) → AreTrays setup trays → AreSure setup past → Holds setup trays past orders session →
@@ -172,9 +192,12 @@ pub serves_right : (capacity : ℕ) (setup : Setup) (past news : List Entry) (or
     GoesRight setup past orders session news orders (served news trays session)
 serves_right capacity setup past news orders trays None are before is gives =
     right_as setup past orders None news (entry.ServeIdle ∷ []) orders (λ es. record { session = None; trays = trays })
-    gives (record { told = one_told (IsToldRight setup past orders None) entry.ServeIdle tt; holds = λ sure. tt })
+    gives (record {
+      told = one_told (IsToldRight setup past orders None) entry.ServeIdle tt;
+      holds = λ sure. holds_stays setup trays (entry.ServeIdle ∷ []) past orders None refl before sure is;
+    })
 serves_right capacity setup past news orders trays (Some s) are before is gives =
-    by_right capacity setup past news orders trays s.amount s.rest s.next s.due are before is gives
+    by_right capacity setup past news orders trays s.amount s.rest s.next s.due is.0 are before is.1 gives
 
 -- the trays stay those of the hoppers
 gone_trays : (setup : Setup) (news : List Entry) (trays : List Tray) (s : Session) → AreTrays setup trays →
@@ -211,13 +234,13 @@ changes_right setup past news orders trays first amount None before is gives =
     right_as setup past orders None news (entry.ChangeOk first amount ∷ []) []
     (λ es. record { session = Some (changed first amount None); trays = trays }) gives (record {
       told = one_told (IsToldRight setup past orders None) (entry.ChangeOk first amount) tt;
-      holds = λ sure. record { closed = tt; sums = omega arith };
+      holds = λ sure. (refl, record { closed = tt; sums = omega arith });
     })
 changes_right setup past news orders trays first amount (Some s) before is gives =
     right_as setup past orders (Some s) news (entry.ChangeNo ∷ []) orders
     (λ es. record { session = Some s; trays = trays }) gives (record {
       told = one_told (IsToldRight setup past orders (Some s)) entry.ChangeNo tt;
-      holds = λ sure. holds_stays setup trays (entry.ChangeNo ∷ []) past orders (Some s) before sure is;
+      holds = λ sure. holds_stays setup trays (entry.ChangeNo ∷ []) past orders (Some s) refl before sure is;
     })
 
 -- a stock that is told changes no session
@@ -232,5 +255,5 @@ stocks_right setup past news orders trays addr count session before is gives =
       told = one_told (IsToldRight setup past orders session) (entry.Stock addr count) tt;
       holds = λ sure.
           holds_restocked setup trays addr (λ before. count) (entry.Stock addr count ∷ past) orders session
-          (holds_stays setup trays (entry.Stock addr count ∷ []) past orders session before sure is);
+          (holds_stays setup trays (entry.Stock addr count ∷ []) past orders session refl before sure is);
     })

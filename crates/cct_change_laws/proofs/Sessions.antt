@@ -3,7 +3,7 @@
 use Rattle.std.proofs.Common.{◌≡◌, ℕ, ◌+◌, ◌-◌, ◌*◌, ◌≤◌, Bool, true, false, cond, List, [], ◌∷◌, ◌++◌, refl, ap, sym, ◌∙◌, subst, Option, Some, None, arith}
 use Rattle.std.specs.Prelude.{⊤}
 use Rattle.std.specs.List.{list_any}
-use Rattle.std.specs.Option.{option_map}
+use Rattle.std.specs.Option.{IfSome, option_map}
 use Rattle.std.proofs.Math.Nat.{mul-le-mul_right}
 use Rattle.cct_model.specs.terms.device.DeviceSetup.{DeviceSetup}
 use Rattle.cct_model.specs.terms.device.Setup.{Setup}
@@ -20,7 +20,7 @@ use Rattle.cct_model.specs.Exchange.{device_at}
 use Rattle.cct_model.specs.Money.{coins_of, hopper_value}
 use Rattle.cct_model.specs.Records.{records}
 use Rattle.cct_model.specs.Transcript.{lines_of}
-use Rattle.cct_change_laws.specs.Change.{IsWithin, lines_there, worth_fallen, worth_of}
+use Rattle.cct_change_laws.specs.Change.{IsStillPaid, IsWithin, lines_there, told_paid, worth_fallen, worth_of}
 use Rattle.cct_change_laws.specs.Counted.{Close, Counted, closed_as, fallen_for}
 use Rattle.cct_change_laws.specs.Orders.{opened_by, opened_due, opened_of}
 use Rattle.cct_change_laws.proofs.Counted.{counted}
@@ -141,11 +141,31 @@ HoldsBy setup trays past orders amount rest None = Settled setup past orders amo
 HoldsBy setup trays past orders amount rest (Some due) =
     HoldsDue setup trays past orders amount rest due.payment due.phase
 
+-- by what the end of a session told as paid: its orders are settled, and no more falls for them
+abbrev pub HasPaid : Setup → List Entry → List Payment → Option ℕ → Type 0
+HasPaid setup past orders None = ⊤
+HasPaid setup past orders (Some paid) = Settled setup past orders paid 0
+
+-- while a session runs, no end was told since it began
 abbrev pub Holds : Setup → List Tray → List Entry → List Payment → Option Session → Type 0
-Holds setup trays past orders None = ⊤
-Holds setup trays past orders (Some s) = HoldsBy setup trays past orders s.amount s.rest s.due
+Holds setup trays past orders None = HasPaid setup past orders (told_paid past)
+Holds setup trays past orders (Some s) =
+    (told_paid past ≡ None) × HoldsBy setup trays past orders s.amount s.rest s.due
 
 -- over the entries of a step that is none of the session's own
+
+paid_over : (setup : Setup) (news past : List Entry) (orders : List Payment) (told : Option ℕ) → AreSure setup past →
+    AreSure setup (news ++ past) → HasPaid setup past orders told → HasPaid setup (news ++ past) orders told
+paid_over setup news past orders None before sure is = tt
+paid_over setup news past orders (Some paid) before sure is =
+    settled_over setup news past orders paid 0 before sure is
+
+-- of entries that tell no end
+paid_same : (setup : Setup) (news past : List Entry) (orders : List Payment) → told_paid (news ++ past) ≡ told_paid past →
+    AreSure setup past → AreSure setup (news ++ past) → HasPaid setup past orders (told_paid past) →
+    HasPaid setup (news ++ past) orders (told_paid (news ++ past))
+paid_same setup news past orders same before sure is =
+    subst (HasPaid setup (news ++ past) orders) (sym same) (paid_over setup news past orders (told_paid past) before sure is)
 
 owed_over : (setup : Setup) (trays : List Tray) (news past : List Entry) (orders : List Payment) (amount rest : ℕ)
     (p : Payment) → AreSure setup past → AreSure setup (news ++ past) → IsOwed setup trays past orders amount rest p →
@@ -225,12 +245,12 @@ by_over setup trays news past orders s (Some due) before sure is =
     due_over setup trays news past orders s.amount s.rest due.payment due.phase before sure is
 
 pub holds_over : (setup : Setup) (trays : List Tray) (news past : List Entry) (orders : List Payment)
-    (session : Option Session) → AreSure setup past → AreSure setup (news ++ past) →
-    Holds setup trays past orders session →
+    (session : Option Session) → told_paid (news ++ past) ≡ told_paid past → AreSure setup past →
+    AreSure setup (news ++ past) → Holds setup trays past orders session →
     Holds setup trays (news ++ past) (opened_of news session ++ orders) (option_map (session_after news) session)
-holds_over setup trays news past orders None before sure is = tt
-holds_over setup trays news past orders (Some s) before sure is =
-    by_over setup trays news past orders s s.due before sure is
+holds_over setup trays news past orders None same before sure is = paid_same setup news past orders same before sure is
+holds_over setup trays news past orders (Some s) same before sure is =
+    (same ∙ is.0, by_over setup trays news past orders s s.due before sure is.1)
 
 -- where nothing is read off entries, a session stays as it is
 
@@ -260,11 +280,12 @@ by_stays setup trays news past orders amount rest (Some due) before sure is =
     due_stays setup trays news past orders amount rest due.payment due.phase before sure is
 
 pub holds_stays : (setup : Setup) (trays : List Tray) (news past : List Entry) (orders : List Payment)
-    (session : Option Session) → AreSure setup past → AreSure setup (news ++ past) →
-    Holds setup trays past orders session → Holds setup trays (news ++ past) orders session
-holds_stays setup trays news past orders None before sure is = tt
-holds_stays setup trays news past orders (Some s) before sure is =
-    by_stays setup trays news past orders s.amount s.rest s.due before sure is
+    (session : Option Session) → told_paid (news ++ past) ≡ told_paid past → AreSure setup past →
+    AreSure setup (news ++ past) → Holds setup trays past orders session →
+    Holds setup trays (news ++ past) orders session
+holds_stays setup trays news past orders None same before sure is = paid_same setup news past orders same before sure is
+holds_stays setup trays news past orders (Some s) same before sure is =
+    (same ∙ is.0, by_stays setup trays news past orders s.amount s.rest s.due before sure is.1)
 
 -- and over another stock
 
@@ -312,9 +333,9 @@ by_restocked setup trays addr becomes past orders amount rest (Some due) is =
 pub holds_restocked : (setup : Setup) (trays : List Tray) (addr : ℕ) (becomes : ℕ → ℕ) (past : List Entry)
     (orders : List Payment) (session : Option Session) → Holds setup trays past orders session →
     Holds setup (restocked addr becomes trays) past orders session
-holds_restocked setup trays addr becomes past orders None is = tt
+holds_restocked setup trays addr becomes past orders None is = is
 holds_restocked setup trays addr becomes past orders (Some s) is =
-    by_restocked setup trays addr becomes past orders s.amount s.rest s.due is
+    (is.0, by_restocked setup trays addr becomes past orders s.amount s.rest s.due is.1)
 
 -- so no more falls for a session's orders than its amount
 
@@ -357,7 +378,20 @@ pub holds_within : (setup : Setup) (trays : List Tray) (past : List Entry) (orde
     IsWithin setup past orders session
 holds_within setup trays past orders None sure is = tt
 holds_within setup trays past orders (Some s) sure is =
-    by_within setup trays past orders s.amount s.rest s.due sure is
+    by_within setup trays past orders s.amount s.rest s.due sure is.1
+
+-- and after its end, what fell for them is what the end told
+
+still_by : (setup : Setup) (past : List Entry) (orders : List Payment) (told : Option ℕ) → HasPaid setup past orders told →
+    IfSome told (λ paid. worth_of setup past orders ≡ paid)
+still_by setup past orders None is = tt
+still_by setup past orders (Some paid) is = let sums = is.sums in omega (arith, sums)
+
+pub holds_still : (setup : Setup) (trays : List Tray) (past : List Entry) (orders : List Payment)
+    (session : Option Session) → Holds setup trays past orders session → IsStillPaid setup past orders
+holds_still setup trays past orders None is = still_by setup past orders (told_paid past) is
+holds_still setup trays past orders (Some s) is =
+    subst (λ told. IfSome told (λ paid. worth_of setup past orders ≡ paid)) (sym is.0) tt
 
 -- a payment that is settled
 

@@ -1,7 +1,7 @@
--- Only a `serve` tells how a session ends.
-use Rattle.std.proofs.Common.{ℕ, List, [], ◌∷◌, Option, Some, None, All}
+-- Only a `change` and a `serve` tell how a session begins and ends.
+use Rattle.std.proofs.Common.{◌≡◌, ℕ, List, [], ◌∷◌, ◌++◌, refl, ◌∙◌, Option, Some, None, All}
 use Rattle.std.specs.Prelude.{⊤}
-use Rattle.std.proofs.lemmas.List.Elements.{All-cons, All-nil}
+use Rattle.std.proofs.lemmas.List.Elements.{All-cons, All-head, All-nil, All-tail}
 use Rattle.cct_model.specs.terms.device.DeviceSetup.{DeviceSetup}
 use Rattle.cct_model.specs.terms.device.Setup.{Setup}
 use Rattle.cct_model.specs.lines.command.Step.{Step}
@@ -13,6 +13,7 @@ use Rattle.cct_model.specs.History.{Met}
 use Rattle.cct_model.specs.Legal.{Entries, with_end}
 use Rattle.cct_model.specs.Line.{Line}
 use Rattle.cct_model.specs.Transcript.{met}
+use Rattle.cct_change_laws.specs.Change.{told_paid}
 use Rattle.cct_laws.proofs.jobs.Brought.{Comes, takes_coin, leaves_coin, takes_bill, leaves_bill, leaves_alien, drops_coin, drops_none, jams, jams_none, is_reset, AtDevice, came, took, halted, idled, made_exchange, made_put, wire_of, wire_end, record_end, poll_wire, poll_end, IsOfDesk, tells_stock, begins_change, keeps_change, serves_none, serves_later, serves_odd, serves_all, serves_short, Brought, of_device, faulted, refused, began_scan, began_sale, nobody, polled, sold, balanced, of_desk, ended_short, lost_power, lost_in_put, lost_in_sale}
 use Rattle.cct_laws.proofs.jobs.Telling.{over_telling, tells}
 
@@ -23,8 +24,9 @@ IsNoDesk (step.Change first amount) = ⊥
 IsNoDesk step.Serve = ⊥
 IsNoDesk s = ⊤
 
--- an entry tells nothing of a session's end
+-- an entry tells nothing of a session's begin or end
 abbrev pub TellsNothing : Entry → Type 0
+TellsNothing (entry.ChangeOk first amount) = ⊥
 TellsNothing (entry.Served amount) = ⊥
 TellsNothing (entry.Short paid rest) = ⊥
 TellsNothing (entry.ServeOdd id) = ⊥
@@ -67,7 +69,7 @@ device_nothing capacity setup d past _ _ (made_put c since r at_work is_row) =
 
 desk_nothing : (s : Step) (e : Entry) → IsNoDesk s → IsOfDesk s e → TellsNothing e
 desk_nothing _ _ none (tells_stock addr count) = tt
-desk_nothing _ _ none (begins_change first amount) = tt
+desk_nothing _ _ none (begins_change first amount) = absurd none
 desk_nothing _ _ none (keeps_change first amount) = tt
 desk_nothing _ _ none serves_none = tt
 desk_nothing _ _ none (serves_later addr) = tt
@@ -103,3 +105,16 @@ plain_told capacity setup past news s none entries =
     over_telling capacity setup past news s (All TellsNothing)
     (λ es addr before. All-cons TellsNothing (entry.Forged addr) es tt before) told
     (brought_nothing capacity setup past told.told s none told.brings)
+
+-- so such entries leave what was told last as paid
+one_told_paid : (e : Entry) (past : List Entry) → TellsNothing e → told_paid (e ∷ past) ≡ told_paid past
+one_told_paid (entry.Served amount) past none = absurd none
+one_told_paid (entry.Short paid rest) past none = absurd none
+one_told_paid (entry.ChangeOk first amount) past none = absurd none
+one_told_paid e past none = refl
+
+pub same_told_paid : (news past : List Entry) → All TellsNothing news → told_paid (news ++ past) ≡ told_paid past
+same_told_paid [] past none = refl
+same_told_paid (e ∷ news) past none =
+    one_told_paid e (news ++ past) (All-head TellsNothing e news none)
+    ∙ same_told_paid news past (All-tail TellsNothing e news none)

@@ -1,6 +1,7 @@
 -- The law of change: the coins that fell for the orders of a session are worth what the session tells.
 use Rattle.std.specs.Prelude.{◌≡◌, ℕ, ◌+◌, ◌≤◌, List, [], ◌∷◌, ◌++◌, Option, Some, None, ⊤}
 use Rattle.std.specs.List.{All}
+use Rattle.std.specs.Option.{IfSome}
 use Rattle.cct_model.specs.terms.device.DeviceSetup.{DeviceSetup}
 use Rattle.cct_model.specs.terms.device.Setup.{Setup}
 use Rattle.cct_model.specs.lines.command.Step.{Step}
@@ -56,18 +57,45 @@ IsToldRight setup past orders session (entry.Short paid rest) = IsPaid setup pas
 IsToldRight setup past orders session (entry.ServeOdd id) = ⊥
 IsToldRight setup past orders session e = ⊤
 
--- The law of change of a whole run, whose transcript is oldest entry first. At each moment of it, which is after some of its
--- steps, what fell for the orders of the session is worth at most the session's amount; and all entries of the step that
--- comes next tell the session right.
+-- What the end of a session told last as paid, where no session began since: a past tells it, newest entry first.
+abbrev pub told_paid : List Entry → Option ℕ
+told_paid [] = None
+told_paid (entry.Served amount ∷ past) = Some amount
+told_paid (entry.Short paid rest ∷ past) = Some paid
+told_paid (entry.ChangeOk first amount ∷ past) = None
+told_paid (e ∷ past) = told_paid past
+
+-- From the end of a session until the next one begins, what fell for its orders stays worth what the end told.
+abbrev pub IsStillPaid : Setup → List Entry → List Payment → Type 0
+IsStillPaid setup past orders = IfSome (told_paid past) (λ paid. worth_of setup past orders ≡ paid)
+
+-- A run goes on from a moment by these steps, and ends as these; and all entries of the step that comes next tell the
+-- session right.
+abbrev pub GoesOnRight : ℕ → Setup → List Entry → Desk → List Payment → List Step → List Entry → Desk → Type 0
+GoesOnRight capacity setup past desk orders [] end last = (end ≡ past) × (last ≡ desk)
+GoesOnRight capacity setup past desk orders (s ∷ steps) end last =
+    (news : List Entry) × EntriesAtDesk capacity setup past desk s news
+    × AtDeskFrom capacity setup (news ++ past) (desk_after s news desk) steps end last
+    × All (IsToldRight setup past orders desk.session) news
+
+-- The moment of a run after these steps and before those: while a session runs, what fell for its orders is worth at most
+-- its amount; after it has ended, what its end told; and the next step tells it right.
+pub record MomentIsRight (capacity : ℕ) (setup : Setup) (played steps : List Step) (end : List Entry) (last : Desk) :
+    Type 0 where
+  pub past : List Entry
+  pub desk : Desk
+  pub orders : List Payment
+  pub comes : ComesTo capacity setup played past desk orders
+  pub within : IsWithin setup past orders desk.session
+  pub stays : IsStillPaid setup past orders
+  pub goes_on : GoesOnRight capacity setup past desk orders steps end last
+
+-- The law of change of a whole run, whose transcript is oldest entry first: it leaves a desk, and each moment of it, which is
+-- after some of its steps, is right.
 pub record ChangeIsPaid (capacity : ℕ) (setup : Setup) (steps : List Step) (transcript : List Entry) : Type 0 where
-  pub within : (played rest : List Step) (past : List Entry) (desk last : Desk) (orders : List Payment) →
-      steps ≡ played ++ rest → ComesTo capacity setup played past desk orders →
-      AtDeskFrom capacity setup past desk rest (onto [] transcript) last → IsWithin setup past orders desk.session
-  pub told : (played rest : List Step) (s : Step) (past news : List Entry) (desk last : Desk) (orders : List Payment) →
-      steps ≡ played ++ s ∷ rest → ComesTo capacity setup played past desk orders →
-      EntriesAtDesk capacity setup past desk s news →
-      AtDeskFrom capacity setup (news ++ past) (desk_after s news desk) rest (onto [] transcript) last →
-      All (IsToldRight setup past orders desk.session) news
+  pub last : Desk
+  pub each : (played rest : List Step) → steps ≡ played ++ rest →
+      MomentIsRight capacity setup played rest (onto [] transcript) last
 
 -- A fact of each moment of each run at the desk of a sound setup, over an honest wire: of its past, newest entry first, of
 -- the desk, and of the orders of its session. The steps are in range.

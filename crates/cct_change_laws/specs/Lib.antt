@@ -1,3 +1,6 @@
 pub mod Counted
+pub mod Along
 pub mod Orders
 pub mod Change
+pub mod Tally
+pub mod Blocks

@@ -1,6 +1,6 @@
 -- The orders of a session of change: its payments that were opened. They are read off the steps and their entries, beside
 -- what the desk knows.
-use Rattle.std.specs.Prelude.{◌≡◌, ℕ, List, [], ◌∷◌, ◌++◌, if◌then◌else◌, Option, Some, None}
+use Rattle.std.specs.Prelude.{ℕ, List, [], ◌∷◌, ◌++◌, if◌then◌else◌, Option, Some, None}
 use Rattle.std.specs.List.{list_any}
 use Rattle.cct_model.specs.terms.device.Setup.{Setup}
 use Rattle.cct_model.specs.lines.command.Step.{Step}
@@ -11,9 +11,9 @@ use Rattle.cct_model.specs.declared.change.Payment.{Payment}
 use Rattle.cct_model.specs.declared.change.Phase.{Phase}
 use Rattle.cct_model.specs.declared.change.Phase.TheVariants.{Begun}
 use Rattle.cct_model.specs.declared.change.Session.{Session}
-use Rattle.cct_model.specs.AtDesk.{EntriesAtDesk}
-use Rattle.cct_model.specs.Change.{Desk, clear_desk, desk_after, is_opening}
+use Rattle.cct_model.specs.Change.{Desk, clear_desk, is_opening}
 use Rattle.cct_model.specs.Records.{records}
+use Rattle.cct_change_laws.specs.Along.{AlongFrom}
 
 -- The payment whose order is opened among the entries of a step, or none: only one whose job was at work before it.
 abbrev pub opened_by : Payment → List Entry → Phase → List Payment
@@ -42,15 +42,7 @@ orders_after (step.Change first amount) news desk orders = begun_anew desk.sessi
 orders_after step.Serve news desk orders = orders
 orders_after s news desk orders = opened_of news desk.session ++ orders
 
--- A past, a desk and a session's orders go on by these steps, and end as these.
-abbrev pub OrdersFrom :
-    ℕ → Setup → List Entry → Desk → List Payment → List Step → List Entry → Desk → List Payment → Type 0
-OrdersFrom capacity setup past desk orders [] end last found = (end ≡ past) × (last ≡ desk) × (found ≡ orders)
-OrdersFrom capacity setup past desk orders (s ∷ steps) end last found =
-    (news : List Entry) × EntriesAtDesk capacity setup past desk s news
-    × OrdersFrom capacity setup (news ++ past) (desk_after s news desk) (orders_after s news desk orders) steps end last
-    found
-
 -- A run of these steps at the desk comes to this past, newest entry first, to this desk, and to these orders of its session.
 abbrev pub ComesTo : ℕ → Setup → List Step → List Entry → Desk → List Payment → Type 0
-ComesTo capacity setup steps past desk orders = OrdersFrom capacity setup [] (clear_desk setup) [] steps past desk orders
+ComesTo capacity setup steps past desk orders =
+    AlongFrom orders_after capacity setup [] (clear_desk setup) [] steps past desk orders

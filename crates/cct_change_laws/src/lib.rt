@@ -1,13 +1,14 @@
 //! Laws of sessions of change, which pay an amount out of several hoppers (`docs/SCRIPT.md`): each is a clause of a function
 //! without parameters, whose body is empty, as in `cct_laws`. They hold of every run at the operator's desk of a sound
-//! setup over an honest wire, with power cuts at every step, at any pace, whatever else the operator asks the host for.
+//! setup, with power cuts at every step, at any pace, whatever else the operator asks the host for. What is paid is said over
+//! an honest wire; how many payments a session makes, that it ends, and where it is served, over any.
 //!
 //! An order is known by its id. The orders of a session are those of its payments that were opened, each by a record that
 //! was put or kept in a step before which the payment's own job was at work (`specs/Orders.antt`). So an order that the
 //! operator's own payment opens later with the same id is none of the session's.
 #![tactic(auto)]
 
-ghost use Rattle.std.specs.Prelude.{ℕ, ◌≡◌, ◌++◌, List, [], ◌∷◌};
+ghost use Rattle.std.specs.Prelude.{ℕ, ◌≡◌, ◌+◌, ◌<◌, ◌≤◌, ◌^◌, true, sum, ◌++◌, List, [], ◌∷◌, length};
 ghost use Rattle.std.specs.List.{All};
 ghost use Rattle.cct_model.specs.terms.device.Setup.{Setup};
 ghost use Rattle.cct_model.specs.lines.command.Step.{Step};
@@ -15,19 +16,22 @@ ghost use Rattle.cct_model.specs.lines.command.Step.TheVariants.{Serve};
 ghost use Rattle.cct_model.specs.lines.entry.Entry.{Entry};
 ghost use Rattle.cct_model.specs.lines.entry.Entry.TheVariants.{Served, ServeOdd, Short};
 ghost use Rattle.cct_model.specs.declared.change.Payment.{Payment};
-ghost use Rattle.cct_model.specs.AtDesk.{AtDeskFrom, EntriesAtDesk, LeavesDesk};
+ghost use Rattle.cct_model.specs.AtDesk.{AtDeskFrom, EntriesAtDesk, LeavesDesk, LegalAtDesk};
 ghost use Rattle.cct_model.specs.Change.{Desk};
 ghost use Rattle.cct_model.specs.Honest.{Honest};
 ghost use Rattle.cct_model.specs.Line.{Line};
 ghost use Rattle.cct_model.specs.Paid.{Paid};
+ghost use Rattle.cct_model.specs.Plan.{HasNoPlan, IsPlan};
 ghost use Rattle.cct_model.specs.Script.{IsInRange};
 ghost use Rattle.cct_model.specs.Setup.{IsSoundSetup};
 ghost use Rattle.cct_model.specs.Transcript.{onto};
 ghost use Rattle.cct_laws.specs.Law.{lines_in};
 ghost use Rattle.cct_laws.specs.Scope.{EachHopper};
-ghost use Rattle.cct_change_laws.specs.Change.{ChangeIsPaid, EachMoment, IsPaid, IsWithin};
+ghost use Rattle.cct_change_laws.specs.Change.{ChangeIsPaid, EachMoment, IsPaid, IsStillPaid, IsToldRight, IsWithin};
 ghost use Rattle.cct_change_laws.specs.Counted.{AreFreshLines, Counted};
 ghost use Rattle.cct_change_laws.specs.Orders.{ComesTo};
+ghost use Rattle.cct_change_laws.specs.Tally.{EachTally, HasPlan, IsSmooth, MakesFew, TalliesTo, Tally, most_made};
+ghost use Rattle.cct_change_laws.specs.Blocks.{AnyBlock, InBlocks, IsReady, IsSmoothBlock, TellsEnd, TellsService};
 
 /// Each order of a hopper is counted right, by its id, over all lines of the hopper. The coins that fell while it was open
 /// are never more than its count; where it was closed, they are those that its record says were paid; where it wasn't
@@ -41,11 +45,15 @@ pub fn each_order_is_counted()
 /// Change is paid. The coins that fell at their hoppers for the orders of a session, while these were open, are worth the
 /// session's amount where a `serve` tells that it was served; where it tells that the session fell short, they are worth
 /// what it tells as paid, and that and the rest are the amount. At every moment they are worth at most the amount. That the
-/// life counts don't fit an order is never told. `whole` says all this of one run, at each moment of it and of each entry of
-/// the step that comes next; and by `moments` there is such a moment after each front of the steps of every run. It doesn't
-/// say that a session ever ends, nor that it is served where there are coins enough.
+/// life counts don't fit an order is never told. From the end of a session until the next one begins, what fell for its
+/// orders stays worth what its end told. `told` is of all entries of a step, whatever it is; `whole` says all this of one
+/// run, after each front of its steps; and by `moments` there is such a moment in every run, over any wire. It doesn't say
+/// that a session ever ends, nor that it is served where there are coins enough.
 pub fn change_is_paid()
     ensures within { EachMoment (λ capacity setup past desk orders. IsWithin setup past orders desk.session) }
+    ensures stays { EachMoment (λ capacity setup past desk orders. IsStillPaid setup past orders) }
+    ensures told { EachMoment (λ capacity setup past desk orders. (s : Step) (news : List Entry)
+        → EntriesAtDesk capacity setup past desk s news → All (IsToldRight setup past orders desk.session) news) }
     ensures served { EachMoment (λ capacity setup past desk orders. (amount : ℕ)
         → EntriesAtDesk capacity setup past desk Serve (Served amount ∷ [])
         → IsPaid setup past orders desk.session amount 0) }
@@ -55,11 +63,66 @@ pub fn change_is_paid()
     ensures never_odd { EachMoment (λ capacity setup past desk orders. (id : ℕ)
         → EntriesAtDesk capacity setup past desk Serve (ServeOdd id ∷ []) → ⊥) }
     ensures whole { (capacity : ℕ) (setup : Setup) (steps : List Step) (transcript : List Entry)
-        → IsSoundSetup setup → All IsInRange steps → Honest transcript
+        → IsSoundSetup setup → All IsInRange steps → LegalAtDesk capacity setup steps transcript → Honest transcript
         → ChangeIsPaid capacity setup steps transcript }
     ensures moments { (capacity : ℕ) (setup : Setup) (played rest : List Step) (transcript : List Entry) (last : Desk)
         → LeavesDesk capacity setup (played ++ rest) transcript last
         → (past : List Entry) × (desk : Desk) × (orders : List Payment)
         × ComesTo capacity setup played past desk orders
         × AtDeskFrom capacity setup past desk rest (onto [] transcript) last }
+{}
+
+/// A session makes few payments, over any wire, whatever else the operator asks for: no more than its amount has units, and
+/// one for each tray that wasn't empty as it began, and for each later `stock` above 0. For each that is settled lowers what
+/// is left of the amount, or empties a tray. So while it runs, its payments, what is left, and the trays that aren't empty
+/// are together at most as many, with one more while a payment isn't settled. By `tallied` each run has its tally. It
+/// doesn't say that a session ends: a payment may wait for ever to be settled.
+pub fn a_session_makes_few_payments()
+    ensures few { EachTally (λ capacity setup past desk tally. MakesFew desk tally) }
+    ensures tallied { (capacity : ℕ) (setup : Setup) (played rest : List Step) (transcript : List Entry) (last : Desk)
+        → LeavesDesk capacity setup (played ++ rest) transcript last
+        → (past : List Entry) × (desk : Desk) × (tally : Tally)
+        × TalliesTo capacity setup played past desk tally
+        × AtDeskFrom capacity setup past desk rest (onto [] transcript) last }
+{}
+
+/// A session ends where no fault hinders its payments, over any wire: after as many blocks as it may make payments, and one.
+/// A block is a `serve` and then steps up to the next one, in which the job of its payment can end: they have a `next` at
+/// its hopper for each of the job's rows, 7, and for each halt; no fault is set for its exchanges, the power isn't cut while
+/// it runs, and no coin is left to pay whenever the hopper is asked. The end that is told among these entries is that the
+/// session was served, that it fell short, or that life counts don't fit, which an honest wire never tells. Whatever else the
+/// operator asks for in between doesn't hinder it. It doesn't say that the session is served; and where the power is cut
+/// behind the record that opens an order, or three answers to one question are lost, a `serve` waits until the operator
+/// settles the order.
+pub fn a_session_without_a_fault_ends()
+    ensures { (capacity : ℕ) (setup : Setup) (steps : List Step) (past : List Entry) (desk : Desk) (tally : Tally)
+        (blocks : List (List Step)) (end : List Entry) (last : Desk) (found : Tally)
+        → IsSoundSetup setup → All IsInRange steps → TalliesTo capacity setup steps past desk tally
+        → IsReady desk.session → InBlocks AnyBlock capacity setup past desk tally blocks end last found
+        → most_made found < tally.made + length blocks → TellsEnd past end }
+{}
+
+/// A session is served exactly where its amount has a plan as it begins, if it goes smoothly, over any wire. It does as long as
+/// no `stock` comes, and each payment that is settled was closed with all its coins paid. Where it is served, its amount had
+/// a plan then: the trays with their stocks, no more than 255 coins of one. Where it falls short, and that isn't told of a
+/// payment that was refused, it had none; its first id and its amount are below 2^32 together, so there are ids for all its
+/// payments. It makes at most as many payments as any plan of its amount has coins. So in blocks that let the jobs of its
+/// payments end, and go smoothly, it is served after as many of them as the plan has coins, and one. It doesn't say when a
+/// payment is refused: where a job is at its hopper, an order is open there, its id is used, or its money or its room in the
+/// journal isn't available.
+pub fn a_session_is_served_where_a_plan_is()
+    ensures served { EachTally (λ capacity setup past desk tally. (amount : ℕ) → IsSmooth desk tally
+        → EntriesAtDesk capacity setup past desk Serve (Served amount ∷ []) → HasPlan tally.trays tally.amount) }
+    ensures short { EachTally (λ capacity setup past desk tally. (paid rest : ℕ) → IsSmooth desk tally
+        → tally.first + tally.amount < 2 ^ 32
+        → EntriesAtDesk capacity setup past desk Serve (Short paid rest ∷ []) → HasNoPlan tally.trays tally.amount) }
+    ensures ends { (capacity : ℕ) (setup : Setup) (steps : List Step) (past : List Entry) (desk : Desk) (tally : Tally)
+        (blocks : List (List Step)) (end : List Entry) (last : Desk) (found : Tally) (counts : List ℕ)
+        → IsSoundSetup setup → All IsInRange steps → TalliesTo capacity setup steps past desk tally
+        → IsReady desk.session → IsSmooth desk tally → tally.first + tally.amount < 2 ^ 32
+        → IsPlan tally.trays tally.amount counts
+        → InBlocks IsSmoothBlock capacity setup past desk tally blocks end last found
+        → sum counts < tally.made + length blocks → TellsService past end }
+    ensures payments { EachTally (λ capacity setup past desk tally. (counts : List ℕ) → tally.smooth ≡ true
+        → IsPlan tally.trays tally.amount counts → tally.made ≤ sum counts) }
 {}

@@ -8,7 +8,7 @@ use Rattle.cct_monitor.specs.Spans.{Reading, Span, doubted, goes_on, is_whole, l
 use Rattle.cct_monitor.specs.Confirmed.{confirms, ends_window, has_mask, is_confirmed, is_sure, window}
 
 -- a window that nothing ended is all
-whole_window : (after : List Shown) → list_any ends_window after ≡ false → window after ≡ after
+pub whole_window : (after : List Shown) → list_any ends_window after ≡ false → window after ≡ after
 whole_window [] open_yet = refl
 whole_window (s ∷ after) open_yet = ap (λ b. cond b (window after) (s ∷ after)) open_yet
 
@@ -64,7 +64,7 @@ by_tests true false false mask before in_window all one =
     ap (λ b. (mask || before) && not b) (all refl) ∙ added mask before
 
 -- a tap confirms a span that waits, by its mask
-confirms_is : (s : Shown) (x : Span) → confirms s x ≡ (has_mask s && waits x)
+pub confirms_is : (s : Shown) (x : Span) → confirms s x ≡ (has_mask s && waits x)
 confirms_is s x =
     ap (λ b. (is_whole x && b) && not (is_whole x && list_any has_mask (window x.last.after))) (by_end (ends_window s || list_any ends_window x.last.after))
     ∙ by_tests (is_whole x) (ends_window s) (list_any ends_window x.last.after) (has_mask s)

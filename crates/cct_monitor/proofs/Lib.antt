@@ -7,3 +7,5 @@ pub mod Captures
 pub mod Confirmed
 pub mod Monitors
 pub mod Once
+pub mod Among
+pub mod Reported

@@ -16,6 +16,12 @@ is_of first last (Sure addr f l coins) = (f == first) && (l == last)
 is_of first last (Doubt addr f l) = (f == first) && (l == last)
 is_of first last (Fell addr f l count) = false
 
+-- It is said of a span of the acceptor at an address, whose readings are the taps of these two numbers.
+abbrev pub is_of_at : ℕ → ℕ → ℕ → Said → Bool
+is_of_at addr first last (Sure a f l coins) = (a == addr) && ((f == first) && (l == last))
+is_of_at addr first last (Doubt a f l) = (a == addr) && ((f == first) && (l == last))
+is_of_at addr first last (Fell a f l count) = false
+
 -- The readings of a span are the taps of these two numbers.
 abbrev pub is_between : ℕ → ℕ → Span → Bool
 is_between first last span = (span.first.number == first) && (span.last.number == last)

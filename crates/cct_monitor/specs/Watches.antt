@@ -65,6 +65,12 @@ said_of t a =
 abbrev pub said_of_all : Tap → List Came → List Said
 said_of_all t past = flat_map (said_of t) (accounts past)
 
+-- All that a monitor says at the taps of all that came, newest first; what is said first stands first.
+abbrev pub all_told : List Came → List Said
+all_told [] = []
+all_told (made_watch w ∷ past) = all_told past
+all_told (made_tap t ∷ past) = all_told past ++ said_of_all t past
+
 -- What is said of a watched device at the end.
 abbrev pub finally_of : Account → List Said
 finally_of a = if a.watch.acceptor then said_last a.watch.addr (looks_of a) else []

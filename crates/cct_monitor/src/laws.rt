@@ -1,6 +1,6 @@
 //! What holds of whatever comes to a monitor.
 ghost use Rattle.std.specs.Prelude.{◌≡◌, ◌≤◌, ◌++◌, ℕ, true, Option, List, [], length, map, reverse};
-ghost use Rattle.std.specs.List.{filter};
+ghost use Rattle.std.specs.List.{All, Contains, filter};
 ghost use Rattle.cct_monitor.specs.declared.shown.Shown.{Shown};
 ghost use Rattle.cct_monitor.specs.Confirmed.{confirms, is_confirmed, is_sure};
 ghost use Rattle.cct_monitor.specs.Once.{all_said, is_between, is_of};
@@ -26,8 +26,8 @@ pub fn a_tap_makes_sure_what_it_confirms()
     ensures stays { (s : Shown) (span : Span) → is_confirmed span ≡ true → is_confirmed (goes_on s span) ≡ true }
 {}
 
-/// Each span of an acceptor is said once, at a tap or at the end of the taps: to be sure where it was confirmed, and else to
-/// be in doubt. No two spans are between the same readings, so what is said of one is said of no other.
+/// Each span of an acceptor is said once, at a tap or at the end of the taps: to be sure where it was confirmed, with its
+/// coins, and else to be in doubt. No two spans are between the same readings, so what is said of one is said of no other.
 pub fn each_span_is_said_once()
     ensures once { (first last addr : ℕ) (past : List Shown)
         → length (filter (is_of first last) (all_said addr past ++ said_last addr past))
@@ -35,6 +35,8 @@ pub fn each_span_is_said_once()
     ensures confirmed { (first last addr : ℕ) (past : List Shown)
         → length (filter (is_of first last) (filter is_sure (all_said addr past)))
         ≡ length (filter (is_between first last) (filter is_confirmed (spans past))) }
+    ensures told { (addr : ℕ) (past : List Shown)
+        → All (λ span. is_confirmed span ≡ true → Contains (all_said addr past) (surely addr span)) (spans past) }
     ensures at_most_one { (first last : ℕ) (past : List Shown)
         → length (filter (is_between first last) (spans past)) ≤ 1 }
 {}

@@ -8,3 +8,6 @@ pub mod Sure
 pub mod True
 pub mod Wire
 pub mod Worked
+pub mod Complete
+pub mod Undisturbed
+pub mod Rounds

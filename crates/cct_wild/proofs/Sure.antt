@@ -22,9 +22,9 @@ use Rattle.cct_monitor.specs.Spans.{Reading, Span, after_it, are_near, coins_of,
 use Rattle.cct_wild.proofs.Moments.{World, Behind, Quiet, Runs, Shows, quiet_then}
 
 -- a reading tells the credits of its moment; and where no setting was shown since, it is quiet since
-record ReadIn (at : ℕ → World) (now : World) (r : Reading) : Type 0 where
-  credits_are : r.credits ≡ credits_in (at r.number).events
-  quiet : list_any is_set r.after ≡ false → Quiet (at r.number) now
+pub record ReadIn (at : ℕ → World) (now : World) (r : Reading) : Type 0 where
+  pub credits_are : r.credits ≡ credits_in (at r.number).events
+  pub quiet : list_any is_set r.after ≡ false → Quiet (at r.number) now
 
 abbrev IfRead : (ℕ → World) → World → Option Reading → Type 0
 IfRead at now None = ⊤
@@ -58,10 +58,10 @@ last_read at (Nothing ∷ past) now runs =
     if_goes_by at before now Nothing (last_reading past) runs.1 (last_read at past before runs.2)
 
 -- a span, between two readings
-record SpanIn (at : ℕ → World) (now : World) (x : Span) : Type 0 where
-  first_is : x.first.credits ≡ credits_in (at x.first.number).events
-  quiet : list_any is_set x.first.after ≡ false → Quiet (at x.first.number) (at x.last.number)
-  last : ReadIn at now x.last
+pub record SpanIn (at : ℕ → World) (now : World) (x : Span) : Type 0 where
+  pub first_is : x.first.credits ≡ credits_in (at x.first.number).events
+  pub quiet : list_any is_set x.first.after ≡ false → Quiet (at x.first.number) (at x.last.number)
+  pub last : ReadIn at now x.last
 
 new_spans : (at : ℕ → World) (s : Shown) (found : Option Reading) (number : ℕ) (now : World) →
     IfRead at (at number) found → Shows s (at number) → (is_set s ≡ false → Quiet (at number) now) →
@@ -84,7 +84,7 @@ span_goes_on at before now s x moves is = record {
   last = goes_by at before now s x.last moves is.last;
 }
 
-all_spans : (at : ℕ → World) (shows : List Shown) (now : World) → Runs at shows now →
+pub all_spans : (at : ℕ → World) (shows : List Shown) (now : World) → Runs at shows now →
     All (SpanIn at now) (spans shows)
 all_spans at [] now runs = All-nil (SpanIn at now)
 all_spans at (s ∷ past) now runs =
@@ -152,7 +152,7 @@ coins_behind w v is n count few =
           ∙ all_are is.new w.events w.coins n (counted ∙ distance_near (length is.new) (length w.events) less) few;
     }
 
-behind_told : (w v : World) → Behind w v → (first last : Credits) → first ≡ credits_in w.events →
+pub behind_told : (w v : World) → Behind w v → (first last : Credits) → first ≡ credits_in w.events →
     last ≡ credits_in v.events → distance first.counter last.counter ≤ 5 →
     AreTold w v (posted_of (distance first.counter last.counter) last.pairs)
 behind_told w v is first last first_is last_is few =

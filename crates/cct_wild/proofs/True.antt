@@ -1,5 +1,5 @@
 -- All that a monitor says at the taps of a wild run is true.
-use Rattle.std.proofs.Common.{◌≡◌, ℕ, Bool, true, false, cond, List, [], ◌∷◌, ◌++◌, map, flat_map, refl, sym, subst, subst₂, append-nil, All, nat_le}
+use Rattle.std.proofs.Common.{◌≡◌, ℕ, Bool, true, false, cond, List, [], ◌∷◌, ◌++◌, map, flat_map, sym, subst, subst₂, append-nil, All, nat_le}
 use Rattle.std.specs.Prelude.{⊤, MatchBool}
 use Rattle.std.proofs.lemmas.List.Elements.{All-append, All-cons, All-head, All-nil, All-tail, All-weaker}
 use Rattle.cct_model.specs.terms.wire.CheckKind.{CheckKind}
@@ -21,10 +21,11 @@ use Rattle.cct_monitor.specs.Taps.{Tap, life_shown, shown}
 use Rattle.cct_monitor.specs.Lives.{fell_at}
 use Rattle.cct_monitor.specs.Once.{all_said}
 use Rattle.cct_monitor.specs.Spans.{said_at}
-use Rattle.cct_monitor.specs.Watches.{Watch, by_address, from_begin, made_tap, made_watch, put_watch, said_of, said_of_all}
+use Rattle.cct_monitor.specs.Watches.{Watch, all_told, by_address, finally_of_all, from_begin, made_tap, made_watch, put_watch, said_of, said_of_all}
+use Rattle.cct_monitor.proofs.Among.{finally_doubts, none_told}
 use Rattle.cct_monitor.proofs.Captures.{from_the_begin}
 use Rattle.cct_wild.specs.Wild.{WildStep, WildFrom, before_tap, taps}
-use Rattle.cct_wild.specs.Claims.{AreFallen, AreSure, IsTrue, IsWatched, all_fell, all_told, fallen_before, lives, looks}
+use Rattle.cct_wild.specs.Claims.{AreFallen, AreSure, IsTrue, IsWatched, all_fell, fallen_before, lives, looks}
 use Rattle.cct_wild.proofs.Acceptors.{acceptor_runs, world_of}
 use Rattle.cct_wild.proofs.Hoppers.{hopper_runs}
 use Rattle.cct_wild.proofs.Fallen.{HoldsFell, fell_true}
@@ -144,10 +145,6 @@ all_by_address P [] all = All-nil P
 all_by_address P (w ∷ ws) all =
     all_put P w (by_address ws) (All-head P w ws all) (all_by_address P ws (All-tail P w ws all))
 
-none_told : (ws : List Watch) → all_told (map made_watch ws) ≡ []
-none_told [] = refl
-none_told (w ∷ ws) = none_told ws
-
 each_told : (Q : Said → Type 0) (t : Tap) (ts : List Tap) (ws : List Watch) →
     All (λ w. All Q (said_of t (from_begin ts w))) ws → All Q (flat_map (said_of t) (map (from_begin ts) ws))
 each_told Q t ts [] all = All-nil Q
@@ -174,9 +171,13 @@ taps_true setup past watches (t ∷ ts) all =
 
 pub all_true : (setup : Setup) (steps : List WildStep) (past : List Entry) (watches : List Watch) →
     IsSoundSetup setup → All (IsWatched setup) watches → WildFrom setup [] steps past → HonestPast past →
-    All (IsTrue setup past) (all_told (map made_tap (taps past) ++ map made_watch watches))
+    All (IsTrue setup past) (all_told (map made_tap (taps past) ++ map made_watch watches)
+    ++ finally_of_all (map made_tap (taps past) ++ map made_watch watches))
 all_true setup steps past watches sound watched goes honest =
-    taps_true setup past watches (taps past)
+    let came = map made_tap (taps past) ++ map made_watch watches in
+    All-append (IsTrue setup past) (all_told came) (finally_of_all came)
+    (taps_true setup past watches (taps past)
     (all_by_address (λ w. IsTold setup past w (taps past)) watches
     (All-weaker (IsWatched setup) (λ w. IsTold setup past w (taps past))
-    (λ w is. watch_true setup steps past w sound is goes honest) watches watched))
+    (λ w is. watch_true setup steps past w sound is goes honest) watches watched)))
+    (finally_doubts (IsTrue setup past) (λ addr first last. tt) came)

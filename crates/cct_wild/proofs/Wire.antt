@@ -368,7 +368,7 @@ pair_lengths : (pairs : List Pair) → length (flat_map pair_bytes pairs) ≡ le
 pair_lengths [] = omega arith
 pair_lengths (pair ∷ pairs) = let rest = pair_lengths pairs in omega arith
 
-five_kept : (newest : List Pair) → length (last_five newest) ≡ 5
+pub five_kept : (newest : List Pair) → length (last_five newest) ≡ 5
 five_kept newest =
     let blank : List Pair = no_event ∷ no_event ∷ no_event ∷ no_event ∷ no_event ∷ [] in
     length-take 5 (newest ++ blank) ∙ omega (arith, length-append newest blank)
@@ -385,12 +385,12 @@ life_short : (count : ℕ) → length (reply_data (reply.life count)) ≤ 255
 unfolding reply_data
 life_short count = omega arith
 
-credits_replied : (d : DeviceSetup) (past : List Met) → IsAcceptor d.body →
+pub credits_replied : (d : DeviceSetup) (past : List Met) → IsAcceptor d.body →
     reply_of d past ReadCredits ≡ Some (reply.credits (credits_of past))
 unfolding reply_of common_reply acceptor_reply
 credits_replied d past accepting = acceptor_is d.serial d.body past ReadCredits accepting
 
-mask_replied : (d : DeviceSetup) (past : List Met) → IsAcceptor d.body →
+pub mask_replied : (d : DeviceSetup) (past : List Met) → IsAcceptor d.body →
     reply_of d past GetMask ≡ Some (reply.mask (mask_of past))
 unfolding reply_of common_reply acceptor_reply
 mask_replied d past accepting = acceptor_is d.serial d.body past GetMask accepting

@@ -19,9 +19,8 @@ use Rattle.cct_model.specs.Exchange.{ask, asked, asks_of, asker, after_echo, got
 use Rattle.cct_model.specs.Honest.{HonestPast}
 use Rattle.cct_model.specs.Transcript.{heard_after}
 use Rattle.cct_model.specs.Reading.{distance}
-use Rattle.cct_monitor.specs.Watches.{Watch, made_tap, made_watch}
+use Rattle.cct_monitor.specs.Watches.{Watch, all_told, made_tap, made_watch}
 use Rattle.cct_wild.specs.Wild.{WildStep, outside, exchange, WildFrom, taps}
-use Rattle.cct_wild.specs.Claims.{all_told}
 
 -- an acceptor at address 2, all whose coins are worth 100
 abbrev setup : Setup

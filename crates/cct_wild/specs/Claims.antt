@@ -1,25 +1,32 @@
 -- What is claimed of what a monitor of any host's wire says.
-use Rattle.std.specs.Prelude.{◌≡◌, ℕ, suc, ◌+◌, ◌^◌, ◌<◌, ◌≤◌, List, [], ◌∷◌, ◌++◌, map, length, reverse, Option, ⊤, MatchBool}
-use Rattle.std.specs.List.{All}
+use Rattle.std.specs.Prelude.{◌≡◌, ◌↔◌, ℕ, suc, ◌+◌, ◌^◌, ◌<◌, ◌≤◌, true, false, List, [], ◌∷◌, ◌++◌, map, length, reverse, Option, ⊤, MatchBool}
+use Rattle.std.specs.List.{All, Contains, list_any}
+use Rattle.cct_model.specs.terms.coin.TheConstants.{EVENTS}
 use Rattle.cct_model.specs.terms.coin.Coin.{Coin}
 use Rattle.cct_model.specs.terms.device.DeviceSetup.{DeviceSetup}
 use Rattle.cct_model.specs.terms.device.Setup.{Setup}
+use Rattle.cct_model.specs.terms.request.Request.{Request}
+use Rattle.cct_model.specs.terms.request.Request.TheVariants.{GetMask, ReadCredits}
 use Rattle.cct_model.specs.lines.entry.Entry.{Entry}
+use Rattle.cct_model.specs.lines.entry.Entry.TheVariants as entry
 use Rattle.cct_model.specs.lines.entry.Said.{Said}
 use Rattle.cct_model.specs.lines.entry.Said.TheVariants.{Sure, Doubt, Fell}
+use Rattle.cct_model.specs.Acceptor.{credits_of, mask_of}
 use Rattle.cct_model.specs.Claims.{coins}
 use Rattle.cct_model.specs.Device.{IsAcceptor, IsHopper}
-use Rattle.cct_model.specs.Exchange.{device_at}
+use Rattle.cct_model.specs.Exchange.{ask, device_at}
 use Rattle.cct_model.specs.Legal.{OfDevice}
 use Rattle.cct_model.specs.Line.{Line, accepted, inhibited, alien}
-use Rattle.cct_model.specs.Transcript.{lines_of}
+use Rattle.cct_model.specs.Transcript.{heard_after, lines_of, met}
 use Rattle.cct_laws.specs.Coins.{all_fallen}
 use Rattle.cct_laws.specs.Law.{IsOf}
 use Rattle.cct_monitor.specs.declared.shown.Shown.{Shown}
+use Rattle.cct_monitor.specs.declared.shown.Shown.TheVariants.{Masked}
 use Rattle.cct_monitor.specs.Taps.{shown, life_shown}
-use Rattle.cct_monitor.specs.Spans.{Span}
+use Rattle.cct_monitor.specs.Spans.{Reading, Span, is_set}
+use Rattle.cct_monitor.specs.Confirmed.{has_mask, is_confirmed, window}
 use Rattle.cct_monitor.specs.Lives.{fell_at}
-use Rattle.cct_monitor.specs.Watches.{Came, Watch, made_tap, made_watch, said_of_all}
+use Rattle.cct_monitor.specs.Watches.{Watch}
 use Rattle.cct_wild.specs.Wild.{taps, before_tap}
 
 -- What the exchanges of a past show of an acceptor, newest first.
@@ -82,12 +89,6 @@ pub record IsWatchOf (w : Watch) (d : DeviceSetup) : Type 0 where
 abbrev pub IsWatched : Setup → Watch → Type 0
 IsWatched setup w = (d : DeviceSetup) × IsOf setup d × IsWatchOf w d
 
--- All that a monitor says at the taps of all that came, newest first; what is said first stands first.
-abbrev pub all_told : List Came → List Said
-all_told [] = []
-all_told (made_watch w ∷ past) = all_told past
-all_told (made_tap t ∷ past) = all_told past ++ said_of_all t past
-
 -- The coin of a number, the first being 0, was accepted between the readings of a span.
 abbrev pub StandsIn : DeviceSetup → List Entry → ℕ → Span → Type 0
 StandsIn d past i span =
@@ -104,3 +105,42 @@ AreApart d past (x ∷ xs) =
 abbrev pub all_fell : ℕ → List (Option ℕ) → List Said
 all_fell addr [] = []
 all_fell addr (s ∷ past) = all_fell addr past ++ fell_at addr s past
+
+-- What makes a span sure: no tap between its readings shows a setting, no more pieces came to the acceptor between them than
+-- its credit buffer keeps, and a tap of its window shows a mask other than 0.
+pub record IsPlain (d : DeviceSetup) (past : List Entry) (span : Span) : Type 0 where
+  pub unset : list_any is_set span.first.after ≡ false
+  pub few : came_before d past span.last.number ≤ came_before d past span.first.number + EVENTS
+  pub masked : list_any has_mask (window span.last.after) ≡ true
+
+-- A span between whose readings fewer than 255 pieces came is sure just where all this is so.
+abbrev pub IsSureWherePlain : DeviceSetup → List Entry → Span → Type 0
+IsSureWherePlain d past span =
+    came_before d past span.last.number < came_before d past span.first.number + 255 →
+    (is_confirmed span ≡ true) ↔ IsPlain d past span
+
+-- It is said that a span is sure, with just the coins that the acceptor accepted between its readings, oldest first.
+pub record IsToldWhole (d : DeviceSetup) (past : List Entry) (told : List Said) (span : Span) : Type 0 where
+  pub coins : List Coin
+  pub said : Contains told (Sure d.addr span.first.number span.last.number coins)
+  pub whole : coins_before d past span.last.number ≡ reverse coins ++ coins_before d past span.first.number
+
+-- A host asks a device something, after all that came.
+abbrev pub asked_then : Setup → DeviceSetup → Request → List Entry → List Entry
+asked_then setup d q past =
+    entry.Wire d.addr (ask d.kind d.addr q) (heard_after setup past (ask d.kind d.addr q)) ∷ past
+
+-- It asks an acceptor for its credits, and then for its inhibit mask.
+abbrev pub after_round : Setup → DeviceSetup → List Entry → List Entry
+after_round setup d past = asked_then setup d GetMask (asked_then setup d ReadCredits past)
+
+-- The span from a reading to that round.
+abbrev pub span_of_round : DeviceSetup → List Entry → Reading → Span
+span_of_round d past r = record {
+  first = r;
+  last = record {
+    number = suc (length (taps past));
+    credits = credits_of (met d past);
+    after = Masked (mask_of (met d past)) ∷ [];
+  };
+}

@@ -1,9 +1,11 @@
-use Rattle.cct_change_laws.proofs.Runs.{change_paid, moment_found, moment_within, told_odd, told_served, told_short}
+use Rattle.cct_change_laws.proofs.Runs.{change_paid, moment_found, moment_still, moment_told, moment_within, told_odd, told_served, told_short}
 use Rattle.cct_change_laws.proofs.change_is_paid.Goals as goal
 
 pub returns : goal.returns
 returns c = record {
   within = moment_within;
+  stays = moment_still;
+  told = moment_told;
   served = told_served;
   short = told_short;
   never_odd = told_odd;

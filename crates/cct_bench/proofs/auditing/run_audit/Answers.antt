@@ -1,10 +1,34 @@
-use Rattle.std.proofs.Common.{◌≡◌, List, subst, sym}
+use Rattle.std.proofs.Common.{subst, sym}
 use Rattle.cct_edge.specs.Faults.{Rose}
 use Rattle.cct_text.specs.Writing.{Broke, Wrote}
 use Rattle.cct_audit.specs.Audit.{Audited, IsUnread}
 use Rattle.cct_audit.specs.declared.auditing.AuditEnd.TheVariants as ended
-use Rattle.cct_bench.proofs.AuditEnds.{audit_refused, audit_unread}
+use Rattle.cct_bench.proofs.AuditEnds.{audit_done, audit_refused, audit_unread, audit_unwritten}
 use Rattle.cct_bench.proofs.auditing.run_audit.Goals as goal
+
+pub returns-in-Done-clause-audited : goal.returns-in-Done-clause-audited
+returns-in-Done-clause-audited g c =
+    let source = g.S.Source in
+    let sink = g.K.Sink in
+    let out1 = c.audit.new.out in
+    let audited = c.in-Done.ensures.audited in (
+      audited.0,
+      audited.1,
+      audit_done sink.written sink.puts c.args.out.now out1 out1 audited.0 (source.left c.audit.new.script)
+          (Rose (source.faults c.args.script.now) (source.faults c.audit.new.script)) audited.2,
+    )
+
+pub returns-in-Unwritten-clause-audited : goal.returns-in-Unwritten-clause-audited
+returns-in-Unwritten-clause-audited g c =
+    let source = g.S.Source in
+    let sink = g.K.Sink in
+    let out1 = c.audit.new.out in
+    let audited = c.in-Unwritten.ensures.audited in (
+      audited.0,
+      audited.1,
+      audit_unwritten sink.written sink.puts c.args.out.now out1 out1 audited.0 (source.left c.audit.new.script)
+          (Rose (source.faults c.args.script.now) (source.faults c.audit.new.script)) audited.2,
+    )
 
 pub returns-in-Stopped-default-Refused-clause-audited : goal.returns-in-Stopped-default-Refused-clause-audited
 returns-in-Stopped-default-Refused-clause-audited g c =

@@ -1,0 +1,266 @@
+-- Each span of each watched acceptor is said once, among all that is said of the watched devices; and what is said at the end
+-- are spans in doubt.
+use Rattle.std.proofs.Common.{◌≡◌, ◌⊎◌, inl, inr, ℕ, ◌==◌, ◌&&◌, nat_le, Bool, true, false, cond, List, [], ◌∷◌, ◌++◌, map, filter, flat_map, length, reverse, refl, ap, ap₂, sym, ◌∙◌, subst, append-nil, All, Option, Some, None, arith}
+use Rattle.std.specs.Prelude.{⊤}
+use Rattle.std.proofs.lemmas.Bool.Decides.{nat_tests}
+use Rattle.std.proofs.lemmas.List.Elements.{All-append, All-cons, All-head, All-nil, All-tail, filter-append}
+use Rattle.cct_model.specs.lines.entry.Said.{Said}
+use Rattle.cct_model.specs.lines.entry.Said.TheVariants.{Sure, Doubt, Fell}
+use Rattle.cct_monitor.specs.declared.shown.Shown.{Shown}
+use Rattle.cct_monitor.specs.declared.shown.Shown.TheVariants.{Read, Masked, Set, Nothing}
+use Rattle.cct_monitor.specs.declared.hopper.LastLife.{LastLife}
+use Rattle.cct_monitor.specs.Lives.{fell_at, fell_by, last_life}
+use Rattle.cct_monitor.specs.Once.{all_said, is_between, is_of, is_of_at}
+use Rattle.cct_monitor.specs.Spans.{Span, doubted, is_whole, last_reading, refused, said_at, said_last, spans, spans_by, surely, turned, waits}
+use Rattle.cct_monitor.specs.Taps.{Tap, life_shown, shown}
+use Rattle.cct_monitor.specs.Watches.{Account, Came, Watch, accounts, all_told, by_address, finally_of, finally_of_all, from_begin, lives_of, looks_of, made_tap, made_watch, put_watch, said_of, said_of_all}
+use Rattle.cct_monitor.proofs.Captures.{from_the_begin}
+use Rattle.cct_monitor.proofs.Once.{said_once}
+
+-- what is said names the address
+addr_of : Said → ℕ
+addr_of (Sure a f l coins) = a
+addr_of (Doubt a f l) = a
+addr_of (Fell a f l count) = a
+
+abbrev NamesAll : ℕ → List Said → Type 0
+NamesAll addr xs = All (λ x. addr_of x ≡ addr) xs
+
+no_names : (addr : ℕ) → NamesAll addr []
+no_names addr = All-nil (λ x. addr_of x ≡ addr)
+
+one_names : (addr : ℕ) (x : Said) → addr_of x ≡ addr → NamesAll addr (x ∷ [])
+one_names addr x is = All-cons (λ y. addr_of y ≡ addr) x [] is (no_names addr)
+
+both_name : (addr : ℕ) (xs ys : List Said) → NamesAll addr xs → NamesAll addr ys → NamesAll addr (xs ++ ys)
+both_name addr xs ys = All-append (λ x. addr_of x ≡ addr) xs ys
+
+turned_names : (addr : ℕ) (s : Shown) (x : Span) → NamesAll addr (turned addr s x)
+unfolding addr_of
+turned_names addr (Read c) x = one_names addr (doubted addr x) refl
+turned_names addr (Masked mask) x = by_test (mask == 0)
+  where
+    by_test : (b : Bool) → NamesAll addr (cond b [] (surely addr x ∷ []))
+    by_test true = no_names addr
+    by_test false = one_names addr (surely addr x) refl
+turned_names addr Set x = one_names addr (doubted addr x) refl
+turned_names addr Nothing x = no_names addr
+
+refused_names : (addr : ℕ) (x : Span) → NamesAll addr (refused addr x)
+unfolding addr_of
+refused_names addr x = by_test (is_whole x)
+  where
+    by_test : (b : Bool) → NamesAll addr (cond b [] (doubted addr x ∷ []))
+    by_test true = no_names addr
+    by_test false = one_names addr (doubted addr x) refl
+
+all_name : (addr : ℕ) (g : Span → List Said) (xs : List Span) → ((x : Span) → NamesAll addr (g x)) → NamesAll addr (flat_map g xs)
+all_name addr g [] each = no_names addr
+all_name addr g (x ∷ xs) each = both_name addr (g x) (flat_map g xs) (each x) (all_name addr g xs each)
+
+doubts_name : (addr : ℕ) (xs : List Span) → NamesAll addr (map (doubted addr) xs)
+unfolding addr_of
+doubts_name addr [] = no_names addr
+doubts_name addr (x ∷ xs) = both_name addr (doubted addr x ∷ []) (map (doubted addr) xs) (one_names addr (doubted addr x) refl) (doubts_name addr xs)
+
+fell_names : (addr number : ℕ) (now : Option ℕ) (life : Option LastLife) → NamesAll addr (fell_by addr number now life)
+unfolding addr_of
+fell_names addr number None life = no_names addr
+fell_names addr number (Some now) None = no_names addr
+fell_names addr number (Some now) (Some life) = one_names addr _ refl
+
+said_names : (t : Tap) (a : Account) → NamesAll a.watch.addr (said_of t a)
+said_names t a = by_kind a.watch.acceptor
+  where
+    by_kind : (acceptor : Bool) → NamesAll a.watch.addr (cond acceptor
+        (said_at a.watch.addr (shown a.watch.kind a.watch.addr t) (looks_of a))
+        (fell_at a.watch.addr (life_shown a.watch.kind a.watch.addr t) (lives_of a)))
+    by_kind true =
+        let s = shown a.watch.kind a.watch.addr t in
+        let past = looks_of a in
+        both_name a.watch.addr _ _
+        (all_name a.watch.addr (turned a.watch.addr s) (reverse (filter waits (spans past))) (turned_names a.watch.addr s))
+        (all_name a.watch.addr (refused a.watch.addr) (spans_by s (last_reading past) _) (refused_names a.watch.addr))
+    by_kind false = fell_names a.watch.addr _ (life_shown a.watch.kind a.watch.addr t) (last_life (lives_of a))
+
+last_names : (a : Account) → NamesAll a.watch.addr (finally_of a)
+last_names a = by_kind a.watch.acceptor
+  where
+    by_kind : (acceptor : Bool) → NamesAll a.watch.addr (cond acceptor (said_last a.watch.addr (looks_of a)) [])
+    by_kind true = doubts_name a.watch.addr (reverse (filter waits (spans (looks_of a))))
+    by_kind false = no_names a.watch.addr
+
+same_number : (n : ℕ) → (n == n) ≡ true
+same_number n = by_test (n == n) refl
+  where
+    by_test : (b : Bool) → (n == n) ≡ b → (n == n) ≡ true
+    by_test true is = is
+    by_test false is = absurd (grind (arith, nat_tests))
+
+-- of one that names the address, and of one that names another
+own_test : (addr f l : ℕ) (x : Said) → addr_of x ≡ addr → is_of_at addr f l x ≡ is_of f l x
+unfolding addr_of
+own_test addr f l (Sure a g m coins) is = ap (λ b. b && ((g == f) && (m == l))) (ap (λ n. n == addr) is ∙ same_number addr)
+own_test addr f l (Doubt a g m) is = ap (λ b. b && ((g == f) && (m == l))) (ap (λ n. n == addr) is ∙ same_number addr)
+own_test addr f l (Fell a g m count) is = refl
+
+other_test : (addr f l other : ℕ) (x : Said) → addr_of x ≡ other → (other == addr) ≡ false → is_of_at addr f l x ≡ false
+unfolding addr_of
+other_test addr f l other (Sure a g m coins) is apart = ap (λ b. b && ((g == f) && (m == l))) (ap (λ n. n == addr) is ∙ apart)
+other_test addr f l other (Doubt a g m) is apart = ap (λ b. b && ((g == f) && (m == l))) (ap (λ n. n == addr) is ∙ apart)
+other_test addr f l other (Fell a g m count) is apart = refl
+
+own_only : (addr f l : ℕ) (xs : List Said) → NamesAll addr xs → filter (is_of_at addr f l) xs ≡ filter (is_of f l) xs
+own_only addr f l [] names = refl
+own_only addr f l (x ∷ xs) names =
+    ap₂ (λ b rest. cond b (x ∷ rest) rest) (own_test addr f l x (All-head (λ y. addr_of y ≡ addr) x xs names))
+    (own_only addr f l xs (All-tail (λ y. addr_of y ≡ addr) x xs names))
+
+none_other : (addr f l other : ℕ) (xs : List Said) → NamesAll other xs → (other == addr) ≡ false →
+    filter (is_of_at addr f l) xs ≡ []
+none_other addr f l other [] names apart = refl
+none_other addr f l other (x ∷ xs) names apart =
+    ap₂ (λ b rest. cond b (x ∷ rest) rest) (other_test addr f l other x (All-head (λ y. addr_of y ≡ other) x xs names) apart)
+    (none_other addr f l other xs (All-tail (λ y. addr_of y ≡ other) x xs names) apart)
+
+-- one device alone has an address
+abbrev pub NoneAt : ℕ → List Watch → Type 0
+NoneAt addr [] = ⊤
+NoneAt addr (v ∷ vs) = ((v.addr == addr) ≡ false) × NoneAt addr vs
+
+abbrev pub IsOnly : Watch → List Watch → Type 0
+IsOnly w [] = ⊥
+IsOnly w (v ∷ vs) = ((v ≡ w) × NoneAt w.addr vs) ⊎ (((v.addr == w.addr) ≡ false) × IsOnly w vs)
+
+none_put : (addr : ℕ) (v : Watch) (vs : List Watch) → (v.addr == addr) ≡ false → NoneAt addr vs → NoneAt addr (put_watch v vs)
+none_put addr v [] apart none = (apart, tt)
+none_put addr v (u ∷ us) apart none = by_test (nat_le v.addr u.addr) (none_put addr v us apart none.1)
+  where
+    by_test : (b : Bool) → NoneAt addr (put_watch v us) → NoneAt addr (cond b (v ∷ u ∷ us) (u ∷ put_watch v us))
+    by_test true rest = (apart, none)
+    by_test false rest = (none.0, rest)
+
+own_put : (w : Watch) (vs : List Watch) → NoneAt w.addr vs → IsOnly w (put_watch w vs)
+own_put w [] none = inl (refl, tt)
+own_put w (u ∷ us) none = by_test (nat_le w.addr u.addr) (own_put w us none.1)
+  where
+    by_test : (b : Bool) → IsOnly w (put_watch w us) → IsOnly w (cond b (w ∷ u ∷ us) (u ∷ put_watch w us))
+    by_test true rest = inl (refl, none)
+    by_test false rest = inr (none.0, rest)
+
+only_put : (w v : Watch) (vs : List Watch) → (v.addr == w.addr) ≡ false → IsOnly w vs → IsOnly w (put_watch v vs)
+only_put w v [] apart only = absurd only
+only_put w v (u ∷ us) apart only = by_tests only (nat_le v.addr u.addr) (λ there. only_put w v us apart there)
+  where
+    by_tests : IsOnly w (u ∷ us) → (b : Bool) → (IsOnly w us → IsOnly w (put_watch v us)) →
+        IsOnly w (cond b (v ∷ u ∷ us) (u ∷ put_watch v us))
+    by_tests here true rest = inr (apart, here)
+    by_tests (inl here) false rest = inl (here.0, none_put w.addr v us apart here.1)
+    by_tests (inr there) false rest = inr (there.0, rest there.1)
+
+none_by_address : (addr : ℕ) (ws : List Watch) → NoneAt addr ws → NoneAt addr (by_address ws)
+none_by_address addr [] none = tt
+none_by_address addr (v ∷ vs) none = none_put addr v (by_address vs) none.0 (none_by_address addr vs none.1)
+
+only_by_address : (w : Watch) (ws : List Watch) → IsOnly w ws → IsOnly w (by_address ws)
+only_by_address w [] only = absurd only
+only_by_address w (v ∷ vs) (inl here) =
+    subst (λ u. IsOnly w (put_watch u (by_address vs))) (sym here.0) (own_put w (by_address vs) (none_by_address w.addr vs here.1))
+only_by_address w (v ∷ vs) (inr there) = only_put w v (by_address vs) there.0 (only_by_address w vs there.1)
+
+-- what is said of all at the address is what is said of that device
+module _ (addr f l : ℕ) (taps : List Tap) (g : Account → List Said) (names : (a : Account) → NamesAll a.watch.addr (g a)) where
+  none_said : (vs : List Watch) → NoneAt addr vs → filter (is_of_at addr f l) (flat_map g (map (from_begin taps) vs)) ≡ []
+  none_said [] none = refl
+  none_said (v ∷ vs) none =
+      filter-append (is_of_at addr f l) (g (from_begin taps v)) (flat_map g (map (from_begin taps) vs))
+      ∙ ap₂ (λ xs ys. xs ++ ys) (none_other addr f l v.addr (g (from_begin taps v)) (names (from_begin taps v)) none.0)
+      (none_said vs none.1)
+
+only_said : (w : Watch) (f l : ℕ) (taps : List Tap) (g : Account → List Said) → ((a : Account) → NamesAll a.watch.addr (g a)) →
+    (vs : List Watch) → IsOnly w vs →
+    filter (is_of_at w.addr f l) (flat_map g (map (from_begin taps) vs)) ≡ filter (is_of f l) (g (from_begin taps w))
+only_said w f l taps g names [] only = absurd only
+only_said w f l taps g names (v ∷ vs) (inl here) =
+    ap (λ u. filter (is_of_at w.addr f l) (flat_map g (map (from_begin taps) (u ∷ vs)))) here.0
+    ∙ filter-append (is_of_at w.addr f l) (g (from_begin taps w)) (flat_map g (map (from_begin taps) vs))
+    ∙ ap₂ (λ xs ys. xs ++ ys) (own_only w.addr f l (g (from_begin taps w)) (names (from_begin taps w)))
+    (none_said w.addr f l taps g names vs here.1)
+    ∙ append-nil (filter (is_of f l) (g (from_begin taps w)))
+only_said w f l taps g names (v ∷ vs) (inr there) =
+    filter-append (is_of_at w.addr f l) (g (from_begin taps v)) (flat_map g (map (from_begin taps) vs))
+    ∙ ap₂ (λ xs ys. xs ++ ys) (none_other w.addr f l v.addr (g (from_begin taps v)) (names (from_begin taps v)) there.0)
+    (only_said w f l taps g names vs there.1)
+
+pub none_told : (ws : List Watch) → all_told (map made_watch ws) ≡ []
+none_told [] = refl
+none_told (w ∷ ws) = none_told ws
+
+looks_from : (w : Watch) (taps : List Tap) → looks_of (from_begin taps w) ≡ map (shown w.kind w.addr) taps
+looks_from w taps = append-nil (map (shown w.kind w.addr) taps)
+
+at_tap : (w : Watch) (f l : ℕ) (t : Tap) (taps : List Tap) → w.acceptor ≡ true → filter (is_of f l) (said_of t (from_begin taps w))
+    ≡ filter (is_of f l) (said_at w.addr (shown w.kind w.addr t) (map (shown w.kind w.addr) taps))
+at_tap w f l t taps accepts =
+    ap (λ b. filter (is_of f l) (cond b (said_at w.addr (shown w.kind w.addr t) (looks_of (from_begin taps w)))
+    (fell_at w.addr (life_shown w.kind w.addr t) (lives_of (from_begin taps w))))) accepts
+    ∙ ap (λ past. filter (is_of f l) (said_at w.addr (shown w.kind w.addr t) past)) (looks_from w taps)
+
+told_there : (w : Watch) (f l : ℕ) (ws : List Watch) (taps : List Tap) → w.acceptor ≡ true → IsOnly w ws →
+    filter (is_of_at w.addr f l) (all_told (map made_tap taps ++ map made_watch ws))
+    ≡ filter (is_of f l) (all_said w.addr (map (shown w.kind w.addr) taps))
+told_there w f l ws [] accepts only = ap (filter (is_of_at w.addr f l)) (none_told ws)
+told_there w f l ws (t ∷ taps) accepts only =
+    let came = map made_tap taps ++ map made_watch ws in
+    let past = map (shown w.kind w.addr) taps in
+    filter-append (is_of_at w.addr f l) (all_told came) (said_of_all t came)
+    ∙ ap₂ (λ xs ys. xs ++ ys) (told_there w f l ws taps accepts only)
+    (ap (λ there. filter (is_of_at w.addr f l) (flat_map (said_of t) there)) (from_the_begin ws taps)
+    ∙ only_said w f l taps (said_of t) (said_names t) (by_address ws) (only_by_address w ws only)
+    ∙ at_tap w f l t taps accepts)
+    ∙ sym (filter-append (is_of f l) (all_said w.addr past) (said_at w.addr (shown w.kind w.addr t) past))
+
+last_there : (w : Watch) (f l : ℕ) (ws : List Watch) (taps : List Tap) → w.acceptor ≡ true → IsOnly w ws →
+    filter (is_of_at w.addr f l) (finally_of_all (map made_tap taps ++ map made_watch ws))
+    ≡ filter (is_of f l) (said_last w.addr (map (shown w.kind w.addr) taps))
+last_there w f l ws taps accepts only =
+    ap (λ there. filter (is_of_at w.addr f l) (flat_map finally_of there)) (from_the_begin ws taps)
+    ∙ only_said w f l taps finally_of last_names (by_address ws) (only_by_address w ws only)
+    ∙ ap (λ b. filter (is_of f l) (cond b (said_last w.addr (looks_of (from_begin taps w))) [])) accepts
+    ∙ ap (λ past. filter (is_of f l) (said_last w.addr past)) (looks_from w taps)
+
+-- so each span of it is said once among all
+pub once_among_all : (w : Watch) (f l : ℕ) (ws : List Watch) (taps : List Tap) → w.acceptor ≡ true → IsOnly w ws →
+    length (filter (is_of_at w.addr f l) (all_told (map made_tap taps ++ map made_watch ws)
+    ++ finally_of_all (map made_tap taps ++ map made_watch ws)))
+    ≡ length (filter (is_between f l) (spans (map (shown w.kind w.addr) taps)))
+once_among_all w f l ws taps accepts only =
+    let came = map made_tap taps ++ map made_watch ws in
+    let past = map (shown w.kind w.addr) taps in
+    ap length (filter-append (is_of_at w.addr f l) (all_told came) (finally_of_all came)
+    ∙ ap₂ (λ xs ys. xs ++ ys) (told_there w f l ws taps accepts only) (last_there w f l ws taps accepts only)
+    ∙ sym (filter-append (is_of f l) (all_said w.addr past) (said_last w.addr past)))
+    ∙ said_once f l w.addr past
+
+-- what is said at the end are spans in doubt
+all_doubts : (P : Said → Type 0) → ((addr f l : ℕ) → P (Doubt addr f l)) → (addr : ℕ) (xs : List Span) →
+    All P (map (doubted addr) xs)
+all_doubts P doubts addr [] = All-nil P
+all_doubts P doubts addr (x ∷ xs) =
+    All-cons P (doubted addr x) (map (doubted addr) xs) (doubts addr x.first.number x.last.number)
+    (all_doubts P doubts addr xs)
+
+last_doubts : (P : Said → Type 0) → ((addr f l : ℕ) → P (Doubt addr f l)) → (a : Account) → All P (finally_of a)
+last_doubts P doubts a = by_kind a.watch.acceptor
+  where
+    by_kind : (acceptor : Bool) → All P (cond acceptor (said_last a.watch.addr (looks_of a)) [])
+    by_kind true = all_doubts P doubts a.watch.addr (reverse (filter waits (spans (looks_of a))))
+    by_kind false = All-nil P
+
+each_last : (P : Said → Type 0) → ((addr f l : ℕ) → P (Doubt addr f l)) → (all : List Account) → All P (flat_map finally_of all)
+each_last P doubts [] = All-nil P
+each_last P doubts (a ∷ all) =
+    All-append P (finally_of a) (flat_map finally_of all) (last_doubts P doubts a) (each_last P doubts all)
+
+pub finally_doubts : (P : Said → Type 0) → ((addr f l : ℕ) → P (Doubt addr f l)) → (past : List Came) → All P (finally_of_all past)
+finally_doubts P doubts past = each_last P doubts (accounts past)
