@@ -1,14 +1,16 @@
 //! A host on a real line: what it writes over a disk in memory and a link whose replies are told, and how it goes on.
-ghost use Rattle.std.specs.Prelude.{◌≡◌, ◌≤◌, ℕ, length};
+ghost use Rattle.std.specs.Prelude.{◌≡◌, ◌≤◌, ℕ, [], false, length};
+ghost use Rattle.cct_port.specs.Answer.{answered};
 ghost use Rattle.cct_terms.specs.declared.wire.TheConstants.{MOST_HEARD};
 
 use crate::host::{REPLIES, setup};
 use arrayvec::ArrayVec;
 use cct_disk::{MADE_LEN, MemDisk};
 use cct_edge::{MemSink, MemSource};
-use cct_model::{DeviceSet, MOST_HEARD};
-use cct_port::CountedLink;
-use cct_service::{Page, Served, serve};
+use cct_model::{LineKind, MOST_HEARD, Setup};
+use cct_port::{CountedLink, is_answered};
+use cct_service::{AtEnd, OrderTold, Outside, Page, Served, serve};
+use cct_survey::Roll;
 use cct_wire::Link;
 use std::alloc::Global;
 use std::test::Fail;
@@ -21,31 +23,64 @@ struct Counted {
     fails: &'static [usize],
     reply: usize,
     faults: u64,
+    is_sent: bool,
+    is_answered: bool,
 }
 
 impl Link for Counted {
-    ghost gives = { λ _ _ heard _. length heard ≤ MOST_HEARD };
+    ghost gives = { λ _ sent heard new. (length heard ≤ MOST_HEARD) × (new.is_sent ≡ false → heard ≡ [])
+        × (new.is_answered ≡ answered sent heard) };
 
     fn exchange(&mut self, sent: &[u8], heard: &mut ArrayVec<u8, MOST_HEARD>) {
         heard.clear();
-        if self.fails.contains(&self.exchanges) {
-            self.faults = self.faults.saturating_add(1);
-        } else {
+        self.is_sent = !self.fails.contains(&self.exchanges);
+        if self.is_sent {
             let _ = heard.try_extend_from_slice(sent);
             let _ = heard.try_extend_from_slice(REPLIES.get(self.reply).copied().unwrap_or(b""));
             self.reply = self.reply.saturating_add(1);
+        } else {
+            self.faults = self.faults.saturating_add(1);
         }
         self.exchanges = self.exchanges.saturating_add(1);
+        self.is_answered = is_answered(sent, heard.as_slice());
     }
 }
 
 impl CountedLink for Counted {
     ghost failures = { λ s. s.faults };
 
-    ghost few = { λ _ _ _ _ few. few };
+    ghost sent = { λ s. s.is_sent };
+
+    ghost answered = { λ s. s.is_answered };
+
+    ghost few = { λ _ _ _ _ given. given.0 };
+
+    ghost unsent = { λ _ _ _ _ given. given.1 };
+
+    ghost replied = { λ _ _ _ _ given. given.2 };
 
     fn faults(&self) -> u64 {
         self.faults
+    }
+
+    fn was_sent(&self) -> bool {
+        self.is_sent
+    }
+
+    fn was_answered(&self) -> bool {
+        self.is_answered
+    }
+}
+
+/// A program around the service that isn't there.
+#[derive(Drop)]
+struct Nobody;
+
+impl Outside for Nobody {
+    fn refused(&mut self, _: u32, _: LineKind, _: &[u8]) {}
+
+    fn order(&mut self, _: u32) -> OrderTold {
+        OrderTold::Unknown
     }
 }
 
@@ -54,19 +89,15 @@ fn blank(alloc: Global) -> Result<MemDisk, Fail> {
     Ok(MemDisk::new(alloc, MADE_LEN, Vec::new(alloc))?)
 }
 
-/// What a service writes without its lines `wire`, how it ends, and the disk. The first reply is that of this index.
+/// What a service writes without its lines `wire` and `unsent`, how it ends, and the disk. The first reply is that of this index.
 fn served(
     alloc: Global,
     input: &[u8],
     disk: MemDisk,
-    withheld: &[u8],
     reply: usize,
     fails: &'static [usize],
 ) -> Result<(Vec<u8>, Served, MemDisk), Fail> {
-    let mut set = DeviceSet::new();
-    for addr in withheld {
-        set.insert(*addr);
-    }
+    let mut roll = Roll::new(&Setup::default(), true);
     let mut source = MemSource::new(input.to_vec(alloc)?, 7, Vec::new(alloc));
     let mut out = MemSink::new(alloc, 65_536, Vec::new(alloc))?;
     let mut link = Counted {
@@ -74,20 +105,24 @@ fn served(
         fails,
         reply,
         faults: 0,
+        is_sent: false,
+        is_answered: false,
     };
     let setup = setup();
     let (how, disk) = serve(
         &setup,
-        &set,
+        &mut roll,
+        AtEnd::Leave,
         &mut source,
         &mut out,
         disk,
         &mut link,
+        &mut Nobody,
         &mut Page::new(),
     );
     let mut told = Vec::new(alloc);
     for line in out.bytes().split(|byte| *byte == b'\n') {
-        if !line.starts_with(b"wire ") && !line.is_empty() {
+        if !line.starts_with(b"wire ") && !line.starts_with(b"unsent ") && !line.is_empty() {
             told.extend_from_slice(line)?;
             told.push(b'\n')?;
         }
@@ -96,7 +131,7 @@ fn served(
 }
 
 /// A coin is read out by `poll`, and a hopper doesn't answer any more once its order is open; a wrong line, one that is too
-/// long and one that is cut change nothing. A second host goes on with the journal, withholds a payment, and closes the order.
+/// long and one that is cut change nothing. A second host goes on with the journal, and closes the order.
 #[test]
 fn a_day_is_served(rt: HostRuntime) -> Result<(), Fail> {
     let alloc = rt.alloc();
@@ -106,22 +141,22 @@ fn a_day_is_served(rt: HostRuntime) -> Result<(), Fail> {
         input.push(b'a')?;
     }
     input.extend_from_slice(b"\npay 3 1 2\ndo 3\nstatus\nbal")?;
-    let (told, how, disk) = served(alloc, input.as_slice(), blank(alloc)?, &[], 0, &[])?;
+    let (told, how, disk) = served(alloc, input.as_slice(), blank(alloc)?, 0, &[])?;
     assert_eq!(rt; how, Served::Done);
     assert_eq!(rt;
         told.as_slice(),
         b"made 0 0 0\nok start 2 ffff\nput epoch 2 ffff 0\nstarted 2\n\
 ok round 2\nput reading 2 1 0 1 5/1\nposted 2\nbalance 100 0 0 0\nrefused 5 word\nrefused 6 long\n\
 ok pay 3 1 2\nput opened 1 3 2 0\nnoanswer 3\n\
-device 2 - ffff -\ndevice 3 - - 1\ndevice 4 - - -\nroom 4294967291\nrefused 10 cut\n"
+device 2 - ffff -\ndevice 3 - - 1\ndevice 4 - - -\nlast 1\nroom 4294967291\nrefused 10 cut\n"
             .as_slice()
     );
-    let input = b"pay 3 2 1\npay 4 2 1\nsettle 3\ndo 3\nend\nend";
-    let (told, how, _) = served(alloc, input, disk, &[3], 14, &[])?;
+    let input = b"pay 4 2 1\nsettle 3\ndo 3\nend\nend";
+    let (told, how, _) = served(alloc, input, disk, 14, &[])?;
     assert_eq!(rt; how, Served::Done);
     assert_eq!(rt;
         told.as_slice(),
-        b"found 3 1 1\nno pay 3 2 1 otherserial\nno pay 4 2 1 wrongkind\n\
+        b"found 3 1 1\nno pay 4 2 1 wrongkind\n\
 ok settle 3\nput closed 1 2 0\nclosed 3\n"
             .as_slice()
     );
@@ -133,11 +168,11 @@ ok settle 3\nput closed 1 2 0\nclosed 3\n"
 fn a_fault_of_the_line_is_told_once(rt: HostRuntime) -> Result<(), Fail> {
     let alloc = rt.alloc();
     let input = b"start 2 ffff\nnext 2\nnext 2\nnext 2\nnext 2\n";
-    let (told, how, _) = served(alloc, input, blank(alloc)?, &[], 0, &[0, 1, 3])?;
+    let (told, how, _) = served(alloc, input, blank(alloc)?, 0, &[0, 1, 3])?;
     assert_eq!(rt; how, Served::Done);
     assert_eq!(rt;
         told.as_slice(),
-        b"made 0 0 0\nok start 2 ffff\nlinefault\nlinefault\n".as_slice()
+        b"made 0 0 0\nok start 2 ffff\nlinefault\nlineback\nlinefault\n".as_slice()
     );
     Ok(())
 }
@@ -147,7 +182,7 @@ fn a_fault_of_the_line_is_told_once(rt: HostRuntime) -> Result<(), Fail> {
 fn a_disk_of_another_length_is_refused(rt: HostRuntime) -> Result<(), Fail> {
     let alloc = rt.alloc();
     let short = MemDisk::new(alloc, 16, Vec::new(alloc))?;
-    let (told, how, _) = served(alloc, b"end\n", short, &[], 0, &[])?;
+    let (told, how, _) = served(alloc, b"end\n", short, 0, &[])?;
     assert_eq!(rt; how, Served::OtherSize { len: 16 });
     assert_eq!(rt; told.as_slice(), b"disksize 16\n".as_slice());
     Ok(())

@@ -46,7 +46,7 @@ fn a_port_that_sends_at_once_loses_money(rt: HostRuntime) -> Result<(), Fail> {
     loses_money(&rt, rt.alloc(), 0)
 }
 
-/// A port that listens for two silent reads, and waits for so many.
+/// A port that listens for two silent reads, and waits for so many, those two counted.
 fn hasty(echoes: bool, longest: u16) -> Options {
     Options {
         echoes,
@@ -109,7 +109,7 @@ fn a_port_that_waits_too_short_posts_a_coin_twice(rt: HostRuntime) -> Result<(),
     let setup = setup();
     for by in 2..=20 {
         for echoes in [true, false] {
-            for (longest, wanted) in [(by - 2, TWO_POSTS), (by, ONE_POST)] {
+            for (longest, wanted) in [(by, TWO_POSTS), (by + 2, ONE_POST)] {
                 let options = hasty(echoes, longest);
                 let late = Some(Late { exchange: 10, by });
                 let played = run(rt.alloc(), &setup, ONE_COIN, options, late)?;
@@ -186,7 +186,7 @@ fn a_port_that_waits_too_short_closes_an_order_with_a_wrong_number(
     let setup = setup();
     for by in 2..=20 {
         for echoes in [true, false] {
-            for (longest, wanted) in [(by - 2, TWO_PAID), (by, THREE_PAID)] {
+            for (longest, wanted) in [(by, TWO_PAID), (by + 2, THREE_PAID)] {
                 let options = hasty(echoes, longest);
                 let late = Some(Late { exchange: 24, by });
                 let played = run(rt.alloc(), &setup, TWO_ORDERS, options, late)?;

@@ -127,7 +127,7 @@ const BY_UP_TO_20: &[u16] = &[
 fn a_day_without_a_late_reply(rt: HostRuntime) -> Result<(), Fail> {
     let setup = setup();
     let steps = day(rt.alloc())?;
-    for (echoes, gap) in [(true, 0), (true, 1), (false, 1)] {
+    for (echoes, gap) in [(true, 0), (true, 1), (false, 0), (false, 1)] {
         let options = Options {
             echoes,
             gap,
@@ -156,15 +156,14 @@ fn a_late_reply_changes_nothing_after_a_gap(rt: HostRuntime) -> Result<(), Fail>
 fn a_late_reply_changes_nothing_without_an_echo(rt: HostRuntime) -> Result<(), Fail> {
     let options = Options {
         echoes: false,
-        gap: 1,
         ..PATIENT
     };
     are_right_days(&rt, rt.alloc(), options, &[1, 6, 20])
 }
 
-/// As the program uses a line, a reply may be late by all that it listens and waits for, but for the last two reads: it
-/// gives up after the fourth silent read, and sends after the twelfth of the wait.
+/// As the program uses a line, a reply may be late by all that it waits for, but for the last two reads: it gives up after
+/// the fourth silent read, and sends after the twelfth, those four counted.
 #[test]
 fn a_late_reply_within_the_wait_changes_nothing(rt: HostRuntime) -> Result<(), Fail> {
-    are_right_days(&rt, rt.alloc(), STANDARD, &[1, 4, 14])
+    are_right_days(&rt, rt.alloc(), STANDARD, &[1, 4, 10])
 }

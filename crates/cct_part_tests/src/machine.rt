@@ -1,6 +1,6 @@
-//! The machine of the tests of records: an acceptor and two hoppers.
+//! The devices of the tests, and the machine of those of records: an acceptor and two hoppers.
 ghost use Rattle.std.specs.Prelude.{◌≡◌, ◌≤◌, All};
-ghost use Rattle.cct_model.specs.Device.{IsSound, IsSoundBody, IsWord};
+ghost use Rattle.cct_model.specs.Device.{IsAcceptor, IsBill, IsSound, IsSoundBody, IsWord};
 ghost use Rattle.cct_model.specs.Setup.{IsSoundSetup};
 ghost use Rattle.cct_record.specs.Body.{IsPlaced};
 
@@ -18,11 +18,12 @@ fn name() -> Name
 }
 
 /// A device at an address.
-fn device(addr: u8, body: DeviceBody) -> DeviceSetup
+pub(crate) fn device(addr: u8, body: DeviceBody) -> DeviceSetup
     requires low { 2 ≤ addr }
     requires body { IsSoundBody body }
     ensures sound { IsSound result }
     ensures addr { result.addr ≡ addr }
+    ensures body { result.body ≡ body }
 {
     DeviceSetup {
         addr,
@@ -39,20 +40,36 @@ fn device(addr: u8, body: DeviceBody) -> DeviceSetup
     }
 }
 
+/// An acceptor whose coins are worth 100.
+pub(crate) fn acceptor() -> DeviceBody
+    ensures sound { IsSoundBody result }
+    ensures acceptor { IsAcceptor result }
+{
+    DeviceBody::Acceptor {
+        accepts: 0,
+        values: [100; COIN_PLACES],
+        ids: [[b'5'; 6]; COIN_PLACES],
+    }
+}
+
+/// A bill acceptor whose bills are worth 500.
+pub(crate) fn bills() -> DeviceBody
+    ensures sound { IsSoundBody result }
+    ensures bills { IsBill result }
+{
+    DeviceBody::Bill {
+        accepts: 0,
+        values: [500; COIN_PLACES],
+        ids: [[b'5'; 6]; COIN_PLACES],
+    }
+}
+
 /// An acceptor at 2 whose coins are worth 100, a hopper at 3 whose coins are worth 10, and one at 5 whose are worth 50.
 pub(crate) fn setup() -> Setup
     ensures { IsSoundSetup result }
 {
-    let acceptor = device(
-        2,
-        DeviceBody::Acceptor {
-            accepts: 0,
-            values: [100; COIN_PLACES],
-            ids: [[b'5'; 6]; COIN_PLACES],
-        },
-    );
     let mut devices = Devices::new();
-    devices.push(acceptor);
+    devices.push(device(2, acceptor()));
     devices.push(device(3, DeviceBody::Hopper { life: 0, value: 10 }));
     devices.push(device(5, DeviceBody::Hopper { life: 0, value: 50 }));
     Setup { devices }

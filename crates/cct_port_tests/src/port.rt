@@ -310,11 +310,11 @@ fn takes_late(late: u16, longest: u16) -> bool {
 
 #[test]
 fn a_late_reply_is_dropped(rt: HostRuntime) {
-    // Only a wait that is longer than the reply is late will do.
+    // Only a wait that is longer than the reply is late will do. The three silent reads before the port gave up count.
     for late in 1..=20 {
         assert!(rt; takes_late(late, 0));
-        assert!(rt; takes_late(late, late));
-        assert!(rt; !takes_late(late, late + 1));
+        assert!(rt; takes_late(late, late + 3));
+        assert!(rt; !takes_late(late, late + 4));
     }
 }
 

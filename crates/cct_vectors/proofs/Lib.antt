@@ -1,0 +1,11 @@
+mod Played
+mod Bills
+mod Hoppers
+mod Gaps
+mod Frames
+mod Ledgers
+mod Spans
+mod Bodies
+mod OldBodies
+mod Carries
+mod Plans
