@@ -2,6 +2,7 @@
 
 import os
 import select
+import sys
 import termios
 import threading
 import time
@@ -9,6 +10,8 @@ import tty
 from collections import deque
 from contextlib import contextmanager
 
+# So many seconds a thread of a script goes on at most while another one waits: half the time of a byte.
+sys.setswitchinterval(0.0005)
 # On a wire of so many bits a second a byte has ten: a start bit, eight of data, and a stop bit.
 BAUD = 9600
 BYTE_SECONDS = 10 / BAUD

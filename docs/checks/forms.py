@@ -140,14 +140,3 @@ def forms(root: Path, program: Path):
             faults += field_faults(program, part, place, form, fields)
     faults += [f"{field.names} {field.of}: of no line" for field in fields if not field.used]
     return count, faults
-
-
-def headings(root: Path):
-    """Each heading that standard error names is one of the document."""
-    count, faults = 0, []
-    for path in root.glob("crates/cct_advice/src/*.rt"):
-        for name, heading in re.findall(r'(docs/\w+\.md), \\"([^"\\]+)\\"', path.read_text()):
-            count += 1
-            if not re.search(rf"^#+ {re.escape(heading)}$", (root / name).read_text(), re.MULTILINE):
-                faults.append(f"{path.name}: {name} has no heading {heading}")
-    return count, faults

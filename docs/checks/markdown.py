@@ -34,6 +34,11 @@ class Block:
     above: str
 
 
+def pages(root: Path) -> list[Path]:
+    """All documents: README, and those of docs/, bench/ and examples/."""
+    return [root / "README.md", *sorted(root.glob("*/*.md"))]
+
+
 def cells(line: str) -> list[str]:
     """The cells of a table's line; `\\|` is a bar within a cell."""
     return [cell.strip().replace("\\|", "|") for cell in re.split(r"(?<!\\)\|", line.strip())[1:-1]]

@@ -1,0 +1,163 @@
+"""What is told to whoever drives the host: held bills, orders, the last id, refused lines, the version, and no exchanges where
+they aren't wanted."""
+
+import subprocess
+import time
+from pathlib import Path
+
+from devices import Acceptor, Bills, Hopper
+from host import MOST_SECONDS, Line, start
+from tally import want
+
+
+def bills(programs: dict[str, Path], short: bool) -> None:
+    """A held bill is told once, and in each status as long as it is held. It is routed once."""
+    acceptor = Bills(6)
+    line = Line(programs["cct_live"], [acceptor, Acceptor(2)])
+    host = line.start()
+    host.first()
+    want("a bill: start", start(host, 6, "0003")[-1], "started 6")
+    for _ in range(3):
+        host.ask("poll")
+    want("no bill: nothing is told as held", host.count("held "), 0)
+    acceptor.take(2)
+    for _ in range(5):
+        host.ask("poll")
+    want("a held bill is told once", [text for text in host.out.lines if text.startswith("held")], ["held 6 2"])
+    status = host.told("status")
+    at = next((at for at, text in enumerate(status) if text.startswith("device 6 ")), 0)
+    want("a held bill is in the status, after its device", status[at + 1:at + 2], ["held 6 2"])
+    want("a bill is routed", host.work("route 6 1", 6)[-1], "routed 6")
+    want("a bill is posted", [text.split(" ")[-1] for text in host.work("round 6", 6) if text.startswith("put")], ["2/0"])
+    want("a bill that is stacked isn't held", [text for text in host.told("status") if text.startswith("held")], [])
+    acceptor.take(1)
+    for _ in range(5):
+        host.ask("poll")
+    want("the next held bill", [text for text in host.out.lines if text.startswith("held")][-1:], ["held 6 1"])
+    want("the next held bill is given back", host.work("route 6 0", 6)[-1], "routed 6")
+    for _ in range(5):
+        host.ask("poll")
+    want("both are routed once", (acceptor.times(154), host.balance()), (2, [1000, 0, 0, 0]))
+    want("a bill: the exit status", host.end(), 0)
+    line.close()
+
+
+def held_over_a_start(programs: dict[str, Path], short: bool) -> None:
+    """A bill that an earlier life left held is told by the next one."""
+    acceptor = Bills(6)
+    line = Line(programs["cct_live"], [acceptor])
+    host = line.start()
+    host.first()
+    start(host, 6, "0003")
+    acceptor.take(1)
+    host.ask("poll")
+    host.clear()
+    host = line.start()
+    host.first()
+    for _ in range(5):
+        host.ask("poll")
+    want("after a kill a held bill is told once", host.count("held 6 1"), 1)
+    want("after a kill it is routed", host.work("route 6 1", 6)[-1], "routed 6")
+    want("after a kill: the exit status", host.end(), 0)
+    line.close()
+
+
+def orders(programs: dict[str, Path], short: bool) -> None:
+    """What the journal knows of an order, in the life that paid it and in the next one; and the last id."""
+    line = Line(programs["cct_live"], [Acceptor(2), Hopper(3)])
+    host = line.start()
+    host.first()
+    want("no id was used", [text for text in host.told("status") if text.startswith("last")], ["last 0"])
+    want("no order", host.told("order 7"), ["order 7 unknown"])
+    start(host, 2)
+    line.devices[2].take(5)
+    host.work("round 2", 2)
+    host.work("vend 4 10", 1)
+    host.work("pay 3 7 2", 3)
+    want("a closed order", host.told("order 7"), ["order 7 closed 2 0"])
+    want("a sale is no order", host.told("order 4"), ["order 4 unknown"])
+    lines = host.ask("pay 3 9 3")
+    while not any(text.startswith("put opened 9 ") for text in lines):
+        lines += host.ask("next 3")
+    want("an open order", host.told("order 9"), ["order 9 open 3 3"])
+    status = host.told("status")
+    want("the last id stands before the room", [text.split(" ")[0] for text in status][-2:], ["last", "room"])
+    want("the last id", [text for text in status if text.startswith("last")], ["last 9"])
+    host.clear()
+    host = line.start()
+    want("after a kill an order is open", host.first().split(" ")[2], "1")
+    want("after a kill: an open order", host.told("order 9"), ["order 9 open 3 3"])
+    want("after a kill: a closed order", host.told("order 7"), ["order 7 closed 2 0"])
+    want("after a kill: settled", host.work("settle 3", 3)[-1], "closed 3")
+    want("after a kill: it is closed", host.told("order 9")[0].split(" ")[:3], ["order", "9", "closed"])
+    want("after a kill: no other is known", host.told("order 8"), ["order 8 unknown"])
+    want("after a kill: the last id", [text for text in host.told("status") if text.startswith("last")], ["last 9"])
+    want("orders: the exit status", host.end(), 0)
+    line.close()
+
+
+def refusals(programs: dict[str, Path], short: bool) -> None:
+    """Why a line is refused is on standard error at once, and the next line is read."""
+    line = Line(programs["cct_live"], [Acceptor(2), Hopper(3)])
+    host = line.start()
+    host.first()
+    wrong = {"pay 3 1": "form", "start 2 00XX": "form", "coins": "word", "order": "form", "change 1 10": "word"}
+    for number, (text, kind) in enumerate(wrong.items(), 1):
+        # The line of the balance counts too.
+        told = host.told(text)
+        want(f"{text}: it is refused", told, [f"refused {2 * number - 1} {kind}"])
+        # The line of the balance was answered, so standard error has its own already.
+        time.sleep(0.05)
+        want(f"{text}: standard error has one line more", len(host.said()), number)
+        want(f"{text}: it names the line", f"line {2 * number - 1}: " in host.said()[-1:][0] if host.said() else "", True)
+    want("standard error says what the field is", "00XX" in " ".join(host.errors.lines), True)
+    want("refusals: the exit status", host.end(), 0)
+    line.close()
+
+
+def quiet(programs: dict[str, Path], short: bool) -> None:
+    """Without its exchanges a life tells all else."""
+    line = Line(programs["cct_live"], [Acceptor(2)])
+    host = line.start("--quiet")
+    host.first()
+    start(host, 2)
+    line.devices[2].take(5)
+    host.ask("poll")
+    want("quiet: the end of a round", host.count("posted 2"), 1)
+    want("quiet: no exchange is told", host.count("wire "), 0)
+    want("quiet: the exit status", host.end(), 0)
+    line.close()
+
+
+def versions(programs: dict[str, Path], short: bool) -> None:
+    """The version, and that of the lines, which comes first."""
+    done = subprocess.run([programs["cct_live"], "--version"], capture_output=True, text=True, timeout=MOST_SECONDS)
+    want("--version", (done.returncode, done.stderr), (0, ""))
+    want("--version names the program and the protocol", [word for word in ("cct_live", "protocol 1")
+                                                          if word not in done.stdout], [])
+    line = Line(programs["cct_live"], [Acceptor(2)])
+    host = line.start()
+    want("the first line", host.line(), "protocol 1")
+    want("the first line: the exit status", host.end(), 0)
+    line.close()
+
+
+def stops_at_end(programs: dict[str, Path], short: bool) -> None:
+    """At the end of the input acceptors are left as they are, or stopped where that is asked for."""
+    for words, last, stops in (((), "end", 0), (("--stop-at-end",), "end", 1), (("--stop-at-end",), "", 1)):
+        what = f"{' '.join(words) or 'no word'}, {last or 'the end of the input'}"
+        acceptor, dead = Acceptor(2), Acceptor(4)
+        line = Line(programs["cct_live"], [acceptor, dead])
+        host = line.start(*words)
+        host.first()
+        for device in (acceptor, dead):
+            want(f"{what}: start", start(host, device.address)[-1], f"started {device.address}")
+        acceptor.take(5)
+        dead.is_dead = True
+        begun = time.monotonic()
+        want(f"{what}: the exit status", host.end(last), 0)
+        want(f"{what}: it ends soon", time.monotonic() - begun < 20, True)
+        want(f"{what}: whether it takes coins, and how many stops are told", (acceptor.master, host.count("stopped 2")),
+             (1 - stops, stops))
+        want(f"{what}: the last coin is posted", host.count("put reading 2 1 0 1 5/1"), stops)
+        line.close()
