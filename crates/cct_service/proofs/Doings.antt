@@ -11,7 +11,7 @@ use Rattle.cct_service.specs.declared.stopping.AtEnd.{AtEnd}
 use Rattle.cct_service.specs.declared.stopping.AtEnd.TheVariants as at_end
 use Rattle.cct_service.specs.declared.notice.Notice.{Notice}
 use Rattle.cct_service.specs.Held.{IsAfter}
-use Rattle.cct_service.specs.Doing.{AreAttempts, DoesLine, DoesLines, FrontOf, IsAttempt, IsAttemptSent, IsStepOf, Many, PlaysLines, ServesLines, StopsBy, Tells, TellsOne, Times}
+use Rattle.cct_service.specs.Doing.{AreAttempts, DoesLine, DoesLines, FrontOf, IsAttempt, IsAttemptSent, IsStepOf, MakesAttempts, Many, PlaysLines, ServesLines, StopsBy, Tells, TellsOne, Times}
 use Rattle.cct_service.specs.Said.{Said}
 use Rattle.cct_service.specs.Told.{Told, attempt_told, findings_in, notice}
 
@@ -100,25 +100,49 @@ pub attempt_made : (sent : Bool) (addr : ℕ) (steps : List LiveStep) (told : Li
 attempt_made sent addr steps told h = (sent, h)
 
 -- no attempt yet
-pub no_attempts : (addr : ℕ) → AreAttempts addr 0 [] []
-no_attempts addr = (0, omega arith, (refl, refl))
+pub no_attempts : (addr : ℕ) → MakesAttempts addr 0 [] []
+no_attempts addr = (0, omega arith, (λ some. some), (refl, refl))
 
--- attempts, and one more
-pub attempts_more : (addr made : ℕ) (sent : Bool) (s1 s2 : List LiveStep) (t1 t2 : List Told) → AreAttempts addr made s1 t1 →
-    IsAttemptSent sent addr s2 t2 → AreAttempts addr (made + 1) (s1 ++ s2) (t1 ++ t2)
-attempts_more addr made sent s1 s2 t1 t2 h k =
-    (suc h.0, one_more h.0 h.1, times_more (IsAttempt addr) h.0 s1 s2 t1 t2 h.2 (sent, k))
-  where
-    one_more : (n : ℕ) → n ≤ made → suc n ≤ made + 1
-    one_more n few = omega (arith, few)
+-- none at all is few enough
+pub none_made : (addr most : ℕ) → AreAttempts addr most [] []
+none_made addr most = (0, omega arith, (refl, refl))
 
--- fewer attempts are made
-pub attempts_less : (addr less most : ℕ) → less ≤ most → (steps : List LiveStep) (told : List Told) →
-    AreAttempts addr less steps told → AreAttempts addr most steps told
-attempts_less addr less most le steps told h = (h.0, at_most h.0 h.1, h.2)
+-- attempts, and one more, which are few enough
+pub attempts_made : (addr made most : ℕ) (sent : Bool) → made + 1 ≤ most → (s1 s2 : List LiveStep) (t1 t2 : List Told) →
+    MakesAttempts addr made s1 t1 → IsAttemptSent sent addr s2 t2 → MakesAttempts addr most (s1 ++ s2) (t1 ++ t2)
+attempts_made addr made most sent few s1 s2 t1 t2 h k = (
+  suc h.0,
+  one_more h.0 h.1,
+  (λ some. one_least h.0),
+  times_more (IsAttempt addr) h.0 s1 s2 t1 t2 h.3 (sent, k),
+)
   where
-    at_most : (n : ℕ) → n ≤ less → n ≤ most
-    at_most n few = omega (arith, few, le)
+    one_more : (n : ℕ) → n ≤ made → suc n ≤ most
+    one_more n less = omega (arith, less, few)
+
+    one_least : (n : ℕ) → 1 ≤ suc n
+    one_least n = omega arith
+
+-- as many as may be made
+pub all_made : (addr made most : ℕ) → made ≤ most → most ≤ made → (steps : List LiveStep) (told : List Told) →
+    MakesAttempts addr made steps told → MakesAttempts addr most steps told
+all_made addr made most few all steps told h = (
+  h.0,
+  at_most h.0 h.1,
+  (λ some. h.2 (at_least some)),
+  h.3,
+)
+  where
+    at_most : (n : ℕ) → n ≤ made → n ≤ most
+    at_most n less = omega (arith, less, few)
+
+    at_least : 1 ≤ most → 1 ≤ made
+    at_least some = omega (arith, some, all)
+
+-- attempts are attempts
+pub made_are : (addr most : ℕ) (steps : List LiveStep) (told : List Told) → MakesAttempts addr most steps told →
+    AreAttempts addr most steps told
+made_are addr most steps told h = (h.0, h.1, h.3)
 
 -- an attempt, or attempts, or a command: steps of a kind
 pub attempt_step : (begun : ℕ → Command) (sent : Bool) (addr : ℕ) (steps : List LiveStep) (told : List Told) →

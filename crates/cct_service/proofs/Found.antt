@@ -13,7 +13,7 @@ use Rattle.cct_survey.specs.declared.withholding.Withheld.{Withheld}
 use Rattle.cct_survey.specs.Finding.{withheld_by}
 use Rattle.cct_service.specs.declared.notice.Notice.{Notice}
 use Rattle.cct_service.specs.declared.notice.Notice.TheVariants as notice_of
-use Rattle.cct_service.specs.Doing.{AreAttempts, Decides, DoesCommand, DoesLine, DoesLines, Finds, FrontOf, IsAsking, IsAttempt, IsFound, IsOfPoll, IsOrder, IsPoll, IsStatus, IsStepOf, IsVisit, Tells, TellsOne, Times}
+use Rattle.cct_service.specs.Doing.{Decides, DoesCommand, DoesLine, DoesLines, Finds, FrontOf, IsAsking, IsAttempt, IsFound, IsOfPoll, IsOrder, IsPoll, IsStatus, IsStepOf, IsVisit, MakesAttempts, Tells, TellsOne, Times}
 use Rattle.cct_service.specs.Told.{Told, as_told, attempt_told, entry, finding, findings_in, found_told, last, notice, notices_told, refused, told_unsent, unheard, unsent}
 use Rattle.cct_service.specs.Said.{Said}
 use Rattle.cct_service.proofs.Doings.{line_then, many_none, many_one, many_weaker}
@@ -80,9 +80,9 @@ visit_finds : (steps : List LiveStep) (told : List Told) → IsVisit steps told 
 visit_finds steps told h =
     times_find (IsStepOf (λ addr. command.Round addr)) (step_finds (λ addr. command.Round addr)) h.0 steps told h.1
 
-pub attempts_find : (addr most : ℕ) (steps : List LiveStep) (told : List Told) → AreAttempts addr most steps told →
+pub attempts_find : (addr most : ℕ) (steps : List LiveStep) (told : List Told) → MakesAttempts addr most steps told →
     findings_in told ≡ []
-attempts_find addr most steps told h = times_find (IsAttempt addr) (attempt_finds addr) h.0 steps told h.2
+attempts_find addr most steps told h = times_find (IsAttempt addr) (attempt_finds addr) h.0 steps told h.3
 
 pub status_finds : (steps : List LiveStep) (told : List Told) → IsStatus steps told → findings_in told ≡ []
 status_finds steps told h = ap findings_in h.1.2 ∙ found_notices h.1.0

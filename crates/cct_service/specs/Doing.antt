@@ -88,6 +88,11 @@ IsAttempt addr steps told = (is_sent : Bool) × IsAttemptSent is_sent addr steps
 abbrev pub AreAttempts : ℕ → ℕ → List LiveStep → List Told → Type 0
 AreAttempts addr most steps told = (n : ℕ) × (n ≤ most) × Times n (IsAttempt addr) steps told
 
+-- The job at an address makes so many attempts at most, and one at least, if it may make any.
+abbrev pub MakesAttempts : ℕ → ℕ → List LiveStep → List Told → Type 0
+MakesAttempts addr most steps told =
+    (n : ℕ) × (n ≤ most) × (1 ≤ most → 1 ≤ n) × Times n (IsAttempt addr) steps told
+
 -- A command of this kind is given to the host, or a job makes an attempt.
 abbrev pub IsStepOf : (ℕ → Command) → List LiveStep → List Told → Type 0
 IsStepOf begun steps told =
@@ -130,7 +135,7 @@ IsOrder id steps told = (steps ≡ []) × ((known : OrderTold) × (told ≡ noti
 abbrev pub Does : List Finding → LiveLine → List LiveStep → List Told → Type 0
 Does findings (says.Command c) = Decides findings c
 Does findings (says.Next addr) = IsAttempt addr
-Does findings (says.Do addr) = AreAttempts addr MOST_ATTEMPTS
+Does findings (says.Do addr) = MakesAttempts addr MOST_ATTEMPTS
 Does findings says.Poll = IsPoll
 Does findings says.Balance = TellsOne live.balance
 Does findings says.Status = IsStatus

@@ -3,7 +3,7 @@ ghost use Rattle.std.specs.Prelude.{◌≡◌, [], false, IfOk, OnErr, OnOk};
 ghost use Rattle.cct_disk.specs.Disk.{GoesOn};
 ghost use Rattle.cct_edge.specs.Faults.{HasCause};
 ghost use Rattle.cct_host.specs.Host.{Fails, FailsBetween, Nexts, disk_of, has_failed, setup_of};
-ghost use Rattle.cct_service.specs.Doing.{AreAttempts, IsAttemptSent};
+ghost use Rattle.cct_service.specs.Doing.{AreAttempts, IsAttemptSent, MakesAttempts};
 ghost use Rattle.cct_service.specs.Linked.{Exchanges, HasGone};
 ghost use Rattle.cct_service.specs.Parts.{Acts};
 
@@ -76,7 +76,7 @@ fn make<D: Disk, L: CountedLink>(
     }
 }
 
-/// The job at an address makes attempts until it has ended, or up to a failed try, or so many.
+/// The job at an address makes attempts until it has ended, or up to a failed try, or so many: one at least.
 pub(crate) fn attempts<K: Sink, D: Disk, L: CountedLink>(
     host: &mut Host<'_, D>,
     addr: u8,
@@ -88,7 +88,7 @@ pub(crate) fn attempts<K: Sink, D: Disk, L: CountedLink>(
 ) -> Result<(), Served>
     requires whole { has_failed host.old ≡ false }
     ensures acts { Acts K.written K.puts K.faults (Exchanges L.gives L.sent L.failures link.old link.new)
-        (AreAttempts addr most) result out.old out.new host.old host.new }
+        (MakesAttempts addr most) result out.old out.new host.old host.new }
 {
     for _made in 0..most {
         match attempt(host, addr, link, out, page) {

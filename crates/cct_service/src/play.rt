@@ -6,7 +6,7 @@ ghost use Rattle.cct_model.specs.Script.{IsCommand};
 ghost use Rattle.cct_script.specs.Endless.{held_of};
 ghost use Rattle.cct_service.specs.Asked.{AsksAt, asked_before};
 ghost use Rattle.cct_service.specs.Causes.{DiskServes, EndsBy, IsDiskFault, IsUnread, IsUnwritten};
-ghost use Rattle.cct_service.specs.Doing.{AreAttempts, Decides, Does, DoesLine, DoesLines, Finds, IsAttempt, Tells};
+ghost use Rattle.cct_service.specs.Doing.{Decides, Does, DoesLine, DoesLines, Finds, IsAttempt, MakesAttempts, Tells};
 ghost use Rattle.cct_service.specs.Linked.{AreQuiet, Exchanges, UsesLink};
 ghost use Rattle.cct_service.specs.Parts.{Acts, Plays};
 ghost use Rattle.cct_service.specs.Said.{ComesNext, IsOfInput, IsSayable, stopped_by, unless_end};
@@ -253,7 +253,7 @@ fn do_job<K: Sink, D: Disk, L: CountedLink>(
 ) -> Result<(), Served>
     requires whole { has_failed host.old ≡ false }
     ensures acts { Acts K.written K.puts K.faults (Exchanges L.gives L.sent L.failures link.old link.new)
-        (AreAttempts addr MOST_ATTEMPTS) result out.old out.new host.old host.new }
+        (MakesAttempts addr MOST_ATTEMPTS) result out.old out.new host.old host.new }
 {
     page.rests.wake(addr);
     attempts(host, addr, MOST_ATTEMPTS, Until::Ended, link, out, page)

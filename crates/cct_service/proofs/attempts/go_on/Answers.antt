@@ -1,8 +1,19 @@
-use Rattle.std.proofs.Common.{[], arith}
-use Rattle.cct_service.specs.Doing.{AreAttempts}
-use Rattle.cct_service.proofs.Doings.{attempts_less, no_attempts}
+use Rattle.std.proofs.Common.{[]}
+use Rattle.cct_service.specs.Doing.{AreAttempts, MakesAttempts}
+use Rattle.cct_service.proofs.Doings.{made_are, none_made}
 use Rattle.cct_service.proofs.Linking.{link_none}
+use Rattle.cct_service.proofs.Parts.{acts_weaker}
 use Rattle.cct_service.proofs.attempts.go_on.Goals as goal
+
+pub returns-then-is_some : goal.returns-then-is_some
+returns-then-is_some g c =
+    let sink = g.K.Sink in
+    let addr = c.args.addr in
+    let most = c.args.most in
+    record {
+      acts = acts_weaker sink.written sink.puts sink.faults c.attempts.result c.args.out.now c.attempts.new.out c.args.host.now
+          c.attempts.new.host (MakesAttempts addr most) (AreAttempts addr most) (made_are addr most) c.attempts.ensures.acts;
+    }
 
 pub returns-else-is_some : goal.returns-else-is_some
 returns-else-is_some g c =
@@ -11,5 +22,5 @@ returns-else-is_some g c =
     let addr = c.args.addr in
     record {
       acts = link_none sink.written sink.puts sink.faults g.L.Link.gives link.sent link.failures c.args.link.now c.args.out.now c.args.host.now (AreAttempts addr c.args.most)
-          c.requires.whole (attempts_less addr 0 c.args.most (omega arith) [] [] (no_attempts addr));
+          c.requires.whole (none_made addr c.args.most);
     }

@@ -2,7 +2,7 @@ use Rattle.std.proofs.Common.{Ok, subst, sym}
 use Rattle.cct_host.specs.Host.{setup_of}
 use Rattle.cct_lives.specs.LiveStep as live
 use Rattle.cct_service.specs.declared.attempts.TheConstants.{MOST_ATTEMPTS}
-use Rattle.cct_service.specs.Doing.{AreAttempts, Does, Finds, IsAttempt, IsOrder, IsStatus, TellsOne}
+use Rattle.cct_service.specs.Doing.{Does, Finds, IsAttempt, IsOrder, IsStatus, MakesAttempts, TellsOne}
 use Rattle.cct_service.specs.Linked.{UsesLink}
 use Rattle.cct_service.specs.Parts.{Acts}
 use Rattle.cct_service.specs.Said.{IsSayable}
@@ -47,7 +47,7 @@ returns-in-Do g c =
     let line = c.args.link.now in
     let host = c.args.host.now in
     let devices = (setup_of host).devices in
-    let does = AreAttempts c.in-Do.addr MOST_ATTEMPTS in
+    let does = MakesAttempts c.in-Do.addr MOST_ATTEMPTS in
     let uses = UsesLink g.L.Link.gives link.sent link.failures devices roll roll line c.do_job.new.link in
     let result = c.do_job.result in
     let out = c.args.out.now in
