@@ -25,17 +25,12 @@ use Rattle.cct_jobs.specs.declared.job.Job.TheVariants.{Asks}
 use Rattle.cct_jobs.specs.declared.job.Need.{Need}
 use Rattle.cct_jobs.specs.declared.job.Need.TheVariants as need
 use Rattle.cct_jobs.specs.declared.owed.Owed.{Owed}
-use Rattle.cct_jobs.specs.declared.payout.Payout.TheVariants.{Enables, Counts}
-use Rattle.cct_jobs.specs.declared.stage.Stage.{Stage}
-use Rattle.cct_jobs.specs.declared.stage.Stage.TheVariants.{CountsAfter, CountsBefore, IdentAsks, Reads, Looks, Pays}
-use Rattle.cct_jobs.specs.declared.target.Target.{Target}
-use Rattle.cct_jobs.specs.declared.stage.ReadBy.TheVariants.{Round, Stop}
-use Rattle.cct_jobs.specs.Ahead.{ahead, coins_in, price_in, stage_ahead}
+use Rattle.cct_jobs.specs.Ahead.{ahead, coins_in, price_in}
 use Rattle.cct_jobs.specs.Jobs.{Needs, Stands, end_of_job, need_of, newest_end, order_of, put_in}
 use Rattle.cct_jobs.specs.Sales.{NeedsSale, StandsSale, newest_sale_end}
 use Rattle.cct_jobs.proofs.Needs.{end_known, may_put_known, need_known}
 use Rattle.cct_jobs.proofs.Reserves.{closes_known, frees_by, reserves_known}
-use Rattle.cct_jobs.proofs.Told.{ident_none}
+use Rattle.cct_jobs.proofs.StageFacts.{of_stage}
 use Rattle.cct_jobs.proofs.Sales.{price_freed, sale_end_known, sale_may_put, sale_need_known, sale_price}
 use Rattle.cct_host.specs.declared.desk.JobDesk.{JobDesk}
 use Rattle.cct_host.specs.declared.desks.Desks.{Desks}
@@ -47,25 +42,8 @@ use Rattle.cct_host.specs.Running.{is_running}
 
 -- a job puts two records at most
 
-few_stage : (stage : Stage) (target : Target) → puts_in (stage_ahead target stage) ≤ 2
-few_stage (CountsBefore Round recorded) target = omega arith
-few_stage (CountsBefore Stop recorded) target = omega arith
-few_stage (Reads Round recorded before) target = omega arith
-few_stage (Reads Stop recorded before) target = omega arith
-few_stage (Looks Round recorded before read) target = omega arith
-few_stage (Looks Stop recorded before read) target = omega arith
-few_stage (CountsAfter Round recorded before read seen) target = omega arith
-few_stage (CountsAfter Stop recorded before read seen) target = omega arith
-few_stage (IdentAsks question) target =
-    let none = ident_none puts_in (λ q later rows. refl) target question in
-    omega (arith, none)
-few_stage (Pays (Enables id count halted)) target = omega arith
-few_stage (Pays (Counts id count halted)) target = omega arith
-few_stage (Pays row) target = omega arith
-few_stage stage target = omega arith
-
 few_puts : (job : Job) → puts_in (ahead job) ≤ 2
-few_puts (Asks target stage failed) = few_stage stage target
+few_puts (Asks target stage failed) = (of_stage stage target).puts
 few_puts job = omega arith
 
 pub few_left : (job : Job) (n : ℕ) → n ≡ puts_in (ahead job) → n ≤ 2

@@ -108,15 +108,7 @@ impl<'s> Desks<'s> {
                 let last = self.last_id();
                 self.sale.sell(id, price, self.setup, last)
             }
-            Command::Start { addr, .. } => self.command_at(addr, command),
-            Command::Round { addr } => self.command_at(addr, command),
-            Command::Stop { addr } => self.command_at(addr, command),
-            Command::Path { addr, .. } => self.command_at(addr, command),
-            Command::Route { addr, .. } => self.command_at(addr, command),
-            Command::Pay { addr, .. } => self.command_at(addr, command),
-            Command::Settle { addr } => self.command_at(addr, command),
-            Command::Halt { addr } => self.command_at(addr, command),
-            Command::Ident { addr } => self.command_at(addr, command),
+            _ => self.command_at(command.address(), command),
         }
     }
 
@@ -145,7 +137,7 @@ impl<'s> Desks<'s> {
         match command {
             Command::Scan => self.scan.busy(),
             Command::Vend { id, .. } => self.sale.sale_refusal(*id, self.last_id()),
-            _ => self.refusal_at(address_of(command), command),
+            _ => self.refusal_at(command.address(), command),
         }
     }
 
@@ -358,25 +350,6 @@ impl<'s> Desks<'s> {
         } else {
             report.push(Entry::Idle { addr });
         }
-    }
-}
-
-/// The address of a command: a scan is at 0, and a sale at 1.
-fn address_of(command: &Command) -> u8
-    ensures { result ≡ address_of command.now }
-{
-    match *command {
-        Command::Start { addr, .. } => addr,
-        Command::Round { addr } => addr,
-        Command::Stop { addr } => addr,
-        Command::Pay { addr, .. } => addr,
-        Command::Settle { addr } => addr,
-        Command::Halt { addr } => addr,
-        Command::Scan => BROADCAST,
-        Command::Ident { addr } => addr,
-        Command::Path { addr, .. } => addr,
-        Command::Route { addr, .. } => addr,
-        Command::Vend { .. } => HOST,
     }
 }
 

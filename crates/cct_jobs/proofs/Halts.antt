@@ -1,6 +1,5 @@
 -- Which jobs can be halted, and what a halt leaves.
-use Rattle.std.specs.Prelude.{⊤}
-use Rattle.std.proofs.Common.{◌≡◌, ℕ, Bool, true, false, List, ◌∷◌, refl, sym, ap, ap₂, subst, ◌∙◌, Option, None, arith, true≢false}
+use Rattle.std.proofs.Common.{◌≡◌, ℕ, Bool, true, false, List, ◌∷◌, refl, sym, ap, ap₂, subst, ◌∙◌, Option, None, arith}
 use Rattle.cct_model.specs.lines.command.Command.{Command}
 use Rattle.cct_model.specs.terms.device.DeviceSetup.{DeviceSetup}
 use Rattle.cct_model.specs.declared.judging.EpochState.{EpochState}
@@ -13,16 +12,14 @@ use Rattle.cct_jobs.specs.declared.job.Job.TheVariants.{Asks, OrderOpens, ScanCa
 use Rattle.cct_jobs.specs.declared.owed.Owed.{Owed}
 use Rattle.cct_jobs.specs.declared.payout.Payout.{Payout}
 use Rattle.cct_jobs.specs.declared.payout.Payout.TheVariants.{Enables, Counts, Dispenses, Waits, Stops, Recounts}
-use Rattle.cct_jobs.specs.declared.stage.Stage.{Stage}
-use Rattle.cct_jobs.specs.declared.stage.Stage.TheVariants.{CountsBefore, Reads, Looks, CountsAfter, Pays, IdentAsks}
-use Rattle.cct_jobs.specs.declared.stage.ReadBy.TheVariants.{Round, Stop}
+use Rattle.cct_jobs.specs.declared.stage.Stage.TheVariants.{Pays}
 use Rattle.cct_jobs.specs.declared.target.Target.{Target}
-use Rattle.cct_jobs.specs.Ahead.{ahead, payout_ahead, stage_ahead}
+use Rattle.cct_jobs.specs.Ahead.{ahead, payout_ahead}
 use Rattle.cct_jobs.specs.Jobs.{Asking, KnowsPayout, Opening, Stands, SuitsPayout, Trying, after_halt, end_of_job, halted_row, halted_tries, newest_end, payout_request}
 use Rattle.cct_jobs.specs.Scans.{StandsScan}
 use Rattle.cct_jobs.proofs.Left.{waits_known}
 use Rattle.cct_jobs.proofs.Puts.{open_row_is}
-use Rattle.cct_jobs.proofs.Told.{ident_none}
+use Rattle.cct_jobs.proofs.StageFacts.{of_stage}
 
 -- which can
 
@@ -42,26 +39,6 @@ scan_stays job since at = absurd at
 pub scan_never_halts : (job : Job) (since : List Line) (b : Bool) → b ≡ has_waits (ahead job) → StandsScan job since
     → b ≡ false
 scan_never_halts job since b is at = is ∙ scan_stays job since at
-
--- a payment and a settlement alone wait for a payout
-
-abbrev pub IsPays : Stage → Type 0
-IsPays (Pays row) = ⊤
-IsPays stage = ⊥
-
-pub waits_pays : (stage : Stage) (device : Target) → has_waits (stage_ahead device stage) ≡ true → IsPays stage
-waits_pays (Pays row) device waits = tt
-waits_pays (CountsBefore Round recorded) device waits = absurd cc
-waits_pays (CountsBefore Stop recorded) device waits = absurd cc
-waits_pays (Reads Round recorded before) device waits = absurd cc
-waits_pays (Reads Stop recorded before) device waits = absurd cc
-waits_pays (Looks Round recorded before read) device waits = absurd cc
-waits_pays (Looks Stop recorded before read) device waits = absurd cc
-waits_pays (CountsAfter Round recorded before read seen) device waits = absurd cc
-waits_pays (CountsAfter Stop recorded before read seen) device waits = absurd cc
-waits_pays (IdentAsks question) device waits =
-    absurd (true≢false (sym waits ∙ ident_none has_waits (λ q behind rows. refl) device question))
-waits_pays stage device waits = absurd cc
 
 -- what it leaves
 
@@ -130,7 +107,7 @@ halt_by : (d : DeviceSetup) (job : Job) (c k : Command) (since : List Line) (sta
     → Stands d (after_halt job) c (taken k ∷ since) state owed
 halt_by d (Asks device (Pays row) failed) c k since state owed can at =
     row_halts d device row failed c k since state owed at
-halt_by d (Asks device stage failed) c k since state owed can at = absurd (waits_pays stage device can)
+halt_by d (Asks device stage failed) c k since state owed can at = absurd ((of_stage stage device).waits can)
 halt_by d (OrderOpens device own halted) c k since state owed can at =
     opening_halts d device own halted c k since state owed at
 halt_by d job c k since state owed can at = absurd cc
@@ -160,7 +137,7 @@ same_tries (Recounts closing own) failed = refl
 again_by : (job : Job) → has_waits (ahead job) ≡ true → after_halt (after_halt job) ≡ after_halt job
 again_by (Asks device (Pays row) failed) can =
     ap₂ (λ r n. Asks device (Pays r) n) (same_row row) (same_tries row failed)
-again_by (Asks device stage failed) can = absurd (waits_pays stage device can)
+again_by (Asks device stage failed) can = absurd ((of_stage stage device).waits can)
 again_by (OrderOpens device own halted) can = refl
 again_by job can = absurd cc
 
@@ -169,7 +146,7 @@ halt_again job after is can = ap after_halt is ∙ again_by job can ∙ sym is
 
 runs_by : (job : Job) → has_waits (ahead job) ≡ true → end_of_job (after_halt job) ≡ None
 runs_by (Asks device (Pays row) failed) can = refl
-runs_by (Asks device stage failed) can = absurd (waits_pays stage device can)
+runs_by (Asks device stage failed) can = absurd ((of_stage stage device).waits can)
 runs_by (OrderOpens device own halted) can = refl
 runs_by job can = absurd cc
 

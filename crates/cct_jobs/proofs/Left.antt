@@ -12,44 +12,17 @@ use Rattle.cct_model.specs.Rows.{Then, TableRow, puts_due, reading, from, has_cl
 use Rattle.cct_model.specs.Money.{reserved_for}
 use Rattle.cct_jobs.specs.declared.job.Job.{Job}
 use Rattle.cct_jobs.specs.declared.job.Job.TheVariants.{Asks, StartPuts, RoundPuts, StopPuts, StopEnds, OrderOpens, OrderCloses, Done}
-use Rattle.cct_jobs.specs.declared.payout.Payout.{Payout}
-use Rattle.cct_jobs.specs.declared.payout.Payout.TheVariants.{Dispenses}
-use Rattle.cct_jobs.specs.declared.stage.Stage.{Stage}
-use Rattle.cct_jobs.specs.declared.stage.Stage.TheVariants.{CountsBefore, Reads, Looks, CountsAfter, IdentAsks, Pays}
-use Rattle.cct_jobs.specs.declared.stage.ReadBy.TheVariants.{Round, Stop}
-use Rattle.cct_jobs.specs.declared.target.Target.{Target}
-use Rattle.cct_jobs.specs.Ahead.{ahead, payout_ahead, place_of, questions_of, stage_ahead}
+use Rattle.cct_jobs.specs.Ahead.{ahead}
 use Rattle.cct_jobs.specs.Jobs.{Stands, newest_end}
-use Rattle.cct_jobs.proofs.Told.{told_is}
+use Rattle.cct_jobs.proofs.StageFacts.{of_stage}
 use Rattle.cct_model.proofs.Rows.{fact_from}
-
--- a job that asks passes over no row
-
-from_payout : (row : Payout) (device : Target) (means : Judged) → from (payout_ahead device row) means ≡ payout_ahead device row
-from_payout (Dispenses serial own halted) device means = refl
-from_payout row device means = refl
-
-pub from_stage : (stage : Stage) (device : Target) (means : Judged) → from (stage_ahead device stage) means ≡ stage_ahead device stage
-from_stage (CountsBefore Round recorded) device means = refl
-from_stage (CountsBefore Stop recorded) device means = refl
-from_stage (Reads Round recorded before) device means = refl
-from_stage (Reads Stop recorded before) device means = refl
-from_stage (Looks Round recorded before read) device means = refl
-from_stage (Looks Stop recorded before read) device means = refl
-from_stage (CountsAfter Round recorded before read seen) device means = refl
-from_stage (CountsAfter Stop recorded before read seen) device means = refl
-from_stage (IdentAsks question) device means =
-    told_is (λ rows. from rows means ≡ rows) refl (λ q behind rows. refl) (questions_of device)
-    (place_of question (questions_of device))
-from_stage (Pays row) device means = from_payout row device means
-from_stage stage device means = refl
 
 -- a job that runs is at its command's device, and has the rows ahead that are left
 pub left_known : (d : DeviceSetup) (job : Job) (c : Command) (since : List Line) (state : EpochState)
     (owed : Option OpenOrder) → Stands d job c since state owed → newest_end d c since state ≡ None
     → (ahead job ≡ left d c since state) × (address_of c ≡ d.addr)
 left_known d (Asks device stage failed) c since state owed at on = (
-  sym (ap (λ rows. from rows (judged_in c since state)) at.ahead_is ∙ from_stage stage device (judged_in c since state)),
+  sym (ap (λ rows. from rows (judged_in c since state)) at.ahead_is ∙ (of_stage stage device).stays (judged_in c since state)),
   at.is_here,
 )
 left_known d (StartPuts device mask counted) c since state owed (device_is, rest_is, at) on = (sym at.ahead_is, at.is_here)

@@ -18,6 +18,7 @@ pub mod Reserves
 pub mod Sales
 pub mod Scans
 pub mod Sets
+pub mod StageFacts
 pub mod Stages
 pub mod Told
 pub mod Tries

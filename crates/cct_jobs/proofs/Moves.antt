@@ -1,6 +1,5 @@
 -- What an exchange and a put make of the rows that a job has left.
-use Rattle.std.proofs.Common.{◌≡◌, ℕ, suc, zero, Bool, true, false, cond, List, [], ◌∷◌, refl, ap, ◌∙◌, Option, Some}
-use Rattle.std.specs.Prelude.{⊤, slice_get}
+use Rattle.std.proofs.Common.{◌≡◌, suc, Bool, true, false, cond, List, [], ◌∷◌, refl, ap, ◌∙◌, Option, Some}
 use Rattle.cct_model.specs.terms.device.DeviceSetup.{DeviceSetup}
 use Rattle.cct_model.specs.terms.request.Request.{Request}
 use Rattle.cct_model.specs.terms.request.ReplyForm.TheVariants as form
@@ -9,14 +8,8 @@ use Rattle.cct_model.specs.lines.command.Command.{Command}
 use Rattle.cct_model.specs.Reply.{Reply}
 use Rattle.cct_model.specs.Reply as reply
 use Rattle.cct_model.specs.Line.{Line, exchange, put}
-use Rattle.cct_model.specs.Rows.{TableRow, after, done, ends_first, rest, rows_of, settling, telling}
+use Rattle.cct_model.specs.Rows.{TableRow, after, done, ends_first, rest, rows_of, settling}
 use Rattle.cct_msg.specs.Forms.{form_shown}
-use Rattle.cct_jobs.specs.declared.stage.Stage.{Stage}
-use Rattle.cct_jobs.specs.declared.stage.Stage.TheVariants.{CountsBefore, Reads, Looks, CountsAfter, IdentAsks, Pays}
-use Rattle.cct_jobs.specs.declared.stage.ReadBy.TheVariants.{Round, Stop}
-use Rattle.cct_jobs.specs.declared.target.Target.{Target}
-use Rattle.cct_jobs.specs.Ahead.{place_of, questions_of, stage_ahead}
-use Rattle.cct_jobs.specs.Jobs.{Suits}
 use Rattle.cct_model.proofs.Rows.{after_next, after_none, but_first}
 
 -- none is done before the first line
@@ -42,35 +35,6 @@ module _ (d : DeviceSetup) (c : Command) (since : List Line) (q : Request) (got 
 
   pub exchange_stays : ends_first rows got ≡ false → rest d c (exchange (Some q) got ∷ since) ≡ rows
   exchange_stays goes = by_end goes ∙ at
-
--- any answer ends the row of a stage, but for those of a payment or a settlement
-
-abbrev pub IsSettled : Stage → Type 0
-IsSettled (Pays row) = ⊥
-IsSettled stage = ⊤
-
-told_ends : (qs : List Request) (n : ℕ) (q : Request) (y : Reply) → slice_get qs n ≡ Some q
-    → ends_first (after (telling qs) n) (Some y) ≡ true
-told_ends [] n q y is = absurd cc
-told_ends (x ∷ []) zero q y is = refl
-told_ends (x ∷ []) (suc n) q y is = absurd cc
-told_ends (x ∷ z ∷ qs) zero q y is = refl
-told_ends (x ∷ z ∷ qs) (suc n) q y is = told_ends (z ∷ qs) n q y is
-
-pub answer_ends_first : (stage : Stage) (device : Target) (y : Reply) → IsSettled stage → Suits stage device
-    → ends_first (stage_ahead device stage) (Some y) ≡ true
-answer_ends_first (CountsBefore Round recorded) device y settled suits = refl
-answer_ends_first (CountsBefore Stop recorded) device y settled suits = refl
-answer_ends_first (Reads Round recorded before) device y settled suits = refl
-answer_ends_first (Reads Stop recorded before) device y settled suits = refl
-answer_ends_first (Looks Round recorded before read) device y settled suits = refl
-answer_ends_first (Looks Stop recorded before read) device y settled suits = refl
-answer_ends_first (CountsAfter Round recorded before read seen) device y settled suits = refl
-answer_ends_first (CountsAfter Stop recorded before read seen) device y settled suits = refl
-answer_ends_first (IdentAsks question) device y settled suits =
-    told_ends (questions_of device) (place_of question (questions_of device)) question y suits
-answer_ends_first (Pays row) device y settled suits = absurd settled
-answer_ends_first stage device y settled suits = refl
 
 -- a payout isn't over by being stopped
 pub stop_stays : (y : Reply) → form_shown y ≡ Some form.Remaining → ends_first settling (Some y) ≡ false

@@ -1,31 +1,24 @@
 -- What a payment or a settlement is running to close, and how many coins a payment reserves.
-use Rattle.std.proofs.Common.{◌≡◌, ℕ, ◌+◌, ◌*◌, Bool, List, refl, sym, ap, ◌∙◌, Option, None, arith}
+use Rattle.std.proofs.Common.{◌≡◌, ℕ, Bool, List, refl, sym, ap, ◌∙◌, Option, None}
 use Rattle.cct_model.specs.lines.command.Command.{Command}
 use Rattle.cct_model.specs.lines.record.Record.{Record}
 use Rattle.cct_model.specs.terms.device.DeviceSetup.{DeviceSetup}
 use Rattle.cct_model.specs.terms.device.Setup.{Setup}
 use Rattle.cct_model.specs.declared.judging.EpochState.{EpochState}
 use Rattle.cct_model.specs.declared.judging.OpenOrder.{OpenOrder}
-use Rattle.cct_model.specs.Exchange.{device_at}
 use Rattle.cct_model.specs.Job.{accepts_before, accepts_read, address_of, works, credits_read, mask_read}
 use Rattle.cct_model.specs.Rows.{closes_order, has_closes}
 use Rattle.cct_model.specs.Line.{Line}
-use Rattle.cct_model.specs.Money.{coins_of, freed_by, hopper_value, reserved_by, reserved_for}
+use Rattle.cct_model.specs.Money.{coins_of, freed_by, reserved_by, reserved_for}
 use Rattle.cct_jobs.specs.declared.job.Job.{Job}
 use Rattle.cct_jobs.specs.declared.job.Job.TheVariants.{Asks, StartPuts, RoundPuts, StopPuts, StopEnds, OrderOpens, OrderCloses, SalePuts}
 use Rattle.cct_jobs.specs.declared.job.Need.TheVariants as need
-use Rattle.cct_jobs.specs.declared.payout.Payout.{Payout}
-use Rattle.cct_jobs.specs.declared.payout.Payout.TheVariants.{Enables, Counts}
-use Rattle.cct_jobs.specs.declared.stage.Stage.{Stage}
-use Rattle.cct_jobs.specs.declared.stage.Stage.TheVariants.{IdentAsks, CountsBefore, Reads, Looks, CountsAfter, Pays}
-use Rattle.cct_jobs.specs.declared.stage.ReadBy.TheVariants.{Round, Stop}
-use Rattle.cct_jobs.specs.declared.target.Target.{Target}
-use Rattle.cct_jobs.specs.Ahead.{ahead, coins_in, payout_ahead, stage_ahead}
+use Rattle.cct_jobs.specs.Ahead.{ahead, coins_in}
 use Rattle.cct_jobs.specs.Jobs.{Stands, need_of, newest_end, opened_by}
 use Rattle.cct_jobs.proofs.Left as left
 use Rattle.cct_jobs.proofs.Owners.{close_frees, reading_frees}
 use Rattle.cct_jobs.proofs.Puts.{round_row, stop_row}
-use Rattle.cct_jobs.proofs.Told.{ident_none}
+use Rattle.cct_jobs.proofs.StageFacts.{of_stage, and_none, nothing}
 
 -- which jobs are running to close an order
 pub closes_known : (d : DeviceSetup) (job : Job) (c : Command) (since : List Line) (state : EpochState)
@@ -35,42 +28,11 @@ closes_known d job c since state owed b is at on = is ∙ left.closes_known d jo
 
 -- what they reserve
 
-none_of : (value : ℕ) → 0 * value ≡ 0
-none_of value = omega arith
-
-nothing : (setup : Setup) (addr : ℕ) → coins_of setup addr 0 ≡ 0
-nothing setup addr = none_of (hopper_value (device_at setup.devices addr))
-
-and_none : (n : ℕ) → n ≡ n + 0
-and_none n = omega arith
-
-payout_reserves : (setup : Setup) (addr : ℕ) (row : Payout) (device : Target)
-    → coins_of setup addr (coins_in (payout_ahead device row)) ≡ reserved_for setup addr (payout_ahead device row)
-payout_reserves setup addr (Enables id count halted) device = and_none (coins_of setup addr count)
-payout_reserves setup addr (Counts id count halted) device = and_none (coins_of setup addr count)
-payout_reserves setup addr row device = nothing setup addr
-
-stage_reserves : (setup : Setup) (addr : ℕ) (stage : Stage) (device : Target)
-    → coins_of setup addr (coins_in (stage_ahead device stage)) ≡ reserved_for setup addr (stage_ahead device stage)
-stage_reserves setup addr (Pays row) device = payout_reserves setup addr row device
-stage_reserves setup addr (CountsBefore Round recorded) device = nothing setup addr
-stage_reserves setup addr (CountsBefore Stop recorded) device = nothing setup addr
-stage_reserves setup addr (Reads Round recorded before) device = nothing setup addr
-stage_reserves setup addr (Reads Stop recorded before) device = nothing setup addr
-stage_reserves setup addr (Looks Round recorded before read) device = nothing setup addr
-stage_reserves setup addr (Looks Stop recorded before read) device = nothing setup addr
-stage_reserves setup addr (CountsAfter Round recorded before read seen) device = nothing setup addr
-stage_reserves setup addr (CountsAfter Stop recorded before read seen) device = nothing setup addr
-stage_reserves setup addr (IdentAsks question) device =
-    ap (coins_of setup addr) (ident_none coins_in (λ q behind rows. refl) device question)
-    ∙ nothing setup addr
-    ∙ sym (ident_none (reserved_for setup addr) (λ q behind rows. refl) device question)
-stage_reserves setup addr stage device = nothing setup addr
-
 ahead_reserves : (setup : Setup) (addr : ℕ) (d : DeviceSetup) (job : Job) (c : Command) (since : List Line)
     (state : EpochState) (owed : Option OpenOrder) → Stands d job c since state owed
     → coins_of setup addr (coins_in (ahead job)) ≡ reserved_for setup addr (ahead job)
-ahead_reserves setup addr d (Asks device stage failed) c since state owed at = stage_reserves setup addr stage device
+ahead_reserves setup addr d (Asks device stage failed) c since state owed at =
+    (of_stage stage device).reserves setup addr
 ahead_reserves setup addr d (OrderOpens device own halted) c since state owed at =
     and_none (coins_of setup addr own.order.count)
 ahead_reserves setup addr d (SalePuts id price) c since state owed at = absurd at

@@ -17,15 +17,10 @@ use Rattle.cct_jobs.specs.declared.job.Job.TheVariants.{Asks, SalePuts, Done}
 use Rattle.cct_jobs.specs.declared.job.Need.{Need}
 use Rattle.cct_jobs.specs.declared.job.Need.TheVariants as need
 use Rattle.cct_jobs.specs.declared.owed.Owed.{Owed}
-use Rattle.cct_jobs.specs.declared.payout.Payout.TheVariants.{Enables}
-use Rattle.cct_jobs.specs.declared.stage.Stage.{Stage}
-use Rattle.cct_jobs.specs.declared.stage.Stage.TheVariants.{IdentAsks, CountsBefore, Reads, Looks, CountsAfter, Pays}
-use Rattle.cct_jobs.specs.declared.stage.ReadBy.TheVariants.{Round, Stop}
-use Rattle.cct_jobs.specs.declared.target.Target.{Target}
-use Rattle.cct_jobs.specs.Ahead.{ahead, coins_in, price_in, stage_ahead}
+use Rattle.cct_jobs.specs.Ahead.{ahead, coins_in, price_in}
 use Rattle.cct_jobs.specs.Jobs.{Stands, after_put, end_of_job, need_of, owed_after}
 use Rattle.cct_jobs.specs.Sales.{NeedsSale, StandsSale, newest_sale_end}
-use Rattle.cct_jobs.proofs.Told.{ident_none}
+use Rattle.cct_jobs.proofs.StageFacts.{of_stage}
 
 -- what it needs, and how it ended
 
@@ -89,23 +84,9 @@ price_freed setup (Done end) c since r is at = absurd cc
 price_freed setup job c since r is at = absurd at
 
 -- the job at a device has no price
-price_of_stage : (stage : Stage) (device : Target) → price_in (stage_ahead device stage) ≡ 0
-price_of_stage (CountsBefore Round recorded) device = refl
-price_of_stage (CountsBefore Stop recorded) device = refl
-price_of_stage (Reads Round recorded before) device = refl
-price_of_stage (Reads Stop recorded before) device = refl
-price_of_stage (Looks Round recorded before read) device = refl
-price_of_stage (Looks Stop recorded before read) device = refl
-price_of_stage (CountsAfter Round recorded before read seen) device = refl
-price_of_stage (CountsAfter Stop recorded before read seen) device = refl
-price_of_stage (IdentAsks question) device = ident_none price_in (λ q behind rows. refl) device question
-price_of_stage (Pays (Enables id count halted)) device = refl
-price_of_stage (Pays row) device = refl
-price_of_stage stage device = refl
-
 price_none : (d : DeviceSetup) (job : Job) (c : Command) (since : List Line) (state : EpochState)
     (owed : Option OpenOrder) → Stands d job c since state owed → price_in (ahead job) ≡ 0
-price_none d (Asks device stage failed) c since state owed at = price_of_stage stage device
+price_none d (Asks device stage failed) c since state owed at = (of_stage stage device).price
 price_none d (SalePuts id price) c since state owed at = absurd at
 price_none d job c since state owed at = refl
 

@@ -1,6 +1,6 @@
 -- The stages of a job at a device: what an exchange makes of them.
 use Rattle.std.proofs.Common.{◌≡◌, ℕ, suc, ◌<◌, ◌==◌, Bool, true, false, cond, List, ◌∷◌, length, refl, sym, ap, subst, ◌∙◌, Option, Some, None, arith, eq-eqb}
-use Rattle.std.specs.Prelude.{⊤, slice_get}
+use Rattle.std.specs.Prelude.{slice_get}
 use Rattle.std.proofs.lemmas.Bool.{eqb-true}
 use Rattle.std.proofs.lemmas.Bool.Decides.{nat_tests}
 use Rattle.cct_model.specs.terms.device.DeviceSetup.{DeviceSetup}
@@ -8,7 +8,6 @@ use Rattle.cct_model.specs.terms.coin.Credits.{Credits}
 use Rattle.cct_model.specs.terms.family.Family.{Family}
 use Rattle.cct_model.specs.terms.family.Family.TheVariants as family
 use Rattle.cct_model.specs.terms.request.Request.{Request}
-use Rattle.cct_model.specs.terms.request.Request.TheVariants.{RouteBill, SetMask}
 use Rattle.cct_model.specs.declared.judging.EpochState.{EpochState}
 use Rattle.cct_model.specs.declared.judging.OpenOrder.{OpenOrder}
 use Rattle.cct_model.specs.declared.judging.Judged.{Judged}
@@ -18,72 +17,24 @@ use Rattle.cct_model.specs.Request.{header_of}
 use Rattle.cct_model.specs.Reply.{Reply}
 use Rattle.cct_model.specs.Reply as reply
 use Rattle.cct_model.specs.Line.{Line, exchange}
-use Rattle.cct_model.specs.Job.{sends, Noted, accepts_before, accepts_read, address_of, credits_read, credits_request, noted_in, judged_in, end_of_tries, tries}
+use Rattle.cct_model.specs.Job.{sends, accepts_before, accepts_read, address_of, credits_read, credits_request, noted_in, judged_in, end_of_tries, tries}
 use Rattle.cct_model.specs.Rows.{after, end_answered, end_failed, first, from, left, rest, row, telling, sent_once}
 use Rattle.cct_msg.specs.Forms.{FitsItsBytes}
 use Rattle.cct_jobs.specs.declared.job.Job.{Job}
 use Rattle.cct_jobs.specs.declared.job.Job.TheVariants.{Asks}
 use Rattle.cct_jobs.specs.declared.stage.Stage.{Stage}
-use Rattle.cct_jobs.specs.declared.stage.Stage.TheVariants.{StartSets, StopInhibits, CountsBefore, Reads, Looks, CountsAfter, IdentAsks, PathSets, PathReads, Routes, Pays, StartReads}
+use Rattle.cct_jobs.specs.declared.stage.Stage.TheVariants.{IdentAsks}
 use Rattle.cct_jobs.specs.declared.stage.ReadBy.{ReadBy}
 use Rattle.cct_jobs.specs.declared.stage.ReadBy.TheVariants.{Round, Stop}
 use Rattle.cct_jobs.specs.declared.target.Target.{Target}
 use Rattle.cct_jobs.specs.Ahead.{body_of, place_of, questions_of, stage_ahead, reading_ahead}
 use Rattle.cct_jobs.specs.Jobs.{Asking, Knows, Stands, Suits, Trying, after_failed, newest_end, noted_credits, question_after, request_of}
-use Rattle.cct_jobs.proofs.Moves.{IsSettled, answer_ends_first, exchange_moves, exchange_stays}
-use Rattle.cct_jobs.proofs.Payouts.{MarkedFor, first_of_payout, marked_for, payout_fits, payout_knows}
-use Rattle.cct_jobs.proofs.Questions.{next_question, last_question, placed, question_again, question_within}
-use Rattle.cct_msg.proofs.Exchanges.{again_fits}
-use Rattle.cct_model.proofs.Tries.{asked_fails, credits_again, path_set_again, path_read_again, tried}
-use Rattle.cct_jobs.proofs.Left.{from_stage}
+use Rattle.cct_jobs.proofs.Moves.{exchange_moves, exchange_stays}
+use Rattle.cct_jobs.proofs.StageFacts.{IsSettled, of_stage}
+use Rattle.cct_jobs.proofs.Questions.{next_question, last_question, placed, question_within}
+use Rattle.cct_model.proofs.Tries.{asked_fails, tried}
 use Rattle.cct_model.proofs.RowEnds.{unanswered_ends}
-use Rattle.cct_model.proofs.Rows.{after_next, but_first, told_first, told_end}
-
--- the row of a stage
-
-abbrev RowKnows : Stage → Noted → Type 0
-RowKnows (Pays row) p = MarkedFor row p.is_marked
-RowKnows stage p = ⊤
-
-row_knows : (stage : Stage) (since : List Line) (state : EpochState) (owed : Option OpenOrder)
-    → Knows stage since state owed → RowKnows stage (noted_in since owed)
-row_knows (Pays row) since state owed knows = marked_for row since owed knows
-row_knows stage since state owed knows = tt
-
-pub first_of_stage : (stage : Stage) (device : Target) (addr : ℕ) (means : Judged) (p : Noted) → RowKnows stage p
-    → Suits stage device → first addr means p (from (stage_ahead device stage) means) ≡ sends (request_of device.family stage)
-first_of_stage (CountsBefore Round recorded) device addr means p knows suits = refl
-first_of_stage (CountsBefore Stop recorded) device addr means p knows suits = refl
-first_of_stage (Reads Round recorded before) device addr means p knows suits = refl
-first_of_stage (Reads Stop recorded before) device addr means p knows suits = refl
-first_of_stage (Looks Round recorded before read) device addr means p knows suits = refl
-first_of_stage (Looks Stop recorded before read) device addr means p knows suits = refl
-first_of_stage (CountsAfter Round recorded before read seen) device addr means p knows suits = refl
-first_of_stage (CountsAfter Stop recorded before read seen) device addr means p knows suits = refl
-first_of_stage (IdentAsks question) device addr means p knows suits =
-    told_first addr (questions_of device) (place_of question (questions_of device)) means p question suits
-first_of_stage (Pays row) device addr means p knows suits = first_of_payout row device addr means p suits knows
-first_of_stage stage device addr means p knows suits = refl
-
--- its request fits its bytes
-
-mask_fits : (mask : ℕ) → FitsItsBytes (SetMask mask)
-mask_fits mask number count e = absurd cc
-
-way_fits : (way : ℕ) → FitsItsBytes (RouteBill way)
-way_fits way number count e = absurd cc
-
-fits_of : (stage : Stage) (device : Target) → Suits stage device → FitsItsBytes (request_of device.family stage)
-fits_of (StartReads mask) device suits = again_fits _ (credits_again (body_of device.family))
-fits_of (StartSets mask) device suits = mask_fits mask
-fits_of (Reads read_by recorded before) device suits = again_fits _ (credits_again (body_of device.family))
-fits_of (IdentAsks question) device suits =
-    again_fits question (question_again device.family (place_of question (questions_of device)) question suits)
-fits_of (PathSets place path) device suits = again_fits _ (path_set_again (place == 0) place path)
-fits_of (PathReads place path) device suits = again_fits _ (path_read_again (place == 0) place)
-fits_of (Routes way) device suits = way_fits way
-fits_of (Pays row) device suits = payout_fits row device suits
-fits_of stage device suits = again_fits _ refl
+use Rattle.cct_model.proofs.Rows.{after_next, but_first, told_end}
 
 -- failed tries
 
@@ -109,22 +60,6 @@ tries_now : (q : Request) (failed n : ℕ) (since : List Line) → Trying q fail
     → n ≡ tries (header_of q) (exchange (Some q) None ∷ since)
 tries_now q failed n since at is = is ∙ ap suc at.counted ∙ sym (tried q since)
 
--- one that reads credits leaves which accept counter was read before
-before_kept : (which : Family) (since : List Line) → accepts_read (exchange (Some (credits_request (body_of which))) None ∷ since) ≡ accepts_read since
-before_kept family.Acceptor since = refl
-before_kept family.Hopper since = refl
-before_kept family.Bill since = refl
-
-still_knows : (which : Family) (stage : Stage) (since : List Line) (state : EpochState) (owed : Option OpenOrder)
-    → Knows stage since state owed → Knows stage (exchange (Some (request_of which stage)) None ∷ since) state owed
-still_knows which (StopInhibits recorded) since state owed knows = knows
-still_knows which (CountsBefore read_by recorded) since state owed knows = knows
-still_knows which (Reads read_by recorded before) since state owed knows = (knows.0, before_kept which since ∙ knows.1)
-still_knows which (Looks read_by recorded before read) since state owed knows = knows
-still_knows which (CountsAfter read_by recorded before read seen) since state owed knows = knows
-still_knows which (Pays row) since state owed knows = payout_knows row since owed knows
-still_knows which stage since state owed knows = tt
-
 module _ {d : DeviceSetup} {device : Target} {stage : Stage} {failed : ℕ} {c : Command} {since : List Line}
     {state : EpochState} {owed : Option OpenOrder} (at : Asking d device stage failed c since state owed) where
   -- the rows that are left beside its epoch
@@ -135,11 +70,10 @@ module _ {d : DeviceSetup} {device : Target} {stage : Stage} {failed : ℕ} {c :
   pub stage_row : row d c since state owed ≡ sends (request_of device.family stage)
   stage_row =
       ap (first (address_of c) (judged_in c since state) (noted_in since owed)) left_is
-      ∙ first_of_stage stage device (address_of c) (judged_in c since state) (noted_in since owed)
-      (row_knows stage since state owed at.knows) at.suits
+      ∙ (of_stage stage device).sent (address_of c) (judged_in c since state) since state owed at.knows at.suits
 
   pub stage_fits : FitsItsBytes (request_of device.family stage)
-  stage_fits = fits_of stage device at.suits
+  stage_fits = (of_stage stage device).fits at.suits
 
   -- the end that a failed try brings
   pub failed_end : sent_once (stage_ahead device stage) ≡ false
@@ -147,7 +81,7 @@ module _ {d : DeviceSetup} {device : Target} {stage : Stage} {failed : ℕ} {c :
       (tries (header_of (request_of device.family stage)) (exchange (Some (request_of device.family stage)) None ∷ since))
   failed_end again =
       ap (λ rows. end_failed rows (tries (header_of (request_of device.family stage)) (exchange (Some (request_of device.family stage)) None ∷ since)))
-      (left_is ∙ from_stage stage device (judged_in c since state))
+      (left_is ∙ (of_stage stage device).stays (judged_in c since state))
       ∙ asked_fails (stage_ahead device stage) _ again
 
   -- it is tried again
@@ -162,7 +96,7 @@ module _ {d : DeviceSetup} {device : Target} {stage : Stage} {failed : ℕ} {c :
         is_here = at.is_here;
         ahead_is = exchange_stays d c since (request_of device.family stage) None _ at.ahead_is (unanswered_ends (stage_ahead device stage) ∙ again);
         suits = at.suits;
-        knows = still_knows device.family stage since state owed at.knows;
+        knows = (of_stage stage device).knows since state owed at.knows;
         trying = record { counted = now; few = count.1 };
         goes_on = failed_end again ∙ ap end_of_tries (sym now) ∙ ap (λ b. cond b (Some NoAnswer) None) not_third;
       }
@@ -178,7 +112,7 @@ module _ {d : DeviceSetup} {device : Target} {stage : Stage} {failed : ℕ} {c :
   pub answered_rest : IsSettled stage → (y : Reply)
       → rest d c (exchange (Some (request_of device.family stage)) (Some y) ∷ since) ≡ but_first (stage_ahead device stage)
   answered_rest settled y =
-      exchange_moves d c since (request_of device.family stage) (Some y) _ at.ahead_is (answer_ends_first stage device y settled at.suits)
+      exchange_moves d c since (request_of device.family stage) (Some y) _ at.ahead_is ((of_stage stage device).ends y settled at.suits)
 
   -- the end that an answer brings, by the rows that are left and what was read
   pub end_after : (q : Request) (y : Reply) → newest_end d c (exchange (Some q) (Some y) ∷ since) state ≡ end_answered

@@ -1,5 +1,5 @@
 //! The job that a command begins.
-ghost use Rattle.std.specs.Prelude.{◌≡◌, ◌<◌, ◌^◌, ℕ, [], Some, None, IsTrue, is_some, true, false};
+ghost use Rattle.std.specs.Prelude.{◌≡◌, ◌<◌, ◌^◌, ℕ, List, [], Some, None, IsTrue, is_some, true, false};
 ghost use Rattle.std.specs.Option.{option_map};
 ghost use Rattle.cct_model.specs.lines.command.Command.{Command};
 ghost use Rattle.cct_model.specs.terms.device.DeviceSetup.{DeviceSetup};
@@ -7,8 +7,9 @@ ghost use Rattle.cct_model.specs.declared.judging.OpenOrder.{OpenOrder};
 ghost use Rattle.cct_model.specs.Exchange.{device_at};
 ghost use Rattle.cct_model.specs.Job.{address_of};
 ghost use Rattle.cct_model.specs.Rows.{rows_of, rows_of_sale};
-ghost use Rattle.cct_jobs.specs.Ahead.{ahead};
-ghost use Rattle.cct_jobs.specs.Jobs.{IsRunning, MayBegin, PutsFit, Stands, accepts_of, end_of_job, first_need, is_of_device, need_of, runs};
+ghost use Rattle.cct_jobs.specs.declared.target.Target.{Target};
+ghost use Rattle.cct_jobs.specs.Ahead.{ahead, stage_ahead, table_of};
+ghost use Rattle.cct_jobs.specs.Jobs.{IsRunning, Knows, MayBegin, PutsFit, Stands, Suits, accepts_of, end_of_job, first_need, is_of_device, need_of, runs};
 ghost use Rattle.cct_jobs.specs.Sales.{StandsSale};
 ghost use Rattle.cct_jobs.specs.Scans.{StandsScan};
 
@@ -17,7 +18,6 @@ use crate::counted::Counted;
 use crate::job::Job;
 use crate::owed::Owed;
 use crate::payout::{Closing, Payout};
-use crate::reading;
 use crate::stage::{ReadBy, Recorded, Stage};
 use crate::target::target_at;
 use cct_epoch::EpochState;
@@ -58,53 +58,56 @@ impl Job {
         ensures other_rows { is_of_device command.now ≡ false → ahead result ≡ rows_of_sale command.now }
     {
         match *command {
-            Command::Start { addr, mask } => {
-                first_try(target_at(setup, addr), Stage::StartResets { mask })
-            }
-            Command::Round { addr } => {
-                reading::counts(target_at(setup, addr), ReadBy::Round, recorded_in(epoch))
-            }
-            Command::Stop { addr } => first_try(
-                target_at(setup, addr),
-                Stage::StopInhibits {
-                    recorded: recorded_in(epoch),
-                },
-            ),
-            Command::Ident { addr } => first_try(
-                target_at(setup, addr),
-                Stage::IdentAsks {
-                    question: Request::MakerId,
-                },
-            ),
-            Command::Path { addr, place, path } => {
-                first_try(target_at(setup, addr), Stage::PathSets { place, path })
-            }
-            Command::Route { addr, way } => {
-                first_try(target_at(setup, addr), Stage::Routes { way })
-            }
-            Command::Pay { addr, id, count } => first_try(
-                target_at(setup, addr),
-                Stage::Pays {
-                    row: Payout::Enables {
-                        id,
-                        count,
-                        halted: false,
-                    },
-                },
-            ),
-            Command::Settle { addr } => first_try(
-                target_at(setup, addr),
-                Stage::Pays {
-                    row: Payout::Waits {
-                        closing: Closing::Settlement,
-                        owed: owed_in(order),
-                    },
-                },
-            ),
             Command::Scan => Job::ScanCallsSimple { failed: 0 },
             Command::Vend { id, price } => Job::SalePuts { id, price },
-            _ => unreachable!(),
+            _ => first_try(
+                target_at(setup, command.address()),
+                first_stage(command, epoch, order),
+            ),
         }
+    }
+}
+
+/// The first row of the job that a command to a device begins, and what the job knows there.
+#[tactic(auto, using(crate::proofs::Begins::first_question, crate::proofs::Begins::first_ahead))]
+fn first_stage(command: &Command, epoch: &EpochState, order: Option<&OpenOrder>) -> Stage
+    requires of_device { is_of_device command.now ≡ true }
+    requires may_begin { (devices : List DeviceSetup)
+        × MayBegin command.now devices epoch.now (option_map (λ o. o.now) order) }
+    requires life { (o : OpenOrder) → option_map (λ o. o.now) order ≡ Some o → o.life < 2 ^ 24 }
+    requires counts { accepts_of epoch.now < 2 ^ 24 }
+    ensures rows { (device : Target) → stage_ahead device result ≡ table_of device command.now }
+    ensures suits { (device : Target) → device.serial < 2 ^ 24 → Suits result device }
+    ensures knows { Knows result [] epoch.now (option_map (λ o. o.now) order.entry) }
+{
+    match *command {
+        Command::Start { mask, .. } => Stage::StartResets { mask },
+        Command::Round { .. } => Stage::CountsBefore {
+            read_by: ReadBy::Round,
+            recorded: recorded_in(epoch),
+        },
+        Command::Stop { .. } => Stage::StopInhibits {
+            recorded: recorded_in(epoch),
+        },
+        Command::Ident { .. } => Stage::IdentAsks {
+            question: Request::MakerId,
+        },
+        Command::Path { place, path, .. } => Stage::PathSets { place, path },
+        Command::Route { way, .. } => Stage::Routes { way },
+        Command::Pay { id, count, .. } => Stage::Pays {
+            row: Payout::Enables {
+                id,
+                count,
+                halted: false,
+            },
+        },
+        Command::Settle { .. } => Stage::Pays {
+            row: Payout::Waits {
+                closing: Closing::Settlement,
+                owed: owed_in(order),
+            },
+        },
+        _ => unreachable!(),
     }
 }
 

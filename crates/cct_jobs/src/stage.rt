@@ -145,20 +145,14 @@ impl Stage {
         ensures { (device : Target) → result ≡ puts_in (stage_ahead device self.now) }
     {
         match self {
-            Stage::StartResets { .. } => 1,
-            Stage::StartReads { .. } => 1,
-            Stage::StartCounts { .. } => 1,
-            Stage::StartSets { .. } => 0,
+            Stage::StartResets { .. } | Stage::StartReads { .. } | Stage::StartCounts { .. } => 1,
             Stage::StopInhibits { .. } => 2,
-            Stage::CountsBefore { read_by, .. } => read_by.may_put(),
-            Stage::Reads { read_by, .. } => read_by.may_put(),
-            Stage::Looks { read_by, .. } => read_by.may_put(),
-            Stage::CountsAfter { read_by, .. } => read_by.may_put(),
-            Stage::IdentAsks { .. } => 0,
-            Stage::PathSets { .. } => 0,
-            Stage::PathReads { .. } => 0,
-            Stage::Routes { .. } => 0,
+            Stage::CountsBefore { read_by, .. }
+            | Stage::Reads { read_by, .. }
+            | Stage::Looks { read_by, .. }
+            | Stage::CountsAfter { read_by, .. } => read_by.may_put(),
             Stage::Pays { row } => row.may_put(),
+            _ => 0,
         }
     }
 

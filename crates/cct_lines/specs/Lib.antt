@@ -14,8 +14,10 @@ pub use Rattle.cct_terms.specs.Setup
 pub mod SetupLine
 pub mod Members
 pub mod DeviceSet
+pub mod Shape
 pub mod Text
 pub mod Grammar
 pub mod Script
+pub mod Effect
 pub mod Sums
 pub mod Carried

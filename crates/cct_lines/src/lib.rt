@@ -9,6 +9,7 @@ mod device_set;
 mod entry;
 mod record;
 mod setup;
+mod shape;
 
 pub use carry::{Carry, CarryEpoch, CarryEpochs, CarryOrder, CarryOrders};
 pub use cct_terms::{

@@ -1,11 +1,10 @@
 -- The carry of records: what a host needs of them, and how it goes on by one more.
 use Rattle.std.specs.Prelude.{◌≡◌, ℕ, ◌+◌, ◌-◌, ◌≤◌, max, ◌&&◌, Bool, true, List, [], ◌∷◌, All, reverse, Option, Some, None}
 use Rattle.std.specs.Prelude.{if◌then◌else◌, is_some, option_map, ⊤}
-use Rattle.cct_model.specs.terms.wire.TheConstants.{HOST}
 use Rattle.cct_model.specs.terms.device.DeviceSetup.{DeviceSetup}
 use Rattle.cct_model.specs.terms.device.Setup.{Setup}
 use Rattle.cct_model.specs.lines.record.Record.{Record}
-use Rattle.cct_model.specs.lines.record.Record.TheVariants as record_of
+use Rattle.cct_model.specs.Effect.{address_by, effect}
 use Rattle.cct_model.specs.lines.carry.Carry.{Carry}
 use Rattle.cct_model.specs.lines.carry.CarryEpoch.{CarryEpoch}
 use Rattle.cct_model.specs.lines.carry.CarryOrder.{CarryOrder}
@@ -18,7 +17,7 @@ use Rattle.cct_model.specs.Exchange.{by_address, device_at, hopper_there, taker_
 use Rattle.cct_model.specs.Following.{Known, follows_known}
 use Rattle.cct_model.specs.Job.{epoch_by}
 use Rattle.cct_model.specs.Order.{order_by}
-use Rattle.cct_model.specs.Money.{amount, coins_of, coins_value, odd_in, paid_in, posted_in, sold_in}
+use Rattle.cct_model.specs.Money.{coins_of, coins_value, odd_amount, odd_in, paid_in, posted_in, sold_in}
 use Rattle.cct_model.specs.Records.{epoch_in, greatest_id, hopper_of, id_of, order_in}
 use Rattle.cct_model.specs.Sums.{coins_paid, coins_posted, coins_unpaid, coins_lost, posts_of, price_sold, sum_in}
 
@@ -117,19 +116,11 @@ follows_carry setup c r = follows_known setup (known_by setup c) r
 
 -- The address that a record belongs to, by a carry of those before it: that of the order that it closes, and 1 for a sale.
 abbrev pub owner_by : Carry → Record → ℕ
-owner_by c (record_of.Epoch addr mask accepts) = addr
-owner_by c (record_of.Reading addr counter lost accepts posted) = addr
-owner_by c (record_of.Broken addr seen counter lost accepts posted) = addr
-owner_by c (record_of.EpochEnd addr) = addr
-owner_by c (record_of.Opened id addr count life) = addr
-owner_by c (record_of.Closed id paid unpaid) = hopper_of (order_with id c)
-owner_by c (record_of.Odd id life_before life_after) = hopper_of (order_with id c)
-owner_by c (record_of.Sold id price) = HOST
+owner_by c r = address_by (λ id. hopper_of (order_with id c)) (effect r).owned
 
 -- The amount that a record sets aside, of an order whose counts of life don't fit.
 abbrev pub odd_more : Setup → Carry → Record → ℕ
-odd_more setup c (record_of.Odd id life_before life_after) = amount setup (order_with id c)
-odd_more setup c r = 0
+odd_more setup c r = odd_amount setup (λ id. order_with id c) r
 
 -- The running epochs after a record of this address.
 abbrev pub epochs_after : ℕ → Record → Carry → List CarryEpoch

@@ -3,7 +3,8 @@ use Rattle.std.specs.Prelude.{ℕ, ◌+◌, ◌==◌, ◌&&◌, nat_le, not, Boo
 use Rattle.cct_model.specs.terms.device.DeviceSetup.{DeviceSetup}
 use Rattle.cct_model.specs.terms.device.Setup.{Setup}
 use Rattle.cct_model.specs.lines.record.Record.{Record}
-use Rattle.cct_model.specs.lines.record.Record.TheVariants as record_of
+use Rattle.cct_model.specs.Effect.{EpochMove, OrderMove, Owner, Sale, effect}
+use Rattle.cct_model.specs.Effect as move
 use Rattle.cct_model.specs.declared.judging.EpochState.{EpochState}
 use Rattle.cct_model.specs.declared.judging.EpochState.TheVariants.{Idle, Running}
 use Rattle.cct_model.specs.declared.judging.OpenOrder.{OpenOrder}
@@ -42,18 +43,27 @@ pub record Known : Type 0 where
 -- It is closed where it is open, and its coins are then paid or unpaid. A sale has an id and a price that aren't 0, and its
 -- price is available.
 abbrev pub follows_known : Setup → Known → Record → Bool
-follows_known setup k (record_of.Epoch addr mask accepts) =
-    taker_there (device_at setup.devices addr) && not (is_running (k.epoch_at addr)) && not (mask == 0)
-    && has_values (device_at setup.devices addr) mask
-follows_known setup k (record_of.Reading addr counter lost accepts posted) = is_running (k.epoch_at addr)
-follows_known setup k (record_of.Broken addr seen counter lost accepts posted) = is_running (k.epoch_at addr)
-follows_known setup k (record_of.EpochEnd addr) = is_running (k.epoch_at addr)
-follows_known setup k (record_of.Opened id addr count life) =
-    hopper_there (device_at setup.devices addr) && is_none (k.order_at addr) && not (id == 0) && not (k.is_open id)
-    && not (count == 0) && nat_le (coins_of setup addr count) k.available
-follows_known setup k (record_of.Closed id paid unpaid) = k.is_open id && (paid + unpaid == count_of (k.named id))
-follows_known setup k (record_of.Odd id life_before life_after) = k.is_open id
-follows_known setup k (record_of.Sold id price) = not (id == 0) && not (price == 0) && nat_le price k.available
+follows_known setup k r = by_epoch (effect r).owned (effect r).epoch (by_order (effect r).order (by_sale (effect r).sale))
+  where
+    by_sale : Option Sale → Bool
+    by_sale None = true
+    by_sale (Some s) = not (s.id == 0) && not (s.price == 0) && nat_le s.price k.available
+
+    by_order : OrderMove → Bool → Bool
+    by_order move.none_moved more = more
+    by_order (move.newly_opened id addr count life) more =
+        hopper_there (device_at setup.devices addr) && is_none (k.order_at addr) && not (id == 0)
+        && not (k.is_open id) && not (count == 0) && nat_le (coins_of setup addr count) k.available
+    by_order (move.fitly_closed id paid unpaid) more = k.is_open id && (paid + unpaid == count_of (k.named id))
+    by_order (move.oddly_closed id) more = k.is_open id
+
+    by_epoch : Owner → EpochMove → Bool → Bool
+    by_epoch owner move.kept more = more
+    by_epoch (move.of_order id) other more = false
+    by_epoch (move.of_address addr) (move.begun mask accepts) more =
+        taker_there (device_at setup.devices addr) && not (is_running (k.epoch_at addr)) && not (mask == 0)
+        && has_values (device_at setup.devices addr) mask
+    by_epoch (move.of_address addr) other more = is_running (k.epoch_at addr)
 
 -- What records tell before another one.
 abbrev pub known_in : Setup → List Record → Known
@@ -77,13 +87,11 @@ all_follow setup (r ∷ before) = follows setup before r && all_follow setup bef
 -- A ledger takes a record: one of an order or of a sale where it follows those before it, and the coins of the order or
 -- the price of the sale are available beside all that is reserved; and any other.
 abbrev pub is_allowed : Setup → List Record → ℕ → Record → Bool
-is_allowed setup before beside (record_of.Opened id addr count life) =
-    follows setup before (record_of.Opened id addr count life)
-    && nat_le (coins_of setup addr count) (available_beside setup before beside)
-is_allowed setup before beside (record_of.Closed id paid unpaid) =
-    follows setup before (record_of.Closed id paid unpaid)
-is_allowed setup before beside (record_of.Odd id life_before life_after) =
-    follows setup before (record_of.Odd id life_before life_after)
-is_allowed setup before beside (record_of.Sold id price) =
-    follows setup before (record_of.Sold id price) && nat_le price (available_beside setup before beside)
-is_allowed setup before beside r = true
+is_allowed setup before beside r = by_order (effect r).order (effect r).sale
+  where
+    by_order : OrderMove → Option Sale → Bool
+    by_order move.none_moved None = true
+    by_order move.none_moved (Some s) = follows setup before r && nat_le s.price (available_beside setup before beside)
+    by_order (move.newly_opened id addr count life) sale =
+        follows setup before r && nat_le (coins_of setup addr count) (available_beside setup before beside)
+    by_order closed sale = follows setup before r

@@ -2,7 +2,6 @@
 -- epoch of an acceptor, read off its records.
 use Rattle.std.specs.Prelude.{ℕ, suc, ◌==◌, Bool, List, [], ◌∷◌, map, if◌then◌else◌, Option, Some, None}
 use Rattle.std.specs.Option.{option_map, option_or}
-use Rattle.cct_model.specs.terms.wire.TheConstants.{BROADCAST, HOST}
 use Rattle.cct_model.specs.terms.coin.Credits.{Credits}
 use Rattle.cct_model.specs.terms.coin.Pair.{Pair}
 use Rattle.cct_model.specs.terms.device.DeviceBody.{DeviceBody}
@@ -11,6 +10,9 @@ use Rattle.cct_model.specs.terms.request.Request.{Request}
 use Rattle.cct_model.specs.terms.request.Request.TheVariants.{MakerId, Category, ProductCode, SerialNumber, SoftwareRevision, BuildCode, CommsRevision, GetMask, GetMaster, ReadCredits, SetPath, GetPath, SetDefault, GetDefault, CoinId, AcceptCount, ReadBills, TestHopper, GetStatus, StopNow}
 use Rattle.cct_model.specs.lines.record.Record.{Record}
 use Rattle.cct_model.specs.lines.record.Record.TheVariants as record_of
+use Rattle.cct_model.specs.Effect.{EpochMove, effect}
+use Rattle.cct_model.specs.Effect as move
+use Rattle.cct_model.specs.Shape.{shape_of}
 use Rattle.cct_model.specs.declared.judging.Judged.{Judged}
 use Rattle.cct_model.specs.declared.judging.Judged.TheVariants.{Nothing, Reading, Broken}
 use Rattle.cct_model.specs.declared.judging.Judged.TheVariants as judged_of
@@ -146,11 +148,13 @@ counted counter accepts (Running mask before earlier) = Running mask counter acc
 -- The epoch after a record: it begins at event counter 0 with the accept counter that it records, a reading moves both, and
 -- a break or its end ends it.
 abbrev pub epoch_by : Record → EpochState → EpochState
-epoch_by (record_of.Epoch addr mask accepts) before = Running mask 0 accepts
-epoch_by (record_of.Reading addr counter lost accepts posted) before = counted counter accepts before
-epoch_by (record_of.Broken addr seen counter lost accepts posted) before = Idle
-epoch_by (record_of.EpochEnd addr) before = Idle
-epoch_by r before = before
+epoch_by r before = epoch_after (effect r).epoch before
+  where
+    epoch_after : EpochMove → EpochState → EpochState
+    epoch_after move.kept before = before
+    epoch_after (move.begun mask accepts) before = Running mask 0 accepts
+    epoch_after (move.moved counter accepts) before = counted counter accepts before
+    epoch_after move.ended before = Idle
 
 -- The epoch of an acceptor: its inhibit mask and its recorded event counter and accept counter, or none.
 abbrev pub epoch : List Line → EpochState
@@ -236,17 +240,7 @@ close_row owed life = no_row
 
 -- The address of a command: a scan is at 0, and a sale at 1.
 abbrev pub address_of : Command → ℕ
-address_of (command.Start addr mask) = addr
-address_of (command.Round addr) = addr
-address_of (command.Stop addr) = addr
-address_of (command.Pay addr id count) = addr
-address_of (command.Settle addr) = addr
-address_of (command.Halt addr) = addr
-address_of command.Scan = BROADCAST
-address_of (command.Ident addr) = addr
-address_of (command.Path addr place path) = addr
-address_of (command.Route addr way) = addr
-address_of (command.Vend id price) = HOST
+address_of c = (shape_of c).address
 
 -- What the lines of a job mean, beside the epoch.
 abbrev pub judged_in : Command → List Line → EpochState → Judged

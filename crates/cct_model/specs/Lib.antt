@@ -15,9 +15,11 @@ pub use Rattle.cct_lines.specs.Setup
 pub use Rattle.cct_lines.specs.SetupLine
 pub use Rattle.cct_lines.specs.Members
 pub use Rattle.cct_lines.specs.DeviceSet
+pub use Rattle.cct_lines.specs.Shape
 pub use Rattle.cct_lines.specs.Text
 pub use Rattle.cct_lines.specs.Grammar
 pub use Rattle.cct_lines.specs.Script
+pub use Rattle.cct_lines.specs.Effect
 pub use Rattle.cct_lines.specs.Sums
 pub use Rattle.cct_lines.specs.Carried
 pub mod Reading

@@ -6,7 +6,8 @@ use Rattle.cct_model.specs.terms.device.DeviceBody.TheVariants.{Acceptor, Bill, 
 use Rattle.cct_model.specs.terms.device.DeviceSetup.{DeviceSetup}
 use Rattle.cct_model.specs.terms.device.Setup.{Setup}
 use Rattle.cct_model.specs.lines.record.Record.{Record}
-use Rattle.cct_model.specs.lines.record.Record.TheVariants as record_of
+use Rattle.cct_model.specs.Effect.{OrderMove, Sale, effect}
+use Rattle.cct_model.specs.Effect as move
 use Rattle.cct_model.specs.lines.entry.Entry.{Entry}
 use Rattle.cct_model.specs.lines.entry.Totals.{Totals}
 use Rattle.cct_model.specs.declared.judging.OpenOrder.{OpenOrder}
@@ -70,10 +71,17 @@ paid_in setup (r ∷ before) = paid_by setup before r + paid_in setup before
 abbrev pub sold_in : List Record → ℕ
 sold_in before = sum_in price_sold before
 
+-- The amount of an order that a record closes with counts of life that don't fit it, with the orders by their ids.
+abbrev pub odd_amount : Setup → (ℕ → Option OpenOrder) → Record → ℕ
+odd_amount setup named r = odd_of (effect r).order
+  where
+    odd_of : OrderMove → ℕ
+    odd_of (move.oddly_closed id) = amount setup (named id)
+    odd_of other = 0
+
 -- The amount of an order that was closed with counts of life that don't fit it; it stays reserved.
 abbrev pub odd_by : Setup → List Record → Record → ℕ
-odd_by setup before (record_of.Odd id life_before life_after) = amount setup (order_named id before)
-odd_by setup before r = 0
+odd_by setup before r = odd_amount setup (λ id. order_named id before) r
 
 -- The amounts of all such orders.
 abbrev pub odd_in : Setup → List Record → ℕ
@@ -133,9 +141,12 @@ reserved_at_work setup past =
 
 -- What running jobs reserve no more once a record is put: the amount of an order that it opens, and the price of a sale.
 abbrev pub freed_by : Setup → Record → ℕ
-freed_by setup (record_of.Opened id addr count life) = coins_of setup addr count
-freed_by setup (record_of.Sold id price) = price
-freed_by setup r = 0
+freed_by setup r = freed (effect r).order (effect r).sale
+  where
+    freed : OrderMove → Option Sale → ℕ
+    freed (move.newly_opened id addr count life) _ = coins_of setup addr count
+    freed other (Some s) = s.price
+    freed other None = 0
 
 -- All that is reserved.
 abbrev pub reserved : Setup → List Entry → ℕ

@@ -5,6 +5,8 @@ use Rattle.cct_model.specs.terms.request.Request.{Request}
 use Rattle.cct_model.specs.terms.request.Request.TheVariants.{GetLife, StopNow}
 use Rattle.cct_model.specs.lines.record.Record.{Record}
 use Rattle.cct_model.specs.lines.record.Record.TheVariants as record_of
+use Rattle.cct_model.specs.Effect.{OrderMove, effect}
+use Rattle.cct_model.specs.Effect as move
 use Rattle.cct_model.specs.declared.judging.OpenOrder.{OpenOrder}
 use Rattle.cct_model.specs.Reply.{Reply}
 use Rattle.cct_model.specs.Reply as reply
@@ -12,10 +14,13 @@ use Rattle.cct_model.specs.Line.{Line, exchange, put, taken}
 
 -- The open order after a record: one is opened, or the open one is closed, with counts of life that fit it or not.
 abbrev pub order_by : Record → Option OpenOrder → Option OpenOrder
-order_by (record_of.Opened id addr count life) before = Some (record { id = id; addr = addr; count = count; life = life })
-order_by (record_of.Closed id paid unpaid) before = None
-order_by (record_of.Odd id life_before life_after) before = None
-order_by r before = before
+order_by r before = order_after (effect r).order before
+  where
+    order_after : OrderMove → Option OpenOrder → Option OpenOrder
+    order_after move.none_moved before = before
+    order_after (move.newly_opened id addr count life) before =
+        Some (record { id = id; addr = addr; count = count; life = life })
+    order_after closed before = None
 
 -- The open order of a hopper, or none.
 abbrev pub order : List Line → Option OpenOrder

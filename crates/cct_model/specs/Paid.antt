@@ -4,6 +4,8 @@ use Rattle.std.specs.Prelude.{◌≡◌, ℕ, suc, ◌+◌, ◌≤◌, ◌==◌,
 use Rattle.std.specs.List.{list_any}
 use Rattle.cct_model.specs.lines.record.Record.{Record}
 use Rattle.cct_model.specs.lines.record.Record.TheVariants as record_of
+use Rattle.cct_model.specs.Effect.{OrderMove, effect, id_used}
+use Rattle.cct_model.specs.Effect as move
 use Rattle.cct_model.specs.declared.judging.OpenOrder.{OpenOrder}
 use Rattle.cct_model.specs.Line.{Line, fell, dispensed, put}
 use Rattle.cct_model.specs.Order.{order}
@@ -11,10 +13,11 @@ use Rattle.cct_model.specs.Claims.{AllPast}
 
 -- What is counted of an order begins anew at each record that opens or closes one.
 abbrev pub anew_by : Record → ℕ → ℕ
-anew_by (record_of.Opened id addr count life) counted = 0
-anew_by (record_of.Closed id paid unpaid) counted = 0
-anew_by (record_of.Odd id life_before life_after) counted = 0
-anew_by r counted = counted
+anew_by r counted = anew_after (effect r).order
+  where
+    anew_after : OrderMove → ℕ
+    anew_after move.none_moved = counted
+    anew_after other = 0
 
 -- How many dispenses were taken since an order was last opened or closed.
 abbrev pub dispenses : List Line → ℕ
@@ -58,15 +61,19 @@ Paid lines = AllPast PaidAt lines
 
 -- A record uses an id, for an order that it opens or for a sale.
 abbrev pub uses : ℕ → Record → Bool
-uses id (record_of.Opened used addr count life) = used == id
-uses id (record_of.Sold used price) = used == id
-uses id r = false
+uses id r = is_used (id_used r)
+  where
+    is_used : Option ℕ → Bool
+    is_used None = false
+    is_used (Some used) = used == id
 
 -- A record that uses an id uses a new one.
 abbrev pub IsFresh : List Record → Record → Type 0
-IsFresh before (record_of.Opened id addr count life) = list_any (uses id) before ≡ false
-IsFresh before (record_of.Sold id price) = list_any (uses id) before ≡ false
-IsFresh before r = ⊤
+IsFresh before r = IsNew (id_used r)
+  where
+    IsNew : Option ℕ → Type 0
+    IsNew None = ⊤
+    IsNew (Some id) = list_any (uses id) before ≡ false
 
 -- No id is used by two records.
 abbrev pub AreFresh : List Record → Type 0

@@ -1,9 +1,9 @@
 -- What the records of a journal alone tell, newest first: whose each is, the epoch and the open order of each device, and
 -- which ids were used.
 use Rattle.std.specs.Prelude.{ℕ, max, ◌==◌, Bool, true, false, List, [], ◌∷◌, if◌then◌else◌, Option, Some, None}
-use Rattle.cct_model.specs.terms.wire.TheConstants.{HOST}
 use Rattle.cct_model.specs.lines.record.Record.{Record}
-use Rattle.cct_model.specs.lines.record.Record.TheVariants as record_of
+use Rattle.cct_model.specs.Effect.{OrderMove, address_by, effect, id_used}
+use Rattle.cct_model.specs.Effect as move
 use Rattle.cct_model.specs.lines.entry.Entry.{Entry}
 use Rattle.cct_model.specs.lines.entry.Entry.TheVariants as entry
 use Rattle.cct_model.specs.declared.judging.EpochState.{EpochState}
@@ -21,9 +21,12 @@ records (e ∷ past) = records past
 
 -- The order that a record opens with this id, or the one before it.
 abbrev pub named_by : ℕ → Record → Option OpenOrder → Option OpenOrder
-named_by id (record_of.Opened opened addr count life) before =
-    if opened == id then Some (record { id = opened; addr = addr; count = count; life = life }) else before
-named_by id r before = before
+named_by id r before = named_after (effect r).order before
+  where
+    named_after : OrderMove → Option OpenOrder → Option OpenOrder
+    named_after (move.newly_opened opened addr count life) before =
+        if opened == id then Some (record { id = opened; addr = addr; count = count; life = life }) else before
+    named_after other before = before
 
 -- The order that was opened last with an id, or none.
 abbrev pub order_named : ℕ → List Record → Option OpenOrder
@@ -41,14 +44,7 @@ opened_in id before = hopper_of (order_named id before)
 
 -- The address that a record belongs to: that of the order that it closes, and 1 for a sale.
 abbrev pub owner_in : List Record → Record → ℕ
-owner_in before (record_of.Epoch addr mask accepts) = addr
-owner_in before (record_of.Reading addr counter lost accepts posted) = addr
-owner_in before (record_of.Broken addr seen counter lost accepts posted) = addr
-owner_in before (record_of.EpochEnd addr) = addr
-owner_in before (record_of.Opened id addr count life) = addr
-owner_in before (record_of.Closed id paid unpaid) = opened_in id before
-owner_in before (record_of.Odd id life_before life_after) = opened_in id before
-owner_in before (record_of.Sold id price) = HOST
+owner_in before r = address_by (λ id. opened_in id before) (effect r).owned
 
 -- The records of an address.
 abbrev pub records_at : ℕ → List Record → List Record
@@ -75,10 +71,13 @@ order_in addr before = order_of (records_at addr before)
 
 -- The order with an id is open after a record: it is opened, or closed, or as before.
 abbrev pub is_open_by : ℕ → Record → Bool → Bool
-is_open_by id (record_of.Opened opened addr count life) before = if opened == id then true else before
-is_open_by id (record_of.Closed closed paid unpaid) before = if closed == id then false else before
-is_open_by id (record_of.Odd closed life_before life_after) before = if closed == id then false else before
-is_open_by id r before = before
+is_open_by id r before = is_open_after (effect r).order before
+  where
+    is_open_after : OrderMove → Bool → Bool
+    is_open_after move.none_moved before = before
+    is_open_after (move.newly_opened opened addr count life) before = if opened == id then true else before
+    is_open_after (move.fitly_closed closed paid unpaid) before = if closed == id then false else before
+    is_open_after (move.oddly_closed closed) before = if closed == id then false else before
 
 -- An order with an id is open.
 abbrev pub is_open : ℕ → List Record → Bool
@@ -87,9 +86,11 @@ is_open id (r ∷ before) = is_open_by id r (is_open id before)
 
 -- The id that a record uses, of an order that it opens or of a sale; 0 of others.
 abbrev pub id_of : Record → ℕ
-id_of (record_of.Opened id addr count life) = id
-id_of (record_of.Sold id price) = id
-id_of r = 0
+id_of r = id_or_none (id_used r)
+  where
+    id_or_none : Option ℕ → ℕ
+    id_or_none None = 0
+    id_or_none (Some id) = id
 
 -- The greatest id that was used, 0 where none was.
 abbrev pub greatest_id : List Record → ℕ
