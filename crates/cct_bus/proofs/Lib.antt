@@ -1,3 +1,4 @@
+pub mod Asked
 pub mod Buses
 pub mod Hears
 pub mod Lives

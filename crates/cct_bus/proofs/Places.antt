@@ -20,7 +20,7 @@ use Rattle.cct_bus.specs.Device.{Lived, Stands, setup_in, setups_in}
 abbrev pub is_at : ℕ → Device → Bool
 is_at addr device = (setup_in device).addr == addr
 
-none_here : (same : Bool) (d : DeviceSetup) (rest : Option DeviceSetup) → cond same (Some d) rest ≡ None → (same ≡ false) × (rest ≡ None)
+pub none_here : (same : Bool) (d : DeviceSetup) (rest : Option DeviceSetup) → cond same (Some d) rest ≡ None → (same ≡ false) × (rest ≡ None)
 none_here true d rest e = absurd cc
 none_here false d rest e = (refl, e)
 
@@ -98,7 +98,7 @@ pub all_put : (P : Device → Type 0) (d : Device) (es : List Device) (i : ℕ) 
 all_put P d es i here rest =
     All-append P (take i es) (d ∷ drop i es) (All-take P i es rest) (All-cons P d (drop i es) here (All-drop P i es rest))
 
-apart : (es : List Device) (i : ℕ) (x : Device) (addr : ℕ) → i < length es → device_at (setups_in es) addr ≡ None → (setup_in (get_or es i x)).addr ≢ addr
+pub apart : (es : List Device) (i : ℕ) (x : Device) (addr : ℕ) → i < length es → device_at (setups_in es) addr ≡ None → (setup_in (get_or es i x)).addr ≢ addr
 apart [] i x addr within none = absurd (omega arith)
 apart (e ∷ es) zero x addr within none =
     let test : is_at addr e ≡ false = (none_here (is_at addr e) (setup_in e) _ none).0 in

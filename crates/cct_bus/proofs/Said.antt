@@ -64,7 +64,7 @@ asked_of_message addr kind piece (Some m) q read e =
     (asked_at (m.to == addr) (m.to == 0) addr m.to q refl refl
     (asked_by (m.to == addr) (m.to == 0) (to_one (request_of m.header m.body)) (request_of m.header m.body) q e))
 
-asked_where : (d : DeviceSetup) (piece : List ℕ) (q : Request) → asks_of d piece ≡ Some q → IsForOneOrAll d.addr (slice_index piece 0) q
+pub asked_where : (d : DeviceSetup) (piece : List ℕ) (q : Request) → asks_of d piece ≡ Some q → IsForOneOrAll d.addr (slice_index piece 0) q
 unfolding asks_of
 asked_where d piece q e = asked_of_message d.addr d.kind piece (message d.kind piece) q refl e
 

@@ -292,7 +292,7 @@ fn place_not_below(devices: &[Device<'_>], addr: u8) -> Option<usize>
 }
 
 /// The index of the device at an address, or none.
-fn place_of(devices: &[Device<'_>], addr: u8) -> Option<usize>
+pub(crate) fn place_of(devices: &[Device<'_>], addr: u8) -> Option<usize>
     ensures first { result ≡ position (λ device. (setup_in device).addr == addr) devices.now }
     ensures within { IfSome result (λ place. place < length devices.now) }
 {

@@ -1,19 +1,71 @@
 //! What the devices on the wire make of a piece, all together.
-ghost use Rattle.std.specs.Prelude.{◌≡◌, ◌+◌, ◌≤◌, List, ◌∷◌, [], ◌++◌, length, unwrap_or};
+ghost use Rattle.std.specs.Prelude.{◌≡◌, ◌≢◌, ◌+◌, ◌≤◌, List, ◌∷◌, [], ◌++◌, length, slice_index, unwrap_or};
 ghost use Rattle.std.specs.List.{All, flat_map};
 ghost use Rattle.cct_model.specs.terms.device.DeviceSetup.{DeviceSetup};
 ghost use Rattle.cct_model.specs.Exchange.{answer, asks_of};
 ghost use Rattle.cct_model.specs.History.{Met, heard};
+ghost use Rattle.cct_model.specs.Setup.{AreDistinct};
 ghost use Rattle.cct_bus.specs.Device.{Stands, setups_in};
 ghost use Rattle.cct_bus.specs.Room.{most_answered};
 
+use crate::bus::place_of;
 use crate::device::Device;
 use arrayvec::ArrayVec;
-use cct_model::{MOST_HEARD, MOST_SENT};
+use cct_model::{BROADCAST, MOST_HEARD, MOST_SENT};
 
-/// Every device hears a piece, byte by byte, and then a gap. What they answer goes after what `answers` holds, in the
-/// order of the devices; `frame` is room for one answer.
+/// The devices hear a piece and then a gap: one that it is for by its first byte, or each, if it is for all; it asks
+/// nothing of the others. What they answer goes after what `answers` holds, in the order of the devices; `frame` is room
+/// for one answer.
 pub(crate) fn all_hear(
+    devices: &mut [Device<'_>],
+    piece: &[u8],
+    frame: &mut ArrayVec<u8, MOST_SENT>,
+    answers: &mut ArrayVec<u8, MOST_HEARD>,
+)
+    requires room { length answers.old.items + most_answered piece.now (setups_in devices.old) ≤ MOST_HEARD }
+    ensures setups { setups_in devices.new ≡ setups_in devices.old }
+    ensures stand { (history : DeviceSetup → List Met) → AreDistinct (setups_in devices.old)
+        → All (Stands history) devices.old → All (Stands (λ d. heard (asks_of d piece.now) ∷ history d)) devices.new }
+    ensures answers { (history : DeviceSetup → List Met) → AreDistinct (setups_in devices.old)
+        → All (Stands history) devices.old → answers.new.items
+        ≡ answers.old.items ++ flat_map (λ d. unwrap_or (answer d (history d) piece.now) []) (setups_in devices.old) }
+{
+    match piece {
+        [to, ..] if *to != BROADCAST => one_hears(devices, *to, piece, frame, answers),
+        _ => each_hears(devices, piece, frame, answers),
+    }
+}
+
+/// The device at an address hears a piece that is for it, if there is one.
+fn one_hears(
+    devices: &mut [Device<'_>],
+    to: u8,
+    piece: &[u8],
+    frame: &mut ArrayVec<u8, MOST_SENT>,
+    answers: &mut ArrayVec<u8, MOST_HEARD>,
+)
+    requires first { slice_index piece.now 0 ≡ to }
+    requires one { to ≢ BROADCAST }
+    requires room { length answers.old.items + most_answered piece.now (setups_in devices.old) ≤ MOST_HEARD }
+    ensures setups { setups_in devices.new ≡ setups_in devices.old }
+    ensures stand { (history : DeviceSetup → List Met) → AreDistinct (setups_in devices.old)
+        → All (Stands history) devices.old → All (Stands (λ d. heard (asks_of d piece.now) ∷ history d)) devices.new }
+    ensures answers { (history : DeviceSetup → List Met) → AreDistinct (setups_in devices.old)
+        → All (Stands history) devices.old → answers.new.items
+        ≡ answers.old.items ++ flat_map (λ d. unwrap_or (answer d (history d) piece.now) []) (setups_in devices.old) }
+{
+    match place_of(devices, to) {
+        None => {}
+        Some(index) => {
+            devices[index].hear(piece, frame);
+            put_behind(frame.as_slice(), answers);
+        }
+    }
+}
+
+/// Each device hears a piece.
+#[inline(never)]
+fn each_hears(
     devices: &mut [Device<'_>],
     piece: &[u8],
     frame: &mut ArrayVec<u8, MOST_SENT>,

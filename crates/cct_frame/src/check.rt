@@ -1,6 +1,6 @@
 //! The bytes by which a message is checked.
 ghost use Rattle.std.specs.Prelude.{◌≡◌, List, ℕ, [], ◌∷◌, ◌++◌, drop, length, take};
-ghost use Rattle.cct_terms.specs.Message.{closing_byte, crc};
+ghost use Rattle.cct_terms.specs.Message.{crc};
 ghost use Rattle.cct_frame.specs.Frame.{run_over};
 
 use cct_check::{crc16, crc16_step, simple_sum};
@@ -44,13 +44,6 @@ fn crc_without_low(front: &[u8]) -> u16
     } else {
         crc_of(front, &[])
     }
-}
-
-/// The byte that closes the sum of those before it.
-pub(crate) fn closing(front: &[u8]) -> u8
-    ensures { result ≡ closing_byte front.now }
-{
-    simple_sum(front).wrapping_neg()
 }
 
 /// The CRC of two runs of bytes, one after the other.

@@ -2,7 +2,7 @@
 ghost use Rattle.std.specs.Prelude.{◌≡◌, ◌≤◌, Option, ℕ, length};
 ghost use Rattle.cct_terms.specs.Message.{spelling};
 
-use crate::check::{closing, crc_of};
+use crate::check::crc_of;
 use arrayvec::ArrayVec;
 use cct_terms::{CheckKind, MOST_SENT};
 
@@ -24,21 +24,29 @@ pub fn write(
     }
 }
 
-/// Writes a message under the simple check.
+/// Writes a message under the simple check. Its bytes are summed as they are written, and few as they are, they are pushed
+/// one by one: a copy costs more.
 #[tactic(auto, unfolding(cct_terms::specs::Message::spelling))]
 fn write_simple(to: u8, from: u8, header: u8, body: &[u8], out: &mut ArrayVec<u8, MOST_SENT>)
     requires { length body.now ≤ 255 }
     ensures { out.new.items
         ≡ spelling CheckKind.Simple (record { to = to; from = Some from; header = header; body = body.now }) }
 {
+    let said = body.len() as u8;
+    let mut sum = to
+        .wrapping_add(said)
+        .wrapping_add(from)
+        .wrapping_add(header);
     out.clear();
     out.push(to);
-    out.push(body.len() as u8);
+    out.push(said);
     out.push(from);
     out.push(header);
-    out.try_extend_from_slice(body).unwrap();
-    let check = closing(out.as_slice());
-    out.push(check);
+    for byte in body {
+        out.push(*byte);
+        sum = sum.wrapping_add(*byte);
+    }
+    out.push(sum.wrapping_neg());
 }
 
 /// Writes a message under the CRC.
@@ -55,6 +63,8 @@ fn write_crc(to: u8, header: u8, body: &[u8], out: &mut ArrayVec<u8, MOST_SENT>)
     out.push(said);
     out.push(low);
     out.push(header);
-    out.try_extend_from_slice(body).unwrap();
+    for byte in body {
+        out.push(*byte);
+    }
     out.push(high);
 }

@@ -2,6 +2,7 @@
 use Rattle.std.specs.Prelude.{◌≡◌, ℕ, suc, zero, ◌+◌, ◌-◌, ◌*◌, ◌≤◌, ◌==◌, nat_lt, min, sum, ◌⊎◌, List, length, drop, slice_index, if◌then◌else◌, Option, Some, None, ⊤}
 use Rattle.cct_model.specs.declared.change.Tray.{Tray}
 use Rattle.cct_plan.specs.declared.filling.TheConstants.{FAR, ROW}
+use Rattle.cct_plan.specs.declared.tray.TheConstants.{TRAYS}
 use Rattle.cct_model.specs.Plan.{most_of, IsPlan}
 use Rattle.cct_plan.specs.Certificate.{Asked}
 
@@ -56,6 +57,11 @@ Tells cells trays many amount =
 abbrev pub asked_in : List Tray → Option ℕ → Option Asked
 asked_in trays None = None
 asked_in trays (Some amount) = Some (record { trays = trays; amount = amount })
+
+-- How many cells the table has: none until a plan is asked of it, and then one for each tray and each amount.
+abbrev pub cells_for : Option ℕ → ℕ
+cells_for None = 0
+cells_for (Some amount) = TRAYS * ROW
 
 -- The table tells the least number of coins for what was asked.
 abbrev pub TellsAsked : List ℕ → List Tray → Option ℕ → Type 0

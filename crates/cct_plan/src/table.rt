@@ -21,23 +21,24 @@ use std::marker::Model;
 pub struct Table {
     trays: ArrayVec<Tray, TRAYS>,
     amount: Option<u32>,
-    /// Row by row: that of the last tray first, and `ROW` amounts in each.
+    /// Row by row: that of the last tray first, and `ROW` amounts in each. It is empty until a plan is asked, so that a
+    /// table that is never asked costs no time, and no page of memory is touched for it.
     least: Vec<u16>,
 }
 
 impl Model for Table {
-    ghost use Rattle.std.specs.Prelude.{◌≡◌, ◌*◌, ◌≤◌, length, Option, vec_len};
+    ghost use Rattle.std.specs.Prelude.{◌≡◌, ◌*◌, ◌≤◌, length, Option, vec_capacity, vec_len};
     ghost use Rattle.cct_plan.specs.declared.tray.TheConstants.{TRAYS};
     ghost use Rattle.cct_plan.specs.declared.filling.TheConstants.{ROW};
     ghost use Rattle.cct_plan.specs.Certificate.{Asked};
-    ghost use Rattle.cct_plan.specs.Row.{asked_in, TellsAsked};
+    ghost use Rattle.cct_plan.specs.Row.{asked_in, cells_for, TellsAsked};
 
     ghost Value = { Option Asked };
 
     ghost view = { λ s. asked_in s.trays.items s.amount };
 
-    ghost invariant = { λ s. (vec_len s.least ≡ TRAYS * ROW) × (length s.trays.items ≤ TRAYS)
-        × TellsAsked s.least.items s.trays.items s.amount };
+    ghost invariant = { λ s. (TRAYS * ROW ≤ vec_capacity s.least) × (vec_len s.least ≡ cells_for s.amount)
+        × (length s.trays.items ≤ TRAYS) × TellsAsked s.least.items s.trays.items s.amount };
 }
 
 impl Table {
@@ -50,7 +51,7 @@ impl Table {
         Ok(Table {
             trays: ArrayVec::new(),
             amount: None,
-            least: vec![in alloc; FAR; TRAYS * ROW]?,
+            least: Vec::with_capacity(alloc, TRAYS * ROW)?,
         })
     }
 
@@ -67,6 +68,7 @@ impl Table {
         ensures chosen { OnTrue result (IsChosen trays.now amount counts.new.items) }
         ensures none { OnFalse result ((counts.new.items ≡ []) × HasNoPlan trays.now amount) }
     {
+        self.least.resize(TRAYS * ROW, FAR).unwrap();
         keep(&mut self.trays, trays);
         self.amount = Some(amount);
         set_out(&mut self.least, trays, amount as usize, counts)

@@ -2,6 +2,7 @@ pub mod Message
 pub mod Request
 pub mod Reply
 pub mod History
+pub mod Places
 pub mod Setting
 pub mod Acceptor
 pub mod Bill

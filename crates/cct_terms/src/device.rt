@@ -1,5 +1,6 @@
 //! The devices of a machine, as the setup lines of a script give them.
-ghost use Rattle.std.specs.Prelude.{◌≡◌, ◌<◌, ◌≤◌, ◌==◌, List, [], ◌∷◌, ◌++◌, length, map, if◌then◌else◌};
+ghost use Rattle.std.specs.Prelude.{◌≡◌, ◌<◌, ◌≤◌, ◌==◌, List, [], ◌∷◌, ◌++◌, length, map, if◌then◌else◌, IfSome};
+ghost use Rattle.std.specs.List.{position};
 ghost use Rattle.std.specs.Option.{option_map};
 ghost use Rattle.cct_terms.specs.Device.{is_acceptor, is_bill, is_hopper, is_taker, value_at};
 ghost use Rattle.cct_terms.specs.Exchange.{device_at};
@@ -134,24 +135,41 @@ impl DeviceSetup {
 /// The most devices of a setup.
 pub const DEVICES: usize = 32;
 
+/// How many addresses there are.
+const ADDRESSES: usize = 256;
+
 /// The devices of a setup, in the order of the script.
-#[derive(Clone, Debug, Default, Drop, PartialEq, Eq)]
+#[derive(Clone, Debug, Drop, PartialEq, Eq)]
 pub struct Devices {
     devices: ArrayVec<DeviceSetup, DEVICES>,
+    /// The place of the first device at each address.
+    places: [Option<u8>; ADDRESSES],
 }
 
 impl Model for Devices {
-    ghost use Rattle.std.specs.Prelude.{◌≤◌, List, length};
+    ghost use Rattle.std.specs.Prelude.{◌≡◌, ◌≤◌, List, length};
+    ghost use Rattle.std.proofs.Common.{sym};
     ghost use Rattle.cct_terms.specs.declared.device.DeviceSetup.{DeviceSetup};
     ghost use Rattle.cct_terms.specs.declared.device.TheConstants.{DEVICES};
+    ghost use Rattle.cct_terms.specs.Places.{places_of};
 
     ghost Value = { List DeviceSetup };
 
     ghost view = { λ d. d.devices.items };
 
-    ghost invariant = { λ d. length d.devices.items ≤ DEVICES };
+    ghost invariant = { λ d. (length d.devices.items ≤ DEVICES) × (d.places ≡ places_of d.devices.items) };
 
-    ghost inverse = { λ xs. record { devices = record { items = xs } } };
+    ghost inverse = { λ xs. record { devices = record { items = xs }; places = places_of xs } };
+
+    ghost inverse_ok = { λ d h i. record { devices = d.devices; places = sym h.1 i } };
+}
+
+impl Default for Devices {
+    ghost is_default = { λ devices. devices ≡ [] };
+
+    fn default() -> Self {
+        Devices::new()
+    }
 }
 
 impl Devices {
@@ -161,6 +179,7 @@ impl Devices {
     {
         Devices {
             devices: ArrayVec::new(),
+            places: [None; ADDRESSES],
         }
     }
 
@@ -169,6 +188,9 @@ impl Devices {
         requires { length self.old < DEVICES }
         ensures { self.new ≡ self.old ++ device ∷ [] }
     {
+        let place = self.devices.len() as u8;
+        let addr = device.addr as usize;
+        self.places[addr] = self.places[addr].or(Some(place));
         self.devices.push(device);
     }
 
@@ -184,7 +206,19 @@ impl Devices {
     pub fn clear(&mut self)
         ensures { self.new ≡ [] }
     {
-        self.devices.clear();
+        *self = Devices::new();
+    }
+
+    /// The place of the first device at an address, or none.
+    #[inline]
+    pub fn place_of(&self, addr: u8) -> Option<usize>
+        ensures first { result ≡ position (λ d. d.addr == addr) self.now }
+        ensures within { IfSome result (λ place. place < length self.now) }
+    {
+        match self.places[addr as usize] {
+            Some(place) => Some(usize::from(place)),
+            None => None,
+        }
     }
 
     /// The devices in the order of the script.
@@ -218,11 +252,7 @@ impl Setup {
     pub fn device_at(&self, addr: u8) -> Option<&DeviceSetup>
         ensures { option_map (λ d. d.now) result ≡ device_at self.now.devices addr }
     {
-        for device in self.devices.as_slice() {
-            if device.addr == addr {
-                return Some(device);
-            }
-        }
-        None
+        let place = self.devices.place_of(addr)?;
+        Some(&self.devices.as_slice()[place])
     }
 }

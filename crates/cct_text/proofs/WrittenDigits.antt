@@ -75,3 +75,7 @@ pub pair_at : (byte : ℕ) → byte < 256 →
     (get_or HEX_PAIRS (2 * byte) 0 ≡ get_or lower_digits (byte / 16) 0)
     × (get_or HEX_PAIRS (2 * byte + 1) 0 ≡ get_or lower_digits (byte % 16) 0)
 pair_at byte below = pair_below 256 byte tt below
+
+-- the text of a number below ten
+pub one_digit_text : (n : ℕ) → n < 10 → number_text n ≡ (48 + n) ∷ []
+one_digit_text n small = sym (decimal_is n (omega (arith, small))) ∙ decimal_digit n small

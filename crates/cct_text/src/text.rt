@@ -1,5 +1,5 @@
 //! A buffer for one line of text.
-ghost use Rattle.std.specs.Prelude.{◌≡◌, ℕ, ◌+◌, ◌*◌, ◌≤◌, List, [], ◌∷◌, ◌++◌, length};
+ghost use Rattle.std.specs.Prelude.{◌≡◌, ℕ, ◌+◌, ◌*◌, ◌<◌, ◌≤◌, List, [], ◌∷◌, ◌++◌, length};
 ghost use Rattle.std.specs.Fmt.{decimal};
 ghost use Rattle.hex.specs.Hex.{encode_lower};
 ghost use Rattle.cct_lines.specs.Text.{number_text};
@@ -81,8 +81,34 @@ impl TextLine {
         self.push_digits(u64::from(byte));
     }
 
-    /// Adds the digits of a number, for which there is room.
+    /// Adds the digits of a number, for which there is room. Most numbers have one.
+    #[tactic(auto, using(crate::proofs::WrittenDigits::one_digit_text, crate::proofs::WrittenDigits::one_digit_length))]
+    #[inline]
     fn push_digits(&mut self, number: u64)
+        requires { length self.old + length (decimal number) ≤ MOST_TEXT }
+        ensures { self.new ≡ self.old ++ number_text number }
+    {
+        if number < 10 {
+            self.push_digit(number as u8);
+        } else {
+            self.push_more_digits(number);
+        }
+    }
+
+    /// Adds one digit, for which there is room.
+    #[inline]
+    fn push_digit(&mut self, digit: u8)
+        requires room { length self.old + 1 ≤ MOST_TEXT }
+        requires small { digit < 10 }
+        ensures { self.new ≡ self.old ++ (48 + digit) ∷ [] }
+    {
+        self.bytes[self.len] = b'0' + digit;
+        self.len += 1;
+    }
+
+    /// Adds the digits of a number of more than one, for which there is room.
+    #[inline(never)]
+    fn push_more_digits(&mut self, number: u64)
         requires { length self.old + length (decimal number) ≤ MOST_TEXT }
         ensures { self.new ≡ self.old ++ number_text number }
     {

@@ -4,10 +4,12 @@ use Rattle.std.specs.List.{All, flat_map}
 use Rattle.cct_model.specs.terms.device.DeviceSetup.{DeviceSetup}
 use Rattle.cct_model.specs.History.{Met}
 use Rattle.cct_model.specs.Honest.{is_honest}
+use Rattle.cct_model.specs.Setup.{AreDistinct}
 use Rattle.cct_model.specs.Transcript.{heard_by_devices, heard_by_host, met, pending}
 use Rattle.cct_bus.specs.Device.{Stands, setups_in}
 use Rattle.cct_bus.specs.Room.{most_answered}
 use Rattle.cct_bus.proofs.Buses.{exchange_stands, exchanged, room_in_order}
+use Rattle.cct_bus.proofs.Orders.{distinct_by_address}
 use Rattle.cct_bus.proofs.Hears.{answer_of, hearing, ok_fact, refilled}
 use Rattle.cct_model.specs.lines.entry.Entry.TheVariants as entry
 use Rattle.cct_bus.proofs.bus.BusLink.exchange.Goals as goal
@@ -37,13 +39,15 @@ returns c =
     let lent : c.deref_mut.result.now ≡ old = c.deref_mut.ensures.value in
     let reached : piece ≡ heard_by_devices fault sent = c.heard_by_devices-piece.ensures in
     let makes : (answered : List ℕ) → told ≡ sent ++ answered → heard ≡ heard_by_host fault sent answered = c.heard_by_host.ensures in
-    let says : (history : DeviceSetup → List Met) → All (Stands history) old → told ≡ sent ++ flat_map (answer_of piece history) (setups_in old) =
-    (λ history stand. c.all_hear.ensures.answers history (subst (λ ds. All (Stands history) ds) (sym lent) stand) ∙ ap (λ front. front ++ flat_map (answer_of piece history) (setups_in c.deref_mut.result.now)) echo ∙ ap (λ ds. sent ++ flat_map (answer_of piece history) (setups_in ds)) lent) in (
+    let says : AreDistinct (setups_in c.deref_mut.result.now) → (history : DeviceSetup → List Met) → All (Stands history) old → told ≡ sent ++ flat_map (answer_of piece history) (setups_in old) =
+    (λ distinct history stand. c.all_hear.ensures.answers history distinct (subst (λ ds. All (Stands history) ds) (sym lent) stand) ∙ ap (λ front. front ++ flat_map (answer_of piece history) (setups_in c.deref_mut.result.now)) echo ∙ ap (λ ds. sent ++ flat_map (answer_of piece history) (setups_in ds)) lent) in (
       refl,
       λ past addr stands.
           let same : fault ≡ pending past = stands.fault in
-          let hears : All (Stands (hearing piece (λ d. met d past))) new = c.all_hear.ensures.stand (λ d. met d past) (subst (λ ds. All (Stands (λ d. met d past)) ds) (sym lent) stands.devices) in (
-            exchanged setup past fault old sent piece told heard same stands.order reached says makes stands.devices,
+          let distinct : AreDistinct (setups_in c.deref_mut.result.now) =
+          subst (λ ds. AreDistinct ds) (sym (ap setups_in lent ∙ stands.order)) (distinct_by_address setup.devices stands.sound.distinct) in
+          let hears : All (Stands (hearing piece (λ d. met d past))) new = c.all_hear.ensures.stand (λ d. met d past) distinct (subst (λ ds. All (Stands (λ d. met d past)) ds) (sym lent) stands.devices) in (
+            exchanged setup past fault old sent piece told heard same stands.order reached (says distinct) makes stands.devices,
             record {
               sound = stands.sound;
               order = ap setups_in (sym back) ∙ c.all_hear.ensures.setups ∙ ap setups_in lent ∙ stands.order;

@@ -6,7 +6,7 @@ use Rattle.cct_model.specs.Exchange.{answer, asks_of}
 use Rattle.cct_model.specs.History.{Met, heard}
 use Rattle.cct_bus.specs.Device.{Stands, setups_in}
 use Rattle.cct_bus.specs.Room.{most_answered}
-use Rattle.cct_bus.proofs.hearing.all_hear.Given as goal
+use Rattle.cct_bus.proofs.hearing.each_hears.Given as goal
 
 abbrev pub invariant-loop-device : goal.invariant-loop-device
 invariant-loop-device l = record {

@@ -1,7 +1,7 @@
 use Rattle.std.proofs.Common.{◌≡◌, ◌++◌, take, decimal, ap, ◌∙◌, arith}
 use Rattle.cct_text.proofs.Numbers.{decimal_is}
 use Rattle.cct_text.proofs.WrittenDigits.{written_at}
-use Rattle.cct_text.proofs.text.TextLine.push_digits.Goals as goal
+use Rattle.cct_text.proofs.text.TextLine.push_more_digits.Goals as goal
 
 pub returns : goal.returns
 returns c =
