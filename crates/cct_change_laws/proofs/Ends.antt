@@ -415,17 +415,18 @@ told_now test past news later end more is grown some = (
   any_later test grown.0 (more ++ news) (any_later test more news some),
 )
 
-pub blocks_grown : (Wanted : List Entry → List Step → Desk → Type 0) (capacity : ℕ) (setup : Setup) (past : List Entry) (desk : Desk) (tally : Tally)
-    (blocks : List (List Step)) (end : List Entry) (last : Desk) (found : Tally) →
-    InBlocks Wanted capacity setup past desk tally blocks end last found → (more : List Entry) × (end ≡ more ++ past)
-blocks_grown Wanted capacity setup past desk tally [] end last found told = ([], told.0)
-blocks_grown Wanted capacity setup past desk tally (block ∷ blocks) end last found told =
+pub blocks_grown : {A : Type 0} (after : Step → List Entry → Desk → A → A)
+    (Wanted : List Entry → List Step → Desk → A → Type 0) (capacity : ℕ) (setup : Setup) (past : List Entry) (desk : Desk)
+    (kept : A) (blocks : List (List Step)) (end : List Entry) (last : Desk) (found : A) →
+    InBlocks after Wanted capacity setup past desk kept blocks end last found → (more : List Entry) × (end ≡ more ++ past)
+blocks_grown after Wanted capacity setup past desk kept [] end last found told = ([], told.0)
+blocks_grown after Wanted capacity setup past desk kept (block ∷ blocks) end last found told =
     let news = told.0 in
     let next = desk_after step.Serve news desk in
-    let left = tally_after step.Serve news desk tally in
+    let left = after step.Serve news desk kept in
     let first = desk_grown capacity setup (news ++ past) next block told.3 told.4
-    (along_desk tally_after capacity setup (news ++ past) next left block told.3 told.4 told.5 told.6) in
-    let later = blocks_grown Wanted capacity setup told.3 told.4 told.5 blocks end last found told.9 in (
+    (along_desk after capacity setup (news ++ past) next left block told.3 told.4 told.5 told.6) in
+    let later = blocks_grown after Wanted capacity setup told.3 told.4 told.5 blocks end last found told.9 in (
       later.0 ++ (first.0 ++ news),
       later.1 ∙ ap (λ es. later.0 ++ es) (first.1 ∙ sym (append_assoc first.0 news past))
           ∙ sym (append_assoc later.0 (first.0 ++ news) past),
@@ -434,9 +435,9 @@ blocks_grown Wanted capacity setup past desk tally (block ∷ blocks) end last f
 MadeAll : Tally → List (List Step) → List Entry → Desk → Tally → Type 0
 MadeAll tally blocks end last found = (found.made ≡ tally.made + length blocks) × IsFew end last found
 
-in_blocks : (Wanted : List Entry → List Step → Desk → Type 0) (capacity : ℕ) (setup : Setup) (past : List Entry) (desk : Desk) (tally : Tally) (blocks : List (List Step))
+in_blocks : (Wanted : List Entry → List Step → Desk → Tally → Type 0) (capacity : ℕ) (setup : Setup) (past : List Entry) (desk : Desk) (tally : Tally) (blocks : List (List Step))
     (end : List Entry) (last : Desk) (found : Tally) → IsSoundSetup setup → Stands capacity setup past desk →
-    IsFew past desk tally → IsReady desk.session → InBlocks Wanted capacity setup past desk tally blocks end last found →
+    IsFew past desk tally → IsReady desk.session → InBlocks tally_after Wanted capacity setup past desk tally blocks end last found →
     TellsEnd past end ⊎ MadeAll tally blocks end last found
 unfolding ServeGoes MadeAll
 in_blocks Wanted capacity setup past desk tally [] end last found sound at few ready told =
@@ -457,7 +458,7 @@ in_blocks Wanted capacity setup past desk tally (block ∷ blocks) end last foun
           let first = desk_grown capacity setup (news ++ past) next block told.3 told.4
           (along_desk tally_after capacity setup (news ++ past) next left block told.3 told.4 told.5 told.6) in
           inl (told_now is_session_end past news told.3 end first.0 first.1
-          (blocks_grown Wanted capacity setup told.3 told.4 told.5 blocks end last found told.9) ends))
+          (blocks_grown tally_after Wanted capacity setup told.3 told.4 told.5 blocks end last found told.9) ends))
       | inr pays ↦ (
           let ended = block_ends capacity setup past news desk left pays.payment block told.3 told.4 told.5 sound told.1
           at on few_on pays.told pays.last told.2 told.6 told.7 in
@@ -475,10 +476,10 @@ in_blocks Wanted capacity setup past desk tally (block ∷ blocks) end last foun
     ]
 
 -- so a session ends, if there are more blocks than it can make payments
-pub blocks_end : (Wanted : List Entry → List Step → Desk → Type 0) (capacity : ℕ) (setup : Setup) (steps : List Step) (past : List Entry) (desk : Desk) (tally : Tally)
+pub blocks_end : (Wanted : List Entry → List Step → Desk → Tally → Type 0) (capacity : ℕ) (setup : Setup) (steps : List Step) (past : List Entry) (desk : Desk) (tally : Tally)
     (blocks : List (List Step)) (end : List Entry) (last : Desk) (found : Tally) → IsSoundSetup setup →
     All IsInRange steps → TalliesTo capacity setup steps past desk tally → IsReady desk.session →
-    InBlocks Wanted capacity setup past desk tally blocks end last found → most_made found < tally.made + length blocks →
+    InBlocks tally_after Wanted capacity setup past desk tally blocks end last found → most_made found < tally.made + length blocks →
     TellsEnd past end
 unfolding MadeAll
 blocks_end Wanted capacity setup steps past desk tally blocks end last found sound range tallies ready told enough =

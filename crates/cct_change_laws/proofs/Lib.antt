@@ -1,10 +1,15 @@
+pub mod Alone
 pub mod Along
+pub mod Below
 pub mod Closing
 pub mod Counted
+pub mod Courses
 pub mod Ends
 pub mod Few
 pub mod Filled
+pub mod Free
 pub mod Fresh
+pub mod Grown
 pub mod Legal
 pub mod Named
 pub mod News
@@ -16,4 +21,5 @@ pub mod Taken
 pub mod Sessions
 pub mod Told
 pub mod Trays
+pub mod Turns
 pub mod Worked

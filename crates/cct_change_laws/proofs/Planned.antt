@@ -2,6 +2,7 @@
 -- session that goes smoothly is served exactly where its amount had a plan as it began.
 use Rattle.std.proofs.Common.{◌≡◌, ◌⊎◌, inl, inr, ℕ, ◌+◌, ◌-◌, ◌*◌, ◌<◌, ◌≤◌, ◌==◌, ◌^◌, ◌&&◌, Bool, true, false, cond, List, [], ◌∷◌, sum, refl, ap, sym, ◌∙◌, subst, Option, Some, None, All, arith, eq-eqb, eqb-true}
 use Rattle.std.specs.Prelude.{MatchBool, ⊤}
+use Rattle.std.specs.List.{list_any}
 use Rattle.std.specs.Option.{option_map}
 use Rattle.std.proofs.lemmas.Bool.{and_parts, cond-false, cond-true}
 use Rattle.std.proofs.Math.Nat.{mul-le-mul_left}
@@ -21,12 +22,13 @@ use Rattle.cct_model.specs.declared.change.Phase.TheVariants.{Begun, Opened, Clo
 use Rattle.cct_model.specs.declared.change.Session.{Session}
 use Rattle.cct_model.specs.declared.change.Tray.{Tray}
 use Rattle.cct_model.specs.AtDesk.{EntriesAtDesk}
-use Rattle.cct_model.specs.Change.{Desk, GoesOn, IsStuck, PaysNext, PaysOn, Serves, ServesDue, Settles, changed, due_after, first_pay, gone_on, pay_entries, restocked, served, served_by, served_due, session_after, settled, settled_trays, short_entry, stock_left, value_in}
+use Rattle.cct_model.specs.Change.{Desk, GoesOn, IsStuck, PaysNext, PaysOn, Serves, ServesDue, Settles, changed, clear_desk, due_after, first_pay, gone_on, pay_entries, restocked, served, served_by, served_due, session_after, settled, settled_trays, short_entry, stock_left, value_in}
 use Rattle.cct_model.specs.Plan.{AreWithin, HasNoPlan, IsPlan, worth}
 use Rattle.cct_model.specs.Records.{records}
 use Rattle.cct_model.specs.Refusal.{refusal}
 use Rattle.cct_model.specs.Script.{IsInRange}
 use Rattle.cct_model.specs.Setup.{IsSoundSetup}
+use Rattle.cct_change_laws.specs.Blocks.{is_refusal}
 use Rattle.cct_change_laws.specs.Tally.{EachTally, HasPlan, IsSmooth, TalliesTo, Tally, is_whole, is_whole_by, is_whole_in, most_made, no_tally, taken_in, tally_after, tally_begun}
 use Rattle.cct_change_laws.proofs.Along.{Keeps, along}
 use Rattle.cct_change_laws.proofs.Counted.{same_some}
@@ -489,14 +491,15 @@ keeps_planned capacity setup sound past news desk t s range gives at on is = (
   },
 )
 
+pub both_start : (setup : Setup) → IsSoundSetup setup → IsBoth [] (clear_desk setup) no_tally
+both_start setup sound =
+    (few_start setup sound, record { valued = tt; plan = λ smooth counts plan. omega arith })
+
 pub both_run : (capacity : ℕ) (setup : Setup) (steps : List Step) (past : List Entry) (desk : Desk) (tally : Tally) →
     IsSoundSetup setup → All IsInRange steps → TalliesTo capacity setup steps past desk tally → IsBoth past desk tally
 both_run capacity setup steps past desk tally sound range tallies =
     (along tally_after capacity setup IsBoth (keeps_planned capacity setup sound) no_tally steps past desk tally sound
-    range tallies (
-      few_start setup sound,
-      record { valued = tt; plan = λ smooth counts plan. omega arith },
-    )).1
+    range tallies (both_start setup sound)).1
 
 -- ---- what it tells
 
@@ -555,68 +558,97 @@ not_stuck t made trays s counts valued ids is plan (inr used) =
     omega (arith, few, coins, whole, next, used, ids)
 
 -- one that falls short, without a payment that is refused, had none
-short_began : (capacity : ℕ) (setup : Setup) (past : List Entry) (t : Tally) (made : ℕ) (trays : List Tray) (s : Session)
-    (paid rest : ℕ) → AreValued t.trays → t.first + t.amount < 2 ^ 32 → Settled t made trays s →
-    GoesOn capacity setup past trays s (entry.Short paid rest ∷ []) → HasNoPlan t.trays t.amount
-short_began capacity setup past t made trays s paid rest valued ids is goes counts plan =
+abbrev pub TellsShort : ℕ → ℕ → List Entry → List Entry → Type 0
+TellsShort paid rest earlier news =
+    (news ≡ entry.Short paid rest ∷ earlier) × (list_any is_refusal news ≡ false)
+
+short_began : (capacity : ℕ) (setup : Setup) (past news earlier : List Entry) (t : Tally) (made : ℕ) (trays : List Tray)
+    (s : Session) (paid rest : ℕ) → AreValued t.trays → t.first + t.amount < 2 ^ 32 → Settled t made trays s →
+    TellsShort paid rest earlier news → GoesOn capacity setup past trays s news → HasNoPlan t.trays t.amount
+short_began capacity setup past news earlier t made trays s paid rest valued ids is told goes counts plan =
     by_rest (s.rest == 0) goes
   where
-    not_paid : (p : Payment) (why : Option CommandNo) → entry.Short paid rest ∷ [] ≡ pay_entries s p why → ⊥
-    not_paid p None is = cc is
-    not_paid p (Some why) is = cc is
+    not_paid : (p : Payment) (why : Option CommandNo) → news ≡ pay_entries s p why → ⊥
+    not_paid p None gives = let both = sym told.0 ∙ gives in cc both
+    not_paid p (Some why) gives =
+        let none = subst (λ es. list_any is_refusal es ≡ false) gives told.1 in cc none
 
     by_rest : (none : Bool) →
-        MatchBool none (entry.Short paid rest ∷ [] ≡ entry.Served s.amount ∷ [])
-        (PaysOn capacity setup past trays s (entry.Short paid rest ∷ [])) → ⊥
-    by_rest true gives = cc gives
+        MatchBool none (news ≡ entry.Served s.amount ∷ []) (PaysOn capacity setup past trays s news) → ⊥
+    by_rest true gives = let both = sym told.0 ∙ gives in cc both
     by_rest false (inl stuck) = not_stuck t made trays s counts valued ids is plan stuck.0
     by_rest false (inr pays) =
         not_paid pays.0 (refusal capacity setup past (command.Pay pays.0.addr pays.0.id pays.0.count)) pays.2
 
-short_due : (capacity : ℕ) (setup : Setup) (past : List Entry) (t : Tally) (made bound : ℕ) (trays : List Tray)
-    (s : Session) (p : Payment) (phase : Phase) (paid rest : ℕ) → AreValued t.trays → t.first + t.amount < 2 ^ 32 →
-    AreSingle trays → FewBy (records past) trays bound made s.rest (Some (record { payment = p; phase = phase })) →
-    is_whole phase ≡ true → PlanRuns t made trays (with_due s p phase) →
-    Settles capacity setup past trays (with_due s p phase) (record { payment = p; phase = phase }) phase
-    (entry.Short paid rest ∷ []) → HasNoPlan t.trays t.amount
-short_due capacity setup past t made bound trays s p Begun paid rest valued ids single few whole is gives = cc gives
-short_due capacity setup past t made bound trays s p Opened paid rest valued ids single few whole is gives = cc gives
-short_due capacity setup past t made bound trays s p Odd paid rest valued ids single few whole is gives = cc whole
-short_due capacity setup past t made bound trays s p (Closed all none) paid rest valued ids single few whole is gives =
+short_due : (capacity : ℕ) (setup : Setup) (past news earlier : List Entry) (t : Tally) (made bound : ℕ)
+    (trays : List Tray) (s : Session) (p : Payment) (phase : Phase) (paid rest : ℕ) → AreValued t.trays →
+    t.first + t.amount < 2 ^ 32 → AreSingle trays →
+    FewBy (records past) trays bound made s.rest (Some (record { payment = p; phase = phase })) →
+    is_whole phase ≡ true → PlanRuns t made trays (with_due s p phase) → TellsShort paid rest earlier news →
+    Settles capacity setup past trays (with_due s p phase) (record { payment = p; phase = phase }) phase news →
+    HasNoPlan t.trays t.amount
+short_due capacity setup past news earlier t made bound trays s p Begun paid rest valued ids single few whole is told gives =
+    let both = sym told.0 ∙ gives in cc both
+short_due capacity setup past news earlier t made bound trays s p Opened paid rest valued ids single few whole is told gives =
+    let both = sym told.0 ∙ gives in cc both
+short_due capacity setup past news earlier t made bound trays s p Odd paid rest valued ids single few whole is told gives =
+    cc whole
+short_due capacity setup past news earlier t made bound trays s p (Closed all none) paid rest valued ids single few whole is told gives =
     let due : Due = record { payment = p; phase = Closed all none } in
-    short_began capacity setup past t made (settled_trays due trays) (settled trays due (with_due s p (Closed all none)))
-    paid rest valued ids
-    (due_settled (records past) t made bound trays s.amount s.rest s.next p all none single whole few.known is) gives
-short_due capacity setup past t made bound trays s p Lost paid rest valued ids single few whole is gives = cc whole
+    short_began capacity setup past news earlier t made (settled_trays due trays)
+    (settled trays due (with_due s p (Closed all none))) paid rest valued ids
+    (due_settled (records past) t made bound trays s.amount s.rest s.next p all none single whole few.known is) told gives
+short_due capacity setup past news earlier t made bound trays s p Lost paid rest valued ids single few whole is told gives =
+    cc whole
 
-short_by : (capacity : ℕ) (setup : Setup) (past : List Entry) (t : Tally) (made bound : ℕ) (trays : List Tray)
-    (s : Session) (due : Option Due) (paid rest : ℕ) → AreValued t.trays → t.first + t.amount < 2 ^ 32 → AreSingle trays →
-    FewBy (records past) trays bound made s.rest due → is_whole_by due ≡ true →
+short_by : (capacity : ℕ) (setup : Setup) (past news earlier : List Entry) (t : Tally) (made bound : ℕ)
+    (trays : List Tray) (s : Session) (due : Option Due) (paid rest : ℕ) → AreValued t.trays →
+    t.first + t.amount < 2 ^ 32 → AreSingle trays → FewBy (records past) trays bound made s.rest due →
+    is_whole_by due ≡ true →
     PlanRuns t made trays (record { amount = s.amount; rest = s.rest; next = s.next; due = due }) →
-    ServesDue capacity setup past trays (record { amount = s.amount; rest = s.rest; next = s.next; due = due }) due
-    (entry.Short paid rest ∷ []) → HasNoPlan t.trays t.amount
-short_by capacity setup past t made bound trays s None paid rest valued ids single few whole is gives =
-    short_began capacity setup past t made trays (record { amount = s.amount; rest = s.rest; next = s.next; due = None })
-    paid rest valued ids (record { single = single; began = is.began; left = is.left; next = is.next }) gives
-short_by capacity setup past t made bound trays s (Some due) paid rest valued ids single few whole is gives =
-    short_due capacity setup past t made bound trays s due.payment due.phase paid rest valued ids single few whole is gives
+    TellsShort paid rest earlier news →
+    ServesDue capacity setup past trays (record { amount = s.amount; rest = s.rest; next = s.next; due = due }) due news →
+    HasNoPlan t.trays t.amount
+short_by capacity setup past news earlier t made bound trays s None paid rest valued ids single few whole is told gives =
+    short_began capacity setup past news earlier t made trays
+    (record { amount = s.amount; rest = s.rest; next = s.next; due = None }) paid rest valued ids
+    (record { single = single; began = is.began; left = is.left; next = is.next }) told gives
+short_by capacity setup past news earlier t made bound trays s (Some due) paid rest valued ids single few whole is told gives =
+    short_due capacity setup past news earlier t made bound trays s due.payment due.phase paid rest valued ids single few
+    whole is told gives
 
-short_session : (capacity : ℕ) (setup : Setup) (past : List Entry) (t : Tally) (made bound : ℕ) (trays : List Tray)
-    (session : Option Session) (paid rest : ℕ) → AreValued t.trays → t.first + t.amount < 2 ^ 32 → AreSingle trays →
-    FewIn (records past) trays bound made session → is_whole_in session ≡ true → PlanIn t made trays session →
-    Serves capacity setup past trays session (entry.Short paid rest ∷ []) → HasNoPlan t.trays t.amount
-short_session capacity setup past t made bound trays None paid rest valued ids single few whole is gives = cc gives
-short_session capacity setup past t made bound trays (Some s) paid rest valued ids single few whole is gives =
-    short_by capacity setup past t made bound trays s s.due paid rest valued ids single few whole is gives
+short_session : (capacity : ℕ) (setup : Setup) (past news earlier : List Entry) (t : Tally) (made bound : ℕ)
+    (trays : List Tray) (session : Option Session) (paid rest : ℕ) → AreValued t.trays → t.first + t.amount < 2 ^ 32 →
+    AreSingle trays → FewIn (records past) trays bound made session → is_whole_in session ≡ true →
+    PlanIn t made trays session → TellsShort paid rest earlier news →
+    Serves capacity setup past trays session news → HasNoPlan t.trays t.amount
+short_session capacity setup past news earlier t made bound trays None paid rest valued ids single few whole is told gives =
+    let both = sym told.0 ∙ gives in cc both
+short_session capacity setup past news earlier t made bound trays (Some s) paid rest valued ids single few whole is told gives =
+    short_by capacity setup past news earlier t made bound trays s s.due paid rest valued ids single few whole is told gives
 
-pub short_unplanned : EachTally (λ capacity setup past desk tally. (paid rest : ℕ) → IsSmooth desk tally →
-    tally.first + tally.amount < 2 ^ 32 →
-    EntriesAtDesk capacity setup past desk step.Serve (entry.Short paid rest ∷ []) → HasNoPlan tally.trays tally.amount)
-short_unplanned capacity setup steps past desk tally sound range tallies paid rest smooth ids gives =
-    let is = both_run capacity setup steps past desk tally sound range tallies in
+pub short_unplanned : (capacity : ℕ) (setup : Setup) (past : List Entry) (desk : Desk) (tally : Tally) →
+    IsBoth past desk tally → (paid rest : ℕ) (earlier : List Entry) → IsSmooth desk tally →
+    tally.first + tally.amount < 2 ^ 32 → list_any is_refusal (entry.Short paid rest ∷ earlier) ≡ false →
+    EntriesAtDesk capacity setup past desk step.Serve (entry.Short paid rest ∷ earlier) →
+    HasNoPlan tally.trays tally.amount
+short_unplanned capacity setup past desk tally is paid rest earlier smooth ids taken gives =
     let parts = and_parts tally.smooth (is_whole_in desk.session) smooth in
-    short_session capacity setup past tally tally.made (most_made tally) desk.trays desk.session paid rest is.1.valued ids
-    is.0.single is.0.few parts.1 (is.1.plan parts.0) gives
+    short_session capacity setup past (entry.Short paid rest ∷ earlier) earlier tally tally.made (most_made tally)
+    desk.trays desk.session paid rest is.1.valued ids is.0.single is.0.few parts.1 (is.1.plan parts.0) (refl, taken) gives
+
+-- where it pays on, it made fewer payments than any plan of its amount has coins
+pub more_made : (t : Tally) (made : ℕ) (trays : List Tray) (s : Session) (p : Payment) (counts : List ℕ) →
+    Settled t made trays s → PaysNext trays s p → IsPlan t.trays t.amount counts → made < sum counts
+more_made t made trays s p counts is pays plan =
+    let chosen = pays.chosen.fewest in
+    let tail = plan_tail trays pays.counts p.addr p.count is.single chosen.plan.within pays.pays in
+    let some = (pays_filled trays pays.counts p.addr p.count chosen.plan.within pays.pays).1 in
+    let before = is.left counts plan in
+    let fewest = chosen.fewest before.counts before.plan in
+    let few = before.few in
+    let fewer = tail.fewer in
+    omega (arith, some, fewest, few, fewer)
 
 -- and it makes at most as many payments as a plan has coins
 made_by : (t : Tally) (made : ℕ) (trays : List Tray) (s : Session) (due : Option Due) (most : ℕ) →

@@ -24,12 +24,14 @@ use Rattle.cct_model.specs.Script.{IsInRange}
 use Rattle.cct_model.specs.Setup.{IsSoundSetup}
 use Rattle.cct_change_laws.specs.Along.{AlongFrom}
 use Rattle.cct_change_laws.specs.Blocks.{InBlocks, IsBetween, IsNoStock, IsReady, IsReadyBy, IsSmoothBlock, IsWaiting, TellsService, is_refusal, is_service}
-use Rattle.cct_change_laws.specs.Tally.{IsSmooth, TalliesTo, Tally, is_whole, is_whole_by, is_whole_in, most_made, taken_in, tally_after, tally_begun}
+use Rattle.cct_change_laws.specs.Course.{AreLeftAlone, Course, CoursesTo, course_after}
+use Rattle.cct_change_laws.specs.Tally.{IsSmooth, Tally, is_whole, is_whole_by, is_whole_in, most_made, taken_in, tally_after, tally_begun}
 use Rattle.cct_change_laws.proofs.Along.{Stands, along_desk, along_from, desk_grown, stands_on}
+use Rattle.cct_change_laws.proofs.Courses.{OnCourse, along_tally, course_run, course_taken, keeps_course}
 use Rattle.cct_change_laws.proofs.Ends.{MadeLast, Pays, all_range, block_ends, blocks_grown, made_between, pay_of, told_later, told_now}
-use Rattle.cct_change_laws.proofs.Few.{FewBy, FewIn, few_run}
+use Rattle.cct_change_laws.proofs.Few.{FewBy, FewIn}
 use Rattle.cct_change_laws.proofs.Filled.{AreSingle}
-use Rattle.cct_change_laws.proofs.Planned.{AreValued, IsBoth, PlanIn, PlanRuns, Settled, both_run, due_settled, keeps_planned, made_in, not_stuck, with_due}
+use Rattle.cct_change_laws.proofs.Planned.{AreValued, PlanIn, PlanRuns, Settled, due_settled, made_in, more_made, not_stuck, with_due}
 
 -- a `serve` tells that the session was served, or makes a payment
 ServesPlan : List Entry → Option Session → Type 0
@@ -46,7 +48,8 @@ paid_serves news trays s p (Some why) taken gives =
 
 goes_on_serves : (capacity : ℕ) (setup : Setup) (past news : List Entry) (t : Tally) (made : ℕ) (trays : List Tray)
     (s : Session) (counts : List ℕ) → AreValued t.trays → t.first + t.amount < 2 ^ 32 → Settled t made trays s →
-    IsPlan t.trays t.amount counts → list_any is_refusal news ≡ false → GoesOn capacity setup past trays s news →
+    IsPlan t.trays t.amount counts → (made < sum counts → list_any is_refusal news ≡ false) →
+    GoesOn capacity setup past trays s news →
     ServesPlan news (gone_on news trays s).session
 unfolding ServesPlan
 goes_on_serves capacity setup past news t made trays s counts valued ids is plan taken goes = by_rest (s.rest == 0) goes
@@ -57,13 +60,14 @@ goes_on_serves capacity setup past news t made trays s counts valued ids is plan
     by_rest true gives = inl (ap (list_any is_service) gives)
     by_rest false (inl stuck) = absurd (not_stuck t made trays s counts valued ids is plan stuck.0)
     by_rest false (inr paid) =
-        paid_serves news trays s paid.0 (refusal capacity setup past (pay_of paid.0)) taken paid.2
+        paid_serves news trays s paid.0 (refusal capacity setup past (pay_of paid.0))
+        (taken (more_made t made trays s paid.0 counts is paid.1 plan)) paid.2
 
 due_serves : (capacity : ℕ) (setup : Setup) (past news : List Entry) (t : Tally) (made bound : ℕ) (trays : List Tray)
     (s : Session) (p : Payment) (phase : Phase) (counts : List ℕ) → AreValued t.trays → t.first + t.amount < 2 ^ 32 →
     AreSingle trays → FewBy (records past) trays bound made s.rest (Some (record { payment = p; phase = phase })) →
     is_whole phase ≡ true → (IsWaiting phase → ⊥) → PlanRuns t made trays (with_due s p phase) →
-    IsPlan t.trays t.amount counts → list_any is_refusal news ≡ false →
+    IsPlan t.trays t.amount counts → (made < sum counts → list_any is_refusal news ≡ false) →
     Settles capacity setup past trays (with_due s p phase) (record { payment = p; phase = phase }) phase news →
     ServesPlan news (served_due news trays (with_due s p phase) (record { payment = p; phase = phase }) phase).session
 due_serves capacity setup past news t made bound trays s p Begun counts valued ids single few whole ready is plan taken gives =
@@ -85,7 +89,7 @@ by_serves : (capacity : ℕ) (setup : Setup) (past news : List Entry) (t : Tally
     (s : Session) (due : Option Due) (counts : List ℕ) → AreValued t.trays → t.first + t.amount < 2 ^ 32 →
     AreSingle trays → FewBy (records past) trays bound made s.rest due → is_whole_by due ≡ true → IsReadyBy due →
     PlanRuns t made trays (record { amount = s.amount; rest = s.rest; next = s.next; due = due }) →
-    IsPlan t.trays t.amount counts → list_any is_refusal news ≡ false →
+    IsPlan t.trays t.amount counts → (made < sum counts → list_any is_refusal news ≡ false) →
     ServesDue capacity setup past trays (record { amount = s.amount; rest = s.rest; next = s.next; due = due }) due news →
     ServesPlan news
     (served_by news trays (record { amount = s.amount; rest = s.rest; next = s.next; due = due }) due).session
@@ -100,8 +104,8 @@ by_serves capacity setup past news t made bound trays s (Some due) counts valued
 serve_serves : (capacity : ℕ) (setup : Setup) (past news : List Entry) (t : Tally) (made bound : ℕ) (trays : List Tray)
     (session : Option Session) (counts : List ℕ) → AreValued t.trays → t.first + t.amount < 2 ^ 32 → AreSingle trays →
     FewIn (records past) trays bound made session → is_whole_in session ≡ true → IsReady session →
-    PlanIn t made trays session → IsPlan t.trays t.amount counts → list_any is_refusal news ≡ false →
-    Serves capacity setup past trays session news → ServesPlan news (served news trays session).session
+    PlanIn t made trays session → IsPlan t.trays t.amount counts →
+    (made < sum counts → list_any is_refusal news ≡ false) → Serves capacity setup past trays session news → ServesPlan news (served news trays session).session
 serve_serves capacity setup past news t made bound trays None counts valued ids single few whole ready is plan taken gives =
     absurd ready
 serve_serves capacity setup past news t made bound trays (Some s) counts valued ids single few whole ready is plan taken gives =
@@ -133,56 +137,66 @@ same_along capacity setup past desk t p (s ∷ steps) end last found between uns
     ∙ same_after p s told.0 desk t here (All-head IsNoStock s steps unstocked) is
 
 -- a moment at which a session with a plan goes smoothly
-record GoesSmoothly (past : List Entry) (desk : Desk) (t : Tally) (counts : List ℕ) : Type 0 where
-  both : IsBoth past desk t
-  smooth : t.smooth ≡ true
-  ids : t.first + t.amount < 2 ^ 32
-  plan : IsPlan t.trays t.amount counts
+record GoesSmoothly (capacity : ℕ) (setup : Setup) (past : List Entry) (desk : Desk) (c : Course) (counts : List ℕ) :
+    Type 0 where
+  on : OnCourse setup past desk c
+  smooth : c.tally.smooth ≡ true
+  plan : IsPlan c.tally.trays c.tally.amount counts
+  alone : AreLeftAlone capacity setup c (sum counts)
 
 MadeSome : Tally → List (List Step) → Tally → List ℕ → Type 0
 MadeSome t blocks found counts = (found.made ≡ t.made + length blocks) × (found.made ≤ sum counts)
 
-smooth_on : (past : List Entry) (desk : Desk) (t left : Tally) (counts : List ℕ) → left ≡ t → IsBoth past desk left →
-    t.smooth ≡ true → t.first + t.amount < 2 ^ 32 → IsPlan t.trays t.amount counts → GoesSmoothly past desk left counts
-smooth_on past desk t left counts same both smooth ids plan = record {
-  both = both;
+smooth_on : (capacity : ℕ) (setup : Setup) (past : List Entry) (desk : Desk) (t : Tally) (c : Course) (counts : List ℕ) →
+    c.tally ≡ t → OnCourse setup past desk c → AreLeftAlone capacity setup c (sum counts) → t.smooth ≡ true →
+    IsPlan t.trays t.amount counts → GoesSmoothly capacity setup past desk c counts
+smooth_on capacity setup past desk t c counts same on alone smooth plan = record {
+  on = on;
   smooth = subst (λ (x : Tally). x.smooth ≡ true) (sym same) smooth;
-  ids = subst (λ (x : Tally). x.first + x.amount < 2 ^ 32) (sym same) ids;
   plan = subst (λ (x : Tally). IsPlan x.trays x.amount counts) (sym same) plan;
+  alone = alone;
 }
 
-serve_blocks : (capacity : ℕ) (setup : Setup) (past : List Entry) (desk : Desk) (t : Tally) (blocks : List (List Step))
-    (end : List Entry) (last : Desk) (found : Tally) (counts : List ℕ) → IsSoundSetup setup →
-    Stands capacity setup past desk → GoesSmoothly past desk t counts → is_whole_in desk.session ≡ true →
-    IsReady desk.session → InBlocks IsSmoothBlock capacity setup past desk t blocks end last found →
-    TellsService past end ⊎ MadeSome t blocks found counts
+serve_blocks : (capacity : ℕ) (setup : Setup) (past : List Entry) (desk : Desk) (c : Course) (blocks : List (List Step))
+    (end : List Entry) (last : Desk) (found : Course) (counts : List ℕ) → IsSoundSetup setup →
+    Stands capacity setup past desk → GoesSmoothly capacity setup past desk c counts →
+    is_whole_in desk.session ≡ true → IsReady desk.session →
+    InBlocks course_after (IsSmoothBlock capacity setup (sum counts)) capacity setup past desk c blocks end last found →
+    TellsService past end ⊎ MadeSome c.tally blocks found.tally counts
 unfolding ServesPlan MadeSome
-serve_blocks capacity setup past desk t [] end last found counts sound at is whole ready told =
-    let same = ap (λ (x : Tally). x.made) told.2 in
-    let most = made_in t t.made desk.trays desk.session (is.both.1.plan is.smooth) counts is.plan in
+serve_blocks capacity setup past desk c [] end last found counts sound at is whole ready told =
+    let same = ap (λ (x : Course). x.tally.made) told.2 in
+    let most = made_in c.tally c.tally.made desk.trays desk.session (is.on.both.1.plan is.smooth) counts is.plan in
     inr (omega (arith, same), omega (arith, same, most))
-serve_blocks capacity setup past desk t (block ∷ blocks) end last found counts sound at is whole ready told =
+serve_blocks capacity setup past desk c (block ∷ blocks) end last found counts sound at is whole ready told =
+    let t = c.tally in
     let news = told.0 in
     let next = desk_after step.Serve news desk in
-    let left = tally_after step.Serve news desk t in
+    let left = course_after step.Serve news desk c in
     let wanted = told.8 in
+    let both = is.on.both in
+    let smooth = and_from t.smooth (is_whole_in desk.session) is.smooth whole in
     let on = stands_on capacity setup past news desk step.Serve tt told.1 at in
-    let both_on = keeps_planned capacity setup sound past news desk t step.Serve tt told.1 at on is.both in
+    let kept = keeps_course capacity setup sound past news desk c step.Serve tt told.1 at on is.on in
     let first = desk_grown capacity setup (news ++ past) next block told.3 told.4
-    (along_desk tally_after capacity setup (news ++ past) next left block told.3 told.4 told.5 told.6) in
-    elim (serve_serves capacity setup past news t t.made (most_made t) desk.trays desk.session counts is.both.1.valued is.ids
-    is.both.0.single is.both.0.few whole ready (is.both.1.plan is.smooth) is.plan wanted.taken told.1) [
+    (along_desk course_after capacity setup (news ++ past) next left block told.3 told.4 told.5 told.6) in
+    elim (serve_serves capacity setup past news t t.made (most_made t) desk.trays desk.session counts both.1.valued is.on.ids
+    both.0.single both.0.few whole ready (both.1.plan is.smooth) is.plan
+    (λ more. course_taken capacity setup past news desk c (sum counts) sound at is.on smooth is.alone more told.1)
+    told.1) [
       | inl service ↦ inl (told_now is_service past news told.3 end first.0 first.1
-          (blocks_grown IsSmoothBlock capacity setup told.3 told.4 told.5 blocks end last found told.9) service)
+          (blocks_grown course_after (IsSmoothBlock capacity setup (sum counts)) capacity setup told.3 told.4 told.5
+          blocks end last found told.9) service)
       | inr pays ↦ (
-          let ended = block_ends capacity setup past news desk left pays.payment block told.3 told.4 told.5 sound told.1
-          at on both_on.0 pays.told pays.last told.2 told.6 told.7 in
-          let after = along_from tally_after capacity setup IsBoth (keeps_planned capacity setup sound) (news ++ past) next
-          left block told.3 told.4 told.5 (all_range block told.2) told.6 on both_on in
-          let same = same_along capacity setup (news ++ past) next left pays.payment block told.3 told.4 told.5 told.2
-          wanted.unstocked told.6 pays.last in
-          let goes = smooth_on told.3 told.4 left told.5 counts same after.1
-          (and_from t.smooth (is_whole_in desk.session) is.smooth whole) is.ids is.plan in
+          let along_block = along_tally capacity setup (news ++ past) next left block told.3 told.4 told.5 told.6 in
+          let ended = block_ends capacity setup past news desk left.tally pays.payment block told.3 told.4 told.5.tally
+          sound told.1 at on kept.both.0 pays.told pays.last told.2 along_block told.7 in
+          let after = along_from course_after capacity setup (OnCourse setup) (keeps_course capacity setup sound)
+          (news ++ past) next left block told.3 told.4 told.5 (all_range block told.2) told.6 on kept in
+          let same = same_along capacity setup (news ++ past) next left.tally pays.payment block told.3 told.4
+          told.5.tally told.2 wanted.unstocked along_block pays.last in
+          let goes = smooth_on capacity setup told.3 told.4 left.tally told.5 counts same after.1 wanted.alone smooth
+          is.plan in
           let one : taken_in news ≡ 1 = ap taken_in pays.told in
           let more = ended.1 in
           elim (serve_blocks capacity setup told.3 told.4 told.5 blocks end last found counts sound after.0 goes
@@ -194,23 +208,24 @@ serve_blocks capacity setup past desk t (block ∷ blocks) end last found counts
     ]
 
 -- so it is served, if there are more blocks than its plan has coins
-pub blocks_serve : (capacity : ℕ) (setup : Setup) (steps : List Step) (past : List Entry) (desk : Desk) (tally : Tally)
-    (blocks : List (List Step)) (end : List Entry) (last : Desk) (found : Tally) (counts : List ℕ) → IsSoundSetup setup →
-    All IsInRange steps → TalliesTo capacity setup steps past desk tally → IsReady desk.session → IsSmooth desk tally →
-    tally.first + tally.amount < 2 ^ 32 → IsPlan tally.trays tally.amount counts →
-    InBlocks IsSmoothBlock capacity setup past desk tally blocks end last found →
-    sum counts < tally.made + length blocks → TellsService past end
+pub blocks_serve : (capacity : ℕ) (setup : Setup) (steps : List Step) (past : List Entry) (desk : Desk) (course : Course)
+    (blocks : List (List Step)) (end : List Entry) (last : Desk) (found : Course) (counts : List ℕ) →
+    IsSoundSetup setup → All IsInRange steps → CoursesTo capacity setup steps past desk course → IsReady desk.session →
+    IsSmooth desk course.tally →
+    IsPlan course.tally.trays course.tally.amount counts → AreLeftAlone capacity setup course (sum counts) →
+    InBlocks course_after (IsSmoothBlock capacity setup (sum counts)) capacity setup past desk course blocks end last found →
+    sum counts < course.tally.made + length blocks → TellsService past end
 unfolding MadeSome
-blocks_serve capacity setup steps past desk tally blocks end last found counts sound range tallies ready smooth ids plan told enough =
-    let parts = and_parts tally.smooth (is_whole_in desk.session) smooth in
-    let stands = (few_run capacity setup steps past desk tally sound range tallies).0 in
-    let goes : GoesSmoothly past desk tally counts = record {
-      both = both_run capacity setup steps past desk tally sound range tallies;
+blocks_serve capacity setup steps past desk c blocks end last found counts sound range courses ready smooth plan alone told enough =
+    let parts = and_parts c.tally.smooth (is_whole_in desk.session) smooth in
+    let run = course_run capacity setup steps past desk c sound range courses in
+    let goes : GoesSmoothly capacity setup past desk c counts = record {
+      on = run.1;
       smooth = parts.0;
-      ids = ids;
       plan = plan;
+      alone = alone;
     } in
-    elim (serve_blocks capacity setup past desk tally blocks end last found counts sound stands goes parts.1 ready told) [
+    elim (serve_blocks capacity setup past desk c blocks end last found counts sound run.0 goes parts.1 ready told) [
       | inl service ↦ service
       | inr made ↦ (let all = made.0 in let few = made.1 in absurd (omega (arith, all, few, enough)))
     ]

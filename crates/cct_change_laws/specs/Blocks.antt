@@ -19,7 +19,8 @@ use Rattle.cct_model.specs.Exchange.{device_at}
 use Rattle.cct_model.specs.Script.{IsInRange}
 use Rattle.cct_laws.specs.Ending.{AlwaysFindsNoneLeft, IsUndisturbed, nexts_at, nexts_needed}
 use Rattle.cct_change_laws.specs.Along.{AlongFrom}
-use Rattle.cct_change_laws.specs.Tally.{Tally, is_whole_in, tally_after}
+use Rattle.cct_change_laws.specs.Course.{AreLeftAlone, Course}
+use Rattle.cct_change_laws.specs.Tally.{Tally, is_whole_in}
 
 -- A payment is waited for: its job is at work, or its order is open.
 abbrev pub IsWaiting : Phase → Type 0
@@ -61,25 +62,26 @@ abbrev pub IsBetween : Step → Type 0
 IsBetween step.Serve = ⊥
 IsBetween s = IsInRange s
 
--- A past, a desk and its tally go on by blocks, and end as these. Each is a `serve`, and then steps that let the job of its
--- payment end, if it made one; and this is wanted of it: of the entries of its `serve`, of its steps and of the desk after it.
+-- A past, a desk and what is kept beside them go on by blocks, and end as these. Each is a `serve`, and then steps that let
+-- the job of its payment end, if it made one; and this is wanted of it: of the entries of its `serve`, of its steps, and of
+-- the desk and of what is kept after it.
 abbrev pub InBlocks :
-    (List Entry → List Step → Desk → Type 0) → ℕ → Setup → List Entry → Desk → Tally → List (List Step) → List Entry → Desk →
-    Tally → Type 0
-InBlocks Wanted capacity setup past desk tally [] end last found = (end ≡ past) × (last ≡ desk) × (found ≡ tally)
-InBlocks Wanted capacity setup past desk tally (block ∷ blocks) end last found =
+    {A : Type 0} → (Step → List Entry → Desk → A → A) → (List Entry → List Step → Desk → A → Type 0) → ℕ → Setup →
+    List Entry → Desk → A → List (List Step) → List Entry → Desk → A → Type 0
+InBlocks after Wanted capacity setup past desk kept [] end last found = (end ≡ past) × (last ≡ desk) × (found ≡ kept)
+InBlocks {A} after Wanted capacity setup past desk kept (block ∷ blocks) end last found =
     (news : List Entry) × EntriesAtDesk capacity setup past desk step.Serve news
     × All IsBetween block
-    × (later : List Entry) × (then_desk : Desk) × (left : Tally)
-    × AlongFrom tally_after capacity setup (news ++ past) (desk_after step.Serve news desk)
-    (tally_after step.Serve news desk tally) block later then_desk left
+    × (later : List Entry) × (then_desk : Desk) × (left : A)
+    × AlongFrom after capacity setup (news ++ past) (desk_after step.Serve news desk) (after step.Serve news desk kept)
+    block later then_desk left
     × LetsPaymentEnd setup (desk_after step.Serve news desk).session block (news ++ past) later
-    × Wanted news block then_desk
-    × InBlocks Wanted capacity setup later then_desk left blocks end last found
+    × Wanted news block then_desk left
+    × InBlocks after Wanted capacity setup later then_desk left blocks end last found
 
 -- Of any block.
-abbrev pub AnyBlock : List Entry → List Step → Desk → Type 0
-AnyBlock news block desk = ⊤
+abbrev pub AnyBlock : List Entry → List Step → Desk → Tally → Type 0
+AnyBlock news block desk tally = ⊤
 
 -- An entry tells that a command was refused.
 abbrev pub is_refusal : Entry → Bool
@@ -91,12 +93,13 @@ abbrev pub IsNoStock : Step → Type 0
 IsNoStock (step.Stock addr count) = ⊥
 IsNoStock s = ⊤
 
--- A block goes smoothly: no payment is refused, no stock is told, and a payment that is settled after it was closed with all its
--- coins paid.
-pub record IsSmoothBlock (news : List Entry) (block : List Step) (desk : Desk) : Type 0 where
-  pub taken : list_any is_refusal news ≡ false
+-- A block of a session of so many payments goes smoothly: no stock is told, a payment that is settled after it was closed with
+-- all its coins paid, and the payments are left alone.
+pub record IsSmoothBlock (capacity : ℕ) (setup : Setup) (payments : ℕ) (news : List Entry) (block : List Step) (desk : Desk)
+    (course : Course) : Type 0 where
   pub unstocked : All IsNoStock block
   pub whole : is_whole_in desk.session ≡ true
+  pub alone : AreLeftAlone capacity setup course payments
 
 -- An entry tells the end of a session: that it was served, that it fell short, or that life counts don't fit its order.
 abbrev pub is_session_end : Entry → Bool

@@ -4,3 +4,4 @@ pub mod Orders
 pub mod Change
 pub mod Tally
 pub mod Blocks
+pub mod Course

@@ -8,8 +8,8 @@
 //! operator's own payment opens later with the same id is none of the session's.
 #![tactic(auto)]
 
-ghost use Rattle.std.specs.Prelude.{ℕ, ◌≡◌, ◌+◌, ◌<◌, ◌≤◌, ◌^◌, true, sum, ◌++◌, List, [], ◌∷◌, length};
-ghost use Rattle.std.specs.List.{All};
+ghost use Rattle.std.specs.Prelude.{ℕ, ◌≡◌, ◌+◌, ◌<◌, ◌≤◌, true, sum, ◌++◌, List, [], ◌∷◌, length, false, suc};
+ghost use Rattle.std.specs.List.{All, list_any};
 ghost use Rattle.cct_model.specs.terms.device.Setup.{Setup};
 ghost use Rattle.cct_model.specs.lines.command.Step.{Step};
 ghost use Rattle.cct_model.specs.lines.command.Step.TheVariants.{Serve};
@@ -30,8 +30,9 @@ ghost use Rattle.cct_laws.specs.Scope.{EachHopper};
 ghost use Rattle.cct_change_laws.specs.Change.{ChangeIsPaid, EachMoment, IsPaid, IsStillPaid, IsToldRight, IsWithin};
 ghost use Rattle.cct_change_laws.specs.Counted.{AreFreshLines, Counted};
 ghost use Rattle.cct_change_laws.specs.Orders.{ComesTo};
-ghost use Rattle.cct_change_laws.specs.Tally.{EachTally, HasPlan, IsSmooth, MakesFew, TalliesTo, Tally, most_made};
-ghost use Rattle.cct_change_laws.specs.Blocks.{AnyBlock, InBlocks, IsReady, IsSmoothBlock, TellsEnd, TellsService};
+ghost use Rattle.cct_change_laws.specs.Course.{AreLeftAlone, Course, CoursesTo, EachCourse, course_after};
+ghost use Rattle.cct_change_laws.specs.Tally.{EachTally, HasPlan, IsSmooth, MakesFew, TalliesTo, Tally, most_made, tally_after};
+ghost use Rattle.cct_change_laws.specs.Blocks.{AnyBlock, InBlocks, IsReady, IsSmoothBlock, TellsEnd, TellsService, is_refusal};
 
 /// Each order of a hopper is counted right, by its id, over all lines of the hopper. The coins that fell while it was open
 /// are never more than its count; where it was closed, they are those that its record says were paid; where it wasn't
@@ -92,37 +93,43 @@ pub fn a_session_makes_few_payments()
 /// it runs, and no coin is left to pay whenever the hopper is asked. The end that is told among these entries is that the
 /// session was served, that it fell short, or that life counts don't fit, which an honest wire never tells. Whatever else the
 /// operator asks for in between doesn't hinder it. It doesn't say that the session is served; and where the power is cut
-/// behind the record that opens an order, or three answers to one question are lost, a `serve` waits until the operator
+/// after the record that opens an order, or three answers to one question are lost, a `serve` waits until the operator
 /// settles the order.
 pub fn a_session_without_a_fault_ends()
     ensures { (capacity : ℕ) (setup : Setup) (steps : List Step) (past : List Entry) (desk : Desk) (tally : Tally)
         (blocks : List (List Step)) (end : List Entry) (last : Desk) (found : Tally)
         → IsSoundSetup setup → All IsInRange steps → TalliesTo capacity setup steps past desk tally
-        → IsReady desk.session → InBlocks AnyBlock capacity setup past desk tally blocks end last found
+        → IsReady desk.session → InBlocks tally_after AnyBlock capacity setup past desk tally blocks end last found
         → most_made found < tally.made + length blocks → TellsEnd past end }
 {}
 
-/// A session is served exactly where its amount has a plan as it begins, if it goes smoothly, over any wire. It does as long as
-/// no `stock` comes, and each payment that is settled was closed with all its coins paid. Where it is served, its amount had
-/// a plan then: the trays with their stocks, no more than 255 coins of one. Where it falls short, and that isn't told of a
-/// payment that was refused, it had none; its first id and its amount are below 2^32 together, so there are ids for all its
+/// A session is served exactly where its amount has a plan as it begins, if it goes smoothly and is left alone, over any wire.
+/// It goes smoothly as long as no `stock` comes, and each payment that is settled was closed with all its coins paid. It is
+/// left alone (`AreLeftAlone`) if it could begin: its amount was available, its first id was above the last one, and no hopper
+/// had a job or an open order; if since then no other payment, no sale and no identification of a hopper was taken; and if the
+/// journal had room for two records of each of its payments and for those of the commands that were taken since. By `taken` no
+/// payment is refused then. Where it is served, its amount had a plan: the trays with their stocks, no more than 255 coins of
+/// one. Where it falls short, it had none: a first id and an amount in range are below 2^32 together, so there are ids for all its
 /// payments. It makes at most as many payments as any plan of its amount has coins. So in blocks that let the jobs of its
-/// payments end, and go smoothly, it is served after as many of them as the plan has coins, and one. It doesn't say when a
-/// payment is refused: where a job is at its hopper, an order is open there, its id is used, or its money or its room in the
-/// journal isn't available.
+/// payments end, go smoothly and leave it alone, it is served after as many of them as the plan has coins, and one.
+/// Settlements, halts, power cuts and whatever is asked of other devices hinder none of this, but for their records.
 pub fn a_session_is_served_where_a_plan_is()
+    ensures taken { EachCourse (λ capacity setup past desk course. (news : List Entry) → IsSmooth desk course.tally
+        → AreLeftAlone capacity setup course (suc course.tally.made)
+        → EntriesAtDesk capacity setup past desk Serve news → list_any is_refusal news ≡ false) }
     ensures served { EachTally (λ capacity setup past desk tally. (amount : ℕ) → IsSmooth desk tally
         → EntriesAtDesk capacity setup past desk Serve (Served amount ∷ []) → HasPlan tally.trays tally.amount) }
-    ensures short { EachTally (λ capacity setup past desk tally. (paid rest : ℕ) → IsSmooth desk tally
-        → tally.first + tally.amount < 2 ^ 32
-        → EntriesAtDesk capacity setup past desk Serve (Short paid rest ∷ []) → HasNoPlan tally.trays tally.amount) }
-    ensures ends { (capacity : ℕ) (setup : Setup) (steps : List Step) (past : List Entry) (desk : Desk) (tally : Tally)
-        (blocks : List (List Step)) (end : List Entry) (last : Desk) (found : Tally) (counts : List ℕ)
-        → IsSoundSetup setup → All IsInRange steps → TalliesTo capacity setup steps past desk tally
-        → IsReady desk.session → IsSmooth desk tally → tally.first + tally.amount < 2 ^ 32
-        → IsPlan tally.trays tally.amount counts
-        → InBlocks IsSmoothBlock capacity setup past desk tally blocks end last found
-        → sum counts < tally.made + length blocks → TellsService past end }
+    ensures short { EachCourse (λ capacity setup past desk course. (paid rest : ℕ) (earlier : List Entry)
+        → IsSmooth desk course.tally → AreLeftAlone capacity setup course (suc course.tally.made)
+        → EntriesAtDesk capacity setup past desk Serve (Short paid rest ∷ earlier)
+        → HasNoPlan course.tally.trays course.tally.amount) }
+    ensures ends { (capacity : ℕ) (setup : Setup) (steps : List Step) (past : List Entry) (desk : Desk) (course : Course)
+        (blocks : List (List Step)) (end : List Entry) (last : Desk) (found : Course) (counts : List ℕ)
+        → IsSoundSetup setup → All IsInRange steps → CoursesTo capacity setup steps past desk course
+        → IsReady desk.session → IsSmooth desk course.tally
+        → IsPlan course.tally.trays course.tally.amount counts → AreLeftAlone capacity setup course (sum counts)
+        → InBlocks course_after (IsSmoothBlock capacity setup (sum counts)) capacity setup past desk course blocks end last found
+        → sum counts < course.tally.made + length blocks → TellsService past end }
     ensures payments { EachTally (λ capacity setup past desk tally. (counts : List ℕ) → tally.smooth ≡ true
         → IsPlan tally.trays tally.amount counts → tally.made ≤ sum counts) }
 {}

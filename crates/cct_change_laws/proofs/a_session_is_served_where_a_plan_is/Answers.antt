@@ -1,6 +1,13 @@
-use Rattle.cct_change_laws.proofs.Planned.{made_planned, served_planned, short_unplanned}
+use Rattle.cct_change_laws.proofs.Courses.{course_short, each_taken}
+use Rattle.cct_change_laws.proofs.Planned.{made_planned, served_planned}
 use Rattle.cct_change_laws.proofs.Smooth.{blocks_serve}
 use Rattle.cct_change_laws.proofs.a_session_is_served_where_a_plan_is.Goals as goal
 
 pub returns : goal.returns
-returns c = record { served = served_planned; short = short_unplanned; ends = blocks_serve; payments = made_planned }
+returns c = record {
+  taken = each_taken;
+  served = served_planned;
+  short = course_short;
+  ends = blocks_serve;
+  payments = made_planned;
+}
