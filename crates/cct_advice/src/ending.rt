@@ -4,7 +4,7 @@ use crate::fields::first_field;
 
 /// What is said where words are refused, and by the word `--help`.
 pub const USAGE: &str =
-    "usage: cct_main run < SCRIPT, cct_main report [--journal FILE], cct_main upgrade < SCRIPT, cct_main audit < CAPTURE, cct_main load SEED N, with SEED 0 to 18446744073709551615 and N 1 to 10000 (docs/OPERATING.md, \"Exit statuses\")";
+    "usage: cct_main run < SCRIPT, cct_main check < SCRIPT, cct_main report [--journal FILE], cct_main upgrade < SCRIPT, cct_main audit < CAPTURE, cct_main load SEED N, with SEED 0 to 18446744073709551615 and N 1 to 10000 (docs/OPERATING.md, \"Exit statuses\")";
 
 /// What is said where there was no memory.
 pub const MEMORY: &str =
@@ -13,6 +13,10 @@ pub const MEMORY: &str =
 /// What is said where writing failed.
 pub const UNWRITTEN: &str =
     "standard output couldn't be written; a report tells what was put (docs/OPERATING.md, \"Exit statuses\")";
+
+/// What is said where writing failed in a check.
+pub const UNCHECKED: &str =
+    "standard output couldn't be written; give the script to check again (docs/OPERATING.md, \"Exit statuses\")";
 
 /// What is said where writing failed in an audit.
 pub const UNTOLD: &str =

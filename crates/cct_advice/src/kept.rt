@@ -64,6 +64,7 @@ impl<S: Source> Source for KeptSource<S> {
 pub struct KeptSink<K> {
     sink: K,
     last: Front,
+    tells_record: bool,
 }
 
 impl<K: Sink> KeptSink<K> {
@@ -74,12 +75,18 @@ impl<K: Sink> KeptSink<K> {
         KeptSink {
             sink,
             last: Front::new(),
+            tells_record: false,
         }
     }
 
     /// The front of the last put.
     pub fn last(&self) -> &[u8] {
         self.last.bytes()
+    }
+
+    /// Whether a line was put that tells a record, as put or as kept.
+    pub fn tells_record(&self) -> bool {
+        self.tells_record
     }
 }
 
@@ -92,6 +99,12 @@ impl<K: Sink> Sink for KeptSink<K> {
 
     fn put(&mut self, bytes: &[u8]) -> Result<(), Failed> {
         self.last.note(bytes);
+        self.tells_record |= tells_record(bytes);
         self.sink.put(bytes)
     }
+}
+
+/// Whether a line tells a record.
+fn tells_record(line: &[u8]) -> bool {
+    line.starts_with(b"put ") || line.starts_with(b"kept ")
 }

@@ -13,13 +13,15 @@ mod kept;
 mod miss;
 mod refusal;
 mod rule;
+mod shared;
 mod shown;
 mod window;
 mod word;
 mod words;
 
 pub use advice::{Advice, advise, advise_end, advise_line};
-pub use ending::{MEMORY, UNTOLD, UNWRITTEN, USAGE};
+pub use ending::{MEMORY, UNCHECKED, UNTOLD, UNWRITTEN, USAGE};
 pub use kept::{KeptSink, KeptSource};
+pub use shared::{AdvisedSink, SharedSource};
 pub use window::Window;
 pub use words::words_of;

@@ -34,6 +34,11 @@ pub struct Window {
 }
 
 impl Window {
+    /// No byte of a script was taken.
+    pub fn of_script() -> Self {
+        Window::new(Text::Script)
+    }
+
     /// No byte of this text was taken.
     pub(crate) fn new(text: Text) -> Self {
         Window {

@@ -13,3 +13,4 @@ pub mod UpgradeVectors
 pub mod UpgradeEnds
 pub mod Scripts
 pub mod AuditEnds
+pub mod CheckEnds

@@ -13,3 +13,4 @@ pub mod CommandLine
 pub mod Report
 pub mod Upgrade
 pub mod Audit
+pub mod Check

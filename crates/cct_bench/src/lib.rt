@@ -1,5 +1,5 @@
 //! The bench: plays a script over the machine and writes the transcript, lists a journal, brings one of an earlier version
-//! forward, audits a capture, or plays a load and writes its sums.
+//! forward, audits a capture, checks a script, or plays a load and writes its sums.
 #![tactic(auto)]
 
 ghost use Rattle.std.specs.Prelude.{◌≡◌, ◌≢◌, ◌⊎◌, [], ◌∷◌, IfSome, List, None, Result, Some, true, ℕ};
@@ -21,6 +21,7 @@ ghost use Rattle.cct_text.specs.Writing.{Broke, Writes, Wrote};
 ghost use Rattle.cct_gen.specs.Load.{load_steps};
 ghost use Rattle.cct_audit.specs.Capture.{capture};
 ghost use Rattle.cct_bench.specs.Audit.{AuditRan};
+ghost use Rattle.cct_bench.specs.Check.{CheckRan};
 ghost use Rattle.cct_bench.specs.Load.{Loaded};
 ghost use Rattle.cct_bench.specs.Report.{IsDecided, IsOrMemory, Reported, image_known, records_known, size_known};
 ghost use Rattle.cct_bench.specs.Run.{Ran, status_by, Completes};
@@ -37,6 +38,7 @@ use cct_text::TextLine;
 use ending::close;
 use loading::run_load;
 use play::Bench;
+use proofreading::run_check;
 use reporting::report;
 use std::alloc::Global;
 use upgrading::run_upgrade;
@@ -47,6 +49,7 @@ mod loading;
 mod opening;
 mod outcome;
 mod play;
+mod proofreading;
 mod reporting;
 mod steps;
 mod upgrade_script;
@@ -57,9 +60,9 @@ pub use outcome::Status;
 
 /// Runs the program: by the words of the command line, without its name, plays a script and writes the transcript
 /// (`docs/SCRIPT.md`, `docs/TRANSCRIPT.md`), lists the records of the journal and their sums, brings a journal of an
-/// earlier version forward for the devices of a script, audits a capture (`docs/AUDIT.md`), or plays a load and writes the
-/// sums over its transcript. The words are `run`, `report`, `upgrade`, `audit`, or `load` with a seed and a number of
-/// rounds, 1 to 10,000; any other list is refused.
+/// earlier version forward for the devices of a script, audits a capture (`docs/AUDIT.md`), tells each line of a script that
+/// is refused, or plays a load and writes the sums over its transcript. The words are `run`, `report`, `upgrade`, `audit`,
+/// `check`, or `load` with a seed and a number of rounds, 1 to 10,000; any other list is refused.
 ///
 /// The script is taken from its source a line at a time, and each step's entries are written before the next line is
 /// read. All buffers are of fixed size, and are taken at once before the first byte of the script; the machine is built
@@ -113,6 +116,13 @@ pub fn bench<S: Source, K: Sink, D: Disk>(
         AuditRan bytes result.0 (S.left script.new) (Rose (S.faults script.old) (S.faults script.new))
         (Wrote K.written K.puts out.old out.new) (Broke K.written K.puts out.old out.new)) }
     ensures audit_disk { said_in words.now ≡ Some Words.Audit → result.1 ≡ disk }
+
+    // With the word `check`: what was taken of the script, and what was written: each line that is refused, where those
+    // before it are left out. No call of the disk is made.
+    ensures checked { said_in words.now ≡ Some Words.Check → OfBytes (S.left script.old) (λ bytes.
+        CheckRan bytes result.0 (S.left script.new) (Rose (S.faults script.old) (S.faults script.new))
+        (λ lines answer. Writes K.written K.puts out.old lines answer out.new)) }
+    ensures check_disk { said_in words.now ≡ Some Words.Check → result.1 ≡ disk }
 
     // With the word `load`: what was played and written, the laws as with `run`, and what is left on the disk; and no
     // byte of the script was taken.
@@ -193,6 +203,7 @@ pub fn bench<S: Source, K: Sink, D: Disk>(
         Ok(Words::Report) => report(out, &mut TextLine::new(), disk),
         Ok(Words::Upgrade) => run_upgrade(script, out, disk),
         Ok(Words::Audit) => (run_audit(script, out), disk),
+        Ok(Words::Check) => (run_check(script, out), disk),
         Ok(Words::Load { seed, rounds }) => run_load(alloc, Load { seed, rounds }, out, disk),
         Err(WordsNo::Refused) => (refuse_words(out), disk),
         Err(WordsNo::Memory) => (Status::OutOfMemory, disk),

@@ -7,10 +7,11 @@ use std::alloc::Global;
 use std::test::Fail;
 
 /// Lists of words that say what to do.
-const TAKEN: [(&[&str], Words); 9] = [
+const TAKEN: [(&[&str], Words); 10] = [
     (&["run"], Words::Run),
     (&["report"], Words::Report),
     (&["upgrade"], Words::Upgrade),
+    (&["check"], Words::Check),
     (&["load", "0", "1"], Words::Load { seed: 0, rounds: 1 }),
     (&["load", "1", "9"], Words::Load { seed: 1, rounds: 9 }),
     (

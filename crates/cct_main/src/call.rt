@@ -32,11 +32,11 @@ impl<'w> Call<'w> {
         }
     }
 
-    /// The file of the journal, or the name of none where nothing is done with one: in an audit, or where the words are
-    /// refused.
+    /// The file of the journal, or the name of none where nothing is done with one: in an audit or a check, or where the
+    /// words are refused.
     pub(crate) fn journal(&self) -> &'w str {
         match self.wants {
-            Some(Words::Audit) | None => NO_FILE,
+            Some(Words::Audit | Words::Check) | None => NO_FILE,
             _ => self.file,
         }
     }
@@ -49,6 +49,16 @@ impl<'w> Call<'w> {
     /// Whether it is an audit, which reads a capture.
     pub(crate) fn is_audit(&self) -> bool {
         self.wants == Some(Words::Audit)
+    }
+
+    /// Whether it is a check, which reads a script and plays nothing.
+    pub(crate) fn is_check(&self) -> bool {
+        self.wants == Some(Words::Check)
+    }
+
+    /// Whether it is a run, which may make its journal.
+    pub(crate) fn is_run(&self) -> bool {
+        self.wants == Some(Words::Run)
     }
 
     /// Whether it wants a journal that is there: none is made for it.

@@ -6,12 +6,16 @@
 mod call;
 
 use call::Call;
-use cct_advice::{KeptSink, KeptSource, MEMORY, UNTOLD, UNWRITTEN, USAGE, advise, words_of};
+use cct_advice::{
+    AdvisedSink, KeptSink, KeptSource, MEMORY, SharedSource, UNCHECKED, UNTOLD, UNWRITTEN, USAGE,
+    Window, advise, words_of,
+};
 use cct_bench::{Status, bench};
 use cct_disk::{FileDisk, InUse};
 use cct_edge::{Failed, Sink, StdSink, StdSource};
 use cct_lines::Entry;
 use cct_text::put_entry;
+use std::cell::RefCell;
 use std::fs::Files;
 use std::io::ErrorKind;
 use std::process::ExitCode;
@@ -53,6 +57,8 @@ fn answer(rt: &HostRuntime, call: &Call<'_>) -> End {
         End::Of(help(rt))
     } else if call.wants_journal() && is_missing(rt, call.journal()) {
         End::Of(tell_missing(rt, call.journal()))
+    } else if call.is_check() {
+        End::Of(check(rt, call))
     } else {
         play(rt, call)
     }
@@ -68,8 +74,17 @@ fn play(rt: &HostRuntime, call: &Call<'_>) -> End {
         KeptSource::new(source)
     };
     let mut out = KeptSink::new(StdSink::new(io::writer(rt)));
+    let is_new = call.is_run() && is_missing(rt, call.journal());
     let end = match open(rt, call) {
-        Ok(disk) => End::Of(bench(rt.alloc(), call.words, &mut script, &mut out, disk).0),
+        Ok(disk) => {
+            let (status, disk) = bench(rt.alloc(), call.words, &mut script, &mut out, disk);
+            if is_new && status == Status::ScriptRefused && !out.tells_record() {
+                // It has no record, and would be in the way of the next run.
+                let _ = fs::remove_file(rt, call.journal());
+            }
+            drop(disk);
+            End::Of(status)
+        }
         Err(InUse) => tell_in_use(&mut out),
     };
     let _ = match end {
@@ -83,6 +98,21 @@ fn play(rt: &HostRuntime, call: &Call<'_>) -> End {
         },
     };
     end
+}
+
+/// Tells each line of the script that is refused, and says on standard error what is wrong with it.
+fn check(rt: &HostRuntime, call: &Call<'_>) -> Status {
+    let window = RefCell::new(Window::of_script());
+    let mut script = SharedSource::new(StdSource::new(rt.reader()), &window);
+    let mut out = AdvisedSink::new(StdSink::new(io::writer(rt)), &window, rt);
+    let disk = FileDisk::open_file(rt, call.journal());
+    let (status, _) = bench(rt.alloc(), call.words, &mut script, &mut out, disk);
+    let _ = match status {
+        Status::OutOfMemory => rt.eprintln(MEMORY),
+        Status::WriteFault => rt.eprintln(UNCHECKED),
+        _ => Ok(()),
+    };
+    status
 }
 
 /// The disk over the journal's file. It is locked where something may be written into it.

@@ -24,10 +24,11 @@ bare_app = record {
   subs = [];
 }
 
--- The program with its five subcommands.
+-- The program with its six subcommands.
 unfoldable pub words_app : App
 words_app = with_subcommand
     (with_subcommand
     (with_subcommand
+    (with_subcommand
     (with_subcommand (with_subcommand bare_app (new_shape (codes "run"))) (new_shape (codes "report")))
-    (new_shape (codes "upgrade"))) (new_shape (codes "audit"))) load_app.top
+    (new_shape (codes "upgrade"))) (new_shape (codes "audit"))) (new_shape (codes "check"))) load_app.top

@@ -26,6 +26,7 @@ said_by name rows =
     else if bytes_eq name (codes "report") then Some words.Report
     else if bytes_eq name (codes "upgrade") then Some words.Upgrade
     else if bytes_eq name (codes "audit") then Some words.Audit
+    else if bytes_eq name (codes "check") then Some words.Check
     else if bytes_eq name (codes "load") then load_in rows
     else None
 

@@ -1,4 +1,4 @@
-//! The words of the command line, read as a command with five subcommands.
+//! The words of the command line, read as a command with six subcommands.
 #![tactic(auto)]
 
 mod command;

@@ -28,6 +28,7 @@ fn said_by(name: &str, found: &ArgMatches<'_>) -> Option<Words>
         "report" => Some(Words::Report),
         "upgrade" => Some(Words::Upgrade),
         "audit" => Some(Words::Audit),
+        "check" => Some(Words::Check),
         "load" => load_in(found),
         _ => None,
     }

@@ -23,6 +23,8 @@ pub enum Words {
     Upgrade,
     /// Audit the capture on standard input: tell which coins were surely accepted, and how many fell.
     Audit,
+    /// Read the script on standard input to its end, and tell each line of it that is refused.
+    Check,
     /// Play a load that a number makes, of so many rounds: 1 to 10,000.
     Load { seed: u64, rounds: u32 },
 }
@@ -38,8 +40,9 @@ pub enum WordsNo {
     Memory,
 }
 
-/// Reads the words of the command line, without the program's name: `run`, `report`, `upgrade`, `audit`, or `load SEED N`,
-/// with SEED a number below 2^64 and N one from 1 to 10,000, both in decimal, without sign and without leading zeros.
+/// Reads the words of the command line, without the program's name: `run`, `report`, `upgrade`, `audit`, `check`,
+/// or `load SEED N`, with SEED a number below 2^64 and N one from 1 to 10,000, both in decimal, without sign and without
+/// leading zeros.
 ///
 /// # Errors
 ///

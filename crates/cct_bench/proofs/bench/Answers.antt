@@ -26,6 +26,7 @@ use Rattle.cct_text.proofs.Writing.{wrote_none}
 use Rattle.cct_audit.specs.Capture.{capture}
 use Rattle.cct_bench.specs.Audit.{AuditRan}
 use Rattle.cct_bench.proofs.AuditEnds.{audit_completes, audit_no_memory}
+use Rattle.cct_bench.proofs.CheckEnds.{check_no_memory}
 use Rattle.cct_bench.proofs.bench.Goals as goal
 
 pub returns-in-Ok-clause-complete : goal.returns-in-Ok-clause-complete
@@ -255,3 +256,11 @@ returns-in-Err-Memory-clause-audited g c is_audit =
 pub returns-in-Err-Memory-clause-audit_complete : goal.returns-in-Err-Memory-clause-audit_complete
 returns-in-Err-Memory-clause-audit_complete g c is_audit =
     some_bytes (g.S.Source.left c.args.script.now) (λ bytes none no_read no_write. inr refl)
+
+pub returns-in-Err-Memory-clause-checked : goal.returns-in-Err-Memory-clause-checked
+returns-in-Err-Memory-clause-checked g c is_check =
+    let sink = g.K.Sink in
+    let out = c.args.out.now in
+    check_no_memory (g.S.Source.left c.args.script.now)
+    (Rose (g.S.Source.faults c.args.script.now) (g.S.Source.faults c.args.script.now))
+    (λ lines answer. Writes sink.written sink.puts out lines answer out) (wrote_none sink.written sink.puts out)

@@ -1,0 +1,4 @@
+pub mod Marks
+pub mod Going
+pub mod Lines
+pub mod First
