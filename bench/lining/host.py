@@ -65,6 +65,12 @@ class Heard(threading.Thread):
             self.changed.wait_for(lambda: self.has(text) or self.is_over, seconds)
             return self.has(text)
 
+    def counts(self, is_wanted, after: int, count: int) -> bool:
+        """Whether so many lines of a kind came after the first so many, before the pipe was closed."""
+        with self.changed:
+            self.changed.wait_for(lambda: self.is_over or sum(map(is_wanted, self.lines[after:])) >= count, MOST_SECONDS)
+            return sum(map(is_wanted, self.lines[after:])) >= count
+
     def has(self, text: str) -> bool:
         return any(line.startswith(text) for line in self.lines)
 

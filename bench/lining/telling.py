@@ -101,7 +101,7 @@ def refusals(programs: dict[str, Path], short: bool) -> None:
     line = Line(programs["cct_live"], [Acceptor(2), Hopper(3)])
     host = line.start()
     host.first()
-    wrong = {"pay 3 1": "form", "start 2 00XX": "form", "coins": "word", "order": "form", "change 1 10": "word"}
+    wrong = {"pay 3 1": "form", "start 2 00XX": "form", "coins": "word", "order": "form", "coin 2 5": "word", "change 1 0": "form"}
     for number, (text, kind) in enumerate(wrong.items(), 1):
         # The line of the balance counts too.
         told = host.told(text)

@@ -7,7 +7,7 @@ use Rattle.cct_model.specs.declared.change.Due.{Due}
 use Rattle.cct_model.specs.declared.change.Phase.TheVariants.{Closed, Lost}
 use Rattle.cct_model.specs.declared.change.Session.{Session}
 use Rattle.cct_model.specs.declared.change.Tray.{Tray}
-use Rattle.cct_model.specs.Change.{Desk, GoesOn, Serves, ServesDue, Settles, gone_on, served, served_by, served_due, settled, settled_trays}
+use Rattle.cct_model.specs.Change.{Desk, GoesOn, PaysNext, Serves, ServesDue, Settles, gone_on, served, served_by, served_due, settled, settled_trays}
 use Rattle.cct_change.specs.declared.desk.Serving.{Serving}
 use Rattle.cct_change.specs.declared.desk.Serving.TheVariants.{Idle, Wait, Odd, Served, Short, Pay}
 use Rattle.cct_change.specs.Serving.{GoesOnBy, ServesBy}
@@ -71,6 +71,8 @@ serves_by (Pay p) old new left s comes goes = record {
   session = s;
   runs = ap (λ desk. desk.session) goes.desk;
   id = goes.id;
+  some = goes.some;
+  next = subst (λ desk. PaysNext desk.trays s p) (sym goes.desk) goes.next;
   entries = λ capacity setup past. comes.0 capacity setup past _ (goes.entries capacity setup past);
   desk = λ news. comes.1 news ∙ ap (λ desk. gone_on news desk.trays s) (sym goes.desk);
 }

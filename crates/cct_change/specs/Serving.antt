@@ -8,13 +8,14 @@ use Rattle.cct_model.specs.lines.entry.Entry.TheVariants as entry
 use Rattle.cct_model.specs.declared.change.Tray.{Tray}
 use Rattle.cct_model.specs.declared.change.Payment.{Payment}
 use Rattle.cct_model.specs.declared.change.Session.{Session}
-use Rattle.cct_model.specs.Change.{Desk, GoesOn, Serves, gone_on, pay_entries, served}
+use Rattle.cct_model.specs.Change.{Desk, GoesOn, PaysNext, Serves, gone_on, pay_entries, served}
 use Rattle.cct_model.specs.Refusal.{refusal}
 use Rattle.cct_change.specs.declared.desk.Serving.{Serving}
 use Rattle.cct_change.specs.declared.desk.Serving.TheVariants.{Idle, Wait, Odd, Served, Short, Pay}
 
--- The rest of a session is part of its amount, which a table of plans takes.
+-- The rest of a session is part of its amount, which a table of plans takes, and its ids begin with 1 or more.
 pub record IsInBounds (s : Session) : Type 0 where
+  pub ids : 1 ≤ s.next
   pub rest : s.rest ≤ s.amount
   pub amount : s.amount ≤ GREATEST_AMOUNT
 
@@ -39,6 +40,8 @@ pub record AsksFor (trays : List Tray) (s : Session) (new : Desk) (p : Payment) 
       → GoesOn capacity setup past trays s (entries_by capacity setup past s p)
   pub desk : new ≡ record { session = Some s; trays = trays }
   pub id : p.id ≡ s.next
+  pub some : 1 ≤ p.id
+  pub next : PaysNext trays s p
 
 -- So a session goes on whose payments are settled.
 abbrev pub GoesOnBy : Serving → List Tray → Session → Desk → Type 0
@@ -59,6 +62,8 @@ pub record Asks (old new : Desk) (p : Payment) : Type 0 where
   pub session : Session
   pub runs : new.session ≡ Some session
   pub id : p.id ≡ session.next
+  pub some : 1 ≤ p.id
+  pub next : PaysNext new.trays session p
   pub entries : (capacity : ℕ) (setup : Setup) (past : List Entry)
       → Serves capacity setup past old.trays old.session (entries_by capacity setup past session p)
   pub desk : (news : List Entry) → served news old.trays old.session ≡ gone_on news new.trays session

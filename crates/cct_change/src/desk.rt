@@ -96,7 +96,8 @@ impl Desk {
     /// The operator wants an amount, 1 to 10,000, to be paid out; the first payment has the id `first`. Where a session
     /// runs none begins, and the answer is `false`.
     pub fn change(&mut self, first: u32, amount: u32) -> bool
-        requires { amount ≤ GREATEST_AMOUNT }
+        requires ids { 1 ≤ first }
+        requires amount { amount ≤ GREATEST_AMOUNT }
         ensures told { change_entry first amount self.old.session ≡ change_told first amount result }
         ensures desk { (news : List Entry) → self.new ≡ desk_after (step.Change first amount) news self.old }
     {

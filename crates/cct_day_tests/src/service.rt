@@ -5,6 +5,7 @@ ghost use Rattle.cct_terms.specs.declared.wire.TheConstants.{MOST_HEARD};
 
 use crate::host::{REPLIES, setup};
 use arrayvec::ArrayVec;
+use cct_change::Desk;
 use cct_disk::{MADE_LEN, MemDisk};
 use cct_edge::{MemSink, MemSource};
 use cct_model::{LineKind, MOST_HEARD, Setup};
@@ -109,9 +110,11 @@ fn served(
         is_answered: false,
     };
     let setup = setup();
+    let mut desk = Desk::new(alloc, &setup)?;
     let (how, disk) = serve(
         &setup,
         &mut roll,
+        &mut desk,
         AtEnd::Leave,
         &mut source,
         &mut out,

@@ -31,64 +31,57 @@ use Rattle.cct_service.specs.declared.stopping.AtEnd.{AtEnd}
 use Rattle.cct_service.specs.Found.{FoundOn, Tells}
 use Rattle.cct_service.specs.Lived.{LeftBy, Lived}
 use Rattle.cct_service.specs.Told.{news_of}
+use Rattle.cct_line_laws.specs.Killed.{IsLeftAt}
 use Rattle.cct_line_laws.specs.Starts.{StartsOver}
 use Rattle.cct_line_laws.proofs.Serving.{service_right}
 
 -- pasts that are alike go on alike
-alike_told : (told past other : List Entry) → Alike past other → Alike (told ++ past) (told ++ other)
+pub alike_told : (told past other : List Entry) → Alike past other → Alike (told ++ past) (told ++ other)
 alike_told [] past other alike = alike
 alike_told (e ∷ told) past other alike = alike_entry (told ++ past) (told ++ other) e (alike_told told past other alike)
 
 module _ {D : Type 0} (honest : D → Bool) (seen : D → Option (List ℕ)) (may_leave : D → List ℕ → Type 0) where
-  -- what an image that a cut leaves stands for
-  StandsAfter : Setup → List Entry → List ℕ → Type 0
-  StandsAfter setup past image =
-      StandsFor (carry_of setup) image (reverse (records past))
-      ⊎ ((addr : ℕ) × (r : Record) × (due_at setup past addr ≡ Some r)
-      × StandsFor (carry_of setup) image (reverse (records past) ++ r ∷ []))
-
   cut_left : (back : D) (setup : Setup) (how : Served) (past : List Entry) (image : List ℕ) →
       LeftBy honest seen may_leave back setup how past → IsTrusted honest seen back → may_leave back image →
-      StandsAfter setup past image
-  unfolding StandsAfter
+      IsLeftAt setup past image
   cut_left back setup served.Disk past image (addr, r, due, left) trusted may = elim ((left trusted).each image may) [
     | inl before ↦ inl before
     | inr with_it ↦ inr (addr, r, due, with_it)
   ]
   cut_left back setup how past image left trusted may = inl ((left trusted).each image may)
 
+-- the next life starts over what is left at the end of a past
+pub at_start : (setup : Setup) (HasLived : List Record → List Entry → Type 0) (past whole : List Entry) (image : List ℕ) →
+    Alike past whole → all_follow setup (records past) ≡ true →
+    ((addr : ℕ) (r : Record) → due_at setup past addr ≡ Some r → all_follow setup (r ∷ records past) ≡ true) →
+    ((at : Option CrashAt) (news : List Entry) → IsCrash at → EntriesOfRestart setup whole at news →
+    HasLived (records (news ++ whole)) (news ++ whole)) →
+    IsLeftAt setup past image → StartsOver setup HasLived whole image
+at_start setup HasLived past whole image alike follow due_follow goes (inl stands) = record {
+  left = records whole;
+  news = bare_restart whole;
+  lived = goes None (bare_restart whole) tt refl;
+  stands = subst (λ rs. StandsFor (carry_of setup) image (reverse rs)) alike.recorded stands;
+  follow = subst (λ rs. all_follow setup rs ≡ true) alike.recorded follow;
+}
+at_start setup HasLived past whole image alike follow due_follow goes (inr (addr, r, due, stands)) = record {
+  left = r ∷ records whole;
+  news = keeping_restart whole r;
+  lived =
+      goes (Some (record { addr = addr; calls = 4 })) (keeping_restart whole r) (omega arith)
+      (subst (λ at_work. RestartEntries whole 4 at_work (keeping_restart whole r))
+      (sym (sym (due_same setup past whole addr alike) ∙ due)) (inr (omega arith, refl)));
+  stands =
+      subst (StandsFor (carry_of setup) image) (sym (reverse_onto (records whole) r []))
+      (subst (λ rs. StandsFor (carry_of setup) image (reverse rs ++ r ∷ [])) alike.recorded stands);
+  follow = subst (λ rs. all_follow setup (r ∷ rs) ≡ true) alike.recorded (due_follow addr r due);
+}
+
 -- the next life over it
 module _ {L : Type 0} (reads : L → Option (List ℕ) → L → Type 0) (writes : L → List ℕ → Result (Unit {0}) Failed → L → Type 0)
     {K : Type 0} (written : K → Option (List ℕ)) (puts : K → List ℕ → Result (Unit {0}) Failed → K → Type 0)
     {D : Type 0} (size : D → ℕ) (honest : D → Bool) (seen : D → Option (List ℕ)) (may_leave : D → List ℕ → Type 0)
     (moment : D → ℕ) (left_since : D → ℕ → List ℕ → Type 0) (cuts : D → ℕ) where
-  at_start : (setup : Setup) (HasLived : List Record → List Entry → Type 0) (past whole : List Entry) (image : List ℕ) →
-      Alike past whole → all_follow setup (records past) ≡ true →
-      ((addr : ℕ) (r : Record) → due_at setup past addr ≡ Some r → all_follow setup (r ∷ records past) ≡ true) →
-      ((at : Option CrashAt) (news : List Entry) → IsCrash at → EntriesOfRestart setup whole at news →
-      HasLived (records (news ++ whole)) (news ++ whole)) →
-      StandsAfter honest seen may_leave setup past image → StartsOver setup HasLived whole image
-  unfolding StandsAfter
-  at_start setup HasLived past whole image alike follow due_follow goes (inl stands) = record {
-    left = records whole;
-    news = bare_restart whole;
-    lived = goes None (bare_restart whole) tt refl;
-    stands = subst (λ rs. StandsFor (carry_of setup) image (reverse rs)) alike.recorded stands;
-    follow = subst (λ rs. all_follow setup rs ≡ true) alike.recorded follow;
-  }
-  at_start setup HasLived past whole image alike follow due_follow goes (inr (addr, r, due, stands)) = record {
-    left = r ∷ records whole;
-    news = keeping_restart whole r;
-    lived =
-        goes (Some (record { addr = addr; calls = 4 })) (keeping_restart whole r) (omega arith)
-        (subst (λ at_work. RestartEntries whole 4 at_work (keeping_restart whole r))
-        (sym (sym (due_same setup past whole addr alike) ∙ due)) (inr (omega arith, refl)));
-    stands =
-        subst (StandsFor (carry_of setup) image) (sym (reverse_onto (records whole) r []))
-        (subst (λ rs. StandsFor (carry_of setup) image (reverse rs ++ r ∷ [])) alike.recorded stands);
-    follow = subst (λ rs. all_follow setup (r ∷ rs) ≡ true) alike.recorded (due_follow addr r due);
-  }
-
   pub hands_on : (echoes : Bool) (longest : ℕ) (coming : L → List ℕ) (silent : L → ℕ) (setup : Setup) (history : L → List Moment) →
       IsSoundSetup setup → IsHonestLine reads writes echoes longest coming silent setup history → (first last : Port L)
       (roll now : Rolled) (ends : AtEnd) (left : Option (List ℕ)) (how : Served) (old new : K) (given back : D) →

@@ -1,5 +1,8 @@
+pub mod Puts
+pub mod Points
 pub mod HandingOn
 pub mod Linked
 pub mod Rolls
 pub mod Serving
 pub mod Surveys
+pub mod Killing

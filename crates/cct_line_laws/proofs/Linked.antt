@@ -1,5 +1,5 @@
 -- What goes over the link of a service is a chain of the entries that it tells.
-use Rattle.std.proofs.Common.{◌≡◌, ℕ, Bool, true, List, [], ◌∷◌, ◌++◌, sym, ap, ◌∙◌, subst, Option, Some, None, append-nil, append_assoc, true≢false}
+use Rattle.std.proofs.Common.{◌≡◌, ℕ, Bool, true, List, [], ◌∷◌, ◌++◌, sym, ap, refl, ◌∙◌, subst, Option, Some, None, append-nil, append_assoc, true≢false}
 use Rattle.cct_model.specs.terms.device.DeviceSetup.{DeviceSetup}
 use Rattle.cct_model.specs.lines.entry.Entry.{Entry}
 use Rattle.cct_model.specs.lines.entry.Entry.TheVariants as entry_of
@@ -11,7 +11,7 @@ use Rattle.cct_service.specs.declared.notice.Notice.{Notice}
 use Rattle.cct_service.specs.declared.notice.Notice.TheVariants as notice_of
 use Rattle.cct_service.specs.Asked.{most_asked}
 use Rattle.cct_service.specs.Linked.{ExchangesSince, UsesLink, asks, goes_on, has_counted, tells}
-use Rattle.cct_service.specs.Told.{Told, entry, finding, last, news_of, notice, refused, unsent}
+use Rattle.cct_service.specs.Told.{Told, answer_news, entry, falls_short, finding, last, news_of, notice, operates, pay_of, pays, refused, refused_for, taken, unsent, withheld_for}
 use Rattle.cct_line_laws.proofs.Rolls.{roll_chain}
 
 -- what is told in two parts
@@ -25,6 +25,11 @@ news_both (refused number why ∷ told) more = news_both told more
 news_both (notice n ∷ told) more = news_both told more
 news_both (finding f ∷ told) more = news_both told more
 news_both (last e ∷ told) more = news_both told more
+news_both (operates s e ∷ told) more = news_both told more
+news_both (pays p answer ∷ told) more =
+    ap (λ es. es ++ answer_news p answer) (news_both told more)
+    ∙ append_assoc (news_of more) (news_of told) (answer_news p answer)
+news_both (falls_short p paid rest ∷ told) more = news_both told more
 
 module _ {L : Type 0} (gives : L → List ℕ → List ℕ → L → Type 0) (sent : L → Bool) (failures : L → ℕ) where
   -- an entry that is no exchange, or a notice
@@ -71,6 +76,18 @@ module _ {L : Type 0} (gives : L → List ℕ → List ℕ → L → Type 0) (se
   exchanges_chain so_far old new (refused number why ∷ told) asked exchanges = exchanges_chain so_far old new told asked exchanges
   exchanges_chain so_far old new (finding f ∷ told) asked exchanges = exchanges_chain so_far old new told asked exchanges
   exchanges_chain so_far old new (last e ∷ told) asked exchanges = exchanges_chain so_far old new told asked exchanges
+  exchanges_chain so_far old new (operates s e ∷ told) asked exchanges = exchanges_chain so_far old new told asked exchanges
+  exchanges_chain so_far old new (pays p taken ∷ told) asked exchanges =
+      after_entry old new (entry_of.Taken (pay_of p)) told refl
+      (exchanges_chain so_far old new told (asked_first (news_of told) (entry_of.Taken (pay_of p) ∷ []) asked) exchanges)
+  exchanges_chain so_far old new (pays p (refused_for why) ∷ told) asked exchanges =
+      after_entry old new (entry_of.No (pay_of p) why) told refl
+      (exchanges_chain so_far old new told (asked_first (news_of told) (entry_of.No (pay_of p) why ∷ []) asked) exchanges)
+  exchanges_chain so_far old new (pays p (withheld_for why) ∷ told) asked exchanges =
+      subst (λ es. Chain gives old es new) (sym (append-nil (news_of told)))
+      (exchanges_chain so_far old new told (subst AllAsked (append-nil (news_of told)) asked) exchanges)
+  exchanges_chain so_far old new (falls_short p paid rest ∷ told) asked exchanges =
+      exchanges_chain so_far old new told asked exchanges
 
   pub uses_chain : (devices : List DeviceSetup) (roll now : Rolled) (old new : L) (told : List Told) → AllAsked (news_of told) →
       UsesLink gives sent failures devices roll now old new told → Chain gives old (news_of told) new

@@ -15,6 +15,7 @@ use Rattle.cct_port.specs.Port.{Gives, faults_of, line_of, was_sent}
 use Rattle.cct_lives.specs.Live.{started}
 use Rattle.cct_survey.specs.Roll.{Rolled}
 use Rattle.cct_answered.specs.Asked.{Moment, entries}
+use Rattle.cct_prompt.specs.Chain.{Chain}
 use Rattle.cct_honest_line.specs.Lives.{HaveLived, IsHonestLine, IsPortOf, IsRightOver, lived}
 use Rattle.cct_honest_line.proofs.Living.{life_right_over}
 use Rattle.cct_honest_line.proofs.Sending.{asked_first, live_asked, started_asked}
@@ -29,6 +30,21 @@ module _ {L : Type 0} (reads : L → Option (List ℕ) → L → Type 0) (writes
     {K : Type 0} (written : K → Option (List ℕ)) (puts : K → List ℕ → Result (Unit {0}) Failed → K → Type 0)
     {D : Type 0} (size : D → ℕ) (honest : D → Bool) (seen : D → Option (List ℕ)) (may_leave : D → List ℕ → Type 0)
     (moment : D → ℕ) (left_since : D → ℕ → List ℕ → Type 0) (cuts : D → ℕ) where
+  -- what went over its link is a chain of the entries that it told
+  pub service_chain : (setup : Setup) → IsSoundSetup setup → (first last : Port L) (roll now : Rolled) (ends : AtEnd)
+      (left : Option (List ℕ)) (how : Served) (old new : K) (given back : D) →
+      (service : Lived written puts (Gives reads writes) was_sent faults_of size honest seen may_leave moment left_since cuts
+      given back setup roll now ends left how old new first last) →
+      (found : List Record) → FoundOn honest seen may_leave given setup service.begun found →
+      Chain (Gives reads writes) first (news_of service.told) last
+  service_chain setup sound first last roll now ends left how old new given back service found there =
+      let told = news_of service.told in
+      let asked =
+      asked_first told (started found)
+      (live_asked MOST_RECORDS setup service.steps (started found) (told ++ started found) sound (started_asked found)
+      (service.lived found there).0.live) in
+      uses_chain (Gives reads writes) was_sent faults_of setup.devices roll now first last service.told asked service.linked
+
   pub service_right : (echoes : Bool) (longest : ℕ) (coming : L → List ℕ) (silent : L → ℕ) (setup : Setup) (history : L → List Moment) →
       IsSoundSetup setup → IsHonestLine reads writes echoes longest coming silent setup history → (first last : Port L)
       (roll now : Rolled) (ends : AtEnd) (left : Option (List ℕ)) (how : Served) (old new : K) (given back : D) →
@@ -46,11 +62,7 @@ module _ {L : Type 0} (reads : L → Option (List ℕ) → L → Type 0) (writes
       whole there lives port =
       let told = news_of service.told in
       let life = (service.lived found there).0 in
-      let asked =
-      asked_first told (started found)
-      (live_asked MOST_RECORDS setup service.steps (started found) (told ++ started found) sound (started_asked found) life.live) in
-      let chain =
-      uses_chain (Gives reads writes) was_sent faults_of setup.devices roll now first last service.told asked service.linked in
+      let chain = service_chain setup sound first last roll now ends left how old new given back service found there in
       let right =
       life_right_over reads writes echoes longest coming silent MOST_RECORDS setup history sound line first last found service.steps told
       whole lives port life chain in (

@@ -1,7 +1,7 @@
 //! What is promised of the money of a service whose link is a port over an honest line.
 #![tactic(auto)]
 
-ghost use Rattle.std.specs.Prelude.{◌≡◌, ◌++◌, ℕ, Bool, List, [], Option};
+ghost use Rattle.std.specs.Prelude.{◌≡◌, ◌⊎◌, ◌++◌, ℕ, Bool, List, [], Option};
 ghost use Rattle.cct_journal.specs.declared.format.TheConstants.{MOST_RECORDS};
 ghost use Rattle.cct_model.specs.terms.device.Setup.{Setup};
 ghost use Rattle.cct_model.specs.lines.command.CrashAt.{CrashAt};
@@ -20,7 +20,10 @@ ghost use Rattle.cct_answered.specs.Asked.{Moment, entries};
 ghost use Rattle.cct_honest_line.specs.Lives.{HaveLived, IsHonestLine, IsPortOf, IsRightOver};
 ghost use Rattle.cct_service.specs.declared.served.Served.{Served};
 ghost use Rattle.cct_service.specs.declared.stopping.AtEnd.{AtEnd};
-ghost use Rattle.cct_service.specs.Found.{FoundOn, Tells};
+ghost use Rattle.cct_service.specs.Found.{FoundOn, Tells, was_found};
+ghost use Rattle.cct_service.specs.Since.{IsMaking};
+ghost use Rattle.cct_lives.specs.Live.{started};
+ghost use Rattle.cct_line_laws.specs.Killed.{IsLeftAt, Point};
 ghost use Rattle.cct_line_laws.specs.Starts.{StartsOver};
 ghost use Rattle.cct_disk.specs.Disk.{Holds, IsTrusted};
 ghost use Rattle.cct_service.specs.Lived.{Lived};
@@ -72,6 +75,37 @@ pub fn the_next_service_starts_over_what_is_left<L: Line, K: Sink, D: Disk>()
         history (history (line_of last)) rs all) (news_of service.told ++ whole) image)
         × ((next : D) → Holds D.honest D.seen D.may_leave next image
         → Tells D.honest D.seen D.may_leave next setup starts.left) }
+{}
+
+/// A service may be killed at each moment. At each point between two of its steps what it told by then is a life, with the money
+/// right, and what may be left on the disk by then tells the records over which the next life starts, as above. And whatever a
+/// power cut at a moment of the service might have left, if its disk held one image alone, is what may be left at one of these
+/// points, or a journal that is just being made. A law: its body is empty.
+pub fn a_service_may_be_killed_at_each_moment<L: Line, K: Sink, D: Disk>()
+    ensures { (echoes : Bool) (longest : ℕ) (coming : L → List ℕ) (silent : L → ℕ) (setup : Setup)
+        (history : L → List Moment) → IsSoundSetup setup
+        → IsHonestLine L.reads L.writes echoes longest coming silent setup history
+        → (first last : Port L) (roll now : Rolled) (ends : AtEnd) (left : Option (List ℕ)) (how : Served) (old new : K)
+        (given back : D)
+        → (service : Lived K.written K.puts (Gives L.reads L.writes) was_sent faults_of D.size D.honest D.seen D.may_leave
+        D.moment D.left_since D.cuts given back setup roll now ends left how old new first last)
+        → (found : List Record) (whole : List Entry) → FoundOn D.honest D.seen D.may_leave given setup service.begun found
+        → HaveLived L.reads L.writes echoes longest coming silent MOST_RECORDS setup history (history (line_of first)) found
+        whole
+        → IsPortOf L.reads L.writes echoes longest coming silent first
+        → ((point : Point (Gives L.reads L.writes) setup found first last (news_of service.told))
+        → IsRightOver setup (entries (history (line_of point.line))) (point.news ++ whole)
+        × IsPortOf L.reads L.writes echoes longest coming silent point.line
+        × ((image : List ℕ) → IsLeftAt setup (point.news ++ started found) image
+        → (starts : StartsOver setup (λ rs all. HaveLived L.reads L.writes echoes longest coming silent MOST_RECORDS setup
+        history (history (line_of point.line)) rs all) (point.news ++ whole) image)
+        × ((next : D) → Holds D.honest D.seen D.may_leave next image
+        → Tells D.honest D.seen D.may_leave next setup starts.left)))
+        × ((before image : List ℕ) → Holds D.honest D.seen D.may_leave given before
+        → D.left_since back (D.moment given) image
+        → IsMaking (was_found service.begun) before image
+        ⊎ ((point : Point (Gives L.reads L.writes) setup found first last (news_of service.told))
+        × IsLeftAt setup (point.news ++ started found) image)) }
 {}
 
 /// The questions of a survey ask no device more than who it is, and which coins it knows, or what the model's devices don't

@@ -31,6 +31,7 @@ use crate::quiet::QuietSink;
 use crate::rolling::call_first;
 use crate::words::{Echo, HostWords, LineWords, Words, read_words};
 use cct_advice::{KeptSink, MEMORY, UNWRITTEN, advise_end, words_of};
+use cct_change::Desk;
 use cct_disk::{FileDisk, InUse};
 use cct_draft::{Drafted, draft};
 use cct_edge::{Sink, StdSink, StdSource};
@@ -115,11 +116,13 @@ fn host(rt: &HostRuntime, words: HostWords<'_>) -> Result<u8, Stop> {
     }
     let port = open_port(rt, words.line)?;
     let mut roll = Roll::new(&setup, words.trusts_coins);
+    let mut desk = Desk::new(rt.alloc(), &setup)?;
     let is_echo_due = words.line.echo == Echo::Yes;
     let mut port = call_first(&setup, &mut roll, port, is_echo_due, &mut out)?;
     let (served, _) = serve(
         &setup,
         &mut roll,
+        &mut desk,
         ends_of(words),
         &mut StdSource::new(rt.reader()),
         &mut out,

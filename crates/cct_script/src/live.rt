@@ -35,12 +35,18 @@ pub enum LiveLine {
     Status,
     /// `order ID`: what is known of the order with this number is told.
     Order { id: u32 },
+    /// `stock A COUNT`: the operator counted the coins of a hopper.
+    Stock { addr: u8, count: u32 },
+    /// `change FIRST AMOUNT`: a session of change is to begin.
+    Change { first: u32, amount: u32 },
+    /// `serve`: the session of change goes on.
+    Serve,
     /// `end`: the host is to end.
     End,
 }
 
-/// What a line says to a host on a real line, without its line feed: a command, `next`, `balance` or `end` as in a script,
-/// or `do A`, `poll`, `status` or `order ID`. `Word` where the first field is no word of these, a bench's `coin` or `crash` among them;
+/// What a line says to a host on a real line, without its line feed: a command, `next`, `balance`, `stock`, `change`, `serve`
+/// or `end` as in a script, or `do A`, `poll`, `status` or `order ID`. `Word` where the first field is no word of these, a bench's `coin` or `crash` among them;
 /// else `Form` where the line isn't in a form of its word.
 #[tactic(auto, unfolding(crate::specs::Live::live_line))]
 pub fn read_live_line(line: &[u8]) -> Result<LiveLine, LineKind>
@@ -92,6 +98,9 @@ fn read_step(line: &[u8]) -> Result<LiveLine, LineKind>
         Step::Command(command) => Ok(LiveLine::Command(command)),
         Step::Next { addr } => Ok(LiveLine::Next { addr }),
         Step::Balance => Ok(LiveLine::Balance),
+        Step::Stock { addr, count } => Ok(LiveLine::Stock { addr, count }),
+        Step::Change { first, amount } => Ok(LiveLine::Change { first, amount }),
+        Step::Serve => Ok(LiveLine::Serve),
         Step::End => Ok(LiveLine::End),
         _ => Err(LineKind::Word),
     }

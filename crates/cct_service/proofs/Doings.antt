@@ -1,19 +1,28 @@
 -- What is done for a line, made of its parts.
-use Rattle.std.proofs.Common.{◌≡◌, ◌≤◌, ◌+◌, ◌∙◌, ℕ, zero, suc, List, [], ◌∷◌, ◌++◌, length, Bool, false, refl, sym, ap, subst, inl, inr, append_assoc, arith}
+use Rattle.std.proofs.Common.{◌≡◌, ◌≤◌, ◌+◌, ◌∙◌, ◌⊎◌, ℕ, zero, suc, List, [], ◌∷◌, ◌++◌, length, Bool, true, false, ◌==◌, ◌||◌, refl, eqb-true, sym, ap, subst, inl, inr, append_assoc, arith}
+use Rattle.std.specs.List.{All, list_any}
+use Rattle.std.proofs.lemmas.Bool.Decides.{nat_tests}
 use Rattle.std.proofs.lemmas.List.{append-nil}
 use Rattle.std.proofs.lemmas.List.Elements.{All-nil}
 use Rattle.cct_model.specs.lines.command.Command.{Command}
 use Rattle.cct_model.specs.lines.command.Command.TheVariants as command
+use Rattle.cct_model.specs.lines.entry.Entry.{Entry}
+use Rattle.cct_model.specs.lines.entry.Entry.TheVariants as entry_of
 use Rattle.cct_lives.specs.LiveStep.{LiveStep}
 use Rattle.cct_lives.specs.LiveStep as live
 use Rattle.cct_survey.specs.declared.finding.Finding.{Finding}
+use Rattle.cct_service.specs.declared.attempts.TheConstants.{MOST_ATTEMPTS}
+use Rattle.cct_service.specs.declared.attempts.Until.{Until}
+use Rattle.cct_service.specs.declared.attempts.Until.TheVariants as until_of
 use Rattle.cct_service.specs.declared.stopping.AtEnd.{AtEnd}
 use Rattle.cct_service.specs.declared.stopping.AtEnd.TheVariants as at_end
 use Rattle.cct_service.specs.declared.notice.Notice.{Notice}
 use Rattle.cct_service.specs.Held.{IsAfter}
-use Rattle.cct_service.specs.Doing.{AreAttempts, DoesLine, DoesLines, FrontOf, IsAttempt, IsAttemptSent, IsStepOf, MakesAttempts, Many, PlaysLines, ServesLines, StopsBy, Tells, TellsOne, Times}
+use Rattle.cct_service.specs.Doing.{AreAttempts, DoesLine, DoesLines, FrontOf, GoesOn, IsAttempt, IsAttemptWith, IsLastTry, IsStepOf, MakesAttempts, Many, PlaysLines, ServesLines, StopsBy, Tells, TellsOne, Then, Times}
+use Rattle.cct_service.specs.Ends.{is_end, tells_end}
 use Rattle.cct_service.specs.Said.{Said}
-use Rattle.cct_service.specs.Told.{Told, attempt_told, findings_in, notice}
+use Rattle.cct_service.specs.Told.{Told, as_told, attempt_told, entry, findings_in, notice, notices_told, told_unsent, unheard}
+use Rattle.cct_service.proofs.Parts.{front_whole}
 
 -- something once more
 pub times_more : (P : List LiveStep → List Told → Type 0) (n : ℕ) (s1 s2 : List LiveStep) (t1 t2 : List Told) →
@@ -87,67 +96,192 @@ pub many_weaker : (P Q : List LiveStep → List Told → Type 0) →
 many_weaker P Q to steps told h = (h.0, times_weaker P Q to h.0 steps told h.1)
 
 -- an attempt that isn't made breaks one off
-pub attempt_broken : (sent : Bool) (addr : ℕ) → FrontOf (IsAttemptSent sent addr) [] []
-attempt_broken sent addr = record {
+pub attempt_broken : (sent : Bool) (entries : List Entry) (addr : ℕ) → FrontOf (IsAttemptWith sent entries addr) [] []
+attempt_broken sent entries addr = record {
   undone = live.next addr ∷ [];
-  untold = attempt_told sent [] ++ [];
-  whole = (refl, ([], [], (false, All-nil (IsAfter false [])), refl));
+  untold = attempt_told sent entries ++ [];
+  whole = (refl, ([], (false, All-nil (IsAfter false entries)), refl));
 }
 
--- one that is made
-pub attempt_made : (sent : Bool) (addr : ℕ) (steps : List LiveStep) (told : List Told) → IsAttemptSent sent addr steps told →
-    IsAttempt addr steps told
-attempt_made sent addr steps told h = (sent, h)
+-- what an attempt tells ends its job where one of its entries does
+notices_go_on : (notices : List Notice) → tells_end (notices_told notices) ≡ false
+notices_go_on [] = refl
+notices_go_on (n ∷ notices) = notices_go_on notices
 
--- no attempt yet
-pub no_attempts : (addr : ℕ) → MakesAttempts addr 0 [] []
-no_attempts addr = (0, omega arith, (λ some. some), (refl, refl))
+as_told_end : (entries : List Entry) (notices : List Notice) →
+    tells_end (as_told entries ++ notices_told notices) ≡ list_any is_end entries
+as_told_end [] notices = notices_go_on notices
+as_told_end (e ∷ entries) notices = ap (λ b. is_end e || b) (as_told_end entries notices)
 
--- none at all is few enough
-pub none_made : (addr most : ℕ) → AreAttempts addr most [] []
-none_made addr most = (0, omega arith, (refl, refl))
+unsent_end : (e : Entry) (told : List Told) → tells_end (told_unsent e (unheard e) ∷ told) ≡ (is_end e || tells_end told)
+unsent_end (entry_of.Wire addr sent []) told = refl
+unsent_end (entry_of.Wire addr sent (byte ∷ heard)) told = refl
+unsent_end e told = refl
 
--- attempts, and one more, which are few enough
-pub attempts_made : (addr made most : ℕ) (sent : Bool) → made + 1 ≤ most → (s1 s2 : List LiveStep) (t1 t2 : List Told) →
-    MakesAttempts addr made s1 t1 → IsAttemptSent sent addr s2 t2 → MakesAttempts addr most (s1 ++ s2) (t1 ++ t2)
-attempts_made addr made most sent few s1 s2 t1 t2 h k = (
-  suc h.0,
-  one_more h.0 h.1,
-  (λ some. one_least h.0),
-  times_more (IsAttempt addr) h.0 s1 s2 t1 t2 h.3 (sent, k),
+attempt_end : (sent : Bool) (entries : List Entry) (notices : List Notice) →
+    tells_end (attempt_told sent entries ++ notices_told notices) ≡ list_any is_end entries
+attempt_end true entries notices = as_told_end entries notices
+attempt_end false [] notices = notices_go_on notices
+attempt_end false (e ∷ entries) notices =
+    unsent_end e (as_told entries ++ notices_told notices) ∙ ap (λ b. is_end e || b) (as_told_end entries notices)
+
+with_end : (sent : Bool) (entries : List Entry) (addr : ℕ) (steps : List LiveStep) (told : List Told) →
+    IsAttemptWith sent entries addr steps told → tells_end told ≡ list_any is_end entries
+with_end sent entries addr steps told h = ap tells_end h.1.2 ∙ attempt_end sent entries h.1.0
+
+-- attempts, none of which is the last one, and one more
+then_one : (P Q : List LiveStep → List Told → Type 0) (s1 s2 : List LiveStep) (t1 t2 : List Told) → P s1 t1 → Q s2 t2 →
+    Then P Q (s1 ++ s2) (t1 ++ t2)
+then_one P Q s1 s2 t1 t2 h k = record {
+  before = s1;
+  after = s2;
+  said = t1;
+  added = t2;
+  steps_are = refl;
+  told_is = refl;
+  first = h;
+  next = k;
+}
+
+pub goes_on_one : (addr made : ℕ) (sent : Bool) (entries : List Entry) → list_any is_end entries ≡ false →
+    (s1 s2 : List LiveStep) (t1 t2 : List Told) → Times made (GoesOn addr) s1 t1 → IsAttemptWith sent entries addr s2 t2 →
+    Times (made + 1) (GoesOn addr) (s1 ++ s2) (t1 ++ t2)
+goes_on_one addr made sent entries on s1 s2 t1 t2 h k =
+    subst (λ n. Times n (GoesOn addr) (s1 ++ s2) (t1 ++ t2)) (one_more made)
+    (times_more (GoesOn addr) made s1 s2 t1 t2 h ((sent, entries, k), with_end sent entries addr s2 t2 k ∙ on))
+  where
+    one_more : (n : ℕ) → suc n ≡ n + 1
+    one_more n = omega arith
+
+last_try : (until : Until) (addr made : ℕ) (steps : List LiveStep) (told : List Told) → IsAttempt addr steps told →
+    (until ≡ until_of.Ended → (tells_end told ≡ true) ⊎ (suc made ≡ MOST_ATTEMPTS)) → IsLastTry until made addr steps told
+last_try until_of.Ended addr made steps told h over = (h, over refl)
+last_try until_of.Failed addr made steps told h over = h
+
+-- and the last one
+pub last_made : (until : Until) (addr made : ℕ) (sent : Bool) (entries : List Entry) → suc made ≤ MOST_ATTEMPTS →
+    (until ≡ until_of.Ended → list_any is_end entries ≡ true) → (s1 s2 : List LiveStep) (t1 t2 : List Told) →
+    Times made (GoesOn addr) s1 t1 → IsAttemptWith sent entries addr s2 t2 →
+    MakesAttempts until addr (s1 ++ s2) (t1 ++ t2)
+last_made until addr made sent entries few over s1 s2 t1 t2 h k = (
+  made,
+  few,
+  then_one (Times made (GoesOn addr)) (IsLastTry until made addr) s1 s2 t1 t2 h
+      (last_try until addr made s2 t2 (sent, entries, k) (λ is. inl (with_end sent entries addr s2 t2 k ∙ over is))),
+)
+
+-- as many as are made
+pub all_made : (until : Until) (addr made : ℕ) → made ≡ MOST_ATTEMPTS → (steps : List LiveStep) (told : List Told) →
+    Times made (GoesOn addr) steps told → MakesAttempts until addr steps told
+all_made until addr zero all steps told h = absurd (some all)
+  where
+    some : 0 ≡ MOST_ATTEMPTS → ⊥
+    some is = omega (arith, is)
+all_made until addr (suc made) all steps told h = (
+  made,
+  few,
+  record {
+    before = h.before;
+    after = h.after;
+    said = h.said;
+    added = h.added;
+    steps_are = h.steps_are;
+    told_is = h.told_is;
+    first = h.first;
+    next = last_try until addr made h.after h.added h.next.0 (λ is. inr all);
+  },
 )
   where
-    one_more : (n : ℕ) → n ≤ made → suc n ≤ most
-    one_more n less = omega (arith, less, few)
+    few : suc made ≤ MOST_ATTEMPTS
+    few = omega (arith, all)
 
-    one_least : (n : ℕ) → 1 ≤ suc n
-    one_least n = omega arith
+-- attempts of which the last one wasn't told to its end
+abbrev pub OneMore : ℕ → ℕ → List LiveStep → List Told → Type 0
+OneMore made addr = Then (Times made (GoesOn addr)) (IsAttempt addr)
 
--- as many as may be made
-pub all_made : (addr made most : ℕ) → made ≤ most → most ≤ made → (steps : List LiveStep) (told : List Told) →
-    MakesAttempts addr made steps told → MakesAttempts addr most steps told
-all_made addr made most few all steps told h = (
-  h.0,
-  at_most h.0 h.1,
-  (λ some. h.2 (at_least some)),
-  h.3,
-)
+pub one_more_made : (made addr : ℕ) (sent : Bool) (entries : List Entry) (s1 s2 : List LiveStep) (t1 t2 : List Told) →
+    Times made (GoesOn addr) s1 t1 → IsAttemptWith sent entries addr s2 t2 → OneMore made addr (s1 ++ s2) (t1 ++ t2)
+one_more_made made addr sent entries s1 s2 t1 t2 h k =
+    then_one (Times made (GoesOn addr)) (IsAttempt addr) s1 s2 t1 t2 h (sent, entries, k)
+
+pub attempts_broken : (until : Until) (addr made : ℕ) → suc made ≤ MOST_ATTEMPTS → (steps : List LiveStep)
+    (told : List Told) → OneMore made addr steps told → FrontOf (MakesAttempts until addr) steps told
+attempts_broken until addr made few steps told h =
+    by_end (tells_end h.added) (suc made == MOST_ATTEMPTS) refl refl
   where
-    at_most : (n : ℕ) → n ≤ made → n ≤ most
-    at_most n less = omega (arith, less, few)
+    as_last : (until ≡ until_of.Ended → (tells_end h.added ≡ true) ⊎ (suc made ≡ MOST_ATTEMPTS)) →
+        FrontOf (MakesAttempts until addr) steps told
+    as_last over = front_whole (MakesAttempts until addr) steps told (
+      made,
+      few,
+      record {
+        before = h.before;
+        after = h.after;
+        said = h.said;
+        added = h.added;
+        steps_are = h.steps_are;
+        told_is = h.told_is;
+        first = h.first;
+        next = last_try until addr made h.after h.added h.next over;
+      },
+    )
 
-    at_least : 1 ≤ most → 1 ≤ made
-    at_least some = omega (arith, some, all)
+    fewer : (n most : ℕ) → suc n ≤ most → (suc n == most) ≡ false → suc (suc n) ≤ most
+    fewer n most le other = grind (arith, nat_tests, le, other)
+
+    by_end : (ends all : Bool) → tells_end h.added ≡ ends → (suc made == MOST_ATTEMPTS) ≡ all →
+        FrontOf (MakesAttempts until addr) steps told
+    by_end true all ended is = as_last (λ until. inl ended)
+    by_end false true on is = as_last (λ until. inr (eqb-true (suc made) MOST_ATTEMPTS is))
+    by_end false false on is = record {
+      undone = live.next addr ∷ [];
+      untold = attempt_told true (entry_of.Idle addr ∷ []) ++ notices_told [];
+      whole = last_made until addr (suc made) true (entry_of.Idle addr ∷ []) (fewer made MOST_ATTEMPTS few is) (λ is. refl)
+          steps (live.next addr ∷ []) told (attempt_told true (entry_of.Idle addr ∷ []) ++ notices_told [])
+          (record {
+            before = h.before;
+            after = h.after;
+            said = h.said;
+            added = h.added;
+            steps_are = h.steps_are;
+            told_is = h.told_is;
+            first = h.first;
+            next = (h.next, on);
+          })
+          (refl, ([], (false, All-nil (IsAfter false (entry_of.Idle addr ∷ []))), refl));
+    }
 
 -- attempts are attempts
-pub made_are : (addr most : ℕ) (steps : List LiveStep) (told : List Told) → MakesAttempts addr most steps told →
-    AreAttempts addr most steps told
-made_are addr most steps told h = (h.0, h.1, h.3)
+pub none_made : (addr : ℕ) → AreAttempts addr MOST_ATTEMPTS [] []
+none_made addr = (0, omega arith, (refl, refl))
+
+tried : (until : Until) (addr made : ℕ) (steps : List LiveStep) (told : List Told) → IsLastTry until made addr steps told →
+    IsAttempt addr steps told
+tried until_of.Ended addr made steps told h = h.0
+tried until_of.Failed addr made steps told h = h
+
+pub made_are : (until : Until) (addr : ℕ) (steps : List LiveStep) (told : List Told) → MakesAttempts until addr steps told →
+    AreAttempts addr MOST_ATTEMPTS steps told
+made_are until addr steps told h = (
+  suc h.0,
+  h.1,
+  record {
+    before = h.2.before;
+    after = h.2.after;
+    said = h.2.said;
+    added = h.2.added;
+    steps_are = h.2.steps_are;
+    told_is = h.2.told_is;
+    first = times_weaker (GoesOn addr) (IsAttempt addr) (λ s t k. k.0) h.0 h.2.before h.2.said h.2.first;
+    next = tried until addr h.0 h.2.after h.2.added h.2.next;
+  },
+)
 
 -- an attempt, or attempts, or a command: steps of a kind
-pub attempt_step : (begun : ℕ → Command) (sent : Bool) (addr : ℕ) (steps : List LiveStep) (told : List Told) →
-    IsAttemptSent sent addr steps told → Many (IsStepOf begun) steps told
-attempt_step begun sent addr steps told h = many_one (IsStepOf begun) steps told (inr (addr, (sent, h)))
+pub attempt_step : (begun : ℕ → Command) (sent : Bool) (entries : List Entry) (addr : ℕ) (steps : List LiveStep)
+    (told : List Told) → IsAttemptWith sent entries addr steps told → Many (IsStepOf begun) steps told
+attempt_step begun sent entries addr steps told h =
+    many_one (IsStepOf begun) steps told (inr (addr, (sent, entries, h)))
 
 pub attempts_steps : (begun : ℕ → Command) (addr most : ℕ) (steps : List LiveStep) (told : List Told) →
     AreAttempts addr most steps told → Many (IsStepOf begun) steps told

@@ -11,12 +11,13 @@ use Rattle.cct_lives.specs.LiveStep as live
 use Rattle.cct_survey.specs.declared.finding.Finding.{Finding}
 use Rattle.cct_survey.specs.declared.withholding.Withheld.{Withheld}
 use Rattle.cct_survey.specs.Finding.{withheld_by}
+use Rattle.cct_service.specs.declared.attempts.Until.{Until}
 use Rattle.cct_service.specs.declared.notice.Notice.{Notice}
 use Rattle.cct_service.specs.declared.notice.Notice.TheVariants as notice_of
 use Rattle.cct_service.specs.Doing.{Decides, DoesCommand, DoesLine, DoesLines, Finds, FrontOf, IsAsking, IsAttempt, IsFound, IsOfPoll, IsOrder, IsPoll, IsStatus, IsStepOf, IsVisit, MakesAttempts, Tells, TellsOne, Times}
-use Rattle.cct_service.specs.Told.{Told, as_told, attempt_told, entry, finding, findings_in, found_told, last, notice, notices_told, refused, told_unsent, unheard, unsent}
+use Rattle.cct_service.specs.Told.{Told, as_told, attempt_told, entry, falls_short, finding, findings_in, found_told, last, notice, notices_told, operates, pays, refused, told_unsent, unheard, unsent}
 use Rattle.cct_service.specs.Said.{Said}
-use Rattle.cct_service.proofs.Doings.{line_then, many_none, many_one, many_weaker}
+use Rattle.cct_service.proofs.Doings.{line_then, made_are, many_none, many_one, many_weaker}
 
 -- what was found among what is told first and then
 pub found_then : (first then : List Told) → findings_in (first ++ then) ≡ findings_in first ++ findings_in then
@@ -27,6 +28,9 @@ found_then (refused number why ∷ first) then = found_then first then
 found_then (notice n ∷ first) then = found_then first then
 found_then (finding f ∷ first) then = ap (λ fs. f ∷ fs) (found_then first then)
 found_then (last e ∷ first) then = found_then first then
+found_then (operates s e ∷ first) then = found_then first then
+found_then (pays p answer ∷ first) then = found_then first then
+found_then (falls_short p paid rest ∷ first) then = found_then first then
 
 -- entries and notices tell none
 found_as : (entries : List Entry) → findings_in (as_told entries) ≡ []
@@ -55,9 +59,9 @@ found_found (f ∷ findings) = ap (λ fs. f ∷ fs) (found_found findings)
 pub attempt_finds : (addr : ℕ) (steps : List LiveStep) (told : List Told) → IsAttempt addr steps told →
     findings_in told ≡ []
 attempt_finds addr steps told h =
-    let entries = h.1.1.0 in
-    let notices = h.1.1.1 in
-    ap findings_in h.1.1.3 ∙ found_then (attempt_told h.0 entries) (notices_told notices)
+    let entries = h.1 in
+    let notices = h.2.1.0 in
+    ap findings_in h.2.1.2 ∙ found_then (attempt_told h.0 entries) (notices_told notices)
     ∙ ap (λ fs. fs ++ findings_in (notices_told notices)) (found_attempt h.0 entries) ∙ found_notices notices
 
 pub one_finds : (s : LiveStep) (steps : List LiveStep) (told : List Told) → TellsOne s steps told → findings_in told ≡ []
@@ -80,9 +84,11 @@ visit_finds : (steps : List LiveStep) (told : List Told) → IsVisit steps told 
 visit_finds steps told h =
     times_find (IsStepOf (λ addr. command.Round addr)) (step_finds (λ addr. command.Round addr)) h.0 steps told h.1
 
-pub attempts_find : (addr most : ℕ) (steps : List LiveStep) (told : List Told) → MakesAttempts addr most steps told →
-    findings_in told ≡ []
-attempts_find addr most steps told h = times_find (IsAttempt addr) (attempt_finds addr) h.0 steps told h.3
+pub attempts_find : (until : Until) (addr : ℕ) (steps : List LiveStep) (told : List Told) →
+    MakesAttempts until addr steps told → findings_in told ≡ []
+attempts_find until addr steps told h =
+    let all = made_are until addr steps told h in
+    times_find (IsAttempt addr) (attempt_finds addr) all.0 steps told all.2
 
 pub status_finds : (steps : List LiveStep) (told : List Told) → IsStatus steps told → findings_in told ≡ []
 status_finds steps told h = ap findings_in h.1.2 ∙ found_notices h.1.0
@@ -103,7 +109,7 @@ finds_none findings P none steps told h =
     (h, sym (ap (λ fs. findings ++ fs) (none steps told h) ∙ append-nil findings))
 
 -- what is found first, and then
-found_on : (a b c : List Finding) (t1 t2 : List Told) → b ≡ a ++ findings_in t1 → c ≡ b ++ findings_in t2 →
+pub found_on : (a b c : List Finding) (t1 t2 : List Told) → b ≡ a ++ findings_in t1 → c ≡ b ++ findings_in t2 →
     c ≡ a ++ findings_in (t1 ++ t2)
 found_on a b c t1 t2 h k =
     k ∙ ap (λ fs. fs ++ findings_in t2) h ∙ append_assoc a (findings_in t1) (findings_in t2)

@@ -1,10 +1,12 @@
 pub mod Suiting
 pub mod Telling
 pub mod Since
+pub mod Reporting
 pub mod Parts
 pub mod Linking
 pub mod Doings
 pub mod Found
+pub mod Sessions
 pub mod Saying
 pub mod Causing
 pub mod Counting

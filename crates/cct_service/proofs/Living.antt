@@ -32,6 +32,7 @@ use Rattle.cct_service.specs.Lived.{LeftBy, LeftSince, Lived}
 use Rattle.cct_service.specs.Doing.{FrontOf, ServesLines}
 use Rattle.cct_service.specs.Causes.{SuitsDisk}
 use Rattle.cct_service.specs.Parts.{FailedSince, FailedToPut, LivesTo, Part, Plays}
+use Rattle.cct_service.specs.Reported.{AreSo}
 use Rattle.cct_service.specs.Since.{Given, MayStand, StandsSince}
 use Rattle.cct_service.specs.Told.{Told, news_of}
 use Rattle.cct_service.proofs.Lawful.{lawful}
@@ -78,6 +79,18 @@ module _ {K : Type 0} (written : K → Option (List ℕ)) (puts : K → List ℕ
       (subst (λ setup. IsLife MOST_RECORDS setup found [] (started found)) (sym same) begins) (opens found on image) in
       let life = subst (λ setup. IsLife MOST_RECORDS setup found part.steps (news_of part.told ++ started found)) same goes.0 in
       (life, lawful (setup_of last) found part.steps (news_of part.told ++ started found) sound life, goes.1)
+
+  part_so : (a b : K) (answer : Result (Unit {0}) Failed) (After : Given D → List Record → List Entry → Type 0)
+      (Linked : List Told → Type 0) (Doing : List LiveStep → List Told → Type 0)
+      (part : Part written puts a b answer (setup_of host) (StandsSince host) After Linked Doing) (found : List Record) →
+      FoundOn g.honest g.seen g.may_leave given (setup_of last) begun found →
+      AreSo (setup_of last) (started found) part.told
+  part_so a b answer After Linked Doing part found on =
+      let follow = found_follow g.honest g.seen g.may_leave given (setup_of last) begun found sound began on in
+      let begins = life_begins MOST_RECORDS (setup_of last) found follow in
+      let goes = part.goes (given_as given [] begun) found [] (started found)
+      (subst (λ setup. IsLife MOST_RECORDS setup found [] (started found)) (sym same) begins) (opens found on []) in
+      subst (λ setup. AreSo setup (started found) part.told) same goes.2
 
   -- what a power cut may leave
   left_standing : (past : List Entry) → StandsFor last past → IsTrusted g.honest g.seen back →
@@ -145,6 +158,7 @@ module _ {K : Type 0} (written : K → Option (List ℕ)) (puts : K → List ℕ
     lived = λ found on.
         let l = part_lived a b (Ok tt) (StandsSince last) (UsesLink gives sent failures (setup_of host).devices roll now line next) (ServesLines (opening_of (setup_of last) begun) roll.findings ends plays.lines) plays.lives found on [] in
         (l.0, l.1, left_standing (news_of plays.lives.told ++ started found) l.2.stands);
+    standing = λ found on. part_so a b (Ok tt) (StandsSince last) (UsesLink gives sent failures (setup_of host).devices roll now line next) (ServesLines (opening_of (setup_of last) begun) roll.findings ends plays.lines) plays.lives found on;
     linked = devices_same plays.lives.told plays.lives.linked;
     on = began;
     numbers = numbered;
@@ -166,6 +180,7 @@ module _ {K : Type 0} (written : K → Option (List ℕ)) (puts : K → List ℕ
     lived = λ found on.
         let l = part_lived a b (Ok tt) (StandsSince last) (UsesLink gives sent failures (setup_of host).devices roll now line next) (ServesLines (opening_of (setup_of last) begun) roll.findings ends plays.lines) plays.lives found on [] in
         (l.0, l.1, left_standing (news_of plays.lives.told ++ started found) l.2.stands);
+    standing = λ found on. part_so a b (Ok tt) (StandsSince last) (UsesLink gives sent failures (setup_of host).devices roll now line next) (ServesLines (opening_of (setup_of last) begun) roll.findings ends plays.lines) plays.lives found on;
     linked = devices_same plays.lives.told plays.lives.linked;
     on = began;
     numbers = numbered;
@@ -187,6 +202,7 @@ module _ {K : Type 0} (written : K → Option (List ℕ)) (puts : K → List ℕ
     lived = λ found on.
         let l = part_lived a b (Ok tt) (StandsSince last) (UsesLink gives sent failures (setup_of host).devices roll now line next) (ServesLines (opening_of (setup_of last) begun) roll.findings ends plays.lines) plays.lives found on [] in
         (l.0, l.1, left_standing (news_of plays.lives.told ++ started found) l.2.stands);
+    standing = λ found on. part_so a b (Ok tt) (StandsSince last) (UsesLink gives sent failures (setup_of host).devices roll now line next) (ServesLines (opening_of (setup_of last) begun) roll.findings ends plays.lines) plays.lives found on;
     linked = devices_same plays.lives.told plays.lives.linked;
     on = began;
     numbers = numbered;
@@ -208,6 +224,7 @@ module _ {K : Type 0} (written : K → Option (List ℕ)) (puts : K → List ℕ
     lived = λ found on.
         let l = part_lived a b (Err plays.lives.0) (StandsSince last) (UsesLink gives sent failures (setup_of host).devices roll now line next) (FrontOf (ServesLines (opening_of (setup_of last) begun) roll.findings ends plays.lines)) plays.lives.1 found on [] in
         (l.0, l.1, left_standing (news_of plays.lives.1.told ++ started found) l.2.stands);
+    standing = λ found on. part_so a b (Err plays.lives.0) (StandsSince last) (UsesLink gives sent failures (setup_of host).devices roll now line next) (FrontOf (ServesLines (opening_of (setup_of last) begun) roll.findings ends plays.lines)) plays.lives.1 found on;
     linked = devices_same plays.lives.1.told plays.lives.1.linked;
     on = began;
     numbers = numbered;
@@ -229,6 +246,7 @@ module _ {K : Type 0} (written : K → Option (List ℕ)) (puts : K → List ℕ
     lived = λ found on.
         let l = part_lived a b (Ok tt) (FailedSince last) (UsesLink gives sent failures (setup_of host).devices roll now line next) (FrontOf (ServesLines (opening_of (setup_of last) begun) roll.findings ends plays.lines)) plays.lives found on [] in
         (l.0, l.1, left_failed (news_of plays.lives.told ++ started found) l.2.failed);
+    standing = λ found on. part_so a b (Ok tt) (FailedSince last) (UsesLink gives sent failures (setup_of host).devices roll now line next) (FrontOf (ServesLines (opening_of (setup_of last) begun) roll.findings ends plays.lines)) plays.lives found on;
     linked = devices_same plays.lives.told plays.lives.linked;
     on = began;
     numbers = numbered;

@@ -2,6 +2,7 @@
 use Rattle.std.proofs.Common.{◌≡◌, ◌≤◌, ◌⊎◌, ℕ, List, [], ◌∷◌, ◌++◌, Bool, false, length, reverse, Option, Some, Result, OnOk, IsErr}
 use Rattle.std.specs.Prelude.{⊤}
 use Rattle.std.proofs.Common.{Ok, Err, refl, ap, sym, ◌∙◌, subst, append_assoc, arith, inr, ⊎_elim}
+use Rattle.std.specs.List.{All}
 use Rattle.std.proofs.lemmas.List.{append-nil}
 use Rattle.cct_edge.specs.Bytes.{Serves}
 use Rattle.cct_edge.proofs.Chains.{Rose-earlier, Rose-later}
@@ -40,10 +41,13 @@ use Rattle.cct_service.specs.Causes.{DiskServes, EndsBy, IsDiskFault, IsUnwritte
 use Rattle.cct_service.specs.Doing.{FrontOf, Tells}
 use Rattle.cct_service.specs.Ending.{by_writing}
 use Rattle.cct_service.specs.Parts.{Acts, FailedSince, LifeGoes, LivesOn, LivesTo, Part}
+use Rattle.cct_service.specs.Held.{IsAfter}
+use Rattle.cct_service.specs.Reported.{AreSo}
 use Rattle.cct_service.specs.Since.{Given, StandsSince}
 use Rattle.cct_service.specs.Said.{IsOfInput}
 use Rattle.cct_service.specs.Told.{Told, WritesTold, as_told, attempt_told, news_of, notices_told, told_line}
 use Rattle.cct_text.specs.Writing.{PutsLine}
+use Rattle.cct_service.proofs.Reporting.{so_attempt, so_then}
 use Rattle.cct_service.proofs.Since.{attempt_records, command_records, since_left, since_put, since_same}
 use Rattle.cct_service.proofs.Suiting.{life_suits}
 use Rattle.cct_service.proofs.Telling.{news_next, news_then, told_none, told_one, told_then}
@@ -61,16 +65,19 @@ goes_then setup A B C first then told later h k given found before past life is 
           (append_assoc before first then)
           (subst (IsLife MOST_RECORDS setup found ((before ++ first) ++ then)) same two.0),
       subst (C given found) same two.1,
+      so_then setup past told later one.2 two.2,
     )
 
 -- nothing is done
 pub goes_none : {I : Type 0} (setup : Setup) (A B : I → List Record → List Entry → Type 0) (told : List Told) → news_of told ≡ [] →
     ((given : I) (found : List Record) (past : List Entry) → A given found past → B given found past) →
+    ((given : I) (found : List Record) (past : List Entry) → A given found past → AreSo setup past told) →
     LifeGoes setup A [] told B
-goes_none setup A B told none keeps given found before past life is = (
+goes_none setup A B told none keeps so given found before past life is = (
   subst (λ steps. IsLife MOST_RECORDS setup found steps (news_of told ++ past)) (sym (append-nil before))
       (subst (λ news. IsLife MOST_RECORDS setup found before (news ++ past)) (sym none) life),
   subst (λ news. B given found (news ++ past)) (sym none) (keeps given found past is),
+  so given found past is,
 )
 
 module _ {K : Type 0} (written : K → Option (List ℕ)) (puts : K → List ℕ → Result (Unit {0}) Failed → K → Type 0) where
@@ -105,13 +112,14 @@ module _ {K : Type 0} (written : K → Option (List ℕ)) (puts : K → List ℕ
   -- nothing is done, and one line is told that isn't an entry
   pub part_line : {I : Type 0} (S : List Told → Type 0) (a b : K) (answer : Result (Unit {0}) Failed) (setup : Setup)
       (A : I → List Record → List Entry → Type 0) (what : Told) (P : List LiveStep → List Told → Type 0) → news_of (what ∷ []) ≡ [] →
+      ((past : List Entry) → AreSo setup past (what ∷ [])) →
       PutsLine written puts a (told_line what) answer b → P [] (what ∷ []) → S (what ∷ []) →
       Part written puts a b answer setup A A S P
-  part_line S a b answer setup A what P none line is linked = record {
+  part_line S a b answer setup A what P none so line is linked = record {
     steps = [];
     told = what ∷ [];
     wrote = told_one written puts a b what answer line;
-    goes = goes_none setup A A (what ∷ []) none (λ given found past is. is);
+    goes = goes_none setup A A (what ∷ []) none (λ given found past is. is) (λ given found past is. so past);
     does = is;
     linked = linked;
   }
@@ -155,13 +163,13 @@ module _ {D : Type 0} {g : Ghosts D} where
   -- an attempt of a job, and its entries
   pub next_goes : {L : Type 0} (gives : L → List ℕ → List ℕ → L → Type 0) →
       ((old : L) (sent heard : List ℕ) (new : L) → gives old sent heard new → length heard ≤ MOST_HEARD) →
-      (old new : L) (addr : ℕ) (before after : Host D g) (reported : List Entry) (is_sent : Bool)
-      (notices : List Notice) → setup_of after ≡ setup_of before →
+      (old new : L) (addr : ℕ) (before after : Host D g) (reported : List Entry) (is_sent failed : Bool)
+      (notices : List Notice) → All (IsAfter failed reported) notices → setup_of after ≡ setup_of before →
       GoesOn g.size g.honest g.seen g.cuts (disk_of before) (disk_of after) →
       Nexts gives old new addr before after [] reported →
       LifeGoes (setup_of before) (StandsSince before) (live.next addr ∷ [])
       (attempt_told is_sent reported ++ notices_told notices) (StandsSince after)
-  next_goes gives few old new addr before after reported is_sent notices kept on nexts given found steps past life since =
+  next_goes gives few old new addr before after reported is_sent failed notices bears kept on nexts given found steps past life since =
       let what = nexts.what in
       let news = attempt.news_of addr what in
       let setup = setup_of before in
@@ -177,6 +185,7 @@ module _ {D : Type 0} {g : Ghosts D} where
             (since_put before after given found past (news ++ past) (attempt.put_of what) since kept on
             (attempt_records addr what past) (nexts.moments past since.stands) (λ none. ap journals.disk_of (nexts.quiet none))
             went.1),
+        so_attempt setup past is_sent failed reported notices bears,
       )
 
   -- a command that is answered
@@ -192,6 +201,7 @@ module _ {D : Type 0} {g : Ghosts D} where
             (life_command MOST_RECORDS setup found steps past c life is),
         since_same before after given found past (command_entry c (no_of result) ∷ past) since kept disk
             (command_records c (no_of result) past) answered.1,
+        tt,
       )
 
   -- a balance that is told
@@ -205,6 +215,7 @@ module _ {D : Type 0} {g : Ghosts D} where
             (sym (tells past since.stands.keeps)) (life_balance MOST_RECORDS setup found steps past life),
         since_same host host given found past (entry_of.Balance told ∷ past) since refl refl refl
             (host_quiet host past (entry_of.Balance told) (balance_quiet past told) since.stands),
+        tt,
       )
 
   -- a put that failed
@@ -570,7 +581,8 @@ module _ {K : Type 0} (written : K → Option (List ℕ)) (puts : K → List ℕ
       steps = [];
       told = [];
       wrote = told_none written puts a;
-      goes = goes_none (setup_of host) (StandsSince host) (StandsSince host) [] refl (λ given found past is. is);
+      goes = goes_none (setup_of host) (StandsSince host) (StandsSince host) [] refl (λ given found past is. is)
+          (λ given found past is. tt);
       does = is;
       linked = linked;
     };
@@ -608,15 +620,17 @@ module _ {K : Type 0} (written : K → Option (List ℕ)) (puts : K → List ℕ
   -- lines that tell no entry
   pub acts_told : (S : List Told → Type 0) (answer : Result (Unit {0}) Failed) (a b : K) (host : Host D g)
       (told : List Told) → S told → (P : List LiveStep → List Told → Type 0) → news_of told ≡ [] →
+      ((past : List Entry) → Keeps host past → AreSo (setup_of host) past told) →
       WritesTold written puts a told answer b → has_failed host ≡ false → Serves written faults a b (IsErr answer) →
       P [] told → Acts written puts faults S P (by_writing answer) a b host host
-  acts_told S answer a b host told linked P none wrote whole sink is =
+  acts_told S answer a b host told linked P none so wrote whole sink is =
       acts_written S answer a b host host P
       (record {
         steps = [];
         told = told;
         wrote = wrote;
-        goes = goes_none (setup_of host) (StandsSince host) (StandsSince host) told none (λ given found past is. is);
+        goes = goes_none (setup_of host) (StandsSince host) (StandsSince host) told none (λ given found past is. is)
+            (λ given found past since. so past since.stands.keeps);
         does = is;
         linked = linked;
       })
@@ -625,11 +639,11 @@ module _ {K : Type 0} (written : K → Option (List ℕ)) (puts : K → List ℕ
 
   -- one line that tells no entry
   pub acts_line : (S : List Told → Type 0) (answer : Result (Unit {0}) Failed) (a b : K) (host : Host D g) (what : Told) →
-      S (what ∷ []) → news_of (what ∷ []) ≡ [] → PutsLine written puts a (told_line what) answer b →
-      has_failed host ≡ false → Serves written faults a b (IsErr answer) →
+      S (what ∷ []) → news_of (what ∷ []) ≡ [] → ((past : List Entry) → AreSo (setup_of host) past (what ∷ [])) →
+      PutsLine written puts a (told_line what) answer b → has_failed host ≡ false → Serves written faults a b (IsErr answer) →
       Acts written puts faults S (Tells what) (by_writing answer) a b host host
-  acts_line S answer a b host what linked none line whole sink =
-      acts_told S answer a b host (what ∷ []) linked (Tells what) none (told_one written puts a b what answer line) whole sink
+  acts_line S answer a b host what linked none so line whole sink =
+      acts_told S answer a b host (what ∷ []) linked (Tells what) none (λ past keeps. so past) (told_one written puts a b what answer line) whole sink
       (refl, refl)
 
   -- a step, and its entries
@@ -658,7 +672,7 @@ module _ {K : Type 0} (written : K → Option (List ℕ)) (puts : K → List ℕ
       told = [];
       wrote = told_none written puts a;
       goes = goes_none (setup_of before) (StandsSince before) (FailedSince after) [] refl
-          (put_failed before after addr same fails between disk.goes_on);
+          (put_failed before after addr same fails between disk.goes_on) (λ given found past is. tt);
       does = is;
       linked = linked;
     };

@@ -111,6 +111,9 @@ module _ (number : ℕ) (held kept : List ℕ) (left now : Option (List ℕ)) wh
   comes_said line (Ok says.Balance) is gives = comes_text line (Ok says.Balance) is gives
   comes_said line (Ok says.Status) is gives = comes_text line (Ok says.Status) is gives
   comes_said line (Ok (says.Order id)) is gives = comes_text line (Ok (says.Order id)) is gives
+  comes_said line (Ok (says.Stock addr count)) is gives = comes_text line (Ok (says.Stock addr count)) is gives
+  comes_said line (Ok (says.Change first amount)) is gives = comes_text line (Ok (says.Change first amount)) is gives
+  comes_said line (Ok says.Serve) is gives = comes_text line (Ok says.Serve) is gives
   comes_said line (Err why) is gives = comes_text line (Err why) is gives
 
   -- no line any more
@@ -134,6 +137,9 @@ said_sayable (Ok says.Poll) is = tt
 said_sayable (Ok says.Balance) is = tt
 said_sayable (Ok says.Status) is = tt
 said_sayable (Ok (says.Order id)) is = tt
+said_sayable (Ok (says.Stock addr count)) is = tt
+said_sayable (Ok (says.Change first amount)) is = is
+said_sayable (Ok says.Serve) is = tt
 said_sayable (Err why) is = tt
 
 pub said_ends : (said : Said) → IfErr (unless_end said) IsOfInput
@@ -145,6 +151,9 @@ said_ends (Ok says.Poll) = tt
 said_ends (Ok says.Balance) = tt
 said_ends (Ok says.Status) = tt
 said_ends (Ok (says.Order id)) = tt
+said_ends (Ok (says.Stock addr count)) = tt
+said_ends (Ok (says.Change first amount)) = tt
+said_ends (Ok says.Serve) = tt
 said_ends (Err why) = tt
 
 pub said_not_unread : (said : Said) → EndsBy IsUnread (unless_end said) → ⊥
@@ -156,6 +165,9 @@ said_not_unread (Ok says.Poll) is = is
 said_not_unread (Ok says.Balance) is = is
 said_not_unread (Ok says.Status) is = is
 said_not_unread (Ok (says.Order id)) is = is
+said_not_unread (Ok (says.Stock addr count)) is = is
+said_not_unread (Ok (says.Change first amount)) is = is
+said_not_unread (Ok says.Serve) is = is
 said_not_unread (Err why) is = is
 
 pub stopped_ends : (number : ℕ) (why : LinesNo) → IsOfInput (stopped_by number why)

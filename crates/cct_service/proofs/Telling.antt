@@ -16,8 +16,10 @@ use Rattle.cct_model.specs.lines.entry.Entry.TheVariants as entry_of
 use Rattle.cct_model.specs.Text.{line_of, text}
 use Rattle.cct_text.specs.Writing.{Puts, PutsLine, Writes}
 use Rattle.cct_service.specs.declared.notice.Notice.{Notice}
-use Rattle.cct_service.specs.Notice.{notice_line}
-use Rattle.cct_service.specs.Told.{IsOfStatus, TellsStatus, Told, WritesTold, as_told, attempt_told, entry, finding, last, maybe_told, news_of, notice, notices_told, refused, told_line, told_text, told_unsent, unheard, unsent}
+use Rattle.cct_disk.specs.declared.disk.Disk.{Ghosts}
+use Rattle.cct_host.specs.declared.host.Host.{Host}
+use Rattle.cct_service.specs.Reported.{IsStatusOf, TellsStatus}
+use Rattle.cct_service.specs.Told.{Told, WritesTold, answer_news, as_told, attempt_told, entry, falls_short, finding, last, maybe_told, news_of, notice, notices_told, operates, pays, refused, told_line, told_text, told_unsent, unheard, unsent}
 
 -- the news of what is told first and then
 pub news_then : (first then : List Told) → news_of (first ++ then) ≡ news_of then ++ news_of first
@@ -31,6 +33,11 @@ news_then (unsent addr sent ∷ first) then =
 news_then (notice n ∷ first) then = news_then first then
 news_then (finding f ∷ first) then = news_then first then
 news_then (last e ∷ first) then = news_then first then
+news_then (operates s e ∷ first) then = news_then first then
+news_then (pays p answer ∷ first) then =
+    ap (λ news. news ++ answer_news p answer) (news_then first then)
+    ∙ append_assoc (news_of then) (news_of first) (answer_news p answer)
+news_then (falls_short p paid rest ∷ first) then = news_then first then
 
 -- entries that are told as they are
 pub news_as : (entries : List Entry) → news_of (as_told entries) ≡ reverse entries
@@ -166,6 +173,34 @@ module _ {K : Type 0} (written : K → Option (List ℕ)) (puts : K → List ℕ
     );
   }
 
+  -- the same lines, told as something else
+  pub told_as : (a b : K) (one other : List Told) (result : Result (Unit {0}) Failed) →
+      map told_line one ≡ map told_line other → told_text one ≡ told_text other →
+      WritesTold written puts a one result b → WritesTold written puts a other result b
+  told_as a b one other result lines bytes h = record {
+    put = subst (λ ls. Puts puts a ls result b) lines h.put;
+    bytes = subst (λ bs. MatchResult result (λ _. Appends (written a) (written b) bs)
+        (λ _. AppendsFront (written a) (written b) bs)) bytes h.bytes;
+  }
+
+  -- one that was cut short, before others
+  pub told_short : (a b : K) (x : Told) (more : List Told) (failed : Failed) →
+      WritesTold written puts a (x ∷ []) (Err failed) b → WritesTold written puts a (x ∷ more) (Err failed) b
+  told_short a b x more failed h = record {
+    put = put_short h.put;
+    bytes = (
+      h.bytes.0,
+      h.bytes.1 ++ told_text more,
+      ap (λ bytes. bytes ++ told_text more) (sym (append-nil (told_line x)) ∙ h.bytes.2)
+          ∙ append_assoc h.bytes.0 h.bytes.1 (told_text more),
+      h.bytes.3,
+    );
+  }
+    where
+      put_short : Puts puts a (told_line x ∷ []) (Err failed) b → Puts puts a (told_line x ∷ map told_line more) (Err failed) b
+      put_short (inl put) = cc put.2.0
+      put_short (inr put) = inr put
+
   -- entries, and no notice after them
   pub told_alone : (a b : K) (told : List Told) (result : Result (Unit {0}) Failed) →
       WritesTold written puts a told result b → WritesTold written puts a (told ++ notices_told []) result b
@@ -196,27 +231,31 @@ all_maybe P None h = All-nil P
 all_maybe P (Some n) h = All-cons P n [] h (All-nil P)
 
 -- how a host stands is told, of nothing yet
-pub status_none : {K : Type 0} (written : K → Option (List ℕ)) (puts : K → List ℕ → Result (Unit {0}) Failed → K → Type 0)
-    (a : K) → TellsStatus written puts a (Ok tt) a
-status_none written puts a = ([], All-nil IsOfStatus, told_none written puts a)
+module _ {K : Type 0} (written : K → Option (List ℕ)) (puts : K → List ℕ → Result (Unit {0}) Failed → K → Type 0)
+    {D : Type 0} {g : Ghosts D} (host : Host D g) where
+  pub status_none : (a : K) → TellsStatus written puts host a (Ok tt) a
+  status_none a = ([], All-nil (IsStatusOf host), told_none written puts a)
 
--- one thing of it
-pub status_one : {K : Type 0} (written : K → Option (List ℕ)) (puts : K → List ℕ → Result (Unit {0}) Failed → K → Type 0)
-    (a b : K) (n : Notice) (answer : Result (Unit {0}) Failed) → IsOfStatus n →
-    PutsLine written puts a (notice_line n) answer b → TellsStatus written puts a answer b
-status_one written puts a b n answer is put = (
-  n ∷ [],
-  All-cons IsOfStatus n [] is (All-nil IsOfStatus),
-  told_one written puts a b (notice n) answer put,
-)
+  -- and more
+  pub status_then : (a b c : K) (answer : Result (Unit {0}) Failed) → TellsStatus written puts host a (Ok tt) b →
+      TellsStatus written puts host b answer c → TellsStatus written puts host a answer c
+  status_then a b c answer h k = (
+    h.0 ++ k.0,
+    All-append (IsStatusOf host) h.0 k.0 h.1 k.1,
+    subst (λ told. WritesTold written puts a told answer c) (sym (map-append (λ n. notice n) h.0 k.0))
+        (told_then written puts a b c (notices_told h.0) (notices_told k.0) answer h.2 k.2),
+  )
 
--- and more
-pub status_then : {K : Type 0} (written : K → Option (List ℕ)) (puts : K → List ℕ → Result (Unit {0}) Failed → K → Type 0)
-    (a b c : K) (answer : Result (Unit {0}) Failed) → TellsStatus written puts a (Ok tt) b →
-    TellsStatus written puts b answer c → TellsStatus written puts a answer c
-status_then written puts a b c answer h k = (
-  h.0 ++ k.0,
-  All-append IsOfStatus h.0 k.0 h.1 k.1,
-  subst (λ told. WritesTold written puts a told answer c) (sym (map-append (λ n. notice n) h.0 k.0))
-      (told_then written puts a b c (notices_told h.0) (notices_told k.0) answer h.2 k.2),
-)
+  -- one thing of it, or two
+  pub status_one : (a b : K) (n : Notice) (answer : Result (Unit {0}) Failed) → IsStatusOf host n →
+      WritesTold written puts a (notice n ∷ []) answer b → TellsStatus written puts host a answer b
+  status_one a b n answer is wrote =
+      (n ∷ [], All-cons (IsStatusOf host) n [] is (All-nil (IsStatusOf host)), wrote)
+
+  pub status_two : (a b : K) (n m : Notice) (answer : Result (Unit {0}) Failed) → IsStatusOf host n → IsStatusOf host m →
+      WritesTold written puts a (notice n ∷ notice m ∷ []) answer b → TellsStatus written puts host a answer b
+  status_two a b n m answer is also wrote = (
+    n ∷ m ∷ [],
+    All-cons (IsStatusOf host) n (m ∷ []) is (All-cons (IsStatusOf host) m [] also (All-nil (IsStatusOf host))),
+    wrote,
+  )

@@ -1,9 +1,16 @@
 -- What a host does for each line of its input, and what is told of it.
-use Rattle.std.specs.Prelude.{◌≡◌, ◌≤◌, ◌⊎◌, ℕ, zero, suc, Bool, List, [], ◌∷◌, ◌++◌, length, Option, Some, None, Ok, Err}
+use Rattle.std.specs.Prelude.{◌≡◌, ◌≤◌, ◌⊎◌, ℕ, zero, suc, Bool, true, false, List, [], ◌∷◌, ◌++◌, length, Option, Some, None, Ok, Err}
 use Rattle.std.specs.List.{All}
 use Rattle.cct_model.specs.lines.command.Command.{Command}
 use Rattle.cct_model.specs.lines.command.Command.TheVariants as command
+use Rattle.cct_model.specs.lines.command.CommandNo.{CommandNo}
+use Rattle.cct_model.specs.lines.command.Step.{Step}
+use Rattle.cct_model.specs.lines.command.Step.TheVariants as step
 use Rattle.cct_model.specs.lines.entry.Entry.{Entry}
+use Rattle.cct_model.specs.lines.entry.LineKind.TheVariants as kind
+use Rattle.cct_model.specs.declared.change.Payment.{Payment}
+use Rattle.cct_model.specs.terms.device.Setup.{Setup}
+use Rattle.cct_model.specs.Legal.{Entries}
 use Rattle.cct_script.specs.declared.live.LiveLine.{LiveLine}
 use Rattle.cct_script.specs.declared.live.LiveLine.TheVariants as says
 use Rattle.cct_survey.specs.declared.finding.Finding.{Finding}
@@ -12,14 +19,17 @@ use Rattle.cct_survey.specs.Finding.{withheld_by}
 use Rattle.cct_lives.specs.LiveStep.{LiveStep}
 use Rattle.cct_lives.specs.LiveStep as live
 use Rattle.cct_service.specs.declared.attempts.TheConstants.{MOST_ATTEMPTS}
+use Rattle.cct_service.specs.declared.attempts.Until.{Until}
+use Rattle.cct_service.specs.declared.attempts.Until.TheVariants as until_of
 use Rattle.cct_service.specs.declared.notice.Notice.{Notice}
 use Rattle.cct_service.specs.declared.notice.Notice.TheVariants as notice_of
 use Rattle.cct_service.specs.declared.outside.OrderTold.{OrderTold}
 use Rattle.cct_service.specs.declared.stopping.AtEnd.{AtEnd}
 use Rattle.cct_service.specs.declared.stopping.AtEnd.TheVariants as at_end
+use Rattle.cct_service.specs.Ends.{tells_end}
 use Rattle.cct_service.specs.Held.{IsAfter}
 use Rattle.cct_service.specs.Said.{Said}
-use Rattle.cct_service.specs.Told.{AreOfStatus, Told, attempt_told, entry, findings_in, found_told, notice, notices_told, refused}
+use Rattle.cct_service.specs.Told.{AreOfStatus, Told, attempt_told, entry, falls_short, findings_in, found_told, notice, notices_told, operates, pay_of, pays, refused, refused_for, taken, withheld_for}
 
 -- One thing is done and told, and then another one, which goes by what was told.
 pub record ThenBy (First : List LiveStep → List Told → Type 0) (Next : List Told → List LiveStep → List Told → Type 0)
@@ -71,27 +81,38 @@ Many Each steps told = (n : ℕ) × Times n Each steps told
 
 -- What is told of an attempt, whose message was written or not, where it made an exchange: its entries, and notices that the
 -- exchange bears out, which failed or not.
-abbrev pub TellsAttempt : Bool → List Told → Type 0
-TellsAttempt is_sent told =
-    (entries : List Entry) × (notices : List Notice) × ((has_failed : Bool) × All (IsAfter has_failed entries) notices)
+abbrev pub TellsAttempt : Bool → List Entry → List Told → Type 0
+TellsAttempt is_sent entries told =
+    (notices : List Notice) × ((has_failed : Bool) × All (IsAfter has_failed entries) notices)
     × (told ≡ attempt_told is_sent entries ++ notices_told notices)
 
--- The job at an address makes one attempt, whose message was written or not, where it made an exchange.
-abbrev pub IsAttemptSent : Bool → ℕ → List LiveStep → List Told → Type 0
-IsAttemptSent is_sent addr steps told = (steps ≡ live.next addr ∷ []) × TellsAttempt is_sent told
+-- The job at an address makes one attempt with these entries, whose message was written or not, where it made an exchange.
+abbrev pub IsAttemptWith : Bool → List Entry → ℕ → List LiveStep → List Told → Type 0
+IsAttemptWith is_sent entries addr steps told = (steps ≡ live.next addr ∷ []) × TellsAttempt is_sent entries told
 
 -- The job at an address makes one attempt.
 abbrev pub IsAttempt : ℕ → List LiveStep → List Told → Type 0
-IsAttempt addr steps told = (is_sent : Bool) × IsAttemptSent is_sent addr steps told
+IsAttempt addr steps told = (is_sent : Bool) × (entries : List Entry) × IsAttemptWith is_sent entries addr steps told
 
 -- The job at an address makes so many attempts at most.
 abbrev pub AreAttempts : ℕ → ℕ → List LiveStep → List Told → Type 0
 AreAttempts addr most steps told = (n : ℕ) × (n ≤ most) × Times n (IsAttempt addr) steps told
 
--- The job at an address makes so many attempts at most, and one at least, if it may make any.
-abbrev pub MakesAttempts : ℕ → ℕ → List LiveStep → List Told → Type 0
-MakesAttempts addr most steps told =
-    (n : ℕ) × (n ≤ most) × (1 ≤ most → 1 ≤ n) × Times n (IsAttempt addr) steps told
+-- The job at an address makes an attempt that isn't its last one.
+abbrev pub GoesOn : ℕ → List LiveStep → List Told → Type 0
+GoesOn addr steps told = IsAttempt addr steps told × (tells_end told ≡ false)
+
+-- It makes one attempt more after so many, up to its end or up to a failed try: it ends, or that was the last one that is
+-- made. That a try failed isn't told.
+abbrev pub IsLastTry : Until → ℕ → ℕ → List LiveStep → List Told → Type 0
+IsLastTry until_of.Ended made addr steps told =
+    IsAttempt addr steps told × ((tells_end told ≡ true) ⊎ (suc made ≡ MOST_ATTEMPTS))
+IsLastTry until_of.Failed made addr steps told = IsAttempt addr steps told
+
+-- The job at an address makes attempts up to there, one at least. The last one alone ends it.
+abbrev pub MakesAttempts : Until → ℕ → List LiveStep → List Told → Type 0
+MakesAttempts until addr steps told =
+    (made : ℕ) × (suc made ≤ MOST_ATTEMPTS) × Then (Times made (GoesOn addr)) (IsLastTry until made addr) steps told
 
 -- A command of this kind is given to the host, or a job makes an attempt.
 abbrev pub IsStepOf : (ℕ → Command) → List LiveStep → List Told → Type 0
@@ -131,19 +152,56 @@ Decides findings c = ThenBy IsAsking (λ said. DoesCommand c (withheld_by (findi
 abbrev pub IsOrder : ℕ → List LiveStep → List Told → Type 0
 IsOrder id steps told = (steps ≡ []) × ((known : OrderTold) × (told ≡ notice (notice_of.Order id known) ∷ []))
 
+-- A step at the operator's desk, which gives the host nothing, may give this entry, as on the bench.
+abbrev pub Gives : Step → Entry → Type 0
+Gives s e = (capacity : ℕ) (setup : Setup) (past : List Entry) → Entries capacity setup past s (e ∷ [])
+
+-- Such a step, whose entry is told.
+abbrev pub TellsStep : Step → List LiveStep → List Told → Type 0
+TellsStep s steps told = (steps ≡ []) × ((e : Entry) × Gives s e × (told ≡ operates s e ∷ []))
+
+-- A payment of a session is given to the host, which takes it, or refuses it and the session ends short; or it is told that
+-- it isn't given, and why, and the session ends short.
+abbrev pub DoesPay : Payment → Option Withheld → List LiveStep → List Told → Type 0
+DoesPay p None steps told =
+    (steps ≡ live.command (pay_of p) ∷ [])
+    × ((told ≡ pays p taken ∷ [])
+    ⊎ ((why : CommandNo) × (paid : ℕ) × (rest : ℕ) × (told ≡ pays p (refused_for why) ∷ falls_short p paid rest ∷ [])))
+DoesPay p (Some why) steps told =
+    (steps ≡ []) × ((paid : ℕ) × (rest : ℕ) × (told ≡ pays p (withheld_for why) ∷ falls_short p paid rest ∷ []))
+
+-- Such a payment is decided as one of the operator is.
+abbrev pub DecidesPay : List Finding → Payment → List LiveStep → List Told → Type 0
+DecidesPay findings p = ThenBy IsAsking (λ said. DoesPay p (withheld_by (findings ++ findings_in said) (pay_of p)))
+
+-- A session of change goes on: it is told how, or it makes a payment.
+abbrev pub IsServing : List Finding → List LiveStep → List Told → Type 0
+IsServing findings steps told =
+    TellsStep step.Serve steps told ⊎ ((p : Payment) × DecidesPay findings p steps told)
+
+-- It does, or it waits.
+abbrev pub MayServe : List Finding → List LiveStep → List Told → Type 0
+MayServe findings steps told = IsNothing steps told ⊎ IsServing findings steps told
+
 -- What is done for what a line says, by what was found before. One that ends the service is none of these.
 abbrev pub Does : List Finding → LiveLine → List LiveStep → List Told → Type 0
 Does findings (says.Command c) = Decides findings c
 Does findings (says.Next addr) = IsAttempt addr
-Does findings (says.Do addr) = MakesAttempts addr MOST_ATTEMPTS
-Does findings says.Poll = IsPoll
+Does findings (says.Do addr) = MakesAttempts until_of.Ended addr
+Does findings says.Poll = Then (MayServe findings) IsPoll
 Does findings says.Balance = TellsOne live.balance
 Does findings says.Status = IsStatus
 Does findings (says.Order id) = IsOrder id
+Does findings (says.Stock addr count) = TellsStep (step.Stock addr count)
+Does findings (says.Change first amount) = TellsStep (step.Change first amount)
+Does findings says.Serve = IsServing findings
 Does findings says.End = λ steps told. ⊥
 
--- What is done for the line of a number: what it says, or it is told that it says nothing.
+-- What is done for the line of a number: what it says, or it is told that it says nothing. A stock of what is no hopper is
+-- refused, too.
 abbrev pub DoesLine : List Finding → ℕ → Said → List LiveStep → List Told → Type 0
+DoesLine findings number (Ok (says.Stock addr count)) =
+    λ steps told. TellsStep (step.Stock addr count) steps told ⊎ Tells (refused number kind.Device) steps told
 DoesLine findings number (Ok said) = Does findings said
 DoesLine findings number (Err why) = Tells (refused number why)
 

@@ -2,10 +2,13 @@ pub mod Notice
 pub mod Held
 pub mod Told
 pub mod Said
+pub mod Session
+pub mod Ends
 pub mod Doing
 pub mod Asked
 pub mod Linked
 pub mod Since
+pub mod Reported
 pub mod Causes
 pub mod Parts
 pub mod Ending

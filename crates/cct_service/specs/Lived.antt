@@ -23,6 +23,7 @@ use Rattle.cct_service.specs.Found.{Begun, FoundOn, was_found}
 use Rattle.cct_service.specs.Laws.{IsLawful}
 use Rattle.cct_service.specs.Linked.{UsesLink}
 use Rattle.cct_service.specs.Opening.{BegunOn, opening_of, opening_over}
+use Rattle.cct_service.specs.Reported.{AreSo}
 use Rattle.cct_service.specs.Since.{MayStand}
 use Rattle.cct_service.specs.Said.{Said, Says}
 use Rattle.cct_service.specs.Told.{Told, WritesTold, news_of}
@@ -87,6 +88,9 @@ module _ {K : Type 0} (written : K → Option (List ℕ)) (puts : K → List ℕ
         → IsLife MOST_RECORDS setup found steps (news_of told ++ started found)
         × IsLawful setup found (news_of told ++ started found)
         × LeftBy honest seen may_leave back setup how (news_of told ++ started found)
+    -- How the host stood was told as it was after all that was told before.
+    pub standing : (found : List Record) → FoundOn honest seen may_leave given setup begun found
+        → AreSo setup (started found) told
     pub linked : UsesLink gives sent failures setup.devices roll now line last told
     pub on : BegunOn seen given setup begun
     pub numbers : (found : List Record) → FoundOn honest seen may_leave given setup begun found

@@ -6,6 +6,7 @@ use Rattle.cct_model.specs.lines.command.Command.TheVariants as command
 use Rattle.cct_model.specs.declared.judging.EpochState.{EpochState}
 use Rattle.cct_model.specs.declared.judging.EpochState.TheVariants.{Idle, Running}
 use Rattle.cct_model.specs.declared.judging.OpenOrder.{OpenOrder}
+use Rattle.cct_model.specs.Shape.{shape_of}
 use Rattle.cct_model.specs.Text.{hyphen, mask_field, number_text}
 use Rattle.cct_survey.specs.declared.withholding.Withheld.{Withheld}
 use Rattle.cct_survey.specs.declared.withholding.Withheld.TheVariants.{OtherCoin, OtherSerial}
@@ -21,17 +22,7 @@ number_field n = 32 ∷ number_text n
 -- The word of the command whose job it is, or a hyphen.
 abbrev pub job_word : Option Command → List ℕ
 job_word None = hyphen
-job_word (Some (command.Start addr mask)) = codes "start"
-job_word (Some (command.Round addr)) = codes "round"
-job_word (Some (command.Stop addr)) = codes "stop"
-job_word (Some (command.Pay addr id count)) = codes "pay"
-job_word (Some (command.Settle addr)) = codes "settle"
-job_word (Some (command.Halt addr)) = codes "halt"
-job_word (Some command.Scan) = codes "scan"
-job_word (Some (command.Ident addr)) = codes "ident"
-job_word (Some (command.Path addr place path)) = codes "path"
-job_word (Some (command.Route addr way)) = codes "route"
-job_word (Some (command.Vend id price)) = codes "vend"
+job_word (Some c) = (shape_of c).word
 
 -- The same as the next field of a line.
 abbrev pub job_field : Option Command → List ℕ

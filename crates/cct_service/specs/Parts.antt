@@ -19,18 +19,19 @@ use Rattle.cct_service.specs.declared.served.Served.{Served}
 use Rattle.cct_service.specs.declared.served.Served.TheVariants as served
 use Rattle.cct_service.specs.Causes.{DiskServes, EndsBy, IsDiskFault, IsUnwritten}
 use Rattle.cct_service.specs.Doing.{FrontOf}
+use Rattle.cct_service.specs.Reported.{AreSo}
 use Rattle.cct_service.specs.Since.{Given, MayStand, StandsSince}
 use Rattle.cct_service.specs.Said.{Said, Says}
 use Rattle.cct_service.specs.Told.{Told, WritesTold, news_of}
 
 -- By these steps a life goes on, whatever was given and found, from a past of which one thing holds to a past of which the
--- other does, and the entries among what is told are those of the steps.
+-- other does, the entries among what is told are those of the steps, and how the host stands is told as it is.
 abbrev pub LifeGoes : {I : Type 0} → Setup → (I → List Record → List Entry → Type 0) → List LiveStep → List Told
     → (I → List Record → List Entry → Type 0) → Type 0
 LifeGoes {I} setup Before steps told After =
     (given : I) (found : List Record) (before : List LiveStep) (past : List Entry) → IsLife MOST_RECORDS setup found before past
     → Before given found past
-    → IsLife MOST_RECORDS setup found (before ++ steps) (news_of told ++ past) × After given found (news_of told ++ past)
+    → IsLife MOST_RECORDS setup found (before ++ steps) (news_of told ++ past) × After given found (news_of told ++ past) × AreSo setup past told
 
 -- of a sink, before and after
 module _ {K : Type 0} (written : K → Option (List ℕ)) (puts : K → List ℕ → Result (Unit {0}) Failed → K → Type 0) where

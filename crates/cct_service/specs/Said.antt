@@ -1,5 +1,6 @@
 -- What an input says, line by line.
 use Rattle.std.specs.Prelude.{◌≡◌, ◌≤◌, ◌<◌, ◌+◌, ◌-◌, ◌^◌, ◌⊎◌, ℕ, suc, List, [], ◌∷◌, ◌++◌, length, Option, Some, Result, Ok, Err, ⊤}
+use Rattle.cct_model.specs.lines.command.TheConstants.{GREATEST_AMOUNT}
 use Rattle.cct_model.specs.lines.entry.LineKind.{LineKind}
 use Rattle.cct_model.specs.lines.entry.LineKind.TheVariants as kind
 use Rattle.cct_model.specs.Script.{IsCommand, most_bytes}
@@ -75,8 +76,14 @@ ComesNext number (Err how) held left kept now =
 -- What a line says can be done: its numbers are in their ranges, and it doesn't end the service.
 abbrev pub IsSayable : Said → Type 0
 IsSayable (Ok (says.Command c)) = IsCommand c
+IsSayable (Ok (says.Change first amount)) = (1 ≤ first) × (amount ≤ GREATEST_AMOUNT)
 IsSayable (Ok says.End) = ⊥
 IsSayable said = ⊤
+
+-- A line tells a stock.
+abbrev pub IsStock : LiveLine → Type 0
+IsStock (says.Stock addr count) = ⊤
+IsStock said = ⊥
 
 -- What a line says, unless it ends the service.
 abbrev pub unless_end : Said → Result Said Served

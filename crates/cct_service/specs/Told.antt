@@ -5,6 +5,11 @@ use Rattle.std.specs.List.{All}
 use Rattle.std.specs.Option.{option_to_list}
 use Rattle.cct_edge.specs.Bytes.{AppendsFront}
 use Rattle.cct_edge.specs.declared.fault.Failed.{Failed}
+use Rattle.cct_model.specs.declared.change.Payment.{Payment}
+use Rattle.cct_model.specs.lines.command.Command.{Command}
+use Rattle.cct_model.specs.lines.command.Command.TheVariants as command
+use Rattle.cct_model.specs.lines.command.CommandNo.{CommandNo}
+use Rattle.cct_model.specs.lines.command.Step.{Step}
 use Rattle.cct_model.specs.lines.entry.Entry.{Entry}
 use Rattle.cct_model.specs.lines.entry.Entry.TheVariants as entry_of
 use Rattle.cct_model.specs.lines.entry.LineKind.{LineKind}
@@ -14,10 +19,22 @@ use Rattle.cct_service.specs.declared.notice.Notice.{Notice}
 use Rattle.cct_service.specs.declared.notice.Notice.TheVariants as notice_of
 use Rattle.cct_service.specs.Notice.{notice_line, unsent_line}
 use Rattle.cct_survey.specs.declared.finding.Finding.{Finding}
+use Rattle.cct_survey.specs.declared.withholding.Withheld.{Withheld}
 use Rattle.cct_survey.specs.Finding.{finding_line}
 
+-- The command of a payment.
+abbrev pub pay_of : Payment → Command
+pay_of p = command.Pay p.addr p.id p.count
+
+-- What became of a payment that a session of change made: the host took it, or refused it, or wasn't given it.
+pub data Answer : Type 0 where
+  taken : Answer
+  refused_for : (why : CommandNo) → Answer
+  withheld_for : (why : Withheld) → Answer
+
 -- An entry of a step, that of an exchange whose message wasn't written, so that nothing was heard, a line of the input that is refused, by its
--- number and kind, a notice, what a device said of itself, or the last line.
+-- number and kind, a notice, what a device said of itself, or the last line. Of the operator's desk: the entry of a step
+-- there that gives the host no payment; the answer to a payment; and that a session ends short, as its payment wasn't taken.
 pub data Told : Type 0 where
   entry : (e : Entry) → Told
   unsent : (addr : ℕ) (sent : List ℕ) → Told
@@ -25,6 +42,21 @@ pub data Told : Type 0 where
   notice : (n : Notice) → Told
   finding : (f : Finding) → Told
   last : (e : Entry) → Told
+  operates : (s : Step) (e : Entry) → Told
+  pays : (p : Payment) (answer : Answer) → Told
+  falls_short : (p : Payment) (paid rest : ℕ) → Told
+
+-- The line of an answer to a payment.
+abbrev pub answer_line : Payment → Answer → List ℕ
+answer_line p taken = line_of (entry_of.Taken (pay_of p))
+answer_line p (refused_for why) = line_of (entry_of.No (pay_of p) why)
+answer_line p (withheld_for why) = notice_line (notice_of.Withheld (pay_of p) why)
+
+-- The entry of the host among it, if there is one.
+abbrev pub answer_news : Payment → Answer → List Entry
+answer_news p taken = entry_of.Taken (pay_of p) ∷ []
+answer_news p (refused_for why) = entry_of.No (pay_of p) why ∷ []
+answer_news p (withheld_for why) = []
 
 -- The line of each.
 abbrev pub told_line : Told → List ℕ
@@ -34,6 +66,9 @@ told_line (refused number why) = line_of (entry_of.Line number why)
 told_line (notice n) = notice_line n
 told_line (finding f) = finding_line f
 told_line (last e) = line_of e
+told_line (operates s e) = line_of e
+told_line (pays p answer) = answer_line p answer
+told_line (falls_short p paid rest) = line_of (entry_of.Short paid rest)
 
 -- All lines.
 abbrev pub told_text : List Told → List ℕ
@@ -48,6 +83,9 @@ news_of (refused number why ∷ told) = news_of told
 news_of (notice n ∷ told) = news_of told
 news_of (finding f ∷ told) = news_of told
 news_of (last e ∷ told) = news_of told
+news_of (operates s e ∷ told) = news_of told
+news_of (pays p answer ∷ told) = news_of told ++ answer_news p answer
+news_of (falls_short p paid rest ∷ told) = news_of told
 
 -- Entries are told as they are.
 abbrev pub as_told : List Entry → List Told
@@ -91,6 +129,9 @@ findings_in (unsent addr sent ∷ told) = findings_in told
 findings_in (refused number why ∷ told) = findings_in told
 findings_in (notice n ∷ told) = findings_in told
 findings_in (last e ∷ told) = findings_in told
+findings_in (operates s e ∷ told) = findings_in told
+findings_in (pays p answer ∷ told) = findings_in told
+findings_in (falls_short p paid rest ∷ told) = findings_in told
 
 -- These were written to a sink: the line of each was put once, in their order, up to the first whose put failed; and what is
 -- told of the bytes grew by their text, or by a front of it where a put failed.
@@ -112,10 +153,3 @@ IsOfStatus n = ⊥
 -- Such notices are told.
 abbrev pub AreOfStatus : List Told → Type 0
 AreOfStatus told = (notices : List Notice) × All IsOfStatus notices × (told ≡ notices_told notices)
-
--- It was written how a host stands.
-abbrev pub TellsStatus : {K : Type 0} → (K → Option (List ℕ)) → (K → List ℕ → Result (Unit {0}) Failed → K → Type 0) → K
-    → Result (Unit {0}) Failed → K → Type 0
-TellsStatus written puts before result now =
-    (notices : List Notice) × All IsOfStatus notices
-    × WritesTold written puts before (notices_told notices) result now

@@ -1,14 +1,17 @@
 //! Attempts of the job at an address.
-ghost use Rattle.std.specs.Prelude.{◌≡◌, [], false, IfOk, OnErr, OnOk};
+ghost use Rattle.std.specs.Prelude.{◌≡◌, [], false, true, IfOk, OnErr, OnOk};
+ghost use Rattle.std.specs.List.{list_any};
 ghost use Rattle.cct_disk.specs.Disk.{GoesOn};
 ghost use Rattle.cct_edge.specs.Faults.{HasCause};
 ghost use Rattle.cct_host.specs.Host.{Fails, FailsBetween, Nexts, disk_of, has_failed, setup_of};
-ghost use Rattle.cct_service.specs.Doing.{AreAttempts, IsAttemptSent, MakesAttempts};
+ghost use Rattle.cct_service.specs.Doing.{AreAttempts, IsAttemptWith, MakesAttempts};
+ghost use Rattle.cct_service.specs.Ends.{is_end};
 ghost use Rattle.cct_service.specs.Linked.{Exchanges, HasGone};
 ghost use Rattle.cct_service.specs.Parts.{Acts};
 
 use crate::page::{Page, Went};
 use crate::served::{Served, by_writing};
+use cct_change::Desk;
 use cct_disk::Disk;
 use cct_edge::{Failed, Sink};
 use cct_host::Host;
@@ -32,16 +35,20 @@ pub(crate) enum Until {
 pub(crate) fn attempt<K: Sink, D: Disk, L: CountedLink>(
     host: &mut Host<'_, D>,
     addr: u8,
+    desk: &mut Desk,
     link: &mut L,
     out: &mut K,
     page: &mut Page,
 ) -> Result<(), Served>
     requires whole { has_failed host.old ≡ false }
     ensures acts { Acts K.written K.puts K.faults (Exchanges L.gives L.sent L.failures link.old link.new)
-        (IsAttemptSent (L.sent link.new) addr) result out.old out.new host.old host.new }
+        (IsAttemptWith (L.sent link.new) page.new.report.items addr) result out.old out.new host.old host.new }
 {
     match make(host, addr, link, page) {
-        Ok(went) => by_writing(page.write_attempt(host.setup(), addr, went, out)),
+        Ok(went) => {
+            desk.see(page.report.as_slice());
+            by_writing(page.write_attempt(host.setup(), addr, went, out))
+        }
         Err(Failed) => Err(Served::Disk),
     }
 }
@@ -76,22 +83,22 @@ fn make<D: Disk, L: CountedLink>(
     }
 }
 
-/// The job at an address makes attempts until it has ended, or up to a failed try, or so many: one at least.
+/// The job at an address makes attempts until it has ended, or up to a failed try, or the most: one at least.
 pub(crate) fn attempts<K: Sink, D: Disk, L: CountedLink>(
     host: &mut Host<'_, D>,
     addr: u8,
-    most: u32,
     until: Until,
+    desk: &mut Desk,
     link: &mut L,
     out: &mut K,
     page: &mut Page,
 ) -> Result<(), Served>
     requires whole { has_failed host.old ≡ false }
     ensures acts { Acts K.written K.puts K.faults (Exchanges L.gives L.sent L.failures link.old link.new)
-        (MakesAttempts addr most) result out.old out.new host.old host.new }
+        (MakesAttempts until addr) result out.old out.new host.old host.new }
 {
-    for _made in 0..most {
-        match attempt(host, addr, link, out, page) {
+    for _made in 0..MOST_ATTEMPTS {
+        match attempt(host, addr, desk, link, out, page) {
             Ok(()) => {}
             Err(how) => return Err(how),
         }
@@ -103,38 +110,47 @@ pub(crate) fn attempts<K: Sink, D: Disk, L: CountedLink>(
 }
 
 /// Whether no more attempts are made after the last one.
-fn is_over(until: Until, page: &Page) -> bool {
-    has_ended(page.report.as_slice())
-        || match until {
-            Until::Ended => false,
-            Until::Failed => page.has_failed(),
-        }
+fn is_over(until: Until, page: &Page) -> bool
+    ensures ended { until ≡ Until.Ended → result ≡ list_any is_end page.now.report.items }
+    ensures goes_on { result ≡ false → list_any is_end page.now.report.items ≡ false }
+{
+    let is_ended = has_ended(page.report.as_slice());
+    match until {
+        Until::Ended => is_ended,
+        Until::Failed => is_ended || page.has_failed(),
+    }
 }
 
-/// Whether the last of these entries tells that no job is left.
-fn has_ended(entries: &[Entry]) -> bool {
-    matches!(
-        entries,
-        [.., Entry::Ended { .. }] | [.., Entry::Idle { .. }]
-    )
+/// Whether one of these entries tells that no job is left.
+fn has_ended(entries: &[Entry]) -> bool
+    ensures { result ≡ list_any is_end entries.now }
+{
+    entries.iter().any(|entry| is_end(entry))
 }
 
-/// The job at an address, if there is one, makes attempts until it has ended, or up to a failed try, or so many.
+/// Whether an entry tells that no job is left at its address.
+fn is_end(entry: &Entry) -> bool
+    ensures { result ≡ is_end entry.now }
+{
+    matches!(entry, Entry::Ended { .. } | Entry::Idle { .. })
+}
+
+/// The job at an address, if there is one, makes attempts until it has ended, or up to a failed try, or the most.
 pub(crate) fn go_on<K: Sink, D: Disk, L: CountedLink>(
     host: &mut Host<'_, D>,
     addr: u8,
-    most: u32,
     until: Until,
+    desk: &mut Desk,
     link: &mut L,
     out: &mut K,
     page: &mut Page,
 ) -> Result<(), Served>
     requires whole { has_failed host.old ≡ false }
     ensures acts { Acts K.written K.puts K.faults (Exchanges L.gives L.sent L.failures link.old link.new)
-        (AreAttempts addr most) result out.old out.new host.old host.new }
+        (AreAttempts addr MOST_ATTEMPTS) result out.old out.new host.old host.new }
 {
     if host.command_at(addr).is_some() {
-        attempts(host, addr, most, until, link, out, page)
+        attempts(host, addr, until, desk, link, out, page)
     } else {
         Ok(())
     }

@@ -18,7 +18,7 @@ use crate::standing::tell_status;
 use cct_disk::Disk;
 use cct_edge::Sink;
 use cct_host::Host;
-use cct_model::{BROADCAST, Command, Entry, HOST};
+use cct_model::{Command, Entry};
 use cct_survey::{Finding, Withheld, withheld_by};
 
 /// Gives the host a command, unless what was found withholds it, which is told.
@@ -158,21 +158,4 @@ fn open_order<D: Disk>(host: &Host<'_, D>, id: u32) -> Option<OrderTold> {
         }
     }
     None
-}
-
-/// The address of the device whose job a command begins: 0 of a scan, and 1 of a sale.
-pub(crate) fn address_of(command: &Command) -> u8 {
-    match *command {
-        Command::Start { addr, .. } => addr,
-        Command::Round { addr } => addr,
-        Command::Stop { addr } => addr,
-        Command::Pay { addr, .. } => addr,
-        Command::Settle { addr } => addr,
-        Command::Halt { addr } => addr,
-        Command::Ident { addr } => addr,
-        Command::Path { addr, .. } => addr,
-        Command::Route { addr, .. } => addr,
-        Command::Scan => BROADCAST,
-        Command::Vend { .. } => HOST,
-    }
 }

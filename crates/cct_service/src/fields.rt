@@ -33,17 +33,7 @@ fn job_word(job: &Option<Command>) -> &'static [u8]
 {
     match job {
         None => b"-",
-        Some(Command::Start { .. }) => b"start",
-        Some(Command::Round { .. }) => b"round",
-        Some(Command::Stop { .. }) => b"stop",
-        Some(Command::Pay { .. }) => b"pay",
-        Some(Command::Settle { .. }) => b"settle",
-        Some(Command::Halt { .. }) => b"halt",
-        Some(Command::Scan) => b"scan",
-        Some(Command::Ident { .. }) => b"ident",
-        Some(Command::Path { .. }) => b"path",
-        Some(Command::Route { .. }) => b"route",
-        Some(Command::Vend { .. }) => b"vend",
+        Some(command) => command.word(),
     }
 }
 

@@ -16,6 +16,7 @@ mod poll;
 mod rests;
 mod served;
 mod serving;
+mod session;
 mod standing;
 mod stopping;
 mod unsent;

@@ -3,35 +3,40 @@ ghost use Rattle.std.specs.Prelude.{◌≡◌, false, Ok, IfErr, IfOk};
 ghost use Rattle.cct_edge.specs.Bytes.{Serves};
 ghost use Rattle.cct_host.specs.Host.{disk_of, has_failed, setup_of};
 ghost use Rattle.cct_model.specs.Script.{IsCommand};
+ghost use Rattle.cct_model.specs.lines.entry.LineKind.TheVariants as kind;
 ghost use Rattle.cct_script.specs.Endless.{held_of};
 ghost use Rattle.cct_service.specs.Asked.{AsksAt, asked_before};
 ghost use Rattle.cct_service.specs.Causes.{DiskServes, EndsBy, IsDiskFault, IsUnread, IsUnwritten};
 ghost use Rattle.cct_service.specs.Doing.{Decides, Does, DoesLine, DoesLines, Finds, IsAttempt, MakesAttempts, Tells};
 ghost use Rattle.cct_service.specs.Linked.{AreQuiet, Exchanges, UsesLink};
 ghost use Rattle.cct_service.specs.Parts.{Acts, Plays};
-ghost use Rattle.cct_service.specs.Said.{ComesNext, IsOfInput, IsSayable, stopped_by, unless_end};
+ghost use Rattle.cct_service.specs.Said.{ComesNext, IsOfInput, IsSayable, IsStock, stopped_by, unless_end};
 ghost use Rattle.cct_service.specs.Told.{refused};
 
 use crate::asking::ask_before;
-use crate::attempts::{MOST_ATTEMPTS, Until, attempt, attempts};
-use crate::commands::{address_of, answer_or_withhold, balance, order, status};
+use crate::attempts::{Until, attempt, attempts};
+use crate::commands::{answer_or_withhold, balance, order, status};
+use crate::fields::write_number;
 use crate::outside::Outside;
 use crate::page::Page;
 use crate::poll::poll;
 use crate::served::{Served, by_writing};
+use crate::session::{begin_session, count_stock, serve_session};
+use cct_change::Desk;
 use cct_disk::Disk;
 use cct_edge::{Sink, Source};
 use cct_host::Host;
-use cct_model::{Command, Entry, LineKind};
+use cct_model::{Command, DeviceBody, DeviceSetup, Entry, LineKind, Setup};
 use cct_port::CountedLink;
 use cct_script::{EndlessLines, LinesNo, LiveLine, NextLine, read_live_line};
 use cct_survey::Roll;
-use cct_text::write_entry;
+use cct_text::{TextLine, write_entry};
 
 /// Does what each line says, up to `end` or the end of the input. A line that says nothing is told, and changes nothing.
 pub(crate) fn play<S: Source, K: Sink, D: Disk, L: CountedLink, O: Outside>(
     host: &mut Host<'_, D>,
     roll: &mut Roll,
+    desk: &mut Desk,
     input: &mut S,
     out: &mut K,
     link: &mut L,
@@ -55,7 +60,7 @@ pub(crate) fn play<S: Source, K: Sink, D: Disk, L: CountedLink, O: Outside>(
             Ok(line) => line,
             Err(how) => return how,
         };
-        match take_line(host, roll, number, &line, out, link, outside, page) {
+        match take_line(host, roll, desk, number, &line, out, link, outside, page) {
             Ok(()) => {}
             Err(how) => return how,
         }
@@ -138,6 +143,7 @@ fn stopped(number: u32, why: LinesNo) -> Served
 fn take_line<K: Sink, D: Disk, L: CountedLink, O: Outside>(
     host: &mut Host<'_, D>,
     roll: &mut Roll,
+    desk: &mut Desk,
     number: u32,
     line: &Result<LiveLine, LineKind>,
     out: &mut K,
@@ -153,8 +159,60 @@ fn take_line<K: Sink, D: Disk, L: CountedLink, O: Outside>(
         result out.old out.new host.old host.new }
 {
     match line {
-        Ok(said) => obey(host, roll, said, out, link, outside, page),
+        Ok(said) => {
+            if is_known(host.setup(), said) {
+                obey(host, roll, desk, said, out, link, outside, page)
+            } else {
+                refuse_unknown(host, number, said, out, outside, page)
+            }
+        }
         Err(kind) => refuse(host, number, *kind, out, page),
+    }
+}
+
+/// Whether the device is there that a line names: a stock is that of a hopper.
+fn is_known(setup: &Setup, said: &LiveLine) -> bool
+    ensures { result ≡ false → IsStock said.now }
+{
+    match said {
+        LiveLine::Stock { addr, .. } => is_hopper(setup.device_at(*addr)),
+        _ => true,
+    }
+}
+
+/// Whether a device is a hopper.
+fn is_hopper(device: Option<&DeviceSetup>) -> bool {
+    match device {
+        Some(device) => matches!(device.body, DeviceBody::Hopper { .. }),
+        None => false,
+    }
+}
+
+/// Tells that a line names no device of its kind. Who is outside is told of it, too.
+fn refuse_unknown<K: Sink, D: Disk, O: Outside>(
+    host: &mut Host<'_, D>,
+    number: u32,
+    said: &LiveLine,
+    out: &mut K,
+    outside: &mut O,
+    page: &mut Page,
+) -> Result<(), Served>
+    requires whole { has_failed host.old ≡ false }
+    ensures acts { Acts K.written K.puts K.faults AreQuiet (Tells (refused number kind.Device))
+        result out.old out.new host.old host.new }
+{
+    write_stock(&mut page.line, said);
+    outside.refused(number, LineKind::Device, page.line.as_slice());
+    refuse(host, number, LineKind::Device, out, page)
+}
+
+/// Writes the line of a stock as the operator gave it.
+fn write_stock(line: &mut TextLine, said: &LiveLine) {
+    line.clear();
+    if let LiveLine::Stock { addr, count } = said {
+        line.push(b"stock");
+        write_number(line, u32::from(*addr));
+        write_number(line, *count);
     }
 }
 
@@ -177,6 +235,7 @@ fn refuse<K: Sink, D: Disk>(
 fn obey<K: Sink, D: Disk, L: CountedLink, O: Outside>(
     host: &mut Host<'_, D>,
     roll: &mut Roll,
+    desk: &mut Desk,
     said: &LiveLine,
     out: &mut K,
     link: &mut L,
@@ -192,12 +251,15 @@ fn obey<K: Sink, D: Disk, L: CountedLink, O: Outside>(
 {
     match said {
         LiveLine::Command(command) => decide(host, roll, command, out, link, page),
-        LiveLine::Poll => poll(host, roll, link, out, page),
-        LiveLine::Next { addr } => next(host, *addr, link, out, page),
-        LiveLine::Do { addr } => do_job(host, *addr, link, out, page),
+        LiveLine::Poll => poll(host, roll, desk, link, out, page),
+        LiveLine::Next { addr } => next(host, *addr, desk, link, out, page),
+        LiveLine::Do { addr } => do_job(host, *addr, desk, link, out, page),
         LiveLine::Balance => balance(host, out, page),
         LiveLine::Status => status(host, out, page),
         LiveLine::Order { id } => order(host, *id, outside, out, page),
+        LiveLine::Stock { addr, count } => count_stock(host, desk, *addr, *count, out, page),
+        LiveLine::Change { first, amount } => begin_session(host, desk, *first, *amount, out, page),
+        LiveLine::Serve => serve_session(host, roll, desk, link, out, page),
         LiveLine::End => Ok(()),
     }
 }
@@ -220,7 +282,7 @@ fn decide<K: Sink, D: Disk, L: CountedLink>(
         result out.old out.new host.old host.new }
     ensures asks { AsksAt L.gives (setup_of host.old).devices (asked_before command.now) roll.old link.old roll.new link.new }
 {
-    page.rests.wake(address_of(command));
+    page.rests.wake(command.address());
     match ask_before(host, roll, command, link, out, page) {
         Ok(()) => answer_or_withhold(host, roll.findings(), command, out, page),
         Err(how) => Err(how),
@@ -231,6 +293,7 @@ fn decide<K: Sink, D: Disk, L: CountedLink>(
 fn next<K: Sink, D: Disk, L: CountedLink>(
     host: &mut Host<'_, D>,
     addr: u8,
+    desk: &mut Desk,
     link: &mut L,
     out: &mut K,
     page: &mut Page,
@@ -240,21 +303,22 @@ fn next<K: Sink, D: Disk, L: CountedLink>(
         (IsAttempt addr) result out.old out.new host.old host.new }
 {
     page.rests.wake(addr);
-    attempt(host, addr, link, out, page)
+    attempt(host, addr, desk, link, out, page)
 }
 
 /// The job at an address makes attempts until it has ended.
 fn do_job<K: Sink, D: Disk, L: CountedLink>(
     host: &mut Host<'_, D>,
     addr: u8,
+    desk: &mut Desk,
     link: &mut L,
     out: &mut K,
     page: &mut Page,
 ) -> Result<(), Served>
     requires whole { has_failed host.old ≡ false }
     ensures acts { Acts K.written K.puts K.faults (Exchanges L.gives L.sent L.failures link.old link.new)
-        (MakesAttempts addr MOST_ATTEMPTS) result out.old out.new host.old host.new }
+        (MakesAttempts Until.Ended addr) result out.old out.new host.old host.new }
 {
     page.rests.wake(addr);
-    attempts(host, addr, MOST_ATTEMPTS, Until::Ended, link, out, page)
+    attempts(host, addr, Until::Ended, desk, link, out, page)
 }

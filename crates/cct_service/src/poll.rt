@@ -1,14 +1,16 @@
 //! The line `poll`: all that is to be done for a while.
 ghost use Rattle.std.specs.Prelude.{◌≡◌, false};
 ghost use Rattle.cct_host.specs.Host.{has_failed, setup_of};
-ghost use Rattle.cct_service.specs.Doing.{Finds, IsPoll, IsVisit};
+ghost use Rattle.cct_service.specs.Doing.{Finds, IsPoll, IsVisit, MayServe, Then};
 ghost use Rattle.cct_service.specs.Linked.{Exchanges, UsesLink};
 ghost use Rattle.cct_service.specs.Parts.{Acts};
 
 use crate::asking::ask_some;
 use crate::page::Page;
 use crate::served::Served;
+use crate::session::go_on_with_session;
 use crate::visit::{has_task, visit};
+use cct_change::Desk;
 use cct_disk::Disk;
 use cct_edge::Sink;
 use cct_host::Host;
@@ -24,6 +26,29 @@ const ADDRESSES: u16 = 256;
 pub(crate) fn poll<K: Sink, D: Disk, L: CountedLink>(
     host: &mut Host<'_, D>,
     roll: &mut Roll,
+    desk: &mut Desk,
+    link: &mut L,
+    out: &mut K,
+    page: &mut Page,
+) -> Result<(), Served>
+    requires whole { has_failed host.old ≡ false }
+    ensures acts { Acts K.written K.puts K.faults
+        (UsesLink L.gives L.sent L.failures (setup_of host.old).devices roll.old roll.new link.old link.new)
+        (Finds roll.old.findings roll.new.findings (Then (MayServe roll.old.findings) IsPoll))
+        result out.old out.new host.old host.new }
+{
+    page.rests.begin_poll();
+    match go_on_with_session(host, roll, desk, link, out, page) {
+        Ok(()) => visit_all(host, roll, desk, link, out, page),
+        Err(how) => Err(how),
+    }
+}
+
+/// The visits of a poll, and what is done after them.
+fn visit_all<K: Sink, D: Disk, L: CountedLink>(
+    host: &mut Host<'_, D>,
+    roll: &mut Roll,
+    desk: &mut Desk,
     link: &mut L,
     out: &mut K,
     page: &mut Page,
@@ -33,9 +58,8 @@ pub(crate) fn poll<K: Sink, D: Disk, L: CountedLink>(
         (UsesLink L.gives L.sent L.failures (setup_of host.old).devices roll.old roll.new link.old link.new)
         (Finds roll.old.findings roll.new.findings IsPoll) result out.old out.new host.old host.new }
 {
-    page.rests.begin_poll();
-    match visit_sound(host, link, out, page) {
-        Ok(()) => try_others(host, roll, link, out, page),
+    match visit_sound(host, desk, link, out, page) {
+        Ok(()) => try_others(host, roll, desk, link, out, page),
         Err(how) => Err(how),
     }
 }
@@ -44,6 +68,7 @@ pub(crate) fn poll<K: Sink, D: Disk, L: CountedLink>(
 /// after that device.
 fn visit_sound<K: Sink, D: Disk, L: CountedLink>(
     host: &mut Host<'_, D>,
+    desk: &mut Desk,
     link: &mut L,
     out: &mut K,
     page: &mut Page,
@@ -55,7 +80,7 @@ fn visit_sound<K: Sink, D: Disk, L: CountedLink>(
     let first = page.rests.first();
     for step in 0..ADDRESSES {
         let addr = first.wrapping_add(step as u8);
-        match visit_if_sound(host, addr, link, out, page) {
+        match visit_if_sound(host, addr, desk, link, out, page) {
             Ok(()) => {}
             Err(how) => return Err(how),
         }
@@ -72,6 +97,7 @@ fn visit_sound<K: Sink, D: Disk, L: CountedLink>(
 fn visit_if_sound<K: Sink, D: Disk, L: CountedLink>(
     host: &mut Host<'_, D>,
     addr: u8,
+    desk: &mut Desk,
     link: &mut L,
     out: &mut K,
     page: &mut Page,
@@ -81,7 +107,7 @@ fn visit_if_sound<K: Sink, D: Disk, L: CountedLink>(
         IsVisit result out.old out.new host.old host.new }
 {
     if page.rests.is_sound(addr) {
-        visit(host, addr, link, out, page)
+        visit(host, addr, desk, link, out, page)
     } else {
         Ok(())
     }
@@ -92,6 +118,7 @@ fn visit_if_sound<K: Sink, D: Disk, L: CountedLink>(
 fn try_others<K: Sink, D: Disk, L: CountedLink>(
     host: &mut Host<'_, D>,
     roll: &mut Roll,
+    desk: &mut Desk,
     link: &mut L,
     out: &mut K,
     page: &mut Page,
@@ -102,9 +129,9 @@ fn try_others<K: Sink, D: Disk, L: CountedLink>(
         (Finds roll.old.findings roll.new.findings IsPoll) result out.old out.new host.old host.new }
 {
     if page.rests.asks_first() {
-        ask_then_visit(host, roll, link, out, page)
+        ask_then_visit(host, roll, desk, link, out, page)
     } else {
-        visit_then_ask(host, roll, link, out, page)
+        visit_then_ask(host, roll, desk, link, out, page)
     }
 }
 
@@ -112,6 +139,7 @@ fn try_others<K: Sink, D: Disk, L: CountedLink>(
 fn ask_then_visit<K: Sink, D: Disk, L: CountedLink>(
     host: &mut Host<'_, D>,
     roll: &mut Roll,
+    desk: &mut Desk,
     link: &mut L,
     out: &mut K,
     page: &mut Page,
@@ -122,7 +150,7 @@ fn ask_then_visit<K: Sink, D: Disk, L: CountedLink>(
         (Finds roll.old.findings roll.new.findings IsPoll) result out.old out.new host.old host.new }
 {
     match ask_if_unspent(host, roll, link, out, page) {
-        Ok(()) => visit_doubtful(host, link, out, page),
+        Ok(()) => visit_doubtful(host, desk, link, out, page),
         Err(how) => Err(how),
     }
 }
@@ -131,6 +159,7 @@ fn ask_then_visit<K: Sink, D: Disk, L: CountedLink>(
 fn visit_then_ask<K: Sink, D: Disk, L: CountedLink>(
     host: &mut Host<'_, D>,
     roll: &mut Roll,
+    desk: &mut Desk,
     link: &mut L,
     out: &mut K,
     page: &mut Page,
@@ -140,7 +169,7 @@ fn visit_then_ask<K: Sink, D: Disk, L: CountedLink>(
         (UsesLink L.gives L.sent L.failures (setup_of host.old).devices roll.old roll.new link.old link.new)
         (Finds roll.old.findings roll.new.findings IsPoll) result out.old out.new host.old host.new }
 {
-    match visit_doubtful(host, link, out, page) {
+    match visit_doubtful(host, desk, link, out, page) {
         Ok(()) => ask_if_unspent(host, roll, link, out, page),
         Err(how) => Err(how),
     }
@@ -169,6 +198,7 @@ fn ask_if_unspent<K: Sink, D: Disk, L: CountedLink>(
 /// Visits the doubtful device whose turn it is, if there is one, unless the poll is spent.
 fn visit_doubtful<K: Sink, D: Disk, L: CountedLink>(
     host: &mut Host<'_, D>,
+    desk: &mut Desk,
     link: &mut L,
     out: &mut K,
     page: &mut Page,
@@ -180,7 +210,7 @@ fn visit_doubtful<K: Sink, D: Disk, L: CountedLink>(
     match next_doubtful(host, page) {
         Some(addr) => {
             page.rests.take_turn(addr);
-            visit(host, addr, link, out, page)
+            visit(host, addr, desk, link, out, page)
         }
         None => Ok(()),
     }

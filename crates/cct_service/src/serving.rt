@@ -21,6 +21,7 @@ use crate::play::play;
 use crate::served::{Served, close};
 use crate::standing::tell_found;
 use crate::stopping::{AtEnd, stop_at_end};
+use cct_change::Desk;
 use cct_disk::Disk;
 use cct_edge::{Sink, Source};
 use cct_host::Host;
@@ -39,6 +40,7 @@ use cct_survey::Roll;
 pub fn serve<S: Source, K: Sink, D: Disk, L: CountedLink, O: Outside>(
     setup: &Setup,
     roll: &mut Roll,
+    desk: &mut Desk,
     ends: AtEnd,
     input: &mut S,
     out: &mut K,
@@ -71,7 +73,9 @@ pub fn serve<S: Source, K: Sink, D: Disk, L: CountedLink, O: Outside>(
     ensures sink_goes_on { Serves K.written K.faults out.old out.new ⊥ }
     ensures disk_goes_on { DiskServes D.size D.honest D.seen D.cuts D.faults disk result.1 ⊥ }
 {
-    let (how, disk) = live(setup, roll, ends, input, out, disk, link, outside, page);
+    let (how, disk) = live(
+        setup, roll, desk, ends, input, out, disk, link, outside, page,
+    );
     (close(how, out, &mut page.line), disk)
 }
 
@@ -79,6 +83,7 @@ pub fn serve<S: Source, K: Sink, D: Disk, L: CountedLink, O: Outside>(
 fn live<S: Source, K: Sink, D: Disk, L: CountedLink, O: Outside>(
     setup: &Setup,
     roll: &mut Roll,
+    desk: &mut Desk,
     ends: AtEnd,
     input: &mut S,
     out: &mut K,
@@ -103,7 +108,7 @@ fn live<S: Source, K: Sink, D: Disk, L: CountedLink, O: Outside>(
     };
     let mut host = host;
     let how = live_on(
-        &mut host, was_there, roll, ends, input, out, link, outside, page,
+        &mut host, was_there, roll, desk, ends, input, out, link, outside, page,
     );
     (how, host.into_disk())
 }
@@ -113,6 +118,7 @@ fn live_on<S: Source, K: Sink, D: Disk, L: CountedLink, O: Outside>(
     host: &mut Host<'_, D>,
     was_there: bool,
     roll: &mut Roll,
+    desk: &mut Desk,
     ends: AtEnd,
     input: &mut S,
     out: &mut K,
@@ -131,8 +137,8 @@ fn live_on<S: Source, K: Sink, D: Disk, L: CountedLink, O: Outside>(
     ensures disk { DiskServes D.size D.honest D.seen D.cuts D.faults (disk_of host.old) (disk_of host.new)
         (IsDiskFault result) }
 {
-    match open_and_play(host, was_there, roll, input, out, link, outside, page) {
-        Served::Done => match stop_at_end(host, ends, link, out, page) {
+    match open_and_play(host, was_there, roll, desk, input, out, link, outside, page) {
+        Served::Done => match stop_at_end(host, ends, desk, link, out, page) {
             Ok(()) => Served::Done,
             Err(how) => how,
         },
@@ -145,6 +151,7 @@ fn open_and_play<S: Source, K: Sink, D: Disk, L: CountedLink, O: Outside>(
     host: &mut Host<'_, D>,
     was_there: bool,
     roll: &mut Roll,
+    desk: &mut Desk,
     input: &mut S,
     out: &mut K,
     link: &mut L,
@@ -164,7 +171,7 @@ fn open_and_play<S: Source, K: Sink, D: Disk, L: CountedLink, O: Outside>(
         (IsDiskFault result) }
 {
     match tell_found(host, was_there, out, &mut page.line) {
-        Ok(()) => play(host, roll, input, out, link, outside, page),
+        Ok(()) => play(host, roll, desk, input, out, link, outside, page),
         Err(_) => Served::Unwritten,
     }
 }

@@ -1,11 +1,13 @@
 //! How a host stands, told in notices.
-ghost use Rattle.std.specs.Prelude.{◌≡◌, ℕ, IsErr};
+ghost use Rattle.std.specs.Prelude.{◌≡◌, ◌∷◌, ℕ, [], IsErr};
 ghost use Rattle.cct_edge.specs.Bytes.{Serves};
 ghost use Rattle.cct_host.specs.Host.{setup_of};
 ghost use Rattle.cct_host.specs.Starting.{BeginsAs};
 ghost use Rattle.cct_model.specs.Following.{Known};
 ghost use Rattle.cct_service.specs.Opening.{IsOpening, TellsOpening, epochs_known, is_running, orders_known};
-ghost use Rattle.cct_service.specs.Told.{IsOfStatus, TellsStatus};
+ghost use Rattle.cct_service.specs.Reported.{TellsStatus};
+ghost use Rattle.cct_service.specs.Told as lines;
+ghost use Rattle.cct_service.specs.Told.{WritesTold};
 
 use crate::notice::{Notice, tell};
 use crate::page::Page;
@@ -85,7 +87,7 @@ pub(crate) fn tell_status<K: Sink, D: Disk>(
     out: &mut K,
     page: &mut Page,
 ) -> Result<(), Failed>
-    ensures tells { TellsStatus K.written K.puts out.old result out.new }
+    ensures tells { TellsStatus K.written K.puts host.now out.old result out.new }
     ensures serves { Serves K.written K.faults out.old out.new (IsErr result) }
 {
     for device in host.setup().devices.as_slice() {
@@ -108,7 +110,7 @@ fn tell_device<K: Sink, D: Disk>(
     out: &mut K,
     page: &mut Page,
 ) -> Result<(), Failed>
-    ensures tells { TellsStatus K.written K.puts out.old result out.new }
+    ensures tells { TellsStatus K.written K.puts host.now out.old result out.new }
     ensures serves { Serves K.written K.faults out.old out.new (IsErr result) }
 {
     let stands = Notice::Device {
@@ -123,25 +125,22 @@ fn tell_device<K: Sink, D: Disk>(
     }
 }
 
-/// Tells one notice of how a host stands.
+/// Tells one notice.
 fn tell_one<K: Sink>(notice: &Notice, out: &mut K, line: &mut TextLine) -> Result<(), Failed>
-    requires of_status { IsOfStatus notice.now }
-    ensures tells { TellsStatus K.written K.puts out.old result out.new }
+    ensures tells { WritesTold K.written K.puts out.old (lines.notice notice.now ∷ []) result out.new }
     ensures serves { Serves K.written K.faults out.old out.new (IsErr result) }
 {
     tell(out, line, notice)
 }
 
-/// Tells two notices of how a host stands.
+/// Tells two notices.
 fn tell_two<K: Sink>(
     first: &Notice,
     second: &Notice,
     out: &mut K,
     line: &mut TextLine,
 ) -> Result<(), Failed>
-    requires first { IsOfStatus first.now }
-    requires second { IsOfStatus second.now }
-    ensures tells { TellsStatus K.written K.puts out.old result out.new }
+    ensures tells { WritesTold K.written K.puts out.old (lines.notice first.now ∷ lines.notice second.now ∷ []) result out.new }
     ensures serves { Serves K.written K.faults out.old out.new (IsErr result) }
 {
     match tell_one(first, out, line) {

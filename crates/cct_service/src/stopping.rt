@@ -5,11 +5,12 @@ ghost use Rattle.cct_service.specs.Doing.{IsStopping, StopsBy};
 ghost use Rattle.cct_service.specs.Linked.{Exchanges};
 ghost use Rattle.cct_service.specs.Parts.{Acts};
 
-use crate::attempts::{MOST_ATTEMPTS, Until, go_on};
+use crate::attempts::{Until, go_on};
 use crate::commands::answer;
 use crate::page::Page;
 use crate::served::Served;
 use crate::standing::runs;
+use cct_change::Desk;
 use cct_disk::Disk;
 use cct_edge::Sink;
 use cct_host::Host;
@@ -30,6 +31,7 @@ pub enum AtEnd {
 pub(crate) fn stop_at_end<K: Sink, D: Disk, L: CountedLink>(
     host: &mut Host<'_, D>,
     ends: AtEnd,
+    desk: &mut Desk,
     link: &mut L,
     out: &mut K,
     page: &mut Page,
@@ -40,13 +42,14 @@ pub(crate) fn stop_at_end<K: Sink, D: Disk, L: CountedLink>(
 {
     match ends {
         AtEnd::Leave => Ok(()),
-        AtEnd::Stop => stop_all(host, link, out, page),
+        AtEnd::Stop => stop_all(host, desk, link, out, page),
     }
 }
 
 /// Stops each acceptor that runs, in rising order of address.
 fn stop_all<K: Sink, D: Disk, L: CountedLink>(
     host: &mut Host<'_, D>,
+    desk: &mut Desk,
     link: &mut L,
     out: &mut K,
     page: &mut Page,
@@ -56,7 +59,7 @@ fn stop_all<K: Sink, D: Disk, L: CountedLink>(
         IsStopping result out.old out.new host.old host.new }
 {
     for addr in 0..=u8::MAX {
-        match stop_if_running(host, addr, link, out, page) {
+        match stop_if_running(host, addr, desk, link, out, page) {
             Ok(()) => {}
             Err(how) => return Err(how),
         }
@@ -68,6 +71,7 @@ fn stop_all<K: Sink, D: Disk, L: CountedLink>(
 fn stop_if_running<K: Sink, D: Disk, L: CountedLink>(
     host: &mut Host<'_, D>,
     addr: u8,
+    desk: &mut Desk,
     link: &mut L,
     out: &mut K,
     page: &mut Page,
@@ -77,7 +81,7 @@ fn stop_if_running<K: Sink, D: Disk, L: CountedLink>(
         IsStopping result out.old out.new host.old host.new }
 {
     if runs(host.epoch_at(addr)) {
-        stop(host, addr, link, out, page)
+        stop(host, addr, desk, link, out, page)
     } else {
         Ok(())
     }
@@ -87,6 +91,7 @@ fn stop_if_running<K: Sink, D: Disk, L: CountedLink>(
 fn stop<K: Sink, D: Disk, L: CountedLink>(
     host: &mut Host<'_, D>,
     addr: u8,
+    desk: &mut Desk,
     link: &mut L,
     out: &mut K,
     page: &mut Page,
@@ -96,12 +101,12 @@ fn stop<K: Sink, D: Disk, L: CountedLink>(
         IsStopping result out.old out.new host.old host.new }
 {
     page.report.clear();
-    match go_on(host, addr, MOST_ATTEMPTS, Until::Ended, link, out, page) {
+    match go_on(host, addr, Until::Ended, desk, link, out, page) {
         Ok(()) => {}
         Err(how) => return Err(how),
     }
     if is_to_stop(host, addr, page) {
-        stop_idle(host, addr, link, out, page)
+        stop_idle(host, addr, desk, link, out, page)
     } else {
         Ok(())
     }
@@ -130,6 +135,7 @@ fn is_unanswered(entries: &[Entry]) -> bool {
 fn stop_idle<K: Sink, D: Disk, L: CountedLink>(
     host: &mut Host<'_, D>,
     addr: u8,
+    desk: &mut Desk,
     link: &mut L,
     out: &mut K,
     page: &mut Page,
@@ -139,7 +145,7 @@ fn stop_idle<K: Sink, D: Disk, L: CountedLink>(
         IsStopping result out.old out.new host.old host.new }
 {
     match answer(host, &Command::Stop { addr }, out, page) {
-        Ok(()) => go_on(host, addr, MOST_ATTEMPTS, Until::Ended, link, out, page),
+        Ok(()) => go_on(host, addr, Until::Ended, desk, link, out, page),
         Err(how) => Err(how),
     }
 }

@@ -5,11 +5,12 @@ ghost use Rattle.cct_service.specs.Doing.{IsVisit};
 ghost use Rattle.cct_service.specs.Linked.{AreQuiet, Exchanges};
 ghost use Rattle.cct_service.specs.Parts.{Acts};
 
-use crate::attempts::{MOST_ATTEMPTS, Until, attempt, go_on};
+use crate::attempts::{Until, attempt, go_on};
 use crate::commands::answer;
 use crate::page::Page;
 use crate::served::Served;
 use crate::standing::runs;
+use cct_change::Desk;
 use cct_disk::Disk;
 use cct_edge::Sink;
 use cct_host::Host;
@@ -54,6 +55,7 @@ pub(crate) fn has_task<D: Disk>(host: &Host<'_, D>, addr: u8) -> bool {
 pub(crate) fn visit<K: Sink, D: Disk, L: CountedLink>(
     host: &mut Host<'_, D>,
     addr: u8,
+    desk: &mut Desk,
     link: &mut L,
     out: &mut K,
     page: &mut Page,
@@ -64,8 +66,8 @@ pub(crate) fn visit<K: Sink, D: Disk, L: CountedLink>(
 {
     match task_at(host, addr) {
         Task::Nothing => Ok(()),
-        Task::Attempt => attempt(host, addr, link, out, page),
-        Task::ReadOut => read_out(host, addr, link, out, page),
+        Task::Attempt => attempt(host, addr, desk, link, out, page),
+        Task::ReadOut => read_out(host, addr, desk, link, out, page),
     }
 }
 
@@ -74,6 +76,7 @@ pub(crate) fn visit<K: Sink, D: Disk, L: CountedLink>(
 fn read_out<K: Sink, D: Disk, L: CountedLink>(
     host: &mut Host<'_, D>,
     addr: u8,
+    desk: &mut Desk,
     link: &mut L,
     out: &mut K,
     page: &mut Page,
@@ -83,7 +86,7 @@ fn read_out<K: Sink, D: Disk, L: CountedLink>(
         IsVisit result out.old out.new host.old host.new }
 {
     for _round in 0..MOST_ROUNDS {
-        match round(host, addr, link, out, page) {
+        match round(host, addr, desk, link, out, page) {
             Ok(()) => {}
             Err(how) => return Err(how),
         }
@@ -114,6 +117,7 @@ fn has_moved(entries: &[Entry]) -> bool {
 fn round<K: Sink, D: Disk, L: CountedLink>(
     host: &mut Host<'_, D>,
     addr: u8,
+    desk: &mut Desk,
     link: &mut L,
     out: &mut K,
     page: &mut Page,
@@ -123,7 +127,7 @@ fn round<K: Sink, D: Disk, L: CountedLink>(
         IsVisit result out.old out.new host.old host.new }
 {
     match begin_round(host, addr, out, page) {
-        Ok(()) => go_on(host, addr, MOST_ATTEMPTS, Until::Failed, link, out, page),
+        Ok(()) => go_on(host, addr, Until::Failed, desk, link, out, page),
         Err(how) => Err(how),
     }
 }

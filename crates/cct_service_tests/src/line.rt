@@ -6,6 +6,7 @@ ghost use Rattle.cct_terms.specs.declared.wire.TheConstants.{MOST_HEARD};
 
 use arrayvec::ArrayVec;
 use cct_bus::Bus;
+use cct_change::Desk;
 use cct_disk::{MADE_LEN, MemDisk};
 use cct_edge::{MemSink, MemSource};
 use cct_model::{Happening, LineKind, MOST_HEARD, Setup};
@@ -200,9 +201,11 @@ pub(crate) fn written_by(
         first: None,
     };
     let disk = MemDisk::new(alloc, MADE_LEN, Vec::new(alloc))?;
+    let mut desk = Desk::new(alloc, setup)?;
     let (how, _) = serve(
         setup,
         roll,
+        &mut desk,
         ends,
         &mut source,
         &mut out,

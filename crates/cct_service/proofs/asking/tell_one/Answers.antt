@@ -15,5 +15,5 @@ returns g c =
       acts = subst (λ r. Acts sink.written sink.puts sink.faults AreQuiet (Tells what) r c.args.out.now c.write_finding.new.out
           host host) (sym c.by_writing.ensures)
           (acts_line sink.written sink.puts sink.faults AreQuiet c.write_finding.result c.args.out.now c.write_finding.new.out host
-          what refl refl c.write_finding.ensures.puts c.requires.whole c.write_finding.ensures.serves);
+          what refl refl (λ past. tt) c.write_finding.ensures.puts c.requires.whole c.write_finding.ensures.serves);
     }

@@ -1,6 +1,6 @@
 use Rattle.std.proofs.Common.{◌++◌, refl, sym, subst}
 use Rattle.cct_lives.specs.LiveStep as live
-use Rattle.cct_service.specs.Doing.{IsAttemptSent}
+use Rattle.cct_service.specs.Doing.{IsAttemptWith}
 use Rattle.cct_service.specs.Linked.{Exchanges}
 use Rattle.cct_service.specs.Parts.{Acts}
 use Rattle.cct_service.specs.Told.{WritesTold, attempt_told, notices_told}
@@ -26,26 +26,28 @@ returns-in-Ok g c =
     let gone = c.in-Ok.ensures.went in
     let writes = c.write_attempt.ensures.writes in
     let notices = writes.0 in
-    let does = IsAttemptSent is_sent c.args.addr in
+    let does = IsAttemptWith is_sent reported c.args.addr in
     let nexts = c.in-Ok.ensures.nexts in
     let linked = Exchanges gives link.sent link.failures line next in
     let wrote = subst (λ b. WritesTold sink.written sink.puts out (attempt_told b reported ++ notices_told notices)
     c.write_attempt.result told) gone.0 writes.2 in
     record {
-      acts = subst (λ r. Acts sink.written sink.puts sink.faults linked does r out told host after) (sym c.by_writing.ensures)
+      acts = subst (λ r. Acts sink.written sink.puts sink.faults linked (IsAttemptWith is_sent r.items c.args.addr)
+          c.by_writing.result out told host after) (sym c.write_attempt.ensures.report)
+          (subst (λ r. Acts sink.written sink.puts sink.faults linked does r out told host after) (sym c.by_writing.ensures)
           (acts_step sink.written sink.puts sink.faults linked c.write_attempt.result out told host after
           (live.next c.args.addr) (attempt_told is_sent reported ++ notices_told notices)
           (attempt_linked gives link.sent link.failures g.met.L.CountedLink.unsent line next c.args.addr nexts.what reported
           is_sent went.has_failed notices nexts.link nexts.reported_is refl gone.1 writes.1)
           does wrote
-          (next_goes gives g.met.L.CountedLink.few line next c.args.addr host after reported is_sent notices
+          (next_goes gives g.met.L.CountedLink.few line next c.args.addr host after reported is_sent went.has_failed notices writes.1
           c.in-Ok.ensures.setup c.in-Ok.ensures.goes_on nexts)
-          (refl, (reported, notices, (went.has_failed, writes.1), refl)) c.in-Ok.ensures.whole c.in-Ok.ensures.setup
+          (refl, (notices, (went.has_failed, writes.1), refl)) c.in-Ok.ensures.whole c.in-Ok.ensures.setup
           c.write_attempt.ensures.serves
           (record {
             goes_on = c.in-Ok.ensures.goes_on;
             cause = record { later = c.in-Ok.ensures.cause.later; rose = λ e. absurd e };
-          }));
+          })));
     }
 
 pub returns-in-Err : goal.returns-in-Err
@@ -53,14 +55,15 @@ returns-in-Err g c =
     let sink = g.K.Sink in
     let link = g.L.CountedLink in
     let is_sent = link.sent c.make.new.link in
+    let entries = c.make.new.page.report.items in
     record {
       acts = acts_broke sink.written sink.puts sink.faults
           (Exchanges g.L.Link.gives link.sent link.failures c.args.link.now c.make.new.link) c.in-Err.ensures.link
-          c.args.out.now c.args.host.now c.make.new.host c.args.addr (IsAttemptSent is_sent c.args.addr)
+          c.args.out.now c.args.host.now c.make.new.host c.args.addr (IsAttemptWith is_sent entries c.args.addr)
           c.in-Err.ensures.setup c.in-Err.ensures.fails c.in-Err.ensures.between
           (record {
             goes_on = c.in-Err.ensures.goes_on;
             cause = record { later = c.in-Err.ensures.cause.later; rose = λ fails. c.in-Err.ensures.cause.rose refl };
           })
-          (attempt_broken is_sent c.args.addr);
+          (attempt_broken is_sent entries c.args.addr);
     }

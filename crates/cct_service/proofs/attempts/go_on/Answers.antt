@@ -1,4 +1,5 @@
 use Rattle.std.proofs.Common.{[]}
+use Rattle.cct_service.specs.declared.attempts.TheConstants.{MOST_ATTEMPTS}
 use Rattle.cct_service.specs.Doing.{AreAttempts, MakesAttempts}
 use Rattle.cct_service.proofs.Doings.{made_are, none_made}
 use Rattle.cct_service.proofs.Linking.{link_none}
@@ -9,10 +10,10 @@ pub returns-then-is_some : goal.returns-then-is_some
 returns-then-is_some g c =
     let sink = g.K.Sink in
     let addr = c.args.addr in
-    let most = c.args.most in
+    let until = c.args.until in
     record {
       acts = acts_weaker sink.written sink.puts sink.faults c.attempts.result c.args.out.now c.attempts.new.out c.args.host.now
-          c.attempts.new.host (MakesAttempts addr most) (AreAttempts addr most) (made_are addr most) c.attempts.ensures.acts;
+          c.attempts.new.host (MakesAttempts until addr) (AreAttempts addr MOST_ATTEMPTS) (made_are until addr) c.attempts.ensures.acts;
     }
 
 pub returns-else-is_some : goal.returns-else-is_some
@@ -21,6 +22,6 @@ returns-else-is_some g c =
     let link = g.L.CountedLink in
     let addr = c.args.addr in
     record {
-      acts = link_none sink.written sink.puts sink.faults g.L.Link.gives link.sent link.failures c.args.link.now c.args.out.now c.args.host.now (AreAttempts addr c.args.most)
-          c.requires.whole (none_made addr c.args.most);
+      acts = link_none sink.written sink.puts sink.faults g.L.Link.gives link.sent link.failures c.args.link.now c.args.out.now c.args.host.now (AreAttempts addr MOST_ATTEMPTS)
+          c.requires.whole (none_made addr);
     }

@@ -20,6 +20,6 @@ returns g c =
           (sym c.by_writing.ensures)
           (acts_told sink.written sink.puts sink.faults AreQuiet c.tell.result out c.tell.new.out host (what ∷ []) refl
           (IsOrder c.args.id)
-          refl (told_one sink.written sink.puts out c.tell.new.out what c.tell.result c.tell.ensures.puts) c.requires.whole
+          refl (λ past keeps. (tt, tt)) (told_one sink.written sink.puts out c.tell.new.out what c.tell.result c.tell.ensures.puts) c.requires.whole
           c.tell.ensures.serves (refl, (known, refl)));
     }

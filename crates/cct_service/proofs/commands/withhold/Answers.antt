@@ -17,5 +17,5 @@ returns g c =
       acts = subst (λ r. Acts sink.written sink.puts sink.faults AreQuiet does r c.args.out.now c.tell.new.out host host)
           (sym c.by_writing.ensures)
           (acts_line sink.written sink.puts sink.faults AreQuiet c.tell.result c.args.out.now c.tell.new.out host what refl refl
-          c.tell.ensures.puts c.requires.whole c.tell.ensures.serves);
+          (λ past. (tt, tt)) c.tell.ensures.puts c.requires.whole c.tell.ensures.serves);
     }

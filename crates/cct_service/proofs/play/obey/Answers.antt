@@ -1,14 +1,16 @@
 use Rattle.std.proofs.Common.{Ok, subst, sym}
 use Rattle.cct_host.specs.Host.{setup_of}
+use Rattle.cct_model.specs.lines.command.Step.TheVariants as step
 use Rattle.cct_lives.specs.LiveStep as live
-use Rattle.cct_service.specs.declared.attempts.TheConstants.{MOST_ATTEMPTS}
-use Rattle.cct_service.specs.Doing.{Does, Finds, IsAttempt, IsOrder, IsStatus, MakesAttempts, TellsOne}
+use Rattle.cct_service.specs.declared.attempts.Until.TheVariants as until_of
+use Rattle.cct_service.specs.Doing.{Does, Finds, IsAttempt, IsOrder, IsStatus, MakesAttempts, TellsOne, TellsStep}
 use Rattle.cct_service.specs.Linked.{UsesLink}
 use Rattle.cct_service.specs.Parts.{Acts}
 use Rattle.cct_service.specs.Said.{IsSayable}
 use Rattle.cct_service.proofs.Found.{attempt_finds, attempts_find, finds_none, one_finds, order_finds, status_finds}
 use Rattle.cct_service.proofs.Linking.{roll_quiet, roll_told}
 use Rattle.cct_service.proofs.Parts.{acts_weaker}
+use Rattle.cct_service.proofs.Sessions.{step_finds}
 use Rattle.cct_service.proofs.play.obey.Goals as goal
 
 pub returns-in-End : goal.returns-in-End
@@ -47,7 +49,7 @@ returns-in-Do g c =
     let line = c.args.link.now in
     let host = c.args.host.now in
     let devices = (setup_of host).devices in
-    let does = MakesAttempts c.in-Do.addr MOST_ATTEMPTS in
+    let does = MakesAttempts until_of.Ended c.in-Do.addr in
     let uses = UsesLink g.L.Link.gives link.sent link.failures devices roll roll line c.do_job.new.link in
     let result = c.do_job.result in
     let out = c.args.out.now in
@@ -59,7 +61,7 @@ returns-in-Do g c =
           (roll_told sink.written sink.puts sink.faults g.L.Link.gives link.sent link.failures devices roll line c.do_job.new.link
           result out out1 host after (Finds known known does)
           (acts_weaker sink.written sink.puts sink.faults result out out1 host after does (Finds known known does)
-          (finds_none known does (attempts_find c.in-Do.addr MOST_ATTEMPTS)) c.do_job.ensures.acts));
+          (finds_none known does (attempts_find until_of.Ended c.in-Do.addr)) c.do_job.ensures.acts));
     }
 
 pub returns-in-Balance : goal.returns-in-Balance
@@ -133,3 +135,58 @@ returns-in-Order g c =
           (acts_weaker sink.written sink.puts sink.faults result out out1 host after does (Finds known known does)
           (finds_none known does (order_finds c.in-Order.id)) c.order.ensures.acts));
     }
+
+pub returns-in-Stock : goal.returns-in-Stock
+returns-in-Stock g c =
+    let sink = g.K.Sink in
+    let link = g.L.CountedLink in
+    let roll = c.args.roll.now in
+    let known = roll.findings in
+    let line = c.args.link.now in
+    let host = c.args.host.now in
+    let devices = (setup_of host).devices in
+    let s = step.Stock c.in-Stock.addr c.in-Stock.count in
+    let does = TellsStep s in
+    let uses = UsesLink g.L.Link.gives link.sent link.failures devices roll roll line line in
+    let result = c.count_stock.result in
+    let out = c.args.out.now in
+    let out1 = c.count_stock.new.out in
+    let after = c.count_stock.new.host in
+    record {
+      acts = subst (λ said. Acts sink.written sink.puts sink.faults uses (Finds known known (Does known said)) result out out1
+          host after) (sym c.in-Stock.is)
+          (roll_quiet sink.written sink.puts sink.faults g.L.Link.gives link.sent link.failures devices roll line
+          result out out1 host after (Finds known known does)
+          (acts_weaker sink.written sink.puts sink.faults result out out1 host after does (Finds known known does)
+          (finds_none known does (step_finds s)) c.count_stock.ensures.acts));
+    }
+
+pub returns-in-Change : goal.returns-in-Change
+returns-in-Change g c =
+    let sink = g.K.Sink in
+    let link = g.L.CountedLink in
+    let roll = c.args.roll.now in
+    let known = roll.findings in
+    let line = c.args.link.now in
+    let host = c.args.host.now in
+    let devices = (setup_of host).devices in
+    let s = step.Change c.in-Change.first c.in-Change.amount in
+    let does = TellsStep s in
+    let uses = UsesLink g.L.Link.gives link.sent link.failures devices roll roll line line in
+    let result = c.begin_session.result in
+    let out = c.args.out.now in
+    let out1 = c.begin_session.new.out in
+    let after = c.begin_session.new.host in
+    record {
+      acts = subst (λ said. Acts sink.written sink.puts sink.faults uses (Finds known known (Does known said)) result out out1
+          host after) (sym c.in-Change.is)
+          (roll_quiet sink.written sink.puts sink.faults g.L.Link.gives link.sent link.failures devices roll line
+          result out out1 host after (Finds known known does)
+          (acts_weaker sink.written sink.puts sink.faults result out out1 host after does (Finds known known does)
+          (finds_none known does (step_finds s)) c.begin_session.ensures.acts));
+    }
+
+pub begin_session-requires : goal.begin_session-requires
+begin_session-requires g c =
+    let sayable = subst (λ said. IsSayable (Ok said)) c.in-Change.is c.requires.sayable in
+    record { whole = c.requires.whole; ids = sayable.0; within = sayable.1 }

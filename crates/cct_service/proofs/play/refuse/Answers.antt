@@ -15,5 +15,5 @@ returns g c =
       acts = subst (λ r. Acts sink.written sink.puts sink.faults AreQuiet (Tells what) r c.args.out.now c.write_entry.new.out host
           host) (sym c.by_writing.ensures)
           (acts_line sink.written sink.puts sink.faults AreQuiet c.write_entry.result c.args.out.now c.write_entry.new.out host
-          what refl refl c.write_entry.ensures.puts c.requires.whole c.write_entry.ensures.serves);
+          what refl refl (λ past. tt) c.write_entry.ensures.puts c.requires.whole c.write_entry.ensures.serves);
     }

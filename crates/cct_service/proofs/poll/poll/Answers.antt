@@ -1,10 +1,10 @@
-use Rattle.std.proofs.Common.{Ok, Err}
+use Rattle.std.proofs.Common.{Err}
 use Rattle.cct_host.specs.Host.{setup_of}
-use Rattle.cct_service.specs.Doing.{Finds, IsOfPoll, IsPoll, IsVisit}
-use Rattle.cct_service.proofs.Doings.{many_then}
-use Rattle.cct_service.proofs.Found.{finds_then, visit_finds_polled}
-use Rattle.cct_service.proofs.Linking.{roll_then, roll_told}
+use Rattle.cct_service.specs.Doing.{Finds, IsPoll, MayServe, Then}
+use Rattle.cct_service.proofs.Found.{finds_then}
+use Rattle.cct_service.proofs.Linking.{roll_then}
 use Rattle.cct_service.proofs.Parts.{acts_weaker}
+use Rattle.cct_service.proofs.Sessions.{served_alone, served_then}
 use Rattle.cct_service.proofs.poll.poll.Goals as goal
 
 pub returns-in-Ok : goal.returns-in-Ok
@@ -13,36 +13,25 @@ returns-in-Ok g c =
     let link = g.L.CountedLink in
     let roll = c.args.roll.now in
     let known = roll.findings in
-    let now = c.try_others.new.roll.findings in
-    let line = c.visit_sound.new.link in
-    let between = c.visit_sound.new.out in
-    let host = c.args.host.now in
-    let mid = c.visit_sound.new.host in
+    let mid = c.go_on_with_session.new.roll in
+    let now = c.visit_all.new.roll.findings in
     record {
-      acts = roll_then sink.written sink.puts sink.faults g.L.Link.gives link.sent link.failures roll roll
-          c.try_others.new.roll c.args.link.now line c.try_others.new.link c.try_others.result c.args.out.now between
-          c.try_others.new.out host mid c.try_others.new.host (Finds known known IsPoll) (Finds known now IsPoll)
-          (Finds known now IsPoll) (finds_then known known now IsPoll IsPoll IsPoll (many_then IsOfPoll))
-          (roll_told sink.written sink.puts sink.faults g.L.Link.gives link.sent link.failures (setup_of host).devices roll
-          c.args.link.now line (Ok tt) c.args.out.now between host mid (Finds known known IsPoll)
-          (acts_weaker sink.written sink.puts sink.faults (Ok tt) c.args.out.now between host mid IsVisit
-          (Finds known known IsPoll) (visit_finds_polled known) c.in-Ok.ensures.acts))
-          c.try_others.ensures.acts;
+      acts = roll_then sink.written sink.puts sink.faults g.L.Link.gives link.sent link.failures roll mid c.visit_all.new.roll
+          c.args.link.now c.go_on_with_session.new.link c.visit_all.new.link c.visit_all.result c.args.out.now
+          c.go_on_with_session.new.out c.visit_all.new.out c.args.host.now c.go_on_with_session.new.host c.visit_all.new.host
+          (Finds known mid.findings (MayServe known)) (Finds mid.findings now IsPoll)
+          (Finds known now (Then (MayServe known) IsPoll))
+          (finds_then known mid.findings now (MayServe known) IsPoll (Then (MayServe known) IsPoll) (served_then known))
+          c.in-Ok.ensures.acts c.visit_all.ensures.acts;
     }
 
 pub returns-in-Err : goal.returns-in-Err
 returns-in-Err g c =
     let sink = g.K.Sink in
-    let link = g.L.CountedLink in
-    let roll = c.args.roll.now in
-    let known = roll.findings in
-    let how = c.in-Err.how in
-    let out = c.visit_sound.new.out in
-    let host = c.args.host.now in
-    let mid = c.visit_sound.new.host in
+    let known = c.args.roll.now.findings in
+    let now = c.go_on_with_session.new.roll.findings in
     record {
-      acts = roll_told sink.written sink.puts sink.faults g.L.Link.gives link.sent link.failures (setup_of host).devices roll
-          c.args.link.now c.visit_sound.new.link (Err how) c.args.out.now out host mid (Finds known known IsPoll)
-          (acts_weaker sink.written sink.puts sink.faults (Err how) c.args.out.now out host mid IsVisit
-          (Finds known known IsPoll) (visit_finds_polled known) c.in-Err.ensures.acts);
+      acts = acts_weaker sink.written sink.puts sink.faults (Err c.in-Err.how) c.args.out.now c.go_on_with_session.new.out
+          c.args.host.now c.go_on_with_session.new.host (Finds known now (MayServe known))
+          (Finds known now (Then (MayServe known) IsPoll)) (served_alone known now) c.in-Err.ensures.acts;
     }

@@ -12,6 +12,7 @@ use Rattle.cct_service.proofs.Begins.{opening_put}
 use Rattle.cct_service.proofs.Doings.{opening_alone, opening_then}
 use Rattle.cct_service.proofs.Linking.{opening_quiet, uses_quiet, uses_then}
 use Rattle.cct_service.proofs.Parts.{disk_none, front_whole, lives_to, part_line, serves_none, serves_then, serves_weaker}
+use Rattle.cct_service.proofs.Reporting.{so_opening}
 use Rattle.cct_service.proofs.Saying.{said_broken, said_none}
 use Rattle.cct_service.proofs.serving.open_and_play.Goals as goal
 
@@ -44,7 +45,7 @@ returns-in-Ok g c =
             (Tells (notice opening)) (DoesLines known plays.lines) (PlaysLines opening known plays.lines)
             (opening_then opening known plays.lines) refl
             (part_line sink.written sink.puts quiet out between (Ok tt) (setup_of host) (StandsSince host) (notice opening)
-            (Tells (notice opening)) refl (opening_put sink.written sink.puts host tells begun has there) (refl, refl)
+            (Tells (notice opening)) refl (λ past. so_opening (setup_of host) past begun) (opening_put sink.written sink.puts host tells begun has there) (refl, refl)
             (uses_quiet g.L.Link.gives link.sent link.failures devices roll line (notice opening ∷ [])
             (opening_quiet (setup_of host) begun)))
             plays.lives;
@@ -84,7 +85,7 @@ returns-in-Err g c =
           let opening = opening_of (setup_of host) begun in
               let whole = PlaysLines opening known [] in
               part_line sink.written sink.puts uses out between (Err why) (setup_of host) (StandsSince host) (notice opening)
-              (FrontOf whole) refl (opening_put sink.written sink.puts host tells begun has there)
+              (FrontOf whole) refl (λ past. so_opening (setup_of host) past begun) (opening_put sink.written sink.puts host tells begun has there)
               (front_whole whole [] (notice opening ∷ [])
               (opening_alone opening known [] (notice opening ∷ []) (refl, refl)))
               (uses_quiet g.L.Link.gives link.sent link.failures devices roll line (notice opening ∷ [])

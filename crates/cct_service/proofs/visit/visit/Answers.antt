@@ -1,5 +1,5 @@
 use Rattle.cct_model.specs.lines.command.Command.TheVariants as command
-use Rattle.cct_service.specs.Doing.{IsAttemptSent, IsStepOf, IsVisit}
+use Rattle.cct_service.specs.Doing.{IsAttemptWith, IsStepOf, IsVisit}
 use Rattle.cct_service.proofs.Doings.{attempt_step, many_none}
 use Rattle.cct_service.proofs.Linking.{link_none}
 use Rattle.cct_service.proofs.Parts.{acts_weaker}
@@ -18,8 +18,9 @@ pub returns-in-Attempt : goal.returns-in-Attempt
 returns-in-Attempt g c =
     let sink = g.K.Sink in
     let is_sent = g.L.CountedLink.sent c.attempt.new.link in
+    let entries = c.attempt.new.page.report.items in
     record {
       acts = acts_weaker sink.written sink.puts sink.faults c.attempt.result c.args.out.now c.attempt.new.out
-          c.args.host.now c.attempt.new.host (IsAttemptSent is_sent c.args.addr) IsVisit
-          (attempt_step (λ addr. command.Round addr) is_sent c.args.addr) c.attempt.ensures.acts;
+          c.args.host.now c.attempt.new.host (IsAttemptWith is_sent entries c.args.addr) IsVisit
+          (attempt_step (λ addr. command.Round addr) is_sent entries c.args.addr) c.attempt.ensures.acts;
     }

@@ -1,0 +1,6 @@
+use Rattle.std.proofs.Common.{refl}
+use Rattle.cct_model.specs.lines.command.Step.TheVariants as step
+use Rattle.cct_service.proofs.session.count_stock.Goals as goal
+
+pub returns : goal.returns
+returns g c = record { acts = c.tell_desk.ensures.acts (step.Stock c.args.addr c.args.count) (λ capacity setup past. refl) }
