@@ -2,12 +2,12 @@
 ghost use Rattle.cct_survey.specs.Asking.{Inquires};
 
 use crate::lines::{note_bills, put_bill};
-use crate::worth::bill_value;
 use cct_edge::{Failed, Sink};
 use cct_lines::{COIN_PLACES, CheckKind};
 use cct_survey::{Room, ValueRequest, value_of};
 use cct_text::TextLine;
 use cct_wire::Link;
+use cct_worth::bill_value;
 
 /// The identification of a bill place that has no bill.
 const NO_BILL: [u8; 7] = *b".......";

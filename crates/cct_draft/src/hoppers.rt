@@ -2,12 +2,12 @@
 ghost use Rattle.cct_survey.specs.Asking.{Inquires};
 
 use crate::lines::{note_hopper, note_several, put_hopper};
-use crate::worth::value_told;
 use cct_edge::{Failed, Sink};
 use cct_lines::CheckKind;
 use cct_survey::{Room, ValueRequest, value_of};
 use cct_text::TextLine;
 use cct_wire::Link;
+use cct_worth::value_told;
 
 /// What a hopper tells of the value of its coins.
 #[derive(Clone, Copy, Debug, PartialEq, Eq)]

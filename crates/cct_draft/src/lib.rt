@@ -7,7 +7,5 @@ mod drafting;
 mod hoppers;
 mod lines;
 mod search;
-mod worth;
 
 pub use drafting::{Drafted, draft};
-pub use worth::{bill_value, value_told};

@@ -1,11 +1,11 @@
 //! The lines of a drafted setup, and the notes on what it doesn't say.
 ghost use Rattle.std.specs.Prelude.{◌≤◌, length};
 
-use crate::worth::value_told;
 use cct_edge::{Failed, Sink};
 use cct_lines::CheckKind;
 use cct_survey::{Category, NO_COIN, push_shown};
 use cct_text::TextLine;
+use cct_worth::value_told;
 
 /// `acceptor A CHECK SERIAL 0`
 pub(crate) fn put_acceptor<K: Sink>(

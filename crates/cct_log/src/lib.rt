@@ -8,4 +8,4 @@ mod word;
 
 pub use gather::{LogBytes, MOST_LOGGED};
 pub use line::{LogLine, Said, read_log_line};
-pub use time::Time;
+pub use time::{Time, after_time};

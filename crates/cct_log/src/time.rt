@@ -34,6 +34,45 @@ pub(crate) fn time_in(word: &[u8]) -> Option<Time<'_>> {
     })
 }
 
+/// The time that stands before the rest of a line, in the first word or after a date, and that rest; without one, the
+/// whole line. Seconds without a point are a time too.
+pub fn after_time(line: &[u8]) -> (Option<Time<'_>>, &[u8]) {
+    let Some((first, rest)) = split_word(line) else {
+        return (None, line);
+    };
+    if let Some(time) = stamp_in(first) {
+        return (Some(time), rest);
+    }
+    if is_date(first)
+        && let Some((second, rest)) = split_word(rest)
+        && let Some(time) = stamp_in(second)
+    {
+        return (Some(time), rest);
+    }
+    (None, line)
+}
+
+/// The first word of a line and what stands after its space.
+fn split_word(line: &[u8]) -> Option<(&[u8], &[u8])> {
+    let place = line.iter().position(|byte| *byte == b' ')?;
+    let (word, rest) = line.split_at(place);
+    Some((word, rest.strip_prefix(b" ")?))
+}
+
+/// The time that a word before a line spells: a time, or whole seconds.
+fn stamp_in(word: &[u8]) -> Option<Time<'_>> {
+    match time_in(word) {
+        Some(time) => Some(time),
+        None => {
+            let text = without_frame(word);
+            Some(Time {
+                text,
+                micros: number_in(text)?.checked_mul(1_000_000)?,
+            })
+        }
+    }
+}
+
 /// Whether a word is a date: digits with two hyphens, slashes or points between them.
 pub(crate) fn is_date(word: &[u8]) -> bool {
     let text = without_frame(word);

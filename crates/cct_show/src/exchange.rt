@@ -154,6 +154,7 @@ fn heard_in(answer: &Answer<'_>) -> Heard {
         Answer::Silence => Heard::Silence,
         Answer::Broken(_) => Heard::Damaged,
         Answer::NotWanted { .. } => Heard::Other,
+        Answer::NotRouted { .. } => Heard::Nak,
         Answer::Reply {
             reply: Said::Nak,
             ..

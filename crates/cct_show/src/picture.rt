@@ -9,7 +9,7 @@ use arrayvec::ArrayVec;
 use cct_draw::{FaultAt, Label, Mark, Picture};
 use cct_edge::{Sink, Source};
 use cct_lines::{Entry, MOST_TEXT};
-use cct_log::{LogLine, Time, read_log_line};
+use cct_log::{LogLine, Time, after_time, read_log_line};
 use cct_tell::read_line;
 use std::alloc::{AllocError, Global};
 use std::fmt::Write;
@@ -149,24 +149,29 @@ impl Marks {
 impl LineSink for Marks {
     fn line(&mut self, line: &[u8]) -> Result<(), Stop> {
         let line = line.strip_suffix(b"\r").unwrap_or(line);
-        let entry = read_line(line);
+        let (time, rest) = after_time(line);
+        let entry = read_line(rest);
         if entry.is_none()
             && let Some(logged) = read_log_line(line)
         {
             self.logged(&logged)?;
             return Ok(());
         }
+        let time = match &time {
+            Some(time) => self.time_label(time),
+            None => Label::empty(),
+        };
         let fault = self.fault_in(&entry);
         if !self.count_line() {
             return Ok(());
         }
-        if matches!(fault, FaultAt::Nowhere) && self.is_equal(line) {
+        if matches!(fault, FaultAt::Nowhere) && self.is_equal(rest) {
             self.picture.add_equal();
             return Ok(());
         }
-        let mark = mark_of(self.alloc, line, entry, fault)?;
-        self.add(Label::empty(), mark)?;
-        self.keep(line, fault);
+        let mark = mark_of(self.alloc, rest, entry, fault)?;
+        self.add(time, mark)?;
+        self.keep(rest, fault);
         Ok(())
     }
 

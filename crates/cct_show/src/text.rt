@@ -5,7 +5,7 @@ use crate::log::{Half, Log};
 use crate::put_buffer::PutBuffer;
 use crate::status::{Status, Stop};
 use cct_edge::{Sink, Source};
-use cct_log::{LogLine, Time, read_log_line};
+use cct_log::{LogLine, Time, after_time, read_log_line};
 use cct_tell::{Exchange, Told, read_line};
 use std::fmt::Write;
 
@@ -70,7 +70,11 @@ impl<K: Sink> LineSink for Text<'_, K> {
         self.out.add(line)?;
         self.out.add(b"\n")?;
         let line = line.strip_suffix(b"\r").unwrap_or(line);
-        if let Some(entry) = read_line(line) {
+        let (time, rest) = after_time(line);
+        if let Some(entry) = read_line(rest) {
+            if let Some(time) = &time {
+                self.tell_time(time)?;
+            }
             let told = Told(&entry);
             write!(self.out, "{told}")?;
         } else if let Some(logged) = read_log_line(line) {

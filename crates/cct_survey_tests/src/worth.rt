@@ -1,6 +1,6 @@
 //! The values of coins by their identifications, worked out by hand.
 
-use cct_draft::{bill_value, value_told};
+use cct_worth::{bill_value, value_told};
 use std::test::Fail;
 
 #[test]

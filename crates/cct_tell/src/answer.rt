@@ -4,6 +4,7 @@ use crate::asked::{Asked, Message};
 use crate::event::Taker;
 use crate::fault::{Fault, check_name};
 use crate::lists::Addresses;
+use crate::reading::{Reading, reading_of};
 use crate::register::Registers;
 use crate::reply::Says;
 use cct_frame::{FrameFault, FrameView};
@@ -14,6 +15,11 @@ use std::fmt;
 
 /// The header of a reply that is no refusal.
 pub(crate) const REPLY: u8 = 0;
+
+/// The codes with which a bill acceptor refuses to route a bill (ccTalk Generic Specification 4, part 2, header 154).
+const NO_BILL: u8 = 254;
+
+const NOT_ROUTED: u8 = 255;
 
 /// What was heard in an exchange, after the echo of what was sent.
 #[derive(Clone, Copy)]
@@ -49,6 +55,18 @@ pub enum Answer<'e> {
         from: u8,
         counter: u8,
     },
+    /// A bill that wasn't routed, for this reason.
+    NotRouted {
+        kind: CheckKind,
+        from: u8,
+        why: &'static str,
+    },
+    /// The reply to a request that the readers don't know.
+    Reading {
+        kind: CheckKind,
+        from: u8,
+        reading: Reading,
+    },
     /// A message that is not the reply that was wanted.
     NotWanted {
         kind: CheckKind,
@@ -78,7 +96,10 @@ impl<'e> Answer<'e> {
             Asked::Request { to, request, .. } => {
                 message_answer(kind, Some(to), Some(request), sent, heard)
             }
-            Asked::Message { view, .. } => message_answer(kind, Some(view.to), None, sent, heard),
+            Asked::Message { view: message, .. } => {
+                let answer = message_answer(kind, Some(message.to), None, sent, heard);
+                with_reading(message.header, message.to, answer)
+            }
             Asked::Nothing | Asked::Broken(_) => message_answer(kind, None, None, sent, heard),
         }
     }
@@ -157,10 +178,37 @@ fn other_answer<'e>(
             from,
             counter: *counter,
         },
+        (Request::RouteBill { .. }, [NO_BILL]) => Answer::NotRouted {
+            kind,
+            from,
+            why: "no bill is held",
+        },
+        (Request::RouteBill { .. }, [NOT_ROUTED]) => Answer::NotRouted {
+            kind,
+            from,
+            why: "the bill could not be routed",
+        },
         (Request::CipherDispense | Request::PumpRng | Request::CipherKey, _) => {
             Answer::Message { kind, view }
         }
         _ => Answer::NotWanted { kind, view },
+    }
+}
+
+/// The answer to a message with this header that was sent to `from`, with what it reads, where that is known.
+fn with_reading<'e>(header: u8, from: u8, answer: Answer<'e>) -> Answer<'e> {
+    match answer {
+        Answer::Message { kind, view } if view.to == HOST && view.header == REPLY => {
+            match reading_of(header, view.body) {
+                Some(reading) => Answer::Reading {
+                    kind,
+                    from,
+                    reading,
+                },
+                None => answer,
+            }
+        }
+        _ => answer,
     }
 }
 
@@ -238,6 +286,18 @@ fn write_other<W: fmt::Write>(answer: &Answer<'_>, f: &mut fmt::Formatter<W>) ->
         } => {
             let check = check_name(kind);
             write!(f, "{from} to host: event counter {counter}; {check} good")
+        }
+        Answer::NotRouted { kind, from, why } => {
+            let check = check_name(kind);
+            write!(f, "{from} to host: it refuses, since {why}; {check} good")
+        }
+        Answer::Reading {
+            kind,
+            from,
+            reading,
+        } => {
+            let check = check_name(kind);
+            write!(f, "{from} to host: {reading}; {check} good")
         }
         Answer::NotWanted { kind, view } => {
             let message = Message { kind, view };

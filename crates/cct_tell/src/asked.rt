@@ -134,11 +134,19 @@ fn write_header<W: fmt::Write>(header: u8, f: &mut fmt::Formatter<W>) -> fmt::Re
     }
 }
 
-/// Writes the data bytes of a message, where it has any.
+/// The fewest bytes that are taken for a text.
+const LEAST_TEXT: usize = 2;
+
+/// Writes the data bytes of a message, where it has any; beside them the text that they spell, where each of them prints.
 fn write_data<W: fmt::Write>(body: &[u8], f: &mut fmt::Formatter<W>) -> fmt::Result {
     if body.is_empty() {
         return Ok(());
     }
-    let body = Hex(body);
-    write!(f, ", data {body}")
+    let digits = Hex(body);
+    write!(f, ", data {digits}")?;
+    if body.len() >= LEAST_TEXT && body.iter().all(|byte| matches!(*byte, b' '..=b'~')) {
+        let text = body.escape_ascii();
+        write!(f, " \"{text}\"")?;
+    }
+    Ok(())
 }

@@ -54,6 +54,32 @@ static ERRORS: [(u8, &str); 44] = [
     (255, "unspecified alarm code"),
 ];
 
+/// The events of a bill acceptor that stand at place 0, and their names (ccTalk Generic Specification 4, part 2, header
+/// 159). Code 21 isn't in every release, so its name isn't sure.
+static BILL_EVENTS: [(u8, &str); 21] = [
+    (1, "a held bill given back"),
+    (2, "a bill not taken in"),
+    (3, "invalid bill, by a transport problem"),
+    (4, "inhibited bill, by a request"),
+    (5, "inhibited bill, by a switch"),
+    (6, "bill jammed in the transport, unsafe mode"),
+    (7, "bill jammed in the stacker"),
+    (8, "bill pulled backwards"),
+    (9, "bill tamper"),
+    (10, "stacker OK"),
+    (11, "stacker removed"),
+    (12, "stacker inserted"),
+    (13, "stacker faulty"),
+    (14, "stacker full"),
+    (15, "stacker jammed"),
+    (16, "bill jammed in the transport, safe mode"),
+    (17, "opto fraud detected"),
+    (18, "string fraud detected"),
+    (19, "anti-string mechanism faulty"),
+    (20, "barcode detected"),
+    (21, "unknown bill type stacked; its name isn't sure"),
+];
+
 /// What the device takes whose events are read: the same pair says another thing of a bill than of a coin.
 #[derive(Clone, Copy)]
 pub enum Taker {
@@ -89,9 +115,10 @@ impl fmt::Display for Event {
 /// Writes the event of a bill acceptor (`docs/SCRIPT.md`, "Bill acceptors").
 fn write_bill<W: fmt::Write>(pair: Pair, f: &mut fmt::Formatter<W>) -> fmt::Result {
     match pair {
-        Pair { a: 0, b: 1 } => f.write_str("a held bill given back"),
-        Pair { a: 0, b: 2 } => f.write_str("a bill not taken in"),
-        Pair { a: 0, b: code } => write!(f, "error {code}"),
+        Pair { a: 0, b: code } => match text_in(&BILL_EVENTS, code) {
+            Some(text) => f.write_str(text),
+            None => write!(f, "event {code}"),
+        },
         Pair { a: place, b: 0 } => write!(f, "place {place} stacked"),
         Pair { a: place, b: 1 } => write!(f, "place {place} held"),
         Pair { a: place, b: code } => write!(f, "place {place} with {code}"),
@@ -105,15 +132,15 @@ fn write_error<W: fmt::Write>(code: u8, f: &mut fmt::Formatter<W>) -> fmt::Resul
         let kind = code - 127;
         return write!(f, "error {code} (inhibited coin of type {kind})");
     }
-    match error_text(code) {
+    match text_in(&ERRORS, code) {
         Some(text) => write!(f, "error {code} ({text})"),
         None => write!(f, "error {code}"),
     }
 }
 
-/// What an error code means.
-fn error_text(code: u8) -> Option<&'static str> {
-    for (number, text) in &ERRORS {
+/// The text of a code in a table.
+fn text_in(table: &'static [(u8, &'static str)], code: u8) -> Option<&'static str> {
+    for (number, text) in table {
         if *number == code {
             return Some(*text);
         }

@@ -5,6 +5,7 @@ use crate::lists::Places;
 use crate::register::Registers;
 use cct_lines::{Credits, EVENTS, Pair};
 use cct_msg::Reply;
+use cct_worth::value_told;
 use std::fmt;
 
 /// An empty place of a credit buffer.
@@ -51,8 +52,12 @@ fn write_acceptor<W: fmt::Write>(reply: Reply<'_>, f: &mut fmt::Formatter<W>) ->
         Reply::Master { .. } => f.write_str("normal operation"),
         Reply::Path { path } => write!(f, "path {path}"),
         Reply::CoinId { id } => {
-            let id = id.escape_ascii();
-            write!(f, "coin \"{id}\"")
+            let text = id.escape_ascii();
+            write!(f, "coin \"{text}\"")?;
+            match value_told(id) {
+                Some(value) => write!(f, ", worth {value}"),
+                None => Ok(()),
+            }
         }
         Reply::Accepts { count } => write!(f, "{count} accepted so far"),
         _ => Ok(()),

@@ -38,11 +38,15 @@ fn write_acceptor<W: fmt::Write>(request: &Request, f: &mut fmt::Formatter<W>) -
     }
 }
 
+/// The way by which a bill isn't sent, but held for longer (ccTalk Generic Specification 4, part 2, header 154).
+const HOLD_CODE: u8 = 255;
+
 /// Writes where a bill is to go.
 fn write_way<W: fmt::Write>(way: u8, f: &mut fmt::Formatter<W>) -> fmt::Result {
     match way {
         STACK_CODE => f.write_str(": into the stacker"),
         RETURN_CODE => f.write_str(": back out"),
+        HOLD_CODE => f.write_str(": it is to be held for longer"),
         _ => write!(f, ": by way {way}"),
     }
 }

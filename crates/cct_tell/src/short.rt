@@ -128,6 +128,8 @@ fn write_strange<W: fmt::Write>(answer: &Answer<'_>, f: &mut fmt::Formatter<W>) 
             let fault = Fault(fault);
             write!(f, "{fault}")
         }
+        Answer::NotRouted { why, .. } => f.write_str(why),
+        Answer::Reading { reading, .. } => write!(f, "{reading}"),
         Answer::NotWanted { view, .. } => write_unwanted(view, f),
         Answer::Message { view, .. } => {
             let message = ShortMessage(view);

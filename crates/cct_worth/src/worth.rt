@@ -1,6 +1,6 @@
 //! The value that the identification of a coin tells (ccTalk Generic Specification 4, part 3, appendix on coins).
 ghost use Rattle.std.specs.Prelude.{◌≡◌, ◌≤◌, IfSome};
-ghost use Rattle.cct_draft.specs.Worth.{bill_figures, bill_value, digit_told, figures_told, in_range, is_country, two_told, value_told};
+ghost use Rattle.cct_worth.specs.Worth.{bill_figures, bill_value, digit_told, figures_told, in_range, is_country, two_told, value_told};
 
 /// The greatest value of a coin.
 const MOST_VALUE: u32 = 1_000_000;
