@@ -47,7 +47,7 @@ PLANS = (
     (2, 'hopper', 'settle A, halt A, 3* next A, put A'),
     (1, 'hopper', 'halt A, 2* next A'),
     (1, 'hopper', 'jam A'),
-    # Sessions of change. A payment is at work at the hopper that its plan takes.
+    # Sessions of change. A payment is running at the hopper that its plan takes.
     (20, 'hopper', 'each stock, change FIRST AMOUNT, serve, each pays, serve, each pays, serve, each pays, serve'),
     (4, 'hopper', 'each stock, change FIRST AMOUNT, serve, each pays, serve, 2* next A, put A, next A, fall A, jam A, 2* next A, '
                   'put A, serve, each settles, serve, each pays, serve'),

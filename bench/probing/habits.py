@@ -335,8 +335,8 @@ class DeafAfterCut(Payer):
         return told
 
 
-class BehindNoise(Payer):
-    """It finds a message behind noise."""
+class AfterNoise(Payer):
+    """It finds a message after noise."""
 
     def at_cut(self, heard):
         return [part for start in range(1, len(heard)) for part in self.replies(heard[start:], 0.0)]
@@ -403,7 +403,7 @@ def with_stays(device, *names: str):
 
 
 def with_lasts(device, *names: str):
-    """The device, of which the loss of power leaves what has these names."""
+    """The device, of which a power cut leaves what has these names."""
     device.lasts = names
     return device
 
@@ -487,7 +487,7 @@ def of_all() -> dict[str, Habit]:
     """Habits that any device may have."""
     late, late_in_all, twice, at_once, second = Late(3), LateInAll(3, "crc"), Twice(3), TwiceAtOnce(3, "crc"), Second(3)
     beside, close_by = Payer(3, "crc"), SecondAtOnce(3, "crc")
-    first, any_check, both, four, behind = Payer(3), AnyCheck(3), BothChecks(3, "crc"), FourBytes(3), BehindNoise(3, "crc")
+    first, any_check, both, four, noisy = Payer(3), AnyCheck(3), BothChecks(3, "crc"), FourBytes(3), AfterNoise(3, "crc")
     keeps, header, wrong, kind = DeafAfterCut(3), AnyHeader(3), Coins(2), OtherCategory(3, "crc")
     address, speaks, deaf, named, busy = AnyAddress(3), Speaks(2, "crc"), Deaf(2), NamesAnother(2), Busy(2, "crc")
     told = [spell(one.check, HOST, 3, 0, low_first(one.serial)) for one in (twice, at_once, first, second)]
@@ -507,7 +507,7 @@ def of_all() -> dict[str, Habit]:
                                 lambda sent, rest: sent == poll[:-1] + bytes([(poll[-1] + 1) % 256]) and rest == acks[0]),
         "both_checks": Habit(both, "check", "other", lambda sent, rest: sent == poll and rest == acks[0]),
         "four_bytes": Habit(four, "cut", "cut", lambda sent, rest: sent == poll[:4] and rest == acks[0]),
-        "behind_noise": Habit(behind, "cut", "noise", lambda sent, rest: sent == b"\x55" + crc_poll and rest == acks[1]),
+        "after_noise": Habit(noisy, "cut", "noise", lambda sent, rest: sent == b"\x55" + crc_poll and rest == acks[1]),
         "deaf_after_a_cut": Habit(keeps, "cut", "cut", lambda sent, rest: rest == b""),
         "any_header": Habit(header, "unknown", "header", asked(header, 55, is_(b""))),
         "another_serial": Habit(wrong, "identity", "serial", asked(wrong, 242, is_(low_first(1002))), setup=[expected]),

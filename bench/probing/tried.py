@@ -11,7 +11,7 @@ from devices import ANSWER_SECONDS, CUT_SECONDS, Acceptor, Bills, Bus, Hopper
 
 class Tried:
     """What each device has beside what it answers. A wrong one has in `stays` what a reset leaves of it, and in `lasts` what
-    the loss of power leaves, which each should clear."""
+    a power cut leaves, which each should clear."""
 
     stays = lasts = ()
 

@@ -41,7 +41,7 @@ def crates(root: Path):
 
 def edits(root: Path):
     """The must-fail edits that docs/PROOFS.md names, each in the section of its crate, are those that are there."""
-    there = {f"{path.parent.parent.name} {path.stem}" for path in root.glob("crates/*/must-fail/*.edit")}
+    there = {f"{path.parent.parent.name} {path.stem}" for path in root.glob("crates/*/must-fail/*.*")}
     named = set()
     for table in markdown.read(root / "docs/PROOFS.md")[0]:
         section = re.search(r"cct_\w+", table.section)
@@ -124,7 +124,7 @@ def first_pages(root: Path):
 def names(root: Path):
     """Each name of code in back quotes stands in the source: a word with a low line, or with a capital and a small letter;
     it may also be that of an edit, an example, a measure or a crate."""
-    known = {path.stem for pattern in ("crates/*/must-fail/*.edit", "crates/*", "examples/*", "bench/*", "docs/*")
+    known = {path.stem for pattern in ("crates/*/must-fail/*.*", "crates/*", "examples/*", "bench/*", "docs/*")
              for path in root.glob(pattern)}
     for pattern in ("src/**/*.rt", "specs/**/*.antt", "proofs/**/*.antt"):
         for path in root.glob(f"crates/*/{pattern}"):

@@ -18,9 +18,9 @@ FAMILIES = {
     "Devices": "device ident ring sorter intake acceptor bill life hopper bus",
     "Disk and journal": "disk record journal",
     "The host": "epoch order jobs carry ledger host",
-    "The bench": "edge script text plan change world gen load report monitor audit words bench advice main",
+    "The bench": "edge script text plan change world gen load report proofread monitor audit words bench advice main",
     "Laws": "laws change_laws lives answered wild",
-    "On a line": "port prompt honest_line line_laws terminal survey draft setup_copy service live devices trials trial_run probe",
+    "On a line": "port prompt honest_line line_laws terminal survey worth draft setup_copy service live devices trials trial_run probe",
     "Shown to people": "tell log draw show",
     "Callers and measures": "callers speed plan_speed",
     "Tests alone": "",
@@ -111,7 +111,7 @@ def crates(root: Path) -> list[str]:
 def edits(root: Path) -> list[str]:
     """Each must-fail edit: its crate, what it does, and the file that it changes."""
     rows = []
-    for path in sorted(root.glob("crates/*/must-fail/*.edit")):
+    for path in sorted(root.glob("crates/*/must-fail/*.*")):
         changed = re.findall(r"^file: (.*)$", path.read_text(), re.MULTILINE)
         rows.append([f"`{path.parent.parent.name}`", path.stem.replace("_", " "), ", ".join(f"`{name}`" for name in changed)])
     return table(["Crate", "Edit", "It changes"], rows)
