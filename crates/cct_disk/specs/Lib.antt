@@ -3,5 +3,6 @@ pub mod Disk
 pub mod File
 pub mod Laws
 pub mod Memory
+pub mod Settle
 pub mod Torn
 pub mod Traced

@@ -5,12 +5,14 @@ mod calls;
 mod disk;
 mod file;
 mod memory;
+mod settle;
 mod torn;
 mod traced;
 
 pub use disk::Disk;
 pub use file::{FileDisk, InUse, Lockable, MADE_LEN};
 pub use memory::MemDisk;
+pub use settle::Settle;
 pub use torn::TornDisk;
 
 #[cfg(test)]

@@ -2,7 +2,8 @@
 use Rattle.std.specs.Prelude.{◌≡◌, ◌+◌, ◌-◌, ◌≤◌, ◌<◌, ◌==◌, ℕ, List, ◌∷◌, ◌++◌, if◌then◌else◌, Option, Some, None, Result, length, max, option_and_then, reverse, slice_get}
 use Rattle.std.specs.List.{position}
 use Rattle.std.specs.Option.{IfSome}
-use Rattle.cct_model.specs.terms.wire.TheConstants.{HOST}
+use Rattle.cct_model.specs.terms.wire.TheConstants.{BROADCAST, HOST}
+use Rattle.cct_jobs.specs.declared.job.Sending.{Sending}
 use Rattle.cct_model.specs.terms.device.Setup.{Setup}
 use Rattle.cct_model.specs.lines.command.Command.{Command}
 use Rattle.cct_model.specs.lines.command.CommandNo.{CommandNo}
@@ -18,7 +19,7 @@ use Rattle.cct_host.specs.declared.desk.JobDesk.{JobDesk}
 use Rattle.cct_host.specs.declared.desks.Desks.{Desks}
 use Rattle.cct_host.specs.Attempt.{Attempt, HeardBy, Links, news_of, put_of}
 use Rattle.cct_host.specs.Desk.{AllSit, Sits, greatest_paying, held_at, held_in, no_of, puts_at, reserved_over, sum_in}
-use Rattle.cct_host.specs.Held.{coins_by, due_by, price_by}
+use Rattle.cct_host.specs.Held.{coins_by, due_by, price_by, sending_by}
 use Rattle.cct_host.specs.Place.{OwnsItsPut, sales, scans}
 use Rattle.cct_host.specs.Running.{amount_of, needed, rows_begun}
 
@@ -65,6 +66,16 @@ due_at_desk sale addr None = if addr == HOST then due_by sale.job else None
 -- The record that the job at an address is about to put, if it is about to put one.
 abbrev pub due_on : Desks → ℕ → Option Record
 due_on desks addr = due_at_desk desks.sale addr (desk_there desks addr)
+
+-- The request that the job at an address sends next, if it is about to send one, where this desk of a device is there; one
+-- without a device that sends something is that of scans.
+abbrev pub sending_at_desk : JobDesk → ℕ → Option JobDesk → Option Sending
+sending_at_desk scan addr (Some desk) = sending_by desk.job
+sending_at_desk scan addr None = if addr == BROADCAST then sending_by scan.job else None
+
+-- The request that the job at an address sends next, if it is about to send one.
+abbrev pub sending_on : Desks → ℕ → Option Sending
+sending_on desks addr = sending_at_desk desks.scan addr (desk_there desks addr)
 
 -- What the job at an address reserves, where this desk of a device is there; one without a device that reserves
 -- something is the sale's.

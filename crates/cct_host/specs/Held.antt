@@ -10,7 +10,8 @@ use Rattle.cct_jobs.specs.declared.job.Job.TheVariants.{RoundPuts, StopPuts, Ord
 use Rattle.cct_model.specs.Rows.{has_closes, puts_in}
 use Rattle.cct_model.specs.Refusal.{order_holds}
 use Rattle.cct_jobs.specs.Ahead.{ahead, coins_in, price_in}
-use Rattle.cct_jobs.specs.Jobs.{PutsFit, need_of, put_in}
+use Rattle.cct_jobs.specs.declared.job.Sending.{Sending}
+use Rattle.cct_jobs.specs.Jobs.{PutsFit, need_of, put_in, sending_of}
 
 -- How many records the job at a place may still put.
 abbrev pub puts_left : Option Job → ℕ
@@ -30,6 +31,11 @@ held_by job owed = puts_left job + order_left job owed
 abbrev pub due_by : Option Job → Option Record
 due_by None = None
 due_by (Some job) = put_in (need_of job)
+
+-- The request that the job at a place sends next, if it is about to send one.
+abbrev pub sending_by : Option Job → Option Sending
+sending_by None = None
+sending_by (Some job) = sending_of job
 
 -- What the job at a place reserves besides coins.
 abbrev pub price_by : Option Job → ℕ

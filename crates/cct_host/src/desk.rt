@@ -9,7 +9,7 @@ ghost use Rattle.cct_model.specs.Exchange.{device_at};
 ghost use Rattle.cct_model.specs.Job.{address_of, works};
 ghost use Rattle.cct_model.specs.Refusal.{running_id};
 ghost use Rattle.cct_jobs.specs.Jobs.{accepts_of, is_of_device, order_of, owed_after};
-ghost use Rattle.cct_host.specs.Held.{FitsIn, FitsIn-prop, due_by, price_by, sells_only};
+ghost use Rattle.cct_host.specs.Held.{FitsIn, FitsIn-prop, due_by, price_by, sells_only, sending_by};
 ghost use Rattle.cct_host.specs.Place as places;
 ghost use Rattle.cct_host.specs.Running.{is_halt, is_running, orders_left};
 
@@ -17,7 +17,7 @@ use crate::exchange::{exchange, put};
 use crate::orders::OrderState;
 use arrayvec::ArrayVec;
 use cct_carry::{epoch_by, id_of};
-use cct_jobs::{Job, Owed};
+use cct_jobs::{Job, Need, Owed, Sending};
 use cct_model::{Command, CommandNo, DeviceSetup, Entry, EpochState, OpenOrder, Record, Setup};
 use cct_wire::Link;
 
@@ -52,6 +52,19 @@ impl Default for JobDesk {
 
 impl JobDesk {
     ghost use Rattle.cct_host.specs.Desk.{Attempts, Commands, CommandsAbove, Frees, Takes, TakesFor, puts_at};
+
+    /// What the job sends next, if it is about to send.
+    pub(crate) fn sending(&self) -> Option<Sending>
+        ensures { result ≡ sending_by self.now.job }
+    {
+        match &self.job {
+            Some(job) => match job.needs() {
+                Need::Exchange => Some(job.request()),
+                _ => None,
+            },
+            None => None,
+        }
+    }
 
     /// A command to the device of this desk is taken, or refused for the first reason that holds; a refused one changes
     /// nothing.

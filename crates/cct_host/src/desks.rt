@@ -22,6 +22,7 @@ use crate::desk::JobDesk;
 use crate::recorded::resumed_desks;
 use arrayvec::ArrayVec;
 use cct_carry::coins_of;
+use cct_jobs::Sending;
 use cct_model::{
     BROADCAST, Carry, Command, CommandNo, DEVICES, DeviceSetup, Entry, HOST, Record, Setup,
 };
@@ -48,7 +49,7 @@ pub struct Desks<'s> {
 }
 
 impl<'s> Desks<'s> {
-    ghost use Rattle.cct_host.specs.Desks.{Answers, FindsDesk, FreesIn, Nexts, Refuses, StandsFor, Stays, TakesIn, amount_at_desk, amount_on, desk_there, due_at_desk, due_on, held_of, puts_of, setup_of, working_id};
+    ghost use Rattle.cct_host.specs.Desks.{Answers, FindsDesk, FreesIn, Nexts, Refuses, StandsFor, Stays, TakesIn, amount_at_desk, amount_on, desk_there, due_at_desk, due_on, held_of, puts_of, sending_on, setup_of, working_id};
     ghost use Rattle.cct_host.specs.Replayed.{Replays, Resumes};
 
     /// The desks of a host to which nothing has happened: there is no job, and no epoch runs.
@@ -196,6 +197,22 @@ impl<'s> Desks<'s> {
         ensures stands { (past : List Entry) → StandsFor self.now past → held (setup_of self.now) past ≤ result }
     {
         3 * (self.devices.len() as u32 + 1)
+    }
+
+    /// What the job at an address sends next, if it is about to send.
+    pub fn sending(&self, addr: u8) -> Option<Sending>
+        ensures value { result ≡ sending_on self.now addr }
+    {
+        match self.find(addr) {
+            Some(index) => self.devices[index].sending(),
+            None => {
+                if addr == BROADCAST {
+                    self.scan.sending()
+                } else {
+                    None
+                }
+            }
+        }
     }
 
     /// The index of the desk of the device at an address, or none.

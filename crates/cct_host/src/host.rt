@@ -5,6 +5,7 @@ ghost use Rattle.arrayvec.specs.ArrayVec.{array_vec_len};
 ghost use Rattle.cct_edge.specs.Faults.{Caused, HasCause};
 ghost use Rattle.cct_model.specs.lines.entry.Entry.{Entry};
 ghost use Rattle.cct_model.specs.lines.record.Record.{Record};
+ghost use Rattle.cct_model.specs.Legal.{due_at};
 ghost use Rattle.cct_model.specs.Money.{totals};
 ghost use Rattle.cct_model.specs.Records.{records};
 ghost use Rattle.cct_model.specs.Refusal as refusals;
@@ -13,6 +14,7 @@ ghost use Rattle.cct_model.specs.Setup.{IsSoundSetup};
 ghost use Rattle.cct_disk.specs.Disk.{OnlyReads};
 ghost use Rattle.cct_journal.specs.Journal as journals;
 ghost use Rattle.cct_disk.specs.Disk.{GoesOn};
+ghost use Rattle.cct_disk.specs.Settle.{Settles};
 ghost use Rattle.cct_ledger.specs.Ledger as ledgers;
 ghost use Rattle.cct_host.specs.Desks as all_desks;
 ghost use Rattle.cct_host.specs.Parts.{BelongTogether, BelongTogether-prop, GoOnTogether};
@@ -26,11 +28,12 @@ use crate::replay::replay_all;
 use crate::restart::{Crashed, restart};
 use arrayvec::ArrayVec;
 use cct_carry::{Tally, coins_of};
-use cct_disk::Disk;
+use cct_disk::{Disk, Settle};
 use cct_edge::Failed;
+use cct_jobs::Sending;
 use cct_journal::Journal;
 use cct_ledger::Ledger;
-use cct_model::{Command, CommandNo, CrashAt, Entry, Setup, Totals};
+use cct_model::{Command, CommandNo, CrashAt, Entry, Record, Setup, Totals};
 use cct_wire::Link;
 
 /// The host: the desks of its jobs, over a journal of its records, with the ledger of what they are worth and the tally of
@@ -289,6 +292,29 @@ impl<'s, D: Disk> Host<'s, D> {
         }
     }
 
+    /// What the job at an address sends next, if it is about to send.
+    pub fn sending(&self, addr: u8) -> Option<Sending>
+        ensures value { result ≡ all_desks.sending_on self.now.desks addr }
+    {
+        self.desks.sending(addr)
+    }
+
+    /// The record that the job at an address is about to put, if it is about to put one.
+    pub fn due(&self, addr: u8) -> Option<Record>
+        ensures value { result ≡ all_desks.due_on self.now.desks addr }
+        // It is the record that [`Host::next`] puts there.
+        ensures stands { (past : List Entry) → Keeps self.now past → result ≡ due_at (setup_of self.now) past addr }
+    {
+        self.desks.due(addr)
+    }
+
+    /// The disk, to be looked at.
+    pub fn disk(&self) -> &D
+        ensures { result.now ≡ disk_of self.now }
+    {
+        self.journal.disk()
+    }
+
     /// What is available, reserved, paid and sold, in units of value.
     pub fn totals(&self) -> Totals
         // Also after a put that failed.
@@ -308,6 +334,22 @@ impl<'s, D: Disk> Host<'s, D> {
             journal,
         } = self;
         journal.into_disk()
+    }
+}
+
+impl<'s, D: Settle> Host<'s, D> {
+    ghost use Rattle.cct_host.specs.Host.{StandsFor, disk_of, has_failed, setup_of};
+
+    /// The caller who makes the calls of the disk made all of them, and none failed.
+    pub fn settle(&mut self)
+        ensures setup { setup_of self.new ≡ setup_of self.old }
+        ensures whole { has_failed self.new ≡ has_failed self.old }
+        ensures stands { (past : List Entry) → StandsFor self.old past → StandsFor self.new past }
+        // No call of the disk is noted any more, and it is otherwise as before.
+        ensures none { D.noted (disk_of self.new) ≡ 0 }
+        ensures disk { Settles D.size D.honest D.seen D.may_leave D.cuts D.faults (disk_of self.old) (disk_of self.new) }
+    {
+        self.journal.settle();
     }
 }
 

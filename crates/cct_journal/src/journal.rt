@@ -6,6 +6,7 @@ ghost use Rattle.cct_lines.specs.Carried.{IsRightly};
 ghost use Rattle.cct_lines.specs.declared.carry.Carry.{Carry};
 ghost use Rattle.cct_lines.specs.declared.record.Record.{Record};
 ghost use Rattle.cct_record.specs.Body.{Encodable};
+ghost use Rattle.cct_disk.specs.Settle.{Settles};
 ghost use Rattle.cct_disk.specs.Disk.{CountsCut, GoesOn, Holds, IsCutBy, IsWithin, LeavesOnly, OnlyReads, Outlasts};
 ghost use Rattle.cct_journal.specs.Image.{StandsFor, StandsForOneOf, least_size};
 ghost use Rattle.cct_journal.specs.Creating.{Creates, IsCreated, RefusesCreate};
@@ -23,7 +24,7 @@ use crate::range::GATED_CALLS;
 use crate::reading::read_record;
 use crate::replay::OnlyCounted;
 use crate::{CreateNo, JournalNo, OpenNo, ReadNo, Replay};
-use cct_disk::Disk;
+use cct_disk::{Disk, Settle};
 use cct_edge::Failed;
 use cct_lines::{Carry, Record};
 
@@ -170,6 +171,13 @@ impl<D: Disk> Journal<D> {
         ensures rightly { IsRightly (base_of self.now) result.now }
     {
         &self.place.carry
+    }
+
+    /// The disk, to be looked at.
+    pub fn disk(&self) -> &D
+        ensures { result.now ≡ disk_of self.now }
+    {
+        &self.disk
     }
 
     /// The disk.
@@ -418,5 +426,19 @@ impl<D: Disk> Journal<D> {
             }
             Err(why) => Err(why),
         }
+    }
+}
+
+impl<D: Settle> Journal<D> {
+    ghost use Rattle.cct_journal.specs.Journal.{disk_of, has_failed, place_of};
+
+    /// The caller who makes the calls of the disk made all of them, and none failed.
+    pub fn settle(&mut self)
+        ensures none { D.noted (disk_of self.new) ≡ 0 }
+        ensures disk { Settles D.size D.honest D.seen D.may_leave D.cuts D.faults (disk_of self.old) (disk_of self.new) }
+        ensures place { place_of self.new ≡ place_of self.old }
+        ensures unbroken { has_failed self.new ≡ has_failed self.old }
+    {
+        self.disk.settle();
     }
 }
