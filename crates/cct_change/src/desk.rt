@@ -1,5 +1,5 @@
 //! The desk of the operator.
-ghost use Rattle.std.specs.Prelude.{◌≡◌, ◌≤◌, ◌∷◌, [], IfOk, List, Some, None, IsTrue, is_none, is_some, reverse};
+ghost use Rattle.std.specs.Prelude.{◌≡◌, ◌≤◌, ◌∷◌, [], IfOk, List, Some, None, IsTrue, false, is_none, is_some, reverse};
 ghost use Rattle.std.specs.Option.{option_map};
 ghost use Rattle.cct_model.specs.lines.command.Command.TheVariants as command;
 ghost use Rattle.cct_model.specs.lines.command.Step.TheVariants as step;
@@ -93,14 +93,17 @@ impl Desk {
         restock(self.trays.as_mut_slice(), addr, NewStock::Counted(count));
     }
 
-    /// The operator wants an amount, 1 to 10,000, to be paid out; the first payment has the id `first`. Where a session
-    /// runs none begins, and the answer is `false`.
+    /// The operator wants an amount, 1 to 10,000, to be paid out; the first payment has the id `first`. None begins where a
+    /// session runs, nor where `first` is 0, which is no payment's id; the answer is then `false`.
     pub fn change(&mut self, first: u32, amount: u32) -> bool
-        requires ids { 1 ≤ first }
         requires amount { amount ≤ GREATEST_AMOUNT }
-        ensures told { change_entry first amount self.old.session ≡ change_told first amount result }
-        ensures desk { (news : List Entry) → self.new ≡ desk_after (step.Change first amount) news self.old }
+        ensures told { 1 ≤ first → change_entry first amount self.old.session ≡ change_told first amount result }
+        ensures desk { 1 ≤ first → (news : List Entry) → self.new ≡ desk_after (step.Change first amount) news self.old }
+        ensures none { first ≡ 0 → (result ≡ false) × (self.new ≡ self.old) }
     {
+        if first == 0 {
+            return false;
+        }
         match self.session {
             Some(_) => false,
             None => {

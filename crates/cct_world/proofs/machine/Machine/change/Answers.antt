@@ -15,9 +15,9 @@ returns g c =
       journal = refl;
       plays = λ past stands suits survives.
           let goes = one_aside machine.host machine.bus past told report c.tell_change.ensures aside stands.host stands.bus in
-          (goes.0 ∙ ap (λ e. e ∷ []) (sym c.change-began.ensures.told), record { host = goes.1.0; bus = goes.1.1 });
+          (goes.0 ∙ ap (λ e. e ∷ []) (sym (c.change-began.ensures.told c.requires.in_range.0)), record { host = goes.1.0; bus = goes.1.1 });
       told = plain.0;
       recorded = plain.1;
       unkept = plain.2;
-      desk = c.change-began.ensures.desk (reverse report);
+      desk = c.change-began.ensures.desk c.requires.in_range.0 (reverse report);
     }
