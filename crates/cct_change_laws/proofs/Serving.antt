@@ -35,16 +35,16 @@ right_as : (setup : Setup) (past : List Entry) (orders : List Payment) (session 
 right_as setup past orders session news is left desk same right =
     subst (λ es. GoesRight setup past orders session es left (desk es)) (sym same) right
 
-one_told : (P : Entry → Type 0) (e : Entry) → P e → All P (e ∷ [])
+pub one_told : (P : Entry → Type 0) (e : Entry) → P e → All P (e ∷ [])
 one_told P e is = All-cons P e [] is (All-nil P)
 
 -- a session whose payments are settled tells right that it was served, or that it fell short
-served_paid : (setup : Setup) (past : List Entry) (orders : List Payment) (s told : Session) → told.amount ≡ s.amount →
+pub served_paid : (setup : Setup) (past : List Entry) (orders : List Payment) (s told : Session) → told.amount ≡ s.amount →
     s.rest ≡ 0 → Settled setup past orders s.amount s.rest → IsPaid setup past orders (Some told) s.amount 0
 served_paid setup past orders s told same none is =
     let sums = is.sums in (omega (arith, same), omega (arith, sums, none))
 
-short_paid : (setup : Setup) (past : List Entry) (orders : List Payment) (s told : Session) → told.amount ≡ s.amount →
+pub short_paid : (setup : Setup) (past : List Entry) (orders : List Payment) (s told : Session) → told.amount ≡ s.amount →
     Settled setup past orders s.amount s.rest → IsPaid setup past orders (Some told) (s.amount - s.rest) s.rest
 short_paid setup past orders s told same is =
     let sums = is.sums in (omega (arith, same, sums), omega (arith, sums))
@@ -66,7 +66,7 @@ short_holds setup news past orders s before sure is =
     record { closed = later.closed; sums = omega (arith, sums) }
 
 -- it pays on with a payment that fits the rest
-asks_next : (setup : Setup) (trays : List Tray) (s : Session) (p : Payment) → AreTrays setup trays → PaysNext trays s p →
+pub asks_next : (setup : Setup) (trays : List Tray) (s : Session) (p : Payment) → AreTrays setup trays → PaysNext trays s p →
     IsAsked setup trays s.rest p
 asks_next setup trays s p are next =
     let first = first_is setup trays next.counts p.addr p.count are next.pays in

@@ -234,7 +234,7 @@ due_over setup trays news past orders amount rest p Odd before sure is = absurd 
 due_over setup trays news past orders amount rest p Lost before sure is =
     settled_over setup news past orders amount rest before sure is
 
-by_over : (setup : Setup) (trays : List Tray) (news past : List Entry) (orders : List Payment) (s : Session)
+pub by_over : (setup : Setup) (trays : List Tray) (news past : List Entry) (orders : List Payment) (s : Session)
     (due : Option Due) → AreSure setup past → AreSure setup (news ++ past) →
     HoldsBy setup trays past orders s.amount s.rest due →
     HoldsBy setup trays (news ++ past) (opened_due news due ++ orders) s.amount s.rest
@@ -271,7 +271,7 @@ due_stays setup trays news past orders amount rest p Odd before sure is = absurd
 due_stays setup trays news past orders amount rest p Lost before sure is =
     settled_over setup news past orders amount rest before sure is
 
-by_stays : (setup : Setup) (trays : List Tray) (news past : List Entry) (orders : List Payment) (amount rest : ℕ)
+pub by_stays : (setup : Setup) (trays : List Tray) (news past : List Entry) (orders : List Payment) (amount rest : ℕ)
     (due : Option Due) → AreSure setup past → AreSure setup (news ++ past) →
     HoldsBy setup trays past orders amount rest due → HoldsBy setup trays (news ++ past) orders amount rest due
 by_stays setup trays news past orders amount rest None before sure is =
@@ -323,7 +323,7 @@ due_restocked setup trays addr becomes past orders amount rest p (Closed paid un
 due_restocked setup trays addr becomes past orders amount rest p Odd is = absurd is
 due_restocked setup trays addr becomes past orders amount rest p Lost is = is
 
-by_restocked : (setup : Setup) (trays : List Tray) (addr : ℕ) (becomes : ℕ → ℕ) (past : List Entry)
+pub by_restocked : (setup : Setup) (trays : List Tray) (addr : ℕ) (becomes : ℕ → ℕ) (past : List Entry)
     (orders : List Payment) (amount rest : ℕ) (due : Option Due) → HoldsBy setup trays past orders amount rest due →
     HoldsBy setup (restocked addr becomes trays) past orders amount rest due
 by_restocked setup trays addr becomes past orders amount rest None is = is
@@ -366,7 +366,7 @@ due_within setup trays past orders amount rest p (Closed paid unpaid) sure is =
 due_within setup trays past orders amount rest p Odd sure is = absurd is
 due_within setup trays past orders amount rest p Lost sure is = settled_within setup past orders amount rest is
 
-by_within : (setup : Setup) (trays : List Tray) (past : List Entry) (orders : List Payment) (amount rest : ℕ)
+pub by_within : (setup : Setup) (trays : List Tray) (past : List Entry) (orders : List Payment) (amount rest : ℕ)
     (due : Option Due) → AreSure setup past → HoldsBy setup trays past orders amount rest due →
     worth_of setup past orders ≤ amount
 by_within setup trays past orders amount rest None sure is = settled_within setup past orders amount rest is

@@ -12,6 +12,7 @@ use Rattle.cct_model.specs.lines.command.CrashAt.{CrashAt}
 use Rattle.cct_model.specs.lines.entry.Entry.{Entry}
 use Rattle.cct_model.specs.lines.record.Record.{Record}
 use Rattle.cct_model.specs.Legal.{EntriesOfRestart, RestartEntries, bare_restart, due_at, keeping_restart}
+use Rattle.cct_model.specs.Change.{Desk}
 use Rattle.cct_model.specs.Records.{records}
 use Rattle.cct_model.specs.Script.{IsCrash}
 use Rattle.cct_model.specs.Setup.{IsSoundSetup}
@@ -84,9 +85,9 @@ module _ {L : Type 0} (reads : L → Option (List ℕ) → L → Type 0) (writes
     (moment : D → ℕ) (left_since : D → ℕ → List ℕ → Type 0) (cuts : D → ℕ) where
   pub hands_on : (echoes : Bool) (longest : ℕ) (coming : L → List ℕ) (silent : L → ℕ) (setup : Setup) (history : L → List Moment) →
       IsSoundSetup setup → IsHonestLine reads writes echoes longest coming silent setup history → (first last : Port L)
-      (roll now : Rolled) (ends : AtEnd) (left : Option (List ℕ)) (how : Served) (old new : K) (given back : D) →
+      (roll now : Rolled) (desk left_desk : Desk) (ends : AtEnd) (left : Option (List ℕ)) (how : Served) (old new : K) (given back : D) →
       (service : Lived written puts (Gives reads writes) was_sent faults_of size honest seen may_leave moment left_since cuts
-      given back setup roll now ends left how old new first last) →
+      given back setup roll now desk left_desk ends left how old new first last) →
       (found : List Record) (whole : List Entry) → FoundOn honest seen may_leave given setup service.begun found →
       HaveLived reads writes echoes longest coming silent MOST_RECORDS setup history (history (line_of first)) found whole →
       IsPortOf reads writes echoes longest coming silent first → IsTrusted honest seen back → (image : List ℕ) →
@@ -94,7 +95,7 @@ module _ {L : Type 0} (reads : L → Option (List ℕ) → L → Type 0) (writes
       StartsOver setup
       (λ rs all. HaveLived reads writes echoes longest coming silent MOST_RECORDS setup history (history (line_of last)) rs all)
       (news_of service.told ++ whole) image
-  hands_on echoes longest coming silent setup history sound line first last roll now ends left how old new given back service found
+  hands_on echoes longest coming silent setup history sound line first last roll now desk left_desk ends left how old new given back service found
       whole there lives port trusted image may =
       let told = news_of service.told in
       let past = told ++ started found in
@@ -108,7 +109,7 @@ module _ {L : Type 0} (reads : L → Option (List ℕ) → L → Type 0) (writes
       (life_follow MOST_RECORDS setup found service.steps past sound life.0)
       (life_due_follow MOST_RECORDS setup found service.steps past sound life.0)
       (service_right reads writes written puts size honest seen may_leave moment left_since cuts echoes longest coming silent setup history sound line first last
-      roll now ends left how old new given back service found whole there lives port).2
+      roll now desk left_desk ends left how old new given back service found whole there lives port).2
       (cut_left honest seen may_leave back setup how past image life.2 trusted may)
 
 -- a disk that holds such an image tells its records

@@ -6,3 +6,4 @@ pub mod Rolls
 pub mod Serving
 pub mod Surveys
 pub mod Killing
+pub mod Changing

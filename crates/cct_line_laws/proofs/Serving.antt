@@ -7,6 +7,7 @@ use Rattle.cct_model.specs.lines.command.CrashAt.{CrashAt}
 use Rattle.cct_model.specs.lines.entry.Entry.{Entry}
 use Rattle.cct_model.specs.lines.record.Record.{Record}
 use Rattle.cct_model.specs.Legal.{EntriesOfRestart}
+use Rattle.cct_model.specs.Change.{Desk}
 use Rattle.cct_model.specs.Records.{records}
 use Rattle.cct_model.specs.Script.{IsCrash}
 use Rattle.cct_model.specs.Setup.{IsSoundSetup}
@@ -31,13 +32,13 @@ module _ {L : Type 0} (reads : L → Option (List ℕ) → L → Type 0) (writes
     {D : Type 0} (size : D → ℕ) (honest : D → Bool) (seen : D → Option (List ℕ)) (may_leave : D → List ℕ → Type 0)
     (moment : D → ℕ) (left_since : D → ℕ → List ℕ → Type 0) (cuts : D → ℕ) where
   -- what went over its link is a chain of the entries that it told
-  pub service_chain : (setup : Setup) → IsSoundSetup setup → (first last : Port L) (roll now : Rolled) (ends : AtEnd)
+  pub service_chain : (setup : Setup) → IsSoundSetup setup → (first last : Port L) (roll now : Rolled) (desk left_desk : Desk) (ends : AtEnd)
       (left : Option (List ℕ)) (how : Served) (old new : K) (given back : D) →
       (service : Lived written puts (Gives reads writes) was_sent faults_of size honest seen may_leave moment left_since cuts
-      given back setup roll now ends left how old new first last) →
+      given back setup roll now desk left_desk ends left how old new first last) →
       (found : List Record) → FoundOn honest seen may_leave given setup service.begun found →
       Chain (Gives reads writes) first (news_of service.told) last
-  service_chain setup sound first last roll now ends left how old new given back service found there =
+  service_chain setup sound first last roll now desk left_desk ends left how old new given back service found there =
       let told = news_of service.told in
       let asked =
       asked_first told (started found)
@@ -47,9 +48,9 @@ module _ {L : Type 0} (reads : L → Option (List ℕ) → L → Type 0) (writes
 
   pub service_right : (echoes : Bool) (longest : ℕ) (coming : L → List ℕ) (silent : L → ℕ) (setup : Setup) (history : L → List Moment) →
       IsSoundSetup setup → IsHonestLine reads writes echoes longest coming silent setup history → (first last : Port L)
-      (roll now : Rolled) (ends : AtEnd) (left : Option (List ℕ)) (how : Served) (old new : K) (given back : D) →
+      (roll now : Rolled) (desk left_desk : Desk) (ends : AtEnd) (left : Option (List ℕ)) (how : Served) (old new : K) (given back : D) →
       (service : Lived written puts (Gives reads writes) was_sent faults_of size honest seen may_leave moment left_since cuts
-      given back setup roll now ends left how old new first last) →
+      given back setup roll now desk left_desk ends left how old new first last) →
       (found : List Record) (whole : List Entry) → FoundOn honest seen may_leave given setup service.begun found →
       HaveLived reads writes echoes longest coming silent MOST_RECORDS setup history (history (line_of first)) found whole →
       IsPortOf reads writes echoes longest coming silent first →
@@ -58,11 +59,11 @@ module _ {L : Type 0} (reads : L → Option (List ℕ) → L → Type 0) (writes
       × ((at : Option CrashAt) (news : List Entry) → IsCrash at → EntriesOfRestart setup (news_of service.told ++ whole) at news →
       HaveLived reads writes echoes longest coming silent MOST_RECORDS setup history (history (line_of last))
       (records (news ++ (news_of service.told ++ whole))) (news ++ (news_of service.told ++ whole)))
-  service_right echoes longest coming silent setup history sound line first last roll now ends left how old new given back service found
+  service_right echoes longest coming silent setup history sound line first last roll now desk left_desk ends left how old new given back service found
       whole there lives port =
       let told = news_of service.told in
       let life = (service.lived found there).0 in
-      let chain = service_chain setup sound first last roll now ends left how old new given back service found there in
+      let chain = service_chain setup sound first last roll now desk left_desk ends left how old new given back service found there in
       let right =
       life_right_over reads writes echoes longest coming silent MOST_RECORDS setup history sound line first last found service.steps told
       whole lives port life chain in (

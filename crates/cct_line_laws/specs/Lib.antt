@@ -1,2 +1,3 @@
 pub mod Killed
 pub mod Starts
+pub mod Sessions

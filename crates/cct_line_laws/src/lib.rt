@@ -7,6 +7,7 @@ ghost use Rattle.cct_model.specs.terms.device.Setup.{Setup};
 ghost use Rattle.cct_model.specs.lines.command.CrashAt.{CrashAt};
 ghost use Rattle.cct_model.specs.lines.entry.Entry.{Entry};
 ghost use Rattle.cct_model.specs.lines.record.Record.{Record};
+ghost use Rattle.cct_model.specs.Change.{Desk, clear_desk};
 ghost use Rattle.cct_model.specs.Legal.{EntriesOfRestart};
 ghost use Rattle.cct_model.specs.Records.{records};
 ghost use Rattle.cct_model.specs.Script.{IsCrash};
@@ -24,6 +25,7 @@ ghost use Rattle.cct_service.specs.Found.{FoundOn, Tells, was_found};
 ghost use Rattle.cct_service.specs.Since.{IsMaking};
 ghost use Rattle.cct_lives.specs.Live.{started};
 ghost use Rattle.cct_line_laws.specs.Killed.{IsLeftAt, Point};
+ghost use Rattle.cct_line_laws.specs.Sessions.{TellsRight};
 ghost use Rattle.cct_line_laws.specs.Starts.{StartsOver};
 ghost use Rattle.cct_disk.specs.Disk.{Holds, IsTrusted};
 ghost use Rattle.cct_service.specs.Lived.{Lived};
@@ -40,10 +42,10 @@ use cct_wire::Link;
 pub fn a_service_over_an_honest_line_is_right<L: Line, K: Sink, D: Disk>()
     ensures { (echoes : Bool) (longest : ℕ) (coming : L → List ℕ) (silent : L → ℕ) (setup : Setup)
         (history : L → List Moment) → IsSoundSetup setup → IsHonestLine L.reads L.writes echoes longest coming silent setup history
-        → (first last : Port L) (roll now : Rolled) (ends : AtEnd) (left : Option (List ℕ)) (how : Served) (old new : K)
+        → (first last : Port L) (roll now : Rolled) (desk left_desk : Desk) (ends : AtEnd) (left : Option (List ℕ)) (how : Served) (old new : K)
         (given back : D)
         → (service : Lived K.written K.puts (Gives L.reads L.writes) was_sent faults_of D.size D.honest D.seen D.may_leave
-        D.moment D.left_since D.cuts given back setup roll now ends left how old new first last)
+        D.moment D.left_since D.cuts given back setup roll now desk left_desk ends left how old new first last)
         → (found : List Record) (whole : List Entry) → FoundOn D.honest D.seen D.may_leave given setup service.begun found
         → HaveLived L.reads L.writes echoes longest coming silent MOST_RECORDS setup history (history (line_of first)) found whole
         → IsPortOf L.reads L.writes echoes longest coming silent first
@@ -55,6 +57,19 @@ pub fn a_service_over_an_honest_line_is_right<L: Line, K: Sink, D: Disk>()
         (records (news ++ (news_of service.told ++ whole))) (news ++ (news_of service.told ++ whole))) }
 {}
 
+/// Where the money of what such a service told is right over what fell, so is what it told of sessions of change, if no session
+/// ran when it began: the coins that fell for the orders of a session are worth its amount where it was served, and what is told
+/// as paid where it falls short, and they are never worth more than its amount. They are all coins that fell up to the end of the
+/// service. A law: its body is empty.
+pub fn a_session_on_an_honest_line_pays_what_it_tells<L: Line, K: Sink, D: Disk>()
+    ensures { (setup : Setup) → IsSoundSetup setup → (first last : Port L) (roll now : Rolled) (left_desk : Desk) (ends : AtEnd)
+        (left : Option (List ℕ)) (how : Served) (old new : K) (given back : D)
+        → (service : Lived K.written K.puts (Gives L.reads L.writes) was_sent faults_of D.size D.honest D.seen D.may_leave
+        D.moment D.left_since D.cuts given back setup roll now (clear_desk setup) left_desk ends left how old new first last)
+        → (fallen whole : List Entry) (right : IsRightOver setup fallen (news_of service.told ++ whole))
+        → TellsRight setup right.world (clear_desk setup) [] service.told }
+{}
+
 /// What a power cut leaves on the disk of such a service, or what stands there without one, tells the records over which the next
 /// life starts: those that were put, or these and the one that was due. A disk that holds it tells them to the next service. A
 /// law: its body is empty.
@@ -62,10 +77,10 @@ pub fn the_next_service_starts_over_what_is_left<L: Line, K: Sink, D: Disk>()
     ensures { (echoes : Bool) (longest : ℕ) (coming : L → List ℕ) (silent : L → ℕ) (setup : Setup)
         (history : L → List Moment) → IsSoundSetup setup
         → IsHonestLine L.reads L.writes echoes longest coming silent setup history
-        → (first last : Port L) (roll now : Rolled) (ends : AtEnd) (left : Option (List ℕ)) (how : Served) (old new : K)
+        → (first last : Port L) (roll now : Rolled) (desk left_desk : Desk) (ends : AtEnd) (left : Option (List ℕ)) (how : Served) (old new : K)
         (given back : D)
         → (service : Lived K.written K.puts (Gives L.reads L.writes) was_sent faults_of D.size D.honest D.seen D.may_leave
-        D.moment D.left_since D.cuts given back setup roll now ends left how old new first last)
+        D.moment D.left_since D.cuts given back setup roll now desk left_desk ends left how old new first last)
         → (found : List Record) (whole : List Entry) → FoundOn D.honest D.seen D.may_leave given setup service.begun found
         → HaveLived L.reads L.writes echoes longest coming silent MOST_RECORDS setup history (history (line_of first)) found
         whole
@@ -85,10 +100,10 @@ pub fn a_service_may_be_killed_at_each_moment<L: Line, K: Sink, D: Disk>()
     ensures { (echoes : Bool) (longest : ℕ) (coming : L → List ℕ) (silent : L → ℕ) (setup : Setup)
         (history : L → List Moment) → IsSoundSetup setup
         → IsHonestLine L.reads L.writes echoes longest coming silent setup history
-        → (first last : Port L) (roll now : Rolled) (ends : AtEnd) (left : Option (List ℕ)) (how : Served) (old new : K)
+        → (first last : Port L) (roll now : Rolled) (desk left_desk : Desk) (ends : AtEnd) (left : Option (List ℕ)) (how : Served) (old new : K)
         (given back : D)
         → (service : Lived K.written K.puts (Gives L.reads L.writes) was_sent faults_of D.size D.honest D.seen D.may_leave
-        D.moment D.left_since D.cuts given back setup roll now ends left how old new first last)
+        D.moment D.left_since D.cuts given back setup roll now desk left_desk ends left how old new first last)
         → (found : List Record) (whole : List Entry) → FoundOn D.honest D.seen D.may_leave given setup service.begun found
         → HaveLived L.reads L.writes echoes longest coming silent MOST_RECORDS setup history (history (line_of first)) found
         whole

@@ -4,6 +4,7 @@ use Rattle.std.specs.List.{All, list_any}
 use Rattle.std.proofs.lemmas.Bool.Decides.{nat_tests}
 use Rattle.std.proofs.lemmas.List.{append-nil}
 use Rattle.std.proofs.lemmas.List.Elements.{All-nil}
+use Rattle.cct_model.specs.terms.device.DeviceSetup.{DeviceSetup}
 use Rattle.cct_model.specs.lines.command.Command.{Command}
 use Rattle.cct_model.specs.lines.command.Command.TheVariants as command
 use Rattle.cct_model.specs.lines.entry.Entry.{Entry}
@@ -293,10 +294,11 @@ pub command_step : (begun : ℕ → Command) (addr : ℕ) (steps : List LiveStep
 command_step begun addr steps told h = many_one (IsStepOf begun) steps told (inl (addr, h))
 
 -- lines, and the next one, by what was found up to then
-pub line_then : (findings now : List Finding) (lines : List Said) (number : ℕ) (said : Said) → suc (length lines) ≡ number →
-    (s1 s2 : List LiveStep) (t1 t2 : List Told) → DoesLines findings lines s1 t1 → now ≡ findings ++ findings_in t1 →
-    DoesLine now number said s2 t2 → DoesLines findings (said ∷ lines) (s1 ++ s2) (t1 ++ t2)
-line_then findings now lines number said is s1 s2 t1 t2 h found k = record {
+pub line_then : (devices : List DeviceSetup) (findings now : List Finding) (lines : List Said) (number : ℕ) (said : Said) →
+    suc (length lines) ≡ number → (s1 s2 : List LiveStep) (t1 t2 : List Told) → DoesLines devices findings lines s1 t1 →
+    now ≡ findings ++ findings_in t1 → DoesLine devices now number said s2 t2 →
+    DoesLines devices findings (said ∷ lines) (s1 ++ s2) (t1 ++ t2)
+line_then devices findings now lines number said is s1 s2 t1 t2 h found k = record {
   before = s1;
   after = s2;
   said = t1;
@@ -304,14 +306,15 @@ line_then findings now lines number said is s1 s2 t1 t2 h found k = record {
   steps_are = refl;
   told_is = refl;
   first = h;
-  next = subst (λ f. DoesLine f (suc (length lines)) said s2 t2) found (subst (λ n. DoesLine now n said s2 t2) (sym is) k);
+  next = subst (λ f. DoesLine devices f (suc (length lines)) said s2 t2) found
+      (subst (λ n. DoesLine devices now n said s2 t2) (sym is) k);
 }
 
 -- what is told first, and then lines
-pub opening_then : (opening : Notice) (findings : List Finding) (lines : List Said) (s1 s2 : List LiveStep)
-    (t1 t2 : List Told) → Tells (notice opening) s1 t1 → DoesLines findings lines s2 t2 →
-    PlaysLines opening findings lines (s1 ++ s2) (t1 ++ t2)
-opening_then opening findings lines s1 s2 t1 t2 h k = record {
+pub opening_then : (devices : List DeviceSetup) (opening : Notice) (findings : List Finding) (lines : List Said) (s1 s2 : List LiveStep)
+    (t1 t2 : List Told) → Tells (notice opening) s1 t1 → DoesLines devices findings lines s2 t2 →
+    PlaysLines devices opening findings lines (s1 ++ s2) (t1 ++ t2)
+opening_then devices opening findings lines s1 s2 t1 t2 h k = record {
   before = s1;
   after = s2;
   said = t1;
@@ -323,9 +326,9 @@ opening_then opening findings lines s1 s2 t1 t2 h k = record {
 }
 
 -- that alone
-pub opening_alone : (opening : Notice) (findings : List Finding) (steps : List LiveStep) (told : List Told) →
-    Tells (notice opening) steps told → PlaysLines opening findings [] steps told
-opening_alone opening findings steps told h = record {
+pub opening_alone : (devices : List DeviceSetup) (opening : Notice) (findings : List Finding) (steps : List LiveStep) (told : List Told) →
+    Tells (notice opening) steps told → PlaysLines devices opening findings [] steps told
+opening_alone devices opening findings steps told h = record {
   before = steps;
   after = [];
   said = told;
@@ -337,10 +340,10 @@ opening_alone opening findings steps told h = record {
 }
 
 -- lines, and the end
-pub end_then : (opening : Notice) (findings : List Finding) (ends : AtEnd) (lines : List Said) (s1 s2 : List LiveStep)
-    (t1 t2 : List Told) → PlaysLines opening findings lines s1 t1 → StopsBy ends s2 t2 →
-    ServesLines opening findings ends lines (s1 ++ s2) (t1 ++ t2)
-end_then opening findings ends lines s1 s2 t1 t2 h k = record {
+pub end_then : (devices : List DeviceSetup) (opening : Notice) (findings : List Finding) (ends : AtEnd) (lines : List Said) (s1 s2 : List LiveStep)
+    (t1 t2 : List Told) → PlaysLines devices opening findings lines s1 t1 → StopsBy ends s2 t2 →
+    ServesLines devices opening findings ends lines (s1 ++ s2) (t1 ++ t2)
+end_then devices opening findings ends lines s1 s2 t1 t2 h k = record {
   before = s1;
   after = s2;
   said = t1;
@@ -356,10 +359,10 @@ no_stop at_end.Leave = (refl, refl)
 no_stop at_end.Stop = many_none (IsStepOf (λ addr. command.Stop addr))
 
 -- lines, and nothing at the end
-pub end_none : (opening : Notice) (findings : List Finding) (ends : AtEnd) (lines : List Said) (steps : List LiveStep)
-    (told : List Told) → PlaysLines opening findings lines steps told →
-    ServesLines opening findings ends lines steps told
-end_none opening findings ends lines steps told h = record {
+pub end_none : (devices : List DeviceSetup) (opening : Notice) (findings : List Finding) (ends : AtEnd) (lines : List Said) (steps : List LiveStep)
+    (told : List Told) → PlaysLines devices opening findings lines steps told →
+    ServesLines devices opening findings ends lines steps told
+end_none devices opening findings ends lines steps told h = record {
   before = steps;
   after = [];
   said = told;

@@ -1,6 +1,8 @@
 -- What was found, read off what is told.
 use Rattle.std.proofs.Common.{◌≡◌, ◌≤◌, ◌∙◌, ℕ, zero, suc, List, [], ◌∷◌, ◌++◌, Bool, true, false, Option, Some, None, refl, sym, ap, subst, inl, inr, append_assoc, length, drop, take, arith}
 use Rattle.std.proofs.lemmas.List.{append-nil, map-append}
+use Rattle.cct_model.specs.terms.device.DeviceSetup.{DeviceSetup}
+use Rattle.cct_model.specs.terms.device.Setup.{Setup}
 use Rattle.cct_model.specs.lines.command.Command.{Command}
 use Rattle.cct_model.specs.lines.command.Command.TheVariants as command
 use Rattle.cct_model.specs.lines.entry.Entry.{Entry}
@@ -231,15 +233,20 @@ asking_rest a b added known is len steps told h =
     steps told h
 
 -- lines, and the next one, and what is found then
-pub lines_then : (a b c : List Finding) (lines : List Said) (number : ℕ) (said : Said) → suc (length lines) ≡ number →
-    (s1 s2 : List LiveStep) (t1 t2 : List Told) → Finds a b (DoesLines a lines) s1 t1 →
-    Finds b c (DoesLine b number said) s2 t2 → Finds a c (DoesLines a (said ∷ lines)) (s1 ++ s2) (t1 ++ t2)
-lines_then a b c lines number said is s1 s2 t1 t2 h k =
-    (line_then a b lines number said is s1 s2 t1 t2 h.0 h.1 k.0, found_on a b c t1 t2 h.1 k.1)
+pub lines_then : (first between : Setup) → between ≡ first → (a b c : List Finding) (lines : List Said) (number : ℕ)
+    (said : Said) → suc (length lines) ≡ number → (s1 s2 : List LiveStep) (t1 t2 : List Told) →
+    Finds a b (DoesLines first.devices a lines) s1 t1 → Finds b c (DoesLine between.devices b number said) s2 t2 →
+    Finds a c (DoesLines first.devices a (said ∷ lines)) (s1 ++ s2) (t1 ++ t2)
+lines_then first between same a b c lines number said is s1 s2 t1 t2 h k = (
+  line_then first.devices a b lines number said is s1 s2 t1 t2 h.0 h.1
+      (subst (λ setup. DoesLine setup.devices b number said s2 t2) same k.0),
+  found_on a b c t1 t2 h.1 k.1,
+)
 
 pub tells_finds : (n : ℕ) (why : LineKind) (steps : List LiveStep) (told : List Told) → Tells (refused n why) steps told →
     findings_in told ≡ []
 tells_finds n why steps told h = ap findings_in h.1
 
-pub lines_none : (findings : List Finding) → Finds findings findings (DoesLines findings []) [] []
-lines_none findings = ((refl, refl), sym (append-nil findings))
+pub lines_none : (devices : List DeviceSetup) (findings : List Finding) →
+    Finds findings findings (DoesLines devices findings []) [] []
+lines_none devices findings = ((refl, refl), sym (append-nil findings))

@@ -3,6 +3,7 @@ pub mod Telling
 pub mod Since
 pub mod Reporting
 pub mod Parts
+pub mod Desks
 pub mod Linking
 pub mod Doings
 pub mod Found

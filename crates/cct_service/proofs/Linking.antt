@@ -1,5 +1,5 @@
 -- What goes over a link, one part of a service after another.
-use Rattle.std.proofs.Common.{◌≡◌, ◌==◌, ◌&&◌, ℕ, List, [], ◌∷◌, ◌++◌, reverse, Bool, true, false, not, Option, Some, None, Result, Ok, refl, sym, ap, ◌∙◌, subst, eq-eqb}
+use Rattle.std.proofs.Common.{◌≡◌, ◌==◌, ◌&&◌, ℕ, List, [], ◌∷◌, ◌++◌, reverse, Bool, true, false, not, Option, Some, None, Result, Ok, Err, refl, sym, ap, ◌∙◌, subst, eq-eqb}
 use Rattle.std.specs.List.{All}
 use Rattle.std.proofs.lemmas.List.Elements.{All-head, All-tail}
 use Rattle.cct_edge.specs.declared.fault.Failed.{Failed}
@@ -18,14 +18,19 @@ use Rattle.cct_survey.specs.Roll.{AsksRoll, Rolled}
 use Rattle.cct_service.specs.declared.notice.Notice.{Notice}
 use Rattle.cct_service.specs.declared.notice.Notice.TheVariants as notice_of
 use Rattle.cct_service.specs.declared.served.Served.{Served}
+use Rattle.cct_service.specs.declared.served.Served.TheVariants as served
+use Rattle.cct_model.specs.Change.{Desk}
 use Rattle.cct_service.specs.Asked.{most_asked}
+use Rattle.cct_service.specs.AtDesk.{Both, FollowsDesk, FollowsTo, IsApart}
 use Rattle.cct_service.specs.Held.{HasExchange, IsAfter}
 use Rattle.cct_service.specs.Linked.{AreQuiet, Exchanges, ExchangesSince, UsesLink, are_quiet, asks, goes_on, has_counted, is_quiet, tells}
-use Rattle.cct_service.specs.Parts.{Acts}
+use Rattle.cct_service.specs.Parts.{Acts, LivesOn, LivesTo}
+use Rattle.cct_service.specs.Said.{IsOfInput}
 use Rattle.cct_service.specs.Found.{Begun, found_there, made_new}
 use Rattle.cct_service.specs.Opening.{opening_of}
 use Rattle.cct_service.specs.Told.{IsOfStatus, Told, attempt_told, entry, notice, notices_told, unsent}
-use Rattle.cct_service.proofs.Parts.{acts_linked, acts_none, acts_then}
+use Rattle.cct_service.proofs.Desks.{apart_follows, follows_then, follows_to}
+use Rattle.cct_service.proofs.Parts.{acts_linked, acts_none, acts_then, lives_linked, stops_to}
 
 -- quiet lines, and then more
 all_quiet : (b c : Bool) → b ≡ true → c ≡ true → (b && c) ≡ true
@@ -228,81 +233,167 @@ module _ {L : Type 0} (gives : L → List ℕ → List ℕ → L → Type 0) (se
   uses_then first between same a b c old line new t1 t2 h k =
       goes_on a b c old line new t1 t2 h (subst (λ s. UsesLink gives sent failures s.devices b c line new t2) same k)
 
--- of a sink with a count of faults, and of such a link
+-- two things of what is told
+pub both_then : (S T U V W X : List Told → Type 0) → ((t1 t2 : List Told) → S t1 → T t2 → U (t1 ++ t2)) →
+    ((t1 t2 : List Told) → V t1 → W t2 → X (t1 ++ t2)) → (t1 t2 : List Told) → Both S V t1 → Both T W t2 →
+    Both U X (t1 ++ t2)
+both_then S T U V W X one other t1 t2 h k = (one t1 t2 h.0 k.0, other t1 t2 h.1 k.1)
+
+-- of a sink with a count of faults
+module _ {K : Type 0} (written : K → Option (List ℕ)) (puts : K → List ℕ → Result (Unit {0}) Failed → K → Type 0)
+    (faults : K → ℕ) {D : Type 0} {g : Ghosts D} where
+  -- quiet lines that have nothing to do with the desk, at a desk
+  pub quiet_at_desk : (desk : Desk) (result : Result (Unit {0}) Served) (a b : K) (old new : Host D g)
+      (P : List LiveStep → List Told → Type 0) → Acts written puts faults (Both AreQuiet IsApart) P result a b old new →
+      Acts written puts faults (Both AreQuiet (FollowsDesk result desk desk)) P result a b old new
+  quiet_at_desk desk result =
+      acts_linked written puts faults (Both AreQuiet IsApart) (Both AreQuiet (FollowsDesk result desk desk))
+      (λ told h. (h.0, apart_follows result desk told h.1)) result
+
+-- of a sink
+module _ {K : Type 0} (written : K → Option (List ℕ)) (puts : K → List ℕ → Result (Unit {0}) Failed → K → Type 0)
+    {D : Type 0} {g : Ghosts D} where
+  -- a life at a desk to an end that the input brings
+  pub lives_stop : (S : List Told → Type 0) (how : Served) (was now : Desk) (P : List LiveStep → List Told → Type 0) (a b : K)
+      (old new : Host D g) → IsOfInput how → LivesOn written puts (Both S (FollowsDesk (Ok tt) was now)) P (Ok tt) a b old new →
+      LivesTo written puts (Both S (FollowsTo how was now)) P how a b old new
+  lives_stop S how was now P a b old new is h =
+      stops_to written puts (Both S (FollowsTo how was now)) how P a b old new is
+      (lives_linked written puts (Both S (FollowsDesk (Ok tt) was now)) (Both S (FollowsTo how was now))
+      (λ told k. (k.0, follows_to how was now told k.1)) (Ok tt) a b old new P h)
+
+  -- and to one that a step brings
+  pub lives_end : (S : List Told → Type 0) (how : Served) (was now : Desk) (P : List LiveStep → List Told → Type 0) (a b : K)
+      (old new : Host D g) → LivesOn written puts (Both S (FollowsDesk (Err how) was now)) P (Err how) a b old new →
+      LivesTo written puts (Both S (FollowsTo how was now)) P how a b old new
+  lives_end S served.Unwritten was now P a b old new h = h
+  lives_end S served.Disk was now P a b old new h = h
+  lives_end S served.Done was now P a b old new h = absurd h
+  lives_end S (served.Refused number kind) was now P a b old new h = absurd h
+  lives_end S served.Unread was now P a b old new h = absurd h
+  lives_end S (served.OtherSize len) was now P a b old new h = absurd h
+  lives_end S served.Alien was now P a b old new h = absurd h
+  lives_end S (served.BadRecord index) was now P a b old new h = absurd h
+
+-- of such a link, too
 module _ {K : Type 0} (written : K → Option (List ℕ)) (puts : K → List ℕ → Result (Unit {0}) Failed → K → Type 0)
     (faults : K → ℕ) {L : Type 0} (gives : L → List ℕ → List ℕ → L → Type 0) (sent : L → Bool) (failures : L → ℕ)
     {D : Type 0} {g : Ghosts D} where
-  -- one part over a link, and then another
-  pub link_then : (old line new : L) (result : Result (Unit {0}) Served) (a b c : K) (first between last : Host D g)
-      (P Q R : List LiveStep → List Told → Type 0) →
-      ((s1 s2 : List LiveStep) (t1 t2 : List Told) → P s1 t1 → Q s2 t2 → R (s1 ++ s2) (t1 ++ t2)) →
-      Acts written puts faults (Exchanges gives sent failures old line) P (Ok tt) a b first between →
-      Acts written puts faults (Exchanges gives sent failures line new) Q result b c between last →
-      Acts written puts faults (Exchanges gives sent failures old new) R result a c first last
-  link_then old line new =
-      acts_then written puts faults (Exchanges gives sent failures old line) (Exchanges gives sent failures line new)
-      (Exchanges gives sent failures old new) (exchanges_then gives sent failures old line new)
-
-  -- nothing is done
-  pub link_none : (line : L) (a : K) (host : Host D g) (P : List LiveStep → List Told → Type 0) → has_failed host ≡ false →
-      P [] [] → Acts written puts faults (Exchanges gives sent failures line line) P (Ok tt) a a host host
-  link_none line = acts_none written puts faults (Exchanges gives sent failures line line) refl
-
-  -- quiet lines
-  pub link_quiet : (line : L) (result : Result (Unit {0}) Served) (a b : K) (old new : Host D g)
-      (P : List LiveStep → List Told → Type 0) → Acts written puts faults AreQuiet P result a b old new →
-      Acts written puts faults (Exchanges gives sent failures line line) P result a b old new
-  link_quiet line =
-      acts_linked written puts faults AreQuiet (Exchanges gives sent failures line line)
-      (exchanges_quiet gives sent failures line)
-
-  -- one part by the roll, and then another
-  pub roll_then : (roll between_roll now : Rolled) (old line new : L) (result : Result (Unit {0}) Served) (a b c : K)
+  -- one part over a link and at a desk, and then another
+  pub link_then : (old line new : L) (was then now : Desk) (result : Result (Unit {0}) Served) (a b c : K)
       (first between last : Host D g) (P Q R : List LiveStep → List Told → Type 0) →
       ((s1 s2 : List LiveStep) (t1 t2 : List Told) → P s1 t1 → Q s2 t2 → R (s1 ++ s2) (t1 ++ t2)) →
-      Acts written puts faults (UsesLink gives sent failures (setup_of first).devices roll between_roll old line) P (Ok tt) a b
-      first between →
-      Acts written puts faults (UsesLink gives sent failures (setup_of between).devices between_roll now line new) Q result b c
-      between last →
-      Acts written puts faults (UsesLink gives sent failures (setup_of first).devices roll now old new) R result a c first last
-  roll_then roll between_roll now old line new result a b c first between last P Q R to h k =
-      acts_then written puts faults (UsesLink gives sent failures (setup_of first).devices roll between_roll old line)
-      (UsesLink gives sent failures (setup_of between).devices between_roll now line new)
-      (UsesLink gives sent failures (setup_of first).devices roll now old new)
-      (uses_then gives sent failures (setup_of first) (setup_of between) h.setup roll between_roll now old line new) result a b c
-      first between last P Q R to h k
+      Acts written puts faults (Both (Exchanges gives sent failures old line) (FollowsDesk (Ok tt) was then)) P (Ok tt) a b first
+      between →
+      Acts written puts faults (Both (Exchanges gives sent failures line new) (FollowsDesk result then now)) Q result b c between
+      last →
+      Acts written puts faults (Both (Exchanges gives sent failures old new) (FollowsDesk result was now)) R result a c first last
+  link_then old line new was then now result =
+      acts_then written puts faults (Both (Exchanges gives sent failures old line) (FollowsDesk (Ok tt) was then))
+      (Both (Exchanges gives sent failures line new) (FollowsDesk result then now))
+      (Both (Exchanges gives sent failures old new) (FollowsDesk result was now))
+      (both_then (Exchanges gives sent failures old line) (Exchanges gives sent failures line new)
+      (Exchanges gives sent failures old new) (FollowsDesk (Ok tt) was then) (FollowsDesk result then now)
+      (FollowsDesk result was now) (exchanges_then gives sent failures old line new) (follows_then result was then now)) result
 
   -- nothing is done
-  pub roll_none : (devices : List DeviceSetup) (roll : Rolled) (line : L) (a : K) (host : Host D g)
-      (P : List LiveStep → List Told → Type 0) → has_failed host ≡ false → P [] [] →
-      Acts written puts faults (UsesLink gives sent failures devices roll roll line line) P (Ok tt) a a host host
-  roll_none devices roll line =
-      acts_none written puts faults (UsesLink gives sent failures devices roll roll line line)
-      (uses_none gives sent failures devices roll line)
+  pub link_none : (line : L) (desk : Desk) (a : K) (host : Host D g) (P : List LiveStep → List Told → Type 0) →
+      has_failed host ≡ false → P [] [] →
+      Acts written puts faults (Both (Exchanges gives sent failures line line) (FollowsDesk (Ok tt) desk desk)) P (Ok tt) a a host
+      host
+  link_none line desk =
+      acts_none written puts faults (Both (Exchanges gives sent failures line line) (FollowsDesk (Ok tt) desk desk)) (refl, refl)
 
   -- quiet lines
-  pub roll_quiet : (devices : List DeviceSetup) (roll : Rolled) (line : L) (result : Result (Unit {0}) Served) (a b : K)
-      (old new : Host D g) (P : List LiveStep → List Told → Type 0) → Acts written puts faults AreQuiet P result a b old new →
-      Acts written puts faults (UsesLink gives sent failures devices roll roll line line) P result a b old new
-  roll_quiet devices roll line =
-      acts_linked written puts faults AreQuiet (UsesLink gives sent failures devices roll roll line line)
-      (uses_quiet gives sent failures devices roll line)
+  pub link_quiet : (line : L) (desk : Desk) (result : Result (Unit {0}) Served) (a b : K) (old new : Host D g)
+      (P : List LiveStep → List Told → Type 0) → Acts written puts faults (Both AreQuiet IsApart) P result a b old new →
+      Acts written puts faults (Both (Exchanges gives sent failures line line) (FollowsDesk result desk desk)) P result a b old new
+  link_quiet line desk result =
+      acts_linked written puts faults (Both AreQuiet IsApart)
+      (Both (Exchanges gives sent failures line line) (FollowsDesk result desk desk))
+      (λ told h. (exchanges_quiet gives sent failures line told h.0, apart_follows result desk told h.1)) result
+
+  -- one part by the roll, and then another
+  pub roll_then : (roll between_roll now : Rolled) (old line new : L) (V W X : List Told → Type 0) →
+      ((t1 t2 : List Told) → V t1 → W t2 → X (t1 ++ t2)) → (result : Result (Unit {0}) Served) (a b c : K)
+      (first between last : Host D g) (P Q R : List LiveStep → List Told → Type 0) →
+      ((s1 s2 : List LiveStep) (t1 t2 : List Told) → P s1 t1 → Q s2 t2 → R (s1 ++ s2) (t1 ++ t2)) →
+      Acts written puts faults (Both (UsesLink gives sent failures (setup_of first).devices roll between_roll old line) V) P
+      (Ok tt) a b first between →
+      Acts written puts faults (Both (UsesLink gives sent failures (setup_of between).devices between_roll now line new) W) Q
+      result b c between last →
+      Acts written puts faults (Both (UsesLink gives sent failures (setup_of first).devices roll now old new) X) R result a c
+      first last
+  roll_then roll between_roll now old line new V W X joins result a b c first between last P Q R to h k =
+      let one = UsesLink gives sent failures (setup_of first).devices roll between_roll old line in
+      let other = UsesLink gives sent failures (setup_of between).devices between_roll now line new in
+      let all = UsesLink gives sent failures (setup_of first).devices roll now old new in
+      acts_then written puts faults (Both one V) (Both other W) (Both all X)
+      (both_then one other all V W X
+      (uses_then gives sent failures (setup_of first) (setup_of between) h.setup roll between_roll now old line new) joins)
+      result a b c first between last P Q R to h k
+
+  -- at a desk
+  pub roll_desk : (roll between_roll now : Rolled) (old line new : L) (was then last_desk : Desk)
+      (result : Result (Unit {0}) Served) (a b c : K) (first between last : Host D g)
+      (P Q R : List LiveStep → List Told → Type 0) →
+      ((s1 s2 : List LiveStep) (t1 t2 : List Told) → P s1 t1 → Q s2 t2 → R (s1 ++ s2) (t1 ++ t2)) →
+      Acts written puts faults (Both (UsesLink gives sent failures (setup_of first).devices roll between_roll old line)
+      (FollowsDesk (Ok tt) was then)) P (Ok tt) a b first between →
+      Acts written puts faults (Both (UsesLink gives sent failures (setup_of between).devices between_roll now line new)
+      (FollowsDesk result then last_desk)) Q result b c between last →
+      Acts written puts faults (Both (UsesLink gives sent failures (setup_of first).devices roll now old new)
+      (FollowsDesk result was last_desk)) R result a c first last
+  roll_desk roll between_roll now old line new was then last_desk result =
+      roll_then roll between_roll now old line new (FollowsDesk (Ok tt) was then) (FollowsDesk result then last_desk)
+      (FollowsDesk result was last_desk) (follows_then result was then last_desk) result
+
+  -- nothing is done
+  pub roll_none : (devices : List DeviceSetup) (roll : Rolled) (line : L) (V : List Told → Type 0) → V [] → (a : K)
+      (host : Host D g) (P : List LiveStep → List Told → Type 0) → has_failed host ≡ false → P [] [] →
+      Acts written puts faults (Both (UsesLink gives sent failures devices roll roll line line) V) P (Ok tt) a a host host
+  roll_none devices roll line V is =
+      acts_none written puts faults (Both (UsesLink gives sent failures devices roll roll line line) V)
+      (uses_none gives sent failures devices roll line, is)
+
+  -- quiet lines
+  pub roll_quiet : (devices : List DeviceSetup) (roll : Rolled) (line : L) (V : List Told → Type 0)
+      (result : Result (Unit {0}) Served) (a b : K) (old new : Host D g) (P : List LiveStep → List Told → Type 0) →
+      Acts written puts faults (Both AreQuiet V) P result a b old new →
+      Acts written puts faults (Both (UsesLink gives sent failures devices roll roll line line) V) P result a b old new
+  roll_quiet devices roll line V =
+      acts_linked written puts faults (Both AreQuiet V) (Both (UsesLink gives sent failures devices roll roll line line) V)
+      (λ told h. (uses_quiet gives sent failures devices roll line told h.0, h.1))
+
+  -- what has nothing to do with the desk, at a desk
+  pub roll_apart : (devices : List DeviceSetup) (roll now : Rolled) (old new : L) (desk : Desk)
+      (result : Result (Unit {0}) Served) (a b : K) (before after : Host D g) (P : List LiveStep → List Told → Type 0) →
+      Acts written puts faults (Both (UsesLink gives sent failures devices roll now old new) IsApart) P result a b before after →
+      Acts written puts faults (Both (UsesLink gives sent failures devices roll now old new) (FollowsDesk result desk desk)) P
+      result a b before after
+  roll_apart devices roll now old new desk result =
+      acts_linked written puts faults (Both (UsesLink gives sent failures devices roll now old new) IsApart)
+      (Both (UsesLink gives sent failures devices roll now old new) (FollowsDesk result desk desk))
+      (λ told h. (h.0, apart_follows result desk told h.1)) result
 
   -- exchanges, and no question
-  pub roll_told : (devices : List DeviceSetup) (roll : Rolled) (old new : L) (result : Result (Unit {0}) Served) (a b : K)
-      (before after : Host D g) (P : List LiveStep → List Told → Type 0) →
-      Acts written puts faults (Exchanges gives sent failures old new) P result a b before after →
-      Acts written puts faults (UsesLink gives sent failures devices roll roll old new) P result a b before after
-  roll_told devices roll old new =
-      acts_linked written puts faults (Exchanges gives sent failures old new)
-      (UsesLink gives sent failures devices roll roll old new) (uses_told gives sent failures devices roll old new)
+  pub roll_told : (devices : List DeviceSetup) (roll : Rolled) (old new : L) (was now : Desk)
+      (result : Result (Unit {0}) Served) (a b : K) (before after : Host D g) (P : List LiveStep → List Told → Type 0) →
+      Acts written puts faults (Both (Exchanges gives sent failures old new) (FollowsDesk result was now)) P result a b before
+      after →
+      Acts written puts faults (Both (UsesLink gives sent failures devices roll roll old new) (FollowsDesk result was now)) P
+      result a b before after
+  roll_told devices roll old new was now result =
+      acts_linked written puts faults (Both (Exchanges gives sent failures old new) (FollowsDesk result was now))
+      (Both (UsesLink gives sent failures devices roll roll old new) (FollowsDesk result was now))
+      (λ told h. (uses_told gives sent failures devices roll old new told h.0, h.1)) result
 
   -- questions, and then quiet lines
   pub roll_asked : (devices : List DeviceSetup) (whom : Option ℕ) (answered : Answered) (roll now : Rolled) (old new : L) →
       AsksRoll gives devices whom (most_asked whom) roll old answered now new → (result : Result (Unit {0}) Served) (a b : K)
       (before after : Host D g) (P : List LiveStep → List Told → Type 0) →
-      Acts written puts faults AreQuiet P result a b before after →
-      Acts written puts faults (UsesLink gives sent failures devices roll now old new) P result a b before after
+      Acts written puts faults (Both AreQuiet IsApart) P result a b before after →
+      Acts written puts faults (Both (UsesLink gives sent failures devices roll now old new) IsApart) P result a b before after
   roll_asked devices whom answered roll now old new questions =
-      acts_linked written puts faults AreQuiet (UsesLink gives sent failures devices roll now old new)
-      (uses_asked gives sent failures devices whom answered roll now old new questions)
+      acts_linked written puts faults (Both AreQuiet IsApart) (Both (UsesLink gives sent failures devices roll now old new) IsApart)
+      (λ told h. (uses_asked gives sent failures devices whom answered roll now old new questions told h.0, h.1))

@@ -8,6 +8,7 @@ use Rattle.cct_model.specs.terms.device.Setup.{Setup}
 use Rattle.cct_model.specs.lines.record.Record.{Record}
 use Rattle.cct_model.specs.lines.entry.Entry.{Entry}
 use Rattle.cct_model.specs.Following.{all_follow}
+use Rattle.cct_model.specs.Change.{Desk}
 use Rattle.cct_model.specs.Records.{records}
 use Rattle.cct_model.specs.Setup.{IsSoundSetup}
 use Rattle.cct_disk.specs.declared.disk.Disk.{Ghosts}
@@ -29,6 +30,7 @@ use Rattle.cct_service.specs.Opening.{BegunOn, given_as, opening_of, opening_ove
 use Rattle.cct_service.specs.Laws.{IsLawful}
 use Rattle.cct_service.specs.Linked.{UsesLink}
 use Rattle.cct_service.specs.Lived.{LeftBy, LeftSince, Lived}
+use Rattle.cct_service.specs.AtDesk.{Both, FollowsTo}
 use Rattle.cct_service.specs.Doing.{FrontOf, ServesLines}
 use Rattle.cct_service.specs.Causes.{SuitsDisk}
 use Rattle.cct_service.specs.Parts.{FailedSince, FailedToPut, LivesTo, Part, Plays}
@@ -58,7 +60,7 @@ none_before more rs is =
 module _ {K : Type 0} (written : K → Option (List ℕ)) (puts : K → List ℕ → Result (Unit {0}) Failed → K → Type 0)
     {L : Type 0} (gives : L → List ℕ → List ℕ → L → Type 0) (sent : L → Bool) (failures : L → ℕ)
     {D : Type 0} {g : Ghosts D} (given back : D) (host last : Host D g) (begun : Begun)
-    (roll now : Rolled) (ends : AtEnd) (left : Option (List ℕ)) (line next : L)
+    (roll now : Rolled) (desk left_desk : Desk) (ends : AtEnd) (left : Option (List ℕ)) (line next : L)
     (same : setup_of host ≡ setup_of last) (sound : IsSoundSetup (setup_of last)) (back_is : back ≡ disk_of last)
     (began : BegunOn g.seen given (setup_of last) begun)
     (numbered : (found : List Record) → FoundOn g.honest g.seen g.may_leave given (setup_of last) begun found
@@ -143,9 +145,9 @@ module _ {K : Type 0} (written : K → Option (List ℕ)) (puts : K → List ℕ
   devices_same told h = subst (λ s. UsesLink gives sent failures s.devices roll now line next told) same h
 
   pub lived_by : (how : Served) (a b : K) →
-      Plays written puts (UsesLink gives sent failures (setup_of host).devices roll now line next)
-      (ServesLines (opening_of (setup_of last) begun) roll.findings ends) left how a b host last →
-      Lived written puts gives sent failures g.size g.honest g.seen g.may_leave g.moment g.left_since g.cuts given back (setup_of last) roll now ends left how a b
+      Plays written puts (Both (UsesLink gives sent failures (setup_of host).devices roll now line next) (FollowsTo how desk left_desk))
+      (ServesLines (setup_of last).devices (opening_of (setup_of last) begun) roll.findings ends) left how a b host last →
+      Lived written puts gives sent failures g.size g.honest g.seen g.may_leave g.moment g.left_since g.cuts given back (setup_of last) roll now desk left_desk ends left how a b
       line next
   lived_by served.Done a b plays = record {
     begun = begun;
@@ -156,17 +158,18 @@ module _ {K : Type 0} (written : K → Option (List ℕ)) (puts : K → List ℕ
     does = plays.lives.does;
     wrote = plays.lives.wrote;
     lived = λ found on.
-        let l = part_lived a b (Ok tt) (StandsSince last) (UsesLink gives sent failures (setup_of host).devices roll now line next) (ServesLines (opening_of (setup_of last) begun) roll.findings ends plays.lines) plays.lives found on [] in
+        let l = part_lived a b (Ok tt) (StandsSince last) (Both (UsesLink gives sent failures (setup_of host).devices roll now line next) (FollowsTo served.Done desk left_desk)) (ServesLines (setup_of last).devices (opening_of (setup_of last) begun) roll.findings ends plays.lines) plays.lives found on [] in
         (l.0, l.1, left_standing (news_of plays.lives.told ++ started found) l.2.stands);
-    standing = λ found on. part_so a b (Ok tt) (StandsSince last) (UsesLink gives sent failures (setup_of host).devices roll now line next) (ServesLines (opening_of (setup_of last) begun) roll.findings ends plays.lines) plays.lives found on;
-    linked = devices_same plays.lives.told plays.lives.linked;
+    standing = λ found on. part_so a b (Ok tt) (StandsSince last) (Both (UsesLink gives sent failures (setup_of host).devices roll now line next) (FollowsTo served.Done desk left_desk)) (ServesLines (setup_of last).devices (opening_of (setup_of last) begun) roll.findings ends plays.lines) plays.lives found on;
+    at_desk = plays.lives.linked.1;
+    linked = devices_same plays.lives.told plays.lives.linked.0;
     on = began;
     numbers = numbered;
     moments = λ found on image holds.
-        let l = part_lived a b (Ok tt) (StandsSince last) (UsesLink gives sent failures (setup_of host).devices roll now line next) (ServesLines (opening_of (setup_of last) begun) roll.findings ends plays.lines) plays.lives found on image in
+        let l = part_lived a b (Ok tt) (StandsSince last) (Both (UsesLink gives sent failures (setup_of host).devices roll now line next) (FollowsTo served.Done desk left_desk)) (ServesLines (setup_of last).devices (opening_of (setup_of last) begun) roll.findings ends plays.lines) plays.lives found on image in
         moments_standing found image (news_of plays.lives.told ++ started found) l.2 holds;
     read = λ found on there whole none.
-        let l = part_lived a b (Ok tt) (StandsSince last) (UsesLink gives sent failures (setup_of host).devices roll now line next) (ServesLines (opening_of (setup_of last) begun) roll.findings ends plays.lines) plays.lives found on [] in
+        let l = part_lived a b (Ok tt) (StandsSince last) (Both (UsesLink gives sent failures (setup_of host).devices roll now line next) (FollowsTo served.Done desk left_desk)) (ServesLines (setup_of last).devices (opening_of (setup_of last) begun) roll.findings ends plays.lines) plays.lives found on [] in
         read_standing found (news_of plays.lives.told ++ started found) l.2 there none;
   }
   lived_by (served.Refused number kind) a b plays = record {
@@ -178,17 +181,18 @@ module _ {K : Type 0} (written : K → Option (List ℕ)) (puts : K → List ℕ
     does = plays.lives.does;
     wrote = plays.lives.wrote;
     lived = λ found on.
-        let l = part_lived a b (Ok tt) (StandsSince last) (UsesLink gives sent failures (setup_of host).devices roll now line next) (ServesLines (opening_of (setup_of last) begun) roll.findings ends plays.lines) plays.lives found on [] in
+        let l = part_lived a b (Ok tt) (StandsSince last) (Both (UsesLink gives sent failures (setup_of host).devices roll now line next) (FollowsTo (served.Refused number kind) desk left_desk)) (ServesLines (setup_of last).devices (opening_of (setup_of last) begun) roll.findings ends plays.lines) plays.lives found on [] in
         (l.0, l.1, left_standing (news_of plays.lives.told ++ started found) l.2.stands);
-    standing = λ found on. part_so a b (Ok tt) (StandsSince last) (UsesLink gives sent failures (setup_of host).devices roll now line next) (ServesLines (opening_of (setup_of last) begun) roll.findings ends plays.lines) plays.lives found on;
-    linked = devices_same plays.lives.told plays.lives.linked;
+    standing = λ found on. part_so a b (Ok tt) (StandsSince last) (Both (UsesLink gives sent failures (setup_of host).devices roll now line next) (FollowsTo (served.Refused number kind) desk left_desk)) (ServesLines (setup_of last).devices (opening_of (setup_of last) begun) roll.findings ends plays.lines) plays.lives found on;
+    at_desk = plays.lives.linked.1;
+    linked = devices_same plays.lives.told plays.lives.linked.0;
     on = began;
     numbers = numbered;
     moments = λ found on image holds.
-        let l = part_lived a b (Ok tt) (StandsSince last) (UsesLink gives sent failures (setup_of host).devices roll now line next) (ServesLines (opening_of (setup_of last) begun) roll.findings ends plays.lines) plays.lives found on image in
+        let l = part_lived a b (Ok tt) (StandsSince last) (Both (UsesLink gives sent failures (setup_of host).devices roll now line next) (FollowsTo (served.Refused number kind) desk left_desk)) (ServesLines (setup_of last).devices (opening_of (setup_of last) begun) roll.findings ends plays.lines) plays.lives found on image in
         moments_standing found image (news_of plays.lives.told ++ started found) l.2 holds;
     read = λ found on there whole none.
-        let l = part_lived a b (Ok tt) (StandsSince last) (UsesLink gives sent failures (setup_of host).devices roll now line next) (ServesLines (opening_of (setup_of last) begun) roll.findings ends plays.lines) plays.lives found on [] in
+        let l = part_lived a b (Ok tt) (StandsSince last) (Both (UsesLink gives sent failures (setup_of host).devices roll now line next) (FollowsTo (served.Refused number kind) desk left_desk)) (ServesLines (setup_of last).devices (opening_of (setup_of last) begun) roll.findings ends plays.lines) plays.lives found on [] in
         read_standing found (news_of plays.lives.told ++ started found) l.2 there none;
   }
   lived_by served.Unread a b plays = record {
@@ -200,17 +204,18 @@ module _ {K : Type 0} (written : K → Option (List ℕ)) (puts : K → List ℕ
     does = plays.lives.does;
     wrote = plays.lives.wrote;
     lived = λ found on.
-        let l = part_lived a b (Ok tt) (StandsSince last) (UsesLink gives sent failures (setup_of host).devices roll now line next) (ServesLines (opening_of (setup_of last) begun) roll.findings ends plays.lines) plays.lives found on [] in
+        let l = part_lived a b (Ok tt) (StandsSince last) (Both (UsesLink gives sent failures (setup_of host).devices roll now line next) (FollowsTo served.Unread desk left_desk)) (ServesLines (setup_of last).devices (opening_of (setup_of last) begun) roll.findings ends plays.lines) plays.lives found on [] in
         (l.0, l.1, left_standing (news_of plays.lives.told ++ started found) l.2.stands);
-    standing = λ found on. part_so a b (Ok tt) (StandsSince last) (UsesLink gives sent failures (setup_of host).devices roll now line next) (ServesLines (opening_of (setup_of last) begun) roll.findings ends plays.lines) plays.lives found on;
-    linked = devices_same plays.lives.told plays.lives.linked;
+    standing = λ found on. part_so a b (Ok tt) (StandsSince last) (Both (UsesLink gives sent failures (setup_of host).devices roll now line next) (FollowsTo served.Unread desk left_desk)) (ServesLines (setup_of last).devices (opening_of (setup_of last) begun) roll.findings ends plays.lines) plays.lives found on;
+    at_desk = plays.lives.linked.1;
+    linked = devices_same plays.lives.told plays.lives.linked.0;
     on = began;
     numbers = numbered;
     moments = λ found on image holds.
-        let l = part_lived a b (Ok tt) (StandsSince last) (UsesLink gives sent failures (setup_of host).devices roll now line next) (ServesLines (opening_of (setup_of last) begun) roll.findings ends plays.lines) plays.lives found on image in
+        let l = part_lived a b (Ok tt) (StandsSince last) (Both (UsesLink gives sent failures (setup_of host).devices roll now line next) (FollowsTo served.Unread desk left_desk)) (ServesLines (setup_of last).devices (opening_of (setup_of last) begun) roll.findings ends plays.lines) plays.lives found on image in
         moments_standing found image (news_of plays.lives.told ++ started found) l.2 holds;
     read = λ found on there whole none.
-        let l = part_lived a b (Ok tt) (StandsSince last) (UsesLink gives sent failures (setup_of host).devices roll now line next) (ServesLines (opening_of (setup_of last) begun) roll.findings ends plays.lines) plays.lives found on [] in
+        let l = part_lived a b (Ok tt) (StandsSince last) (Both (UsesLink gives sent failures (setup_of host).devices roll now line next) (FollowsTo served.Unread desk left_desk)) (ServesLines (setup_of last).devices (opening_of (setup_of last) begun) roll.findings ends plays.lines) plays.lives found on [] in
         read_standing found (news_of plays.lives.told ++ started found) l.2 there none;
   }
   lived_by served.Unwritten a b plays = record {
@@ -222,17 +227,18 @@ module _ {K : Type 0} (written : K → Option (List ℕ)) (puts : K → List ℕ
     does = plays.lives.1.does;
     wrote = (plays.lives.0, plays.lives.1.wrote);
     lived = λ found on.
-        let l = part_lived a b (Err plays.lives.0) (StandsSince last) (UsesLink gives sent failures (setup_of host).devices roll now line next) (FrontOf (ServesLines (opening_of (setup_of last) begun) roll.findings ends plays.lines)) plays.lives.1 found on [] in
+        let l = part_lived a b (Err plays.lives.0) (StandsSince last) (Both (UsesLink gives sent failures (setup_of host).devices roll now line next) (FollowsTo served.Unwritten desk left_desk)) (FrontOf (ServesLines (setup_of last).devices (opening_of (setup_of last) begun) roll.findings ends plays.lines)) plays.lives.1 found on [] in
         (l.0, l.1, left_standing (news_of plays.lives.1.told ++ started found) l.2.stands);
-    standing = λ found on. part_so a b (Err plays.lives.0) (StandsSince last) (UsesLink gives sent failures (setup_of host).devices roll now line next) (FrontOf (ServesLines (opening_of (setup_of last) begun) roll.findings ends plays.lines)) plays.lives.1 found on;
-    linked = devices_same plays.lives.1.told plays.lives.1.linked;
+    standing = λ found on. part_so a b (Err plays.lives.0) (StandsSince last) (Both (UsesLink gives sent failures (setup_of host).devices roll now line next) (FollowsTo served.Unwritten desk left_desk)) (FrontOf (ServesLines (setup_of last).devices (opening_of (setup_of last) begun) roll.findings ends plays.lines)) plays.lives.1 found on;
+    at_desk = plays.lives.1.linked.1;
+    linked = devices_same plays.lives.1.told plays.lives.1.linked.0;
     on = began;
     numbers = numbered;
     moments = λ found on image holds.
-        let l = part_lived a b (Err plays.lives.0) (StandsSince last) (UsesLink gives sent failures (setup_of host).devices roll now line next) (FrontOf (ServesLines (opening_of (setup_of last) begun) roll.findings ends plays.lines)) plays.lives.1 found on image in
+        let l = part_lived a b (Err plays.lives.0) (StandsSince last) (Both (UsesLink gives sent failures (setup_of host).devices roll now line next) (FollowsTo served.Unwritten desk left_desk)) (FrontOf (ServesLines (setup_of last).devices (opening_of (setup_of last) begun) roll.findings ends plays.lines)) plays.lives.1 found on image in
         moments_standing found image (news_of plays.lives.1.told ++ started found) l.2 holds;
     read = λ found on there whole none.
-        let l = part_lived a b (Err plays.lives.0) (StandsSince last) (UsesLink gives sent failures (setup_of host).devices roll now line next) (FrontOf (ServesLines (opening_of (setup_of last) begun) roll.findings ends plays.lines)) plays.lives.1 found on [] in
+        let l = part_lived a b (Err plays.lives.0) (StandsSince last) (Both (UsesLink gives sent failures (setup_of host).devices roll now line next) (FollowsTo served.Unwritten desk left_desk)) (FrontOf (ServesLines (setup_of last).devices (opening_of (setup_of last) begun) roll.findings ends plays.lines)) plays.lives.1 found on [] in
         read_standing found (news_of plays.lives.1.told ++ started found) l.2 there none;
   }
   lived_by served.Disk a b plays = record {
@@ -244,14 +250,15 @@ module _ {K : Type 0} (written : K → Option (List ℕ)) (puts : K → List ℕ
     does = plays.lives.does;
     wrote = plays.lives.wrote;
     lived = λ found on.
-        let l = part_lived a b (Ok tt) (FailedSince last) (UsesLink gives sent failures (setup_of host).devices roll now line next) (FrontOf (ServesLines (opening_of (setup_of last) begun) roll.findings ends plays.lines)) plays.lives found on [] in
+        let l = part_lived a b (Ok tt) (FailedSince last) (Both (UsesLink gives sent failures (setup_of host).devices roll now line next) (FollowsTo served.Disk desk left_desk)) (FrontOf (ServesLines (setup_of last).devices (opening_of (setup_of last) begun) roll.findings ends plays.lines)) plays.lives found on [] in
         (l.0, l.1, left_failed (news_of plays.lives.told ++ started found) l.2.failed);
-    standing = λ found on. part_so a b (Ok tt) (FailedSince last) (UsesLink gives sent failures (setup_of host).devices roll now line next) (FrontOf (ServesLines (opening_of (setup_of last) begun) roll.findings ends plays.lines)) plays.lives found on;
-    linked = devices_same plays.lives.told plays.lives.linked;
+    standing = λ found on. part_so a b (Ok tt) (FailedSince last) (Both (UsesLink gives sent failures (setup_of host).devices roll now line next) (FollowsTo served.Disk desk left_desk)) (FrontOf (ServesLines (setup_of last).devices (opening_of (setup_of last) begun) roll.findings ends plays.lines)) plays.lives found on;
+    at_desk = plays.lives.linked.1;
+    linked = devices_same plays.lives.told plays.lives.linked.0;
     on = began;
     numbers = numbered;
     moments = λ found on image holds.
-        let l = part_lived a b (Ok tt) (FailedSince last) (UsesLink gives sent failures (setup_of host).devices roll now line next) (FrontOf (ServesLines (opening_of (setup_of last) begun) roll.findings ends plays.lines)) plays.lives found on image in
+        let l = part_lived a b (Ok tt) (FailedSince last) (Both (UsesLink gives sent failures (setup_of host).devices roll now line next) (FollowsTo served.Disk desk left_desk)) (FrontOf (ServesLines (setup_of last).devices (opening_of (setup_of last) begun) roll.findings ends plays.lines)) plays.lives found on image in
         moments_failed found image (news_of plays.lives.told ++ started found) l.2 holds;
     read = λ found on there whole none. absurd (whole tt);
   }

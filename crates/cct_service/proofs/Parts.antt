@@ -388,7 +388,7 @@ module _ {K : Type 0} (written : K → Option (List ℕ)) (puts : K → List ℕ
   lives_front S (served.BadRecord index) a b old new P Q to h = absurd h
 
   -- the same life is so linked, too
-  lives_linked : (S T : List Told → Type 0) → ((told : List Told) → S told → T told) →
+  pub lives_linked : (S T : List Told → Type 0) → ((told : List Told) → S told → T told) →
       (result : Result (Unit {0}) Served) (a b : K) (old new : Host D g) (P : List LiveStep → List Told → Type 0) →
       LivesOn written puts S P result a b old new → LivesOn written puts T P result a b old new
   lives_linked S T links (Ok done) a b old new P h =

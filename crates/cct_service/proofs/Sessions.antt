@@ -16,16 +16,14 @@ use Rattle.cct_model.specs.Plan.{AreWithin, most_of}
 use Rattle.cct_model.specs.Script.{IsCommand}
 use Rattle.cct_change.specs.declared.desk.Serving.{Serving}
 use Rattle.cct_change.specs.declared.desk.Serving.TheVariants.{Idle, Wait, Odd, Served, Short, Pay}
-use Rattle.cct_change.specs.Serving.{ServesBy, change_told}
+use Rattle.cct_change.specs.Serving.{ServesBy}
 use Rattle.cct_lives.specs.LiveStep.{LiveStep}
 use Rattle.cct_lives.specs.LiveStep as live
 use Rattle.cct_script.specs.declared.live.LiveLine.{LiveLine}
-use Rattle.cct_script.specs.declared.live.LiveLine.TheVariants as says
 use Rattle.cct_survey.specs.declared.finding.Finding.{Finding}
 use Rattle.cct_survey.specs.declared.withholding.Withheld.{Withheld}
 use Rattle.cct_survey.specs.Finding.{withheld_by}
-use Rattle.cct_service.specs.Doing.{DecidesPay, Does, Gives, DoesLine, DoesPay, Finds, FrontOf, IsAsking, IsNothing, IsOfPoll, IsPoll, IsServing, MayServe, Tells, TellsStep, Then}
-use Rattle.cct_service.specs.Said.{IsStock}
+use Rattle.cct_service.specs.Doing.{DecidesPay, Does, DoesKnown, DoesPay, Finds, FrontOf, IsAsking, IsNothing, IsOfPoll, IsPoll, IsServing, MayServe, Tells, TellsStep, Then}
 use Rattle.cct_service.specs.Session.{HasAsked}
 use Rattle.cct_service.specs.Told.{Told, falls_short, findings_in, operates, pay_of, pays, refused, refused_for, taken, withheld_for}
 use Rattle.cct_service.proofs.Doings.{many_none}
@@ -85,16 +83,11 @@ asked_by (Pay p) old new h = (
 
 -- a step at the desk tells no finding
 pub step_finds : (s : Step) (steps : List LiveStep) (told : List Told) → TellsStep s steps told → findings_in told ≡ []
-step_finds s steps told h = ap findings_in h.1.2
+step_finds s steps told h = ap findings_in h.1.1
 
-pub tells_step : (s : Step) (e : Entry) → Gives s e → (steps : List LiveStep) (told : List Told) →
-    Tells (operates s e) steps told → TellsStep s steps told
-tells_step s e gives steps told h = (h.0, (e, gives, h.1))
-
--- what a `change` tells
-pub change_gives : (first amount : ℕ) (began : Bool) → Gives (step.Change first amount) (change_told first amount began)
-change_gives first amount true capacity setup past = inl refl
-change_gives first amount false capacity setup past = inr refl
+pub tells_step : (s : Step) (e : Entry) (steps : List LiveStep) (told : List Told) → Tells (operates s e) steps told →
+    TellsStep s steps told
+tells_step s e steps told h = (h.0, (e, h.1))
 
 pub step_serves : (findings : List Finding) (steps : List LiveStep) (told : List Told) → TellsStep step.Serve steps told →
     IsServing findings steps told
@@ -179,13 +172,15 @@ served_alone known now =
       next = many_none IsOfPoll;
     })
 
--- what a line says is done for it
-pub said_line : (findings : List Finding) (number : ℕ) (said : LiveLine) (steps : List LiveStep) (told : List Told) →
-    Does findings said steps told → DoesLine findings number (Ok said) steps told
-said_line findings number (says.Stock addr count) steps told h = inl h
-said_line findings number said steps told h = h
+-- what a line says is done for it, where it names what is there, and else it is refused
+pub known_line : (known : Bool) → known ≡ true → (findings : List Finding) (number : ℕ) (said : LiveLine)
+    (steps : List LiveStep) (told : List Told) → Does findings said steps told →
+    DoesKnown known findings number said steps told
+known_line true is findings number said steps told h = h
+known_line false is findings number said steps told h = cc is
 
-pub unknown_line : (findings : List Finding) (number : ℕ) (said : LiveLine) → IsStock said → (steps : List LiveStep)
-    (told : List Told) → Tells (refused number kind.Device) steps told → DoesLine findings number (Ok said) steps told
-unknown_line findings number (says.Stock addr count) is steps told h = inr h
-unknown_line findings number said is steps told h = absurd is
+pub unknown_line : (known : Bool) → known ≡ false → (findings : List Finding) (number : ℕ) (said : LiveLine)
+    (steps : List LiveStep) (told : List Told) → Tells (refused number kind.Device) steps told →
+    DoesKnown known findings number said steps told
+unknown_line true is findings number said steps told h = cc is
+unknown_line false is findings number said steps told h = h

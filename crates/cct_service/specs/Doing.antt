@@ -9,8 +9,8 @@ use Rattle.cct_model.specs.lines.command.Step.TheVariants as step
 use Rattle.cct_model.specs.lines.entry.Entry.{Entry}
 use Rattle.cct_model.specs.lines.entry.LineKind.TheVariants as kind
 use Rattle.cct_model.specs.declared.change.Payment.{Payment}
-use Rattle.cct_model.specs.terms.device.Setup.{Setup}
-use Rattle.cct_model.specs.Legal.{Entries}
+use Rattle.cct_model.specs.terms.device.DeviceSetup.{DeviceSetup}
+use Rattle.cct_model.specs.Exchange.{device_at, hopper_there}
 use Rattle.cct_script.specs.declared.live.LiveLine.{LiveLine}
 use Rattle.cct_script.specs.declared.live.LiveLine.TheVariants as says
 use Rattle.cct_survey.specs.declared.finding.Finding.{Finding}
@@ -152,13 +152,9 @@ Decides findings c = ThenBy IsAsking (λ said. DoesCommand c (withheld_by (findi
 abbrev pub IsOrder : ℕ → List LiveStep → List Told → Type 0
 IsOrder id steps told = (steps ≡ []) × ((known : OrderTold) × (told ≡ notice (notice_of.Order id known) ∷ []))
 
--- A step at the operator's desk, which gives the host nothing, may give this entry, as on the bench.
-abbrev pub Gives : Step → Entry → Type 0
-Gives s e = (capacity : ℕ) (setup : Setup) (past : List Entry) → Entries capacity setup past s (e ∷ [])
-
--- Such a step, whose entry is told.
+-- A step at the operator's desk, which gives the host nothing, and its entry is told. `AtDesk` says which that is.
 abbrev pub TellsStep : Step → List LiveStep → List Told → Type 0
-TellsStep s steps told = (steps ≡ []) × ((e : Entry) × Gives s e × (told ≡ operates s e ∷ []))
+TellsStep s steps told = (steps ≡ []) × ((e : Entry) × (told ≡ operates s e ∷ []))
 
 -- A payment of a session is given to the host, which takes it, or refuses it and the session ends short; or it is told that
 -- it isn't given, and why, and the session ends short.
@@ -197,20 +193,27 @@ Does findings (says.Change first amount) = TellsStep (step.Change first amount)
 Does findings says.Serve = IsServing findings
 Does findings says.End = λ steps told. ⊥
 
--- What is done for the line of a number: what it says, or it is told that it says nothing. A stock of what is no hopper is
--- refused, too.
-abbrev pub DoesLine : List Finding → ℕ → Said → List LiveStep → List Told → Type 0
-DoesLine findings number (Ok (says.Stock addr count)) =
-    λ steps told. TellsStep (step.Stock addr count) steps told ⊎ Tells (refused number kind.Device) steps told
-DoesLine findings number (Ok said) = Does findings said
-DoesLine findings number (Err why) = Tells (refused number why)
+-- A line names what is there: a stock is one of a hopper.
+abbrev pub is_known : List DeviceSetup → LiveLine → Bool
+is_known devices (says.Stock addr count) = hopper_there (device_at devices addr)
+is_known devices said = true
+
+-- What is done for a line that names what is there, or not: what it says, or it is refused.
+abbrev pub DoesKnown : Bool → List Finding → ℕ → LiveLine → List LiveStep → List Told → Type 0
+DoesKnown true findings number said = Does findings said
+DoesKnown false findings number said = Tells (refused number kind.Device)
+
+-- What is done for the line of a number, by the devices of the setup; or it is told that it says nothing.
+abbrev pub DoesLine : List DeviceSetup → List Finding → ℕ → Said → List LiveStep → List Told → Type 0
+DoesLine devices findings number (Ok said) = DoesKnown (is_known devices said) findings number said
+DoesLine devices findings number (Err why) = Tells (refused number why)
 
 -- What was done for lines, newest first: each one is done after those before it, by what was found up to then.
-abbrev pub DoesLines : List Finding → List Said → List LiveStep → List Told → Type 0
-DoesLines findings [] = IsNothing
-DoesLines findings (said ∷ before) =
-    ThenBy (DoesLines findings before)
-    (λ told. DoesLine (findings ++ findings_in told) (suc (length before)) said)
+abbrev pub DoesLines : List DeviceSetup → List Finding → List Said → List LiveStep → List Told → Type 0
+DoesLines devices findings [] = IsNothing
+DoesLines devices findings (said ∷ before) =
+    ThenBy (DoesLines devices findings before)
+    (λ told. DoesLine devices (findings ++ findings_in told) (suc (length before)) said)
 
 -- It was done so, and what is found then is what was found before and what was told.
 abbrev pub Finds : List Finding → List Finding → (List LiveStep → List Told → Type 0) → List LiveStep → List Told → Type 0
@@ -226,9 +229,9 @@ StopsBy at_end.Leave = IsNothing
 StopsBy at_end.Stop = IsStopping
 
 -- What a service does for lines, newest first, up to its end: it tells first what it begins with.
-abbrev pub PlaysLines : Notice → List Finding → List Said → List LiveStep → List Told → Type 0
-PlaysLines opening findings lines = Then (Tells (notice opening)) (DoesLines findings lines)
+abbrev pub PlaysLines : List DeviceSetup → Notice → List Finding → List Said → List LiveStep → List Told → Type 0
+PlaysLines devices opening findings lines = Then (Tells (notice opening)) (DoesLines devices findings lines)
 
 -- And what it does at the end.
-abbrev pub ServesLines : Notice → List Finding → AtEnd → List Said → List LiveStep → List Told → Type 0
-ServesLines opening findings ends lines = Then (PlaysLines opening findings lines) (StopsBy ends)
+abbrev pub ServesLines : List DeviceSetup → Notice → List Finding → AtEnd → List Said → List LiveStep → List Told → Type 0
+ServesLines devices opening findings ends lines = Then (PlaysLines devices opening findings lines) (StopsBy ends)

@@ -3,6 +3,7 @@ pub mod Held
 pub mod Told
 pub mod Said
 pub mod Session
+pub mod AtDesk
 pub mod Ends
 pub mod Doing
 pub mod Asked

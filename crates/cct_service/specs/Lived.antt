@@ -6,6 +6,7 @@ use Rattle.cct_service.specs.declared.stopping.AtEnd.{AtEnd}
 use Rattle.cct_model.specs.terms.device.Setup.{Setup}
 use Rattle.cct_model.specs.lines.record.Record.{Record}
 use Rattle.cct_model.specs.lines.entry.Entry.{Entry}
+use Rattle.cct_model.specs.Change.{Desk}
 use Rattle.cct_model.specs.Legal.{due_at}
 use Rattle.cct_model.specs.Records.{records}
 use Rattle.cct_disk.specs.Disk.{Holds, IsTrusted, LeavesOnly, OnlyReads}
@@ -16,6 +17,7 @@ use Rattle.cct_lives.specs.Live.{started}
 use Rattle.cct_lives.specs.LiveStep.{LiveStep}
 use Rattle.cct_service.specs.declared.served.Served.{Served}
 use Rattle.cct_service.specs.declared.served.Served.TheVariants as served
+use Rattle.cct_service.specs.AtDesk.{FollowsTo}
 use Rattle.cct_service.specs.Causes.{IsDiskFault}
 use Rattle.cct_service.specs.Doing.{FrontOf, ServesLines}
 use Rattle.cct_service.specs.Ending.{IsOfDisk, closed_by, last_told}
@@ -75,14 +77,14 @@ module _ {K : Type 0} (written : K → Option (List ℕ)) (puts : K → List ℕ
   -- written: first what it began with, by the disk that was given; and the entries among it are those of the steps of one life
   -- over the records that were found on the disk, whichever these are; and the disk has the records of that life. What went
   -- over the link are the exchanges that were told, and questions of the roll.
-  pub record Lived (setup : Setup) (roll now : Rolled) (ends : AtEnd) (left : Option (List ℕ)) (how : Served) (old new : K)
+  pub record Lived (setup : Setup) (roll now : Rolled) (desk left_desk : Desk) (ends : AtEnd) (left : Option (List ℕ)) (how : Served) (old new : K)
       (line last : L) : Type 0 where
     pub begun : Begun
     pub lines : List Said
     pub steps : List LiveStep
     pub told : List Told
     pub says : Says left lines how
-    pub does : DoesTo (ServesLines (opening_of setup begun) roll.findings ends lines) how steps told
+    pub does : DoesTo (ServesLines setup.devices (opening_of setup begun) roll.findings ends lines) how steps told
     pub wrote : TellsTo written puts how old told new
     pub lived : (found : List Record) → FoundOn honest seen may_leave given setup begun found
         → IsLife MOST_RECORDS setup found steps (news_of told ++ started found)
@@ -91,6 +93,8 @@ module _ {K : Type 0} (written : K → Option (List ℕ)) (puts : K → List ℕ
     -- How the host stood was told as it was after all that was told before.
     pub standing : (found : List Record) → FoundOn honest seen may_leave given setup begun found
         → AreSo setup (started found) told
+    -- Of sessions of change is told what the desk says.
+    pub at_desk : FollowsTo how desk left_desk told
     pub linked : UsesLink gives sent failures setup.devices roll now line last told
     pub on : BegunOn seen given setup begun
     pub numbers : (found : List Record) → FoundOn honest seen may_leave given setup begun found
@@ -105,17 +109,17 @@ module _ {K : Type 0} (written : K → Option (List ℕ)) (puts : K → List ℕ
         → OnlyReads size honest seen may_leave moment left_since cuts given back
 
   -- A host lived; or none was started, by what the disk had, nothing was told, and the link wasn't used.
-  abbrev pub LivedOrNot : Setup → Rolled → Rolled → AtEnd → Option (List ℕ) → Served → K → K → L → L → Type 0
-  LivedOrNot setup roll now ends left how old new line last =
-      Lived setup roll now ends left how old new line last
-      ⊎ (IsOfDisk how × (new ≡ old) × (now ≡ roll) × (last ≡ line))
+  abbrev pub LivedOrNot : Setup → Rolled → Rolled → Desk → Desk → AtEnd → Option (List ℕ) → Served → K → K → L → L → Type 0
+  LivedOrNot setup roll now desk left_desk ends left how old new line last =
+      Lived setup roll now desk left_desk ends left how old new line last
+      ⊎ (IsOfDisk how × (new ≡ old) × (now ≡ roll) × (left_desk ≡ desk) × (last ≡ line))
 
   -- And then the last line was told, where there is one.
-  pub record Closed (setup : Setup) (roll now : Rolled) (ends : AtEnd) (left : Option (List ℕ)) (result : Served)
+  pub record Closed (setup : Setup) (roll now : Rolled) (desk left_desk : Desk) (ends : AtEnd) (left : Option (List ℕ)) (result : Served)
       (old new : K) (line last : L) : Type 0 where
     pub how : Served
     pub between : K
     pub answer : Result (Unit {0}) Failed
-    pub lived : LivedOrNot setup roll now ends left how old between line last
+    pub lived : LivedOrNot setup roll now desk left_desk ends left how old between line last
     pub wrote : WritesTold written puts between (last_told how) answer new
     pub result_is : result ≡ closed_by answer how

@@ -80,11 +80,6 @@ IsSayable (Ok (says.Change first amount)) = (1 ≤ first) × (amount ≤ GREATES
 IsSayable (Ok says.End) = ⊥
 IsSayable said = ⊤
 
--- A line tells a stock.
-abbrev pub IsStock : LiveLine → Type 0
-IsStock (says.Stock addr count) = ⊤
-IsStock said = ⊥
-
 -- What a line says, unless it ends the service.
 abbrev pub unless_end : Said → Result Said Served
 unless_end (Ok says.End) = Err served.Done

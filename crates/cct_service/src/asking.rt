@@ -4,6 +4,7 @@ ghost use Rattle.cct_host.specs.Host.{has_failed, setup_of};
 ghost use Rattle.cct_survey.specs.declared.finding.Finding.{Finding};
 ghost use Rattle.cct_survey.specs.Roll.{AsksRoll};
 ghost use Rattle.cct_service.specs.Asked.{AsksAt, asked_before, most_asked};
+ghost use Rattle.cct_service.specs.AtDesk.{Both, IsApart};
 ghost use Rattle.cct_service.specs.Doing.{Finds, IsAsking, IsFound, Tells};
 ghost use Rattle.cct_service.specs.Linked.{AreQuiet, UsesLink};
 ghost use Rattle.cct_service.specs.Parts.{Acts};
@@ -33,7 +34,8 @@ pub(crate) fn ask_some<K: Sink, D: Disk, L: CountedLink>(
 ) -> Result<(), Served>
     requires whole { has_failed host.old ≡ false }
     ensures acts { Acts K.written K.puts K.faults
-        (UsesLink L.gives L.sent L.failures (setup_of host.old).devices roll.old roll.new link.old link.new)
+        (Both (UsesLink L.gives L.sent L.failures (setup_of host.old).devices roll.old roll.new link.old link.new)
+        IsApart)
         (Finds roll.old.findings roll.new.findings IsAsking) result out.old out.new host.old host.new }
 {
     let known = roll.findings().len();
@@ -65,7 +67,8 @@ pub(crate) fn ask_before<K: Sink, D: Disk, L: CountedLink>(
 ) -> Result<(), Served>
     requires whole { has_failed host.old ≡ false }
     ensures acts { Acts K.written K.puts K.faults
-        (UsesLink L.gives L.sent L.failures (setup_of host.old).devices roll.old roll.new link.old link.new)
+        (Both (UsesLink L.gives L.sent L.failures (setup_of host.old).devices roll.old roll.new link.old link.new)
+        IsApart)
         (Finds roll.old.findings roll.new.findings IsAsking) result out.old out.new host.old host.new }
     ensures asks { AsksAt L.gives (setup_of host.old).devices (asked_before command.now) roll.old link.old roll.new link.new }
 {
@@ -97,7 +100,8 @@ fn ask_at<K: Sink, D: Disk, L: CountedLink>(
 ) -> Result<(), Served>
     requires whole { has_failed host.old ≡ false }
     ensures acts { Acts K.written K.puts K.faults
-        (UsesLink L.gives L.sent L.failures (setup_of host.old).devices roll.old roll.new link.old link.new)
+        (Both (UsesLink L.gives L.sent L.failures (setup_of host.old).devices roll.old roll.new link.old link.new)
+        IsApart)
         (Finds roll.old.findings roll.new.findings IsAsking) result out.old out.new host.old host.new }
     ensures asks { AsksAt L.gives (setup_of host.old).devices (Some addr) roll.old link.old roll.new link.new }
 {
@@ -117,7 +121,7 @@ fn tell_new<K: Sink, D: Disk>(
 ) -> Result<(), Served>
     requires whole { has_failed host.old ≡ false }
     requires some { known ≤ length roll.now.findings }
-    ensures acts { Acts K.written K.puts K.faults AreQuiet (IsFound (drop known roll.now.findings))
+    ensures acts { Acts K.written K.puts K.faults (Both AreQuiet IsApart) (IsFound (drop known roll.now.findings))
         result out.old out.new host.old host.new }
 {
     tell_all(host, &roll.findings()[known..], out, page)
@@ -131,7 +135,7 @@ fn tell_all<K: Sink, D: Disk>(
     page: &mut Page,
 ) -> Result<(), Served>
     requires whole { has_failed host.old ≡ false }
-    ensures acts { Acts K.written K.puts K.faults AreQuiet (IsFound findings.now)
+    ensures acts { Acts K.written K.puts K.faults (Both AreQuiet IsApart) (IsFound findings.now)
         result out.old out.new host.old host.new }
 {
     for found in findings {
@@ -151,7 +155,7 @@ fn tell_one<K: Sink, D: Disk>(
     page: &mut Page,
 ) -> Result<(), Served>
     requires whole { has_failed host.old ≡ false }
-    ensures acts { Acts K.written K.puts K.faults AreQuiet (Tells (finding found.now))
+    ensures acts { Acts K.written K.puts K.faults (Both AreQuiet IsApart) (Tells (finding found.now))
         result out.old out.new host.old host.new }
 {
     by_writing(write_finding(found, &mut page.line, out))

@@ -4,6 +4,7 @@ ghost use Rattle.std.specs.List.{list_any};
 ghost use Rattle.cct_disk.specs.Disk.{GoesOn};
 ghost use Rattle.cct_edge.specs.Faults.{HasCause};
 ghost use Rattle.cct_host.specs.Host.{Fails, FailsBetween, Nexts, disk_of, has_failed, setup_of};
+ghost use Rattle.cct_service.specs.AtDesk.{Both, FollowsDesk};
 ghost use Rattle.cct_service.specs.Doing.{AreAttempts, IsAttemptWith, MakesAttempts};
 ghost use Rattle.cct_service.specs.Ends.{is_end};
 ghost use Rattle.cct_service.specs.Linked.{Exchanges, HasGone};
@@ -41,7 +42,8 @@ pub(crate) fn attempt<K: Sink, D: Disk, L: CountedLink>(
     page: &mut Page,
 ) -> Result<(), Served>
     requires whole { has_failed host.old ≡ false }
-    ensures acts { Acts K.written K.puts K.faults (Exchanges L.gives L.sent L.failures link.old link.new)
+    ensures acts { Acts K.written K.puts K.faults (Both (Exchanges L.gives L.sent L.failures link.old link.new)
+        (FollowsDesk result desk.old desk.new))
         (IsAttemptWith (L.sent link.new) page.new.report.items addr) result out.old out.new host.old host.new }
 {
     match make(host, addr, link, page) {
@@ -94,7 +96,8 @@ pub(crate) fn attempts<K: Sink, D: Disk, L: CountedLink>(
     page: &mut Page,
 ) -> Result<(), Served>
     requires whole { has_failed host.old ≡ false }
-    ensures acts { Acts K.written K.puts K.faults (Exchanges L.gives L.sent L.failures link.old link.new)
+    ensures acts { Acts K.written K.puts K.faults (Both (Exchanges L.gives L.sent L.failures link.old link.new)
+        (FollowsDesk result desk.old desk.new))
         (MakesAttempts until addr) result out.old out.new host.old host.new }
 {
     for _made in 0..MOST_ATTEMPTS {
@@ -146,7 +149,8 @@ pub(crate) fn go_on<K: Sink, D: Disk, L: CountedLink>(
     page: &mut Page,
 ) -> Result<(), Served>
     requires whole { has_failed host.old ≡ false }
-    ensures acts { Acts K.written K.puts K.faults (Exchanges L.gives L.sent L.failures link.old link.new)
+    ensures acts { Acts K.written K.puts K.faults (Both (Exchanges L.gives L.sent L.failures link.old link.new)
+        (FollowsDesk result desk.old desk.new))
         (AreAttempts addr MOST_ATTEMPTS) result out.old out.new host.old host.new }
 {
     if host.command_at(addr).is_some() {

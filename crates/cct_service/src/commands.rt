@@ -3,6 +3,7 @@ ghost use Rattle.std.specs.Prelude.{◌≡◌, ◌∷◌, [], false};
 ghost use Rattle.cct_host.specs.Host.{disk_of, has_failed, setup_of};
 ghost use Rattle.cct_lives.specs.LiveStep as live;
 ghost use Rattle.cct_model.specs.Script.{IsCommand};
+ghost use Rattle.cct_service.specs.AtDesk.{Both, IsApart};
 ghost use Rattle.cct_service.specs.Doing.{DoesCommand, IsOrder, IsStatus, TellsOne};
 ghost use Rattle.cct_service.specs.Linked.{AreQuiet};
 ghost use Rattle.cct_service.specs.Parts.{Acts, LifeGoes};
@@ -31,7 +32,8 @@ pub(crate) fn answer_or_withhold<K: Sink, D: Disk>(
 ) -> Result<(), Served>
     requires whole { has_failed host.old ≡ false }
     requires told { IsCommand command.now }
-    ensures acts { Acts K.written K.puts K.faults AreQuiet (DoesCommand command.now (withheld_by findings.now command.now))
+    ensures acts { Acts K.written K.puts K.faults (Both AreQuiet IsApart)
+        (DoesCommand command.now (withheld_by findings.now command.now))
         result out.old out.new host.old host.new }
 {
     match withheld_by(findings, command) {
@@ -49,7 +51,7 @@ fn withhold<K: Sink, D: Disk>(
     page: &mut Page,
 ) -> Result<(), Served>
     requires whole { has_failed host.old ≡ false }
-    ensures acts { Acts K.written K.puts K.faults AreQuiet (DoesCommand command.now (Some why))
+    ensures acts { Acts K.written K.puts K.faults (Both AreQuiet IsApart) (DoesCommand command.now (Some why))
         result out.old out.new host.old host.new }
 {
     let notice = Notice::Withheld {
@@ -68,7 +70,7 @@ pub(crate) fn answer<K: Sink, D: Disk>(
 ) -> Result<(), Served>
     requires whole { has_failed host.old ≡ false }
     requires told { IsCommand command.now }
-    ensures acts { Acts K.written K.puts K.faults AreQuiet (TellsOne (live.command command.now))
+    ensures acts { Acts K.written K.puts K.faults (Both AreQuiet IsApart) (TellsOne (live.command command.now))
         result out.old out.new host.old host.new }
 {
     page.report.clear();
@@ -84,7 +86,7 @@ fn answer_of<D: Disk>(host: &mut Host<'_, D>, command: &Command) -> Entry
     ensures disk { disk_of host.new ≡ disk_of host.old }
     ensures lives { LifeGoes (setup_of host.old) (StandsSince host.old) (live.command command.now ∷ [])
         (as_told (result ∷ [])) (StandsSince host.new) }
-    ensures quiet { AreQuiet (as_told (result ∷ [])) }
+    ensures quiet { Both AreQuiet IsApart (as_told (result ∷ [])) }
 {
     match host.command(command) {
         Ok(()) => Entry::Taken(*command),
@@ -102,7 +104,7 @@ pub(crate) fn balance<K: Sink, D: Disk>(
     page: &mut Page,
 ) -> Result<(), Served>
     requires whole { has_failed host.old ≡ false }
-    ensures acts { Acts K.written K.puts K.faults AreQuiet (TellsOne live.balance)
+    ensures acts { Acts K.written K.puts K.faults (Both AreQuiet IsApart) (TellsOne live.balance)
         result out.old out.new host.old host.new }
 {
     page.report.clear();
@@ -117,7 +119,7 @@ pub(crate) fn status<K: Sink, D: Disk>(
     page: &mut Page,
 ) -> Result<(), Served>
     requires whole { has_failed host.old ≡ false }
-    ensures acts { Acts K.written K.puts K.faults AreQuiet IsStatus result out.old out.new host.old host.new }
+    ensures acts { Acts K.written K.puts K.faults (Both AreQuiet IsApart) IsStatus result out.old out.new host.old host.new }
 {
     by_writing(tell_status(host, out, page))
 }
@@ -131,7 +133,7 @@ pub(crate) fn order<K: Sink, D: Disk, O: Outside>(
     page: &mut Page,
 ) -> Result<(), Served>
     requires whole { has_failed host.old ≡ false }
-    ensures acts { Acts K.written K.puts K.faults AreQuiet (IsOrder id) result out.old out.new host.old host.new }
+    ensures acts { Acts K.written K.puts K.faults (Both AreQuiet IsApart) (IsOrder id) result out.old out.new host.old host.new }
 {
     let told = order_told(host, id, outside);
     by_writing(tell(out, &mut page.line, &Notice::Order { id, told }))

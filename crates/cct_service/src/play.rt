@@ -2,15 +2,17 @@
 ghost use Rattle.std.specs.Prelude.{◌≡◌, false, Ok, IfErr, IfOk};
 ghost use Rattle.cct_edge.specs.Bytes.{Serves};
 ghost use Rattle.cct_host.specs.Host.{disk_of, has_failed, setup_of};
+ghost use Rattle.cct_model.specs.Exchange.{device_at, hopper_there};
 ghost use Rattle.cct_model.specs.Script.{IsCommand};
 ghost use Rattle.cct_model.specs.lines.entry.LineKind.TheVariants as kind;
 ghost use Rattle.cct_script.specs.Endless.{held_of};
 ghost use Rattle.cct_service.specs.Asked.{AsksAt, asked_before};
+ghost use Rattle.cct_service.specs.AtDesk.{Both, FollowsDesk, FollowsTo, IsApart};
 ghost use Rattle.cct_service.specs.Causes.{DiskServes, EndsBy, IsDiskFault, IsUnread, IsUnwritten};
-ghost use Rattle.cct_service.specs.Doing.{Decides, Does, DoesLine, DoesLines, Finds, IsAttempt, MakesAttempts, Tells};
+ghost use Rattle.cct_service.specs.Doing.{Decides, Does, DoesLine, DoesLines, Finds, IsAttempt, MakesAttempts, Tells, is_known};
 ghost use Rattle.cct_service.specs.Linked.{AreQuiet, Exchanges, UsesLink};
 ghost use Rattle.cct_service.specs.Parts.{Acts, Plays};
-ghost use Rattle.cct_service.specs.Said.{ComesNext, IsOfInput, IsSayable, IsStock, stopped_by, unless_end};
+ghost use Rattle.cct_service.specs.Said.{ComesNext, IsOfInput, IsSayable, stopped_by, unless_end};
 ghost use Rattle.cct_service.specs.Told.{refused};
 
 use crate::asking::ask_before;
@@ -26,7 +28,7 @@ use cct_change::Desk;
 use cct_disk::Disk;
 use cct_edge::{Sink, Source};
 use cct_host::Host;
-use cct_model::{Command, DeviceBody, DeviceSetup, Entry, LineKind, Setup};
+use cct_model::{Command, Entry, LineKind, Setup};
 use cct_port::CountedLink;
 use cct_script::{EndlessLines, LinesNo, LiveLine, NextLine, read_live_line};
 use cct_survey::Roll;
@@ -47,8 +49,9 @@ pub(crate) fn play<S: Source, K: Sink, D: Disk, L: CountedLink, O: Outside>(
     ensures whole { IsOfInput result → has_failed host.new ≡ false }
     ensures setup { setup_of host.new ≡ setup_of host.old }
     ensures plays { Plays K.written K.puts
-        (UsesLink L.gives L.sent L.failures (setup_of host.old).devices roll.old roll.new link.old link.new)
-        (DoesLines roll.old.findings) (S.left input.old) result out.old out.new host.old host.new }
+        (Both (UsesLink L.gives L.sent L.failures (setup_of host.old).devices roll.old roll.new link.old link.new)
+        (FollowsTo result desk.old desk.new))
+        (DoesLines (setup_of host.old).devices roll.old.findings) (S.left input.old) result out.old out.new host.old host.new }
     ensures input { Serves S.left S.faults input.old input.new (IsUnread result) }
     ensures sink { Serves K.written K.faults out.old out.new (IsUnwritten result) }
     ensures disk { DiskServes D.size D.honest D.seen D.cuts D.faults (disk_of host.old) (disk_of host.new)
@@ -154,8 +157,9 @@ fn take_line<K: Sink, D: Disk, L: CountedLink, O: Outside>(
     requires whole { has_failed host.old ≡ false }
     requires sayable { IsSayable line.now }
     ensures acts { Acts K.written K.puts K.faults
-        (UsesLink L.gives L.sent L.failures (setup_of host.old).devices roll.old roll.new link.old link.new)
-        (Finds roll.old.findings roll.new.findings (DoesLine roll.old.findings number line.now))
+        (Both (UsesLink L.gives L.sent L.failures (setup_of host.old).devices roll.old roll.new link.old link.new)
+        (FollowsDesk result desk.old desk.new))
+        (Finds roll.old.findings roll.new.findings (DoesLine (setup_of host.old).devices roll.old.findings number line.now))
         result out.old out.new host.old host.new }
 {
     match line {
@@ -172,18 +176,20 @@ fn take_line<K: Sink, D: Disk, L: CountedLink, O: Outside>(
 
 /// Whether the device is there that a line names: a stock is that of a hopper.
 fn is_known(setup: &Setup, said: &LiveLine) -> bool
-    ensures { result ≡ false → IsStock said.now }
+    ensures { result ≡ is_known setup.now.devices said.now }
 {
     match said {
-        LiveLine::Stock { addr, .. } => is_hopper(setup.device_at(*addr)),
+        LiveLine::Stock { addr, .. } => is_hopper(setup, *addr),
         _ => true,
     }
 }
 
-/// Whether a device is a hopper.
-fn is_hopper(device: Option<&DeviceSetup>) -> bool {
-    match device {
-        Some(device) => matches!(device.body, DeviceBody::Hopper { .. }),
+/// Whether a hopper is at an address.
+fn is_hopper(setup: &Setup, addr: u8) -> bool
+    ensures { result ≡ hopper_there (device_at setup.now.devices addr) }
+{
+    match setup.device_at(addr) {
+        Some(device) => device.body.is_hopper(),
         None => false,
     }
 }
@@ -198,7 +204,7 @@ fn refuse_unknown<K: Sink, D: Disk, O: Outside>(
     page: &mut Page,
 ) -> Result<(), Served>
     requires whole { has_failed host.old ≡ false }
-    ensures acts { Acts K.written K.puts K.faults AreQuiet (Tells (refused number kind.Device))
+    ensures acts { Acts K.written K.puts K.faults (Both AreQuiet IsApart) (Tells (refused number kind.Device))
         result out.old out.new host.old host.new }
 {
     write_stock(&mut page.line, said);
@@ -225,7 +231,7 @@ fn refuse<K: Sink, D: Disk>(
     page: &mut Page,
 ) -> Result<(), Served>
     requires whole { has_failed host.old ≡ false }
-    ensures acts { Acts K.written K.puts K.faults AreQuiet (Tells (refused number kind))
+    ensures acts { Acts K.written K.puts K.faults (Both AreQuiet IsApart) (Tells (refused number kind))
         result out.old out.new host.old host.new }
 {
     by_writing(write_entry(out, &mut page.line, &Entry::Line { number, kind }))
@@ -245,7 +251,8 @@ fn obey<K: Sink, D: Disk, L: CountedLink, O: Outside>(
     requires whole { has_failed host.old ≡ false }
     requires sayable { IsSayable (Ok said.now) }
     ensures acts { Acts K.written K.puts K.faults
-        (UsesLink L.gives L.sent L.failures (setup_of host.old).devices roll.old roll.new link.old link.new)
+        (Both (UsesLink L.gives L.sent L.failures (setup_of host.old).devices roll.old roll.new link.old link.new)
+        (FollowsDesk result desk.old desk.new))
         (Finds roll.old.findings roll.new.findings (Does roll.old.findings said.now))
         result out.old out.new host.old host.new }
 {
@@ -277,7 +284,8 @@ fn decide<K: Sink, D: Disk, L: CountedLink>(
     requires whole { has_failed host.old ≡ false }
     requires told { IsCommand command.now }
     ensures acts { Acts K.written K.puts K.faults
-        (UsesLink L.gives L.sent L.failures (setup_of host.old).devices roll.old roll.new link.old link.new)
+        (Both (UsesLink L.gives L.sent L.failures (setup_of host.old).devices roll.old roll.new link.old link.new)
+        IsApart)
         (Finds roll.old.findings roll.new.findings (Decides roll.old.findings command.now))
         result out.old out.new host.old host.new }
     ensures asks { AsksAt L.gives (setup_of host.old).devices (asked_before command.now) roll.old link.old roll.new link.new }
@@ -299,7 +307,8 @@ fn next<K: Sink, D: Disk, L: CountedLink>(
     page: &mut Page,
 ) -> Result<(), Served>
     requires whole { has_failed host.old ≡ false }
-    ensures acts { Acts K.written K.puts K.faults (Exchanges L.gives L.sent L.failures link.old link.new)
+    ensures acts { Acts K.written K.puts K.faults (Both (Exchanges L.gives L.sent L.failures link.old link.new)
+        (FollowsDesk result desk.old desk.new))
         (IsAttempt addr) result out.old out.new host.old host.new }
 {
     page.rests.wake(addr);
@@ -316,7 +325,8 @@ fn do_job<K: Sink, D: Disk, L: CountedLink>(
     page: &mut Page,
 ) -> Result<(), Served>
     requires whole { has_failed host.old ≡ false }
-    ensures acts { Acts K.written K.puts K.faults (Exchanges L.gives L.sent L.failures link.old link.new)
+    ensures acts { Acts K.written K.puts K.faults (Both (Exchanges L.gives L.sent L.failures link.old link.new)
+        (FollowsDesk result desk.old desk.new))
         (MakesAttempts Until.Ended addr) result out.old out.new host.old host.new }
 {
     page.rests.wake(addr);

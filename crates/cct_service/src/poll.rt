@@ -1,6 +1,7 @@
 //! The line `poll`: all that is to be done for a while.
 ghost use Rattle.std.specs.Prelude.{◌≡◌, false};
 ghost use Rattle.cct_host.specs.Host.{has_failed, setup_of};
+ghost use Rattle.cct_service.specs.AtDesk.{Both, FollowsDesk, IsApart};
 ghost use Rattle.cct_service.specs.Doing.{Finds, IsPoll, IsVisit, MayServe, Then};
 ghost use Rattle.cct_service.specs.Linked.{Exchanges, UsesLink};
 ghost use Rattle.cct_service.specs.Parts.{Acts};
@@ -33,7 +34,8 @@ pub(crate) fn poll<K: Sink, D: Disk, L: CountedLink>(
 ) -> Result<(), Served>
     requires whole { has_failed host.old ≡ false }
     ensures acts { Acts K.written K.puts K.faults
-        (UsesLink L.gives L.sent L.failures (setup_of host.old).devices roll.old roll.new link.old link.new)
+        (Both (UsesLink L.gives L.sent L.failures (setup_of host.old).devices roll.old roll.new link.old link.new)
+        (FollowsDesk result desk.old desk.new))
         (Finds roll.old.findings roll.new.findings (Then (MayServe roll.old.findings) IsPoll))
         result out.old out.new host.old host.new }
 {
@@ -55,7 +57,8 @@ fn visit_all<K: Sink, D: Disk, L: CountedLink>(
 ) -> Result<(), Served>
     requires whole { has_failed host.old ≡ false }
     ensures acts { Acts K.written K.puts K.faults
-        (UsesLink L.gives L.sent L.failures (setup_of host.old).devices roll.old roll.new link.old link.new)
+        (Both (UsesLink L.gives L.sent L.failures (setup_of host.old).devices roll.old roll.new link.old link.new)
+        (FollowsDesk result desk.old desk.new))
         (Finds roll.old.findings roll.new.findings IsPoll) result out.old out.new host.old host.new }
 {
     match visit_sound(host, desk, link, out, page) {
@@ -74,7 +77,8 @@ fn visit_sound<K: Sink, D: Disk, L: CountedLink>(
     page: &mut Page,
 ) -> Result<(), Served>
     requires whole { has_failed host.old ≡ false }
-    ensures acts { Acts K.written K.puts K.faults (Exchanges L.gives L.sent L.failures link.old link.new)
+    ensures acts { Acts K.written K.puts K.faults (Both (Exchanges L.gives L.sent L.failures link.old link.new)
+        (FollowsDesk result desk.old desk.new))
         IsVisit result out.old out.new host.old host.new }
 {
     let first = page.rests.first();
@@ -103,7 +107,8 @@ fn visit_if_sound<K: Sink, D: Disk, L: CountedLink>(
     page: &mut Page,
 ) -> Result<(), Served>
     requires whole { has_failed host.old ≡ false }
-    ensures acts { Acts K.written K.puts K.faults (Exchanges L.gives L.sent L.failures link.old link.new)
+    ensures acts { Acts K.written K.puts K.faults (Both (Exchanges L.gives L.sent L.failures link.old link.new)
+        (FollowsDesk result desk.old desk.new))
         IsVisit result out.old out.new host.old host.new }
 {
     if page.rests.is_sound(addr) {
@@ -125,7 +130,8 @@ fn try_others<K: Sink, D: Disk, L: CountedLink>(
 ) -> Result<(), Served>
     requires whole { has_failed host.old ≡ false }
     ensures acts { Acts K.written K.puts K.faults
-        (UsesLink L.gives L.sent L.failures (setup_of host.old).devices roll.old roll.new link.old link.new)
+        (Both (UsesLink L.gives L.sent L.failures (setup_of host.old).devices roll.old roll.new link.old link.new)
+        (FollowsDesk result desk.old desk.new))
         (Finds roll.old.findings roll.new.findings IsPoll) result out.old out.new host.old host.new }
 {
     if page.rests.asks_first() {
@@ -146,7 +152,8 @@ fn ask_then_visit<K: Sink, D: Disk, L: CountedLink>(
 ) -> Result<(), Served>
     requires whole { has_failed host.old ≡ false }
     ensures acts { Acts K.written K.puts K.faults
-        (UsesLink L.gives L.sent L.failures (setup_of host.old).devices roll.old roll.new link.old link.new)
+        (Both (UsesLink L.gives L.sent L.failures (setup_of host.old).devices roll.old roll.new link.old link.new)
+        (FollowsDesk result desk.old desk.new))
         (Finds roll.old.findings roll.new.findings IsPoll) result out.old out.new host.old host.new }
 {
     match ask_if_unspent(host, roll, link, out, page) {
@@ -166,7 +173,8 @@ fn visit_then_ask<K: Sink, D: Disk, L: CountedLink>(
 ) -> Result<(), Served>
     requires whole { has_failed host.old ≡ false }
     ensures acts { Acts K.written K.puts K.faults
-        (UsesLink L.gives L.sent L.failures (setup_of host.old).devices roll.old roll.new link.old link.new)
+        (Both (UsesLink L.gives L.sent L.failures (setup_of host.old).devices roll.old roll.new link.old link.new)
+        (FollowsDesk result desk.old desk.new))
         (Finds roll.old.findings roll.new.findings IsPoll) result out.old out.new host.old host.new }
 {
     match visit_doubtful(host, desk, link, out, page) {
@@ -185,7 +193,8 @@ fn ask_if_unspent<K: Sink, D: Disk, L: CountedLink>(
 ) -> Result<(), Served>
     requires whole { has_failed host.old ≡ false }
     ensures acts { Acts K.written K.puts K.faults
-        (UsesLink L.gives L.sent L.failures (setup_of host.old).devices roll.old roll.new link.old link.new)
+        (Both (UsesLink L.gives L.sent L.failures (setup_of host.old).devices roll.old roll.new link.old link.new)
+        IsApart)
         (Finds roll.old.findings roll.new.findings IsPoll) result out.old out.new host.old host.new }
 {
     if page.rests.is_spent() {
@@ -204,7 +213,8 @@ fn visit_doubtful<K: Sink, D: Disk, L: CountedLink>(
     page: &mut Page,
 ) -> Result<(), Served>
     requires whole { has_failed host.old ≡ false }
-    ensures acts { Acts K.written K.puts K.faults (Exchanges L.gives L.sent L.failures link.old link.new)
+    ensures acts { Acts K.written K.puts K.faults (Both (Exchanges L.gives L.sent L.failures link.old link.new)
+        (FollowsDesk result desk.old desk.new))
         IsVisit result out.old out.new host.old host.new }
 {
     match next_doubtful(host, page) {

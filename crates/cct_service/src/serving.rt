@@ -5,6 +5,7 @@ ghost use Rattle.cct_edge.specs.Bytes.{Serves};
 ghost use Rattle.cct_edge.specs.Faults.{Rose};
 ghost use Rattle.cct_host.specs.Host.{disk_of, has_failed, setup_of};
 ghost use Rattle.cct_model.specs.Setup.{IsSoundSetup};
+ghost use Rattle.cct_service.specs.AtDesk.{Both, FollowsTo};
 ghost use Rattle.cct_service.specs.Causes.{DiskServes, IsDiskFault, IsUnread, IsUnwritten, SuitsDisk};
 ghost use Rattle.cct_service.specs.Doing.{PlaysLines, ServesLines};
 ghost use Rattle.cct_service.specs.Found.{Begun, was_found};
@@ -55,7 +56,8 @@ pub fn serve<S: Source, K: Sink, D: Disk, L: CountedLink, O: Outside>(
     // was, and else the numbers are those of the records that were found. What went over the link are the exchanges that were
     // told, and the questions of the roll, and nothing else.
     ensures lived { Closed K.written K.puts L.gives L.sent L.failures D.size D.honest D.seen D.may_leave D.moment
-        D.left_since D.cuts disk result.1 setup.now roll.old roll.new ends (S.left input.old) result.0 out.old out.new link.old link.new }
+        D.left_since D.cuts disk result.1 setup.now roll.old roll.new desk.old desk.new ends (S.left input.old) result.0 out.old
+        out.new link.old link.new }
 
     // Each end has its cause; the input's own are in the clause above.
     ensures read_cause { result.0 ≡ Served.Unread → Rose (S.faults input.old) (S.faults input.new) }
@@ -94,7 +96,8 @@ fn live<S: Source, K: Sink, D: Disk, L: CountedLink, O: Outside>(
 ) -> (Served, D)
     requires sound { IsSoundSetup setup.now }
     ensures lived { LivedOrNot K.written K.puts L.gives L.sent L.failures D.size D.honest D.seen D.may_leave D.moment
-        D.left_since D.cuts disk result.1 setup.now roll.old roll.new ends (S.left input.old) result.0 out.old out.new link.old link.new }
+        D.left_since D.cuts disk result.1 setup.now roll.old roll.new desk.old desk.new ends (S.left input.old) result.0 out.old
+        out.new link.old link.new }
     ensures suits { SuitsDisk D.size D.honest D.seen D.may_leave D.moment D.left_since D.cuts disk result.1 setup.now
         result.0 }
     ensures size { D.size disk ≢ files.MADE_LEN → result.0 ≡ Served.OtherSize (D.size disk) }
@@ -129,8 +132,9 @@ fn live_on<S: Source, K: Sink, D: Disk, L: CountedLink, O: Outside>(
     requires whole { has_failed host.old ≡ false }
     ensures setup { setup_of host.new ≡ setup_of host.old }
     ensures plays { (begun : Begun) → HasBegun host.old begun → was_there ≡ was_found begun → Plays K.written K.puts
-        (UsesLink L.gives L.sent L.failures (setup_of host.old).devices roll.old roll.new link.old link.new)
-        (ServesLines (opening_of (setup_of host.old) begun) roll.old.findings ends) (S.left input.old) result out.old out.new
+        (Both (UsesLink L.gives L.sent L.failures (setup_of host.old).devices roll.old roll.new link.old link.new)
+        (FollowsTo result desk.old desk.new))
+        (ServesLines (setup_of host.old).devices (opening_of (setup_of host.old) begun) roll.old.findings ends) (S.left input.old) result out.old out.new
         host.old host.new }
     ensures input { Serves S.left S.faults input.old input.new (IsUnread result) }
     ensures sink { Serves K.written K.faults out.old out.new (IsUnwritten result) }
@@ -162,8 +166,9 @@ fn open_and_play<S: Source, K: Sink, D: Disk, L: CountedLink, O: Outside>(
     ensures whole { IsOfInput result → has_failed host.new ≡ false }
     ensures setup { setup_of host.new ≡ setup_of host.old }
     ensures plays { (begun : Begun) → HasBegun host.old begun → was_there ≡ was_found begun → Plays K.written K.puts
-        (UsesLink L.gives L.sent L.failures (setup_of host.old).devices roll.old roll.new link.old link.new)
-        (PlaysLines (opening_of (setup_of host.old) begun) roll.old.findings) (S.left input.old) result out.old out.new
+        (Both (UsesLink L.gives L.sent L.failures (setup_of host.old).devices roll.old roll.new link.old link.new)
+        (FollowsTo result desk.old desk.new))
+        (PlaysLines (setup_of host.old).devices (opening_of (setup_of host.old) begun) roll.old.findings) (S.left input.old) result out.old out.new
         host.old host.new }
     ensures input { Serves S.left S.faults input.old input.new (IsUnread result) }
     ensures sink { Serves K.written K.faults out.old out.new (IsUnwritten result) }

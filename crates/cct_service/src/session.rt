@@ -11,13 +11,16 @@ ghost use Rattle.cct_model.specs.lines.command.Step.{Step};
 ghost use Rattle.cct_model.specs.lines.command.Step.TheVariants as step;
 ghost use Rattle.cct_model.specs.lines.command.TheConstants.{GREATEST_AMOUNT};
 ghost use Rattle.cct_model.specs.lines.entry.Entry.TheVariants as entry_of;
+ghost use Rattle.cct_model.specs.Change as change;
+ghost use Rattle.cct_model.specs.Change.{desk_after};
 ghost use Rattle.cct_model.specs.Legal.{command_entry};
 ghost use Rattle.cct_model.specs.Script.{IsCommand};
-ghost use Rattle.cct_change.specs.Serving.{change_told};
+ghost use Rattle.cct_change.specs.Serving.{Asks, ServesBy, change_told};
 ghost use Rattle.cct_survey.specs.declared.withholding.Withheld.{Withheld};
 ghost use Rattle.cct_survey.specs.Finding.{withheld_by};
 ghost use Rattle.cct_service.specs.declared.notice.Notice.TheVariants as notice_of;
-ghost use Rattle.cct_service.specs.Doing.{DecidesPay, DoesPay, Finds, Gives, IsServing, MayServe, TellsStep};
+ghost use Rattle.cct_service.specs.AtDesk.{Both, FollowsDesk, GivesAt};
+ghost use Rattle.cct_service.specs.Doing.{DecidesPay, DoesPay, Finds, IsServing, MayServe, TellsStep};
 ghost use Rattle.cct_service.specs.Linked.{AreQuiet, UsesLink};
 ghost use Rattle.cct_service.specs.Parts.{Acts, LifeGoes};
 ghost use Rattle.cct_service.specs.Session.{HasAsked};
@@ -48,7 +51,8 @@ pub(crate) fn count_stock<K: Sink, D: Disk>(
     page: &mut Page,
 ) -> Result<(), Served>
     requires whole { has_failed host.old ≡ false }
-    ensures acts { Acts K.written K.puts K.faults AreQuiet (TellsStep (step.Stock addr count))
+    ensures acts { Acts K.written K.puts K.faults (Both AreQuiet (FollowsDesk result desk.old desk.new))
+        (TellsStep (step.Stock addr count))
         result out.old out.new host.old host.new }
 {
     desk.stock(addr, count);
@@ -67,7 +71,8 @@ pub(crate) fn begin_session<K: Sink, D: Disk>(
     requires whole { has_failed host.old ≡ false }
     requires ids { 1 ≤ first }
     requires within { amount ≤ GREATEST_AMOUNT }
-    ensures acts { Acts K.written K.puts K.faults AreQuiet (TellsStep (step.Change first amount))
+    ensures acts { Acts K.written K.puts K.faults (Both AreQuiet (FollowsDesk result desk.old desk.new))
+        (TellsStep (step.Change first amount))
         result out.old out.new host.old host.new }
 {
     let began = desk.change(first, amount);
@@ -96,7 +101,8 @@ pub(crate) fn serve_session<K: Sink, D: Disk, L: CountedLink>(
 ) -> Result<(), Served>
     requires whole { has_failed host.old ≡ false }
     ensures acts { Acts K.written K.puts K.faults
-        (UsesLink L.gives L.sent L.failures (setup_of host.old).devices roll.old roll.new link.old link.new)
+        (Both (UsesLink L.gives L.sent L.failures (setup_of host.old).devices roll.old roll.new link.old link.new)
+        (FollowsDesk result desk.old desk.new))
         (Finds roll.old.findings roll.new.findings (IsServing roll.old.findings))
         result out.old out.new host.old host.new }
 {
@@ -115,7 +121,8 @@ pub(crate) fn go_on_with_session<K: Sink, D: Disk, L: CountedLink>(
 ) -> Result<(), Served>
     requires whole { has_failed host.old ≡ false }
     ensures acts { Acts K.written K.puts K.faults
-        (UsesLink L.gives L.sent L.failures (setup_of host.old).devices roll.old roll.new link.old link.new)
+        (Both (UsesLink L.gives L.sent L.failures (setup_of host.old).devices roll.old roll.new link.old link.new)
+        (FollowsDesk result desk.old desk.new))
         (Finds roll.old.findings roll.new.findings (MayServe roll.old.findings))
         result out.old out.new host.old host.new }
 {
@@ -144,8 +151,9 @@ fn act_on<K: Sink, D: Disk, L: CountedLink>(
 ) -> Result<(), Served>
     requires whole { has_failed host.old ≡ false }
     requires asked { HasAsked serving desk.old }
-    ensures acts { Acts K.written K.puts K.faults
-        (UsesLink L.gives L.sent L.failures (setup_of host.old).devices roll.old roll.new link.old link.new)
+    ensures acts { (old : change.Desk) → ServesBy serving old desk.old → Acts K.written K.puts K.faults
+        (Both (UsesLink L.gives L.sent L.failures (setup_of host.old).devices roll.old roll.new link.old link.new)
+        (FollowsDesk result old desk.new))
         (Finds roll.old.findings roll.new.findings (IsServing roll.old.findings))
         result out.old out.new host.old host.new }
 {
@@ -167,8 +175,8 @@ fn tell_desk<K: Sink, D: Disk>(
     page: &mut Page,
 ) -> Result<(), Served>
     requires whole { has_failed host.old ≡ false }
-    ensures acts { (s : Step) → Gives s entry.now → Acts K.written K.puts K.faults AreQuiet (TellsStep s)
-        result out.old out.new host.old host.new }
+    ensures acts { (s : Step) (old new : change.Desk) → GivesAt old s entry.now → new ≡ desk_after s (entry.now ∷ []) old → Acts K.written K.puts K.faults
+        (Both AreQuiet (FollowsDesk result old new)) (TellsStep s) result out.old out.new host.old host.new }
 {
     by_writing(write_entry(out, &mut page.line, entry))
 }
@@ -186,8 +194,9 @@ fn pay<K: Sink, D: Disk, L: CountedLink>(
     requires whole { has_failed host.old ≡ false }
     requires payable { IsCommand (pay_of payment) }
     requires waits { option_map (λ s. s.next) desk.old.session ≡ Some payment.id }
-    ensures acts { Acts K.written K.puts K.faults
-        (UsesLink L.gives L.sent L.failures (setup_of host.old).devices roll.old roll.new link.old link.new)
+    ensures acts { (old : change.Desk) → Asks old desk.old payment → Acts K.written K.puts K.faults
+        (Both (UsesLink L.gives L.sent L.failures (setup_of host.old).devices roll.old roll.new link.old link.new)
+        (FollowsDesk result old desk.new))
         (Finds roll.old.findings roll.new.findings (DecidesPay roll.old.findings payment))
         result out.old out.new host.old host.new }
 {
@@ -221,8 +230,8 @@ fn give_or_withhold<K: Sink, D: Disk>(
     requires whole { has_failed host.old ≡ false }
     requires payable { IsCommand (pay_of payment) }
     requires waits { option_map (λ s. s.next) desk.old.session ≡ Some payment.id }
-    ensures acts { Acts K.written K.puts K.faults AreQuiet (DoesPay payment (withheld_by findings.now (pay_of payment)))
-        result out.old out.new host.old host.new }
+    ensures acts { (old : change.Desk) → Asks old desk.old payment → Acts K.written K.puts K.faults
+        (Both AreQuiet (FollowsDesk result old desk.new)) (DoesPay payment (withheld_by findings.now (pay_of payment))) result out.old out.new host.old host.new }
 {
     match withheld_by(findings, &command_of(payment)) {
         None => give(host, desk, payment, out, page),
@@ -241,7 +250,8 @@ fn give<K: Sink, D: Disk>(
     requires whole { has_failed host.old ≡ false }
     requires payable { IsCommand (pay_of payment) }
     requires waits { option_map (λ s. s.next) desk.old.session ≡ Some payment.id }
-    ensures acts { Acts K.written K.puts K.faults AreQuiet (DoesPay payment None)
+    ensures acts { (old : change.Desk) → Asks old desk.old payment → Acts K.written K.puts K.faults
+        (Both AreQuiet (FollowsDesk result old desk.new)) (DoesPay payment None)
         result out.old out.new host.old host.new }
 {
     page.report.clear();
@@ -308,7 +318,8 @@ fn withhold<K: Sink, D: Disk>(
     requires whole { has_failed host.old ≡ false }
     requires payable { IsCommand (pay_of payment) }
     requires waits { option_map (λ s. s.next) desk.old.session ≡ Some payment.id }
-    ensures acts { Acts K.written K.puts K.faults AreQuiet (DoesPay payment (Some why))
+    ensures acts { (old : change.Desk) → Asks old desk.old payment → Acts K.written K.puts K.faults
+        (Both AreQuiet (FollowsDesk result old desk.new)) (DoesPay payment (Some why))
         result out.old out.new host.old host.new }
 {
     let shortfall = desk.refused();

@@ -1,6 +1,7 @@
 //! The acceptors that run are stopped at the end.
 ghost use Rattle.std.specs.Prelude.{◌≡◌, false};
 ghost use Rattle.cct_host.specs.Host.{has_failed};
+ghost use Rattle.cct_service.specs.AtDesk.{Both, FollowsDesk};
 ghost use Rattle.cct_service.specs.Doing.{IsStopping, StopsBy};
 ghost use Rattle.cct_service.specs.Linked.{Exchanges};
 ghost use Rattle.cct_service.specs.Parts.{Acts};
@@ -37,7 +38,8 @@ pub(crate) fn stop_at_end<K: Sink, D: Disk, L: CountedLink>(
     page: &mut Page,
 ) -> Result<(), Served>
     requires whole { has_failed host.old ≡ false }
-    ensures acts { Acts K.written K.puts K.faults (Exchanges L.gives L.sent L.failures link.old link.new)
+    ensures acts { Acts K.written K.puts K.faults (Both (Exchanges L.gives L.sent L.failures link.old link.new)
+        (FollowsDesk result desk.old desk.new))
         (StopsBy ends) result out.old out.new host.old host.new }
 {
     match ends {
@@ -55,7 +57,8 @@ fn stop_all<K: Sink, D: Disk, L: CountedLink>(
     page: &mut Page,
 ) -> Result<(), Served>
     requires whole { has_failed host.old ≡ false }
-    ensures acts { Acts K.written K.puts K.faults (Exchanges L.gives L.sent L.failures link.old link.new)
+    ensures acts { Acts K.written K.puts K.faults (Both (Exchanges L.gives L.sent L.failures link.old link.new)
+        (FollowsDesk result desk.old desk.new))
         IsStopping result out.old out.new host.old host.new }
 {
     for addr in 0..=u8::MAX {
@@ -77,7 +80,8 @@ fn stop_if_running<K: Sink, D: Disk, L: CountedLink>(
     page: &mut Page,
 ) -> Result<(), Served>
     requires whole { has_failed host.old ≡ false }
-    ensures acts { Acts K.written K.puts K.faults (Exchanges L.gives L.sent L.failures link.old link.new)
+    ensures acts { Acts K.written K.puts K.faults (Both (Exchanges L.gives L.sent L.failures link.old link.new)
+        (FollowsDesk result desk.old desk.new))
         IsStopping result out.old out.new host.old host.new }
 {
     if runs(host.epoch_at(addr)) {
@@ -97,7 +101,8 @@ fn stop<K: Sink, D: Disk, L: CountedLink>(
     page: &mut Page,
 ) -> Result<(), Served>
     requires whole { has_failed host.old ≡ false }
-    ensures acts { Acts K.written K.puts K.faults (Exchanges L.gives L.sent L.failures link.old link.new)
+    ensures acts { Acts K.written K.puts K.faults (Both (Exchanges L.gives L.sent L.failures link.old link.new)
+        (FollowsDesk result desk.old desk.new))
         IsStopping result out.old out.new host.old host.new }
 {
     page.report.clear();
@@ -141,7 +146,8 @@ fn stop_idle<K: Sink, D: Disk, L: CountedLink>(
     page: &mut Page,
 ) -> Result<(), Served>
     requires whole { has_failed host.old ≡ false }
-    ensures acts { Acts K.written K.puts K.faults (Exchanges L.gives L.sent L.failures link.old link.new)
+    ensures acts { Acts K.written K.puts K.faults (Both (Exchanges L.gives L.sent L.failures link.old link.new)
+        (FollowsDesk result desk.old desk.new))
         IsStopping result out.old out.new host.old host.new }
 {
     match answer(host, &Command::Stop { addr }, out, page) {

@@ -1,6 +1,7 @@
 //! What a poll does at one device.
 ghost use Rattle.std.specs.Prelude.{◌≡◌, false};
 ghost use Rattle.cct_host.specs.Host.{has_failed};
+ghost use Rattle.cct_service.specs.AtDesk.{Both, FollowsDesk, IsApart};
 ghost use Rattle.cct_service.specs.Doing.{IsVisit};
 ghost use Rattle.cct_service.specs.Linked.{AreQuiet, Exchanges};
 ghost use Rattle.cct_service.specs.Parts.{Acts};
@@ -61,7 +62,8 @@ pub(crate) fn visit<K: Sink, D: Disk, L: CountedLink>(
     page: &mut Page,
 ) -> Result<(), Served>
     requires whole { has_failed host.old ≡ false }
-    ensures acts { Acts K.written K.puts K.faults (Exchanges L.gives L.sent L.failures link.old link.new)
+    ensures acts { Acts K.written K.puts K.faults (Both (Exchanges L.gives L.sent L.failures link.old link.new)
+        (FollowsDesk result desk.old desk.new))
         IsVisit result out.old out.new host.old host.new }
 {
     match task_at(host, addr) {
@@ -82,7 +84,8 @@ fn read_out<K: Sink, D: Disk, L: CountedLink>(
     page: &mut Page,
 ) -> Result<(), Served>
     requires whole { has_failed host.old ≡ false }
-    ensures acts { Acts K.written K.puts K.faults (Exchanges L.gives L.sent L.failures link.old link.new)
+    ensures acts { Acts K.written K.puts K.faults (Both (Exchanges L.gives L.sent L.failures link.old link.new)
+        (FollowsDesk result desk.old desk.new))
         IsVisit result out.old out.new host.old host.new }
 {
     for _round in 0..MOST_ROUNDS {
@@ -123,7 +126,8 @@ fn round<K: Sink, D: Disk, L: CountedLink>(
     page: &mut Page,
 ) -> Result<(), Served>
     requires whole { has_failed host.old ≡ false }
-    ensures acts { Acts K.written K.puts K.faults (Exchanges L.gives L.sent L.failures link.old link.new)
+    ensures acts { Acts K.written K.puts K.faults (Both (Exchanges L.gives L.sent L.failures link.old link.new)
+        (FollowsDesk result desk.old desk.new))
         IsVisit result out.old out.new host.old host.new }
 {
     match begin_round(host, addr, out, page) {
@@ -140,7 +144,7 @@ fn begin_round<K: Sink, D: Disk>(
     page: &mut Page,
 ) -> Result<(), Served>
     requires whole { has_failed host.old ≡ false }
-    ensures acts { Acts K.written K.puts K.faults AreQuiet IsVisit result out.old out.new host.old host.new }
+    ensures acts { Acts K.written K.puts K.faults (Both AreQuiet IsApart) IsVisit result out.old out.new host.old host.new }
 {
     if host.command_at(addr).is_none() {
         answer(host, &Command::Round { addr }, out, page)

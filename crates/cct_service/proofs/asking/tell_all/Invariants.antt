@@ -1,4 +1,5 @@
 use Rattle.std.proofs.Common.{Ok, take}
+use Rattle.cct_service.specs.AtDesk.{Both, IsApart}
 use Rattle.cct_service.specs.Doing.{IsFound}
 use Rattle.cct_service.specs.Linked.{AreQuiet}
 use Rattle.cct_service.specs.Parts.{Acts}
@@ -8,4 +9,4 @@ use Rattle.cct_service.proofs.asking.tell_all.Given as goal
 abbrev pub invariant-loop-found : goal.invariant-loop-found
 invariant-loop-found g l =
     let sink = g.K.Sink in
-    Acts sink.written sink.puts sink.faults AreQuiet (IsFound (take l.found-index l.findings)) (Ok tt) l.fn.out l.out l.fn.host l.host
+    Acts sink.written sink.puts sink.faults (Both AreQuiet IsApart) (IsFound (take l.found-index l.findings)) (Ok tt) l.fn.out l.out l.fn.host l.host

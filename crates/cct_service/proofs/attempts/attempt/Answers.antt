@@ -1,9 +1,14 @@
-use Rattle.std.proofs.Common.{◌++◌, refl, sym, subst}
+use Rattle.std.proofs.Common.{◌++◌, ◌∙◌, Err, ap, refl, reverse, sym, subst}
+use Rattle.std.specs.Option.{option_map}
 use Rattle.cct_lives.specs.LiveStep as live
+use Rattle.cct_model.specs.Change.{Desk, session_after}
+use Rattle.cct_service.specs.declared.served.Served.TheVariants.{Disk}
+use Rattle.cct_service.specs.AtDesk.{Both, FollowsDesk}
 use Rattle.cct_service.specs.Doing.{IsAttemptWith}
 use Rattle.cct_service.specs.Linked.{Exchanges}
 use Rattle.cct_service.specs.Parts.{Acts}
 use Rattle.cct_service.specs.Told.{WritesTold, attempt_told, notices_told}
+use Rattle.cct_service.proofs.Desks.{attempt_at_desk, follows}
 use Rattle.cct_service.proofs.Doings.{attempt_broken}
 use Rattle.cct_service.proofs.Linking.{attempt_linked}
 use Rattle.cct_service.proofs.Parts.{acts_broke, acts_step, next_goes}
@@ -28,7 +33,12 @@ returns-in-Ok g c =
     let notices = writes.0 in
     let does = IsAttemptWith is_sent reported c.args.addr in
     let nexts = c.in-Ok.ensures.nexts in
-    let linked = Exchanges gives link.sent link.failures line next in
+    let was = c.args.desk.now in
+    let desk = c.see.new.self in
+    let sees = c.see.ensures
+    ∙ ap {B = Desk} (λ es. record { session = option_map (session_after (reverse es)) was.session; trays = was.trays })
+    c.as_slice.ensures.value in
+    let linked = Both (Exchanges gives link.sent link.failures line next) (FollowsDesk c.by_writing.result was desk) in
     let wrote = subst (λ b. WritesTold sink.written sink.puts out (attempt_told b reported ++ notices_told notices)
     c.write_attempt.result told) gone.0 writes.2 in
     record {
@@ -36,9 +46,12 @@ returns-in-Ok g c =
           c.by_writing.result out told host after) (sym c.write_attempt.ensures.report)
           (subst (λ r. Acts sink.written sink.puts sink.faults linked does r out told host after) (sym c.by_writing.ensures)
           (acts_step sink.written sink.puts sink.faults linked c.write_attempt.result out told host after
-          (live.next c.args.addr) (attempt_told is_sent reported ++ notices_told notices)
-          (attempt_linked gives link.sent link.failures g.met.L.CountedLink.unsent line next c.args.addr nexts.what reported
-          is_sent went.has_failed notices nexts.link nexts.reported_is refl gone.1 writes.1)
+          (live.next c.args.addr) (attempt_told is_sent reported ++ notices_told notices) (
+            attempt_linked gives link.sent link.failures g.met.L.CountedLink.unsent line next c.args.addr nexts.what reported
+                is_sent went.has_failed notices nexts.link nexts.reported_is refl gone.1 writes.1,
+            follows c.by_writing.result was desk (attempt_told is_sent reported ++ notices_told notices)
+                (attempt_at_desk was desk c.args.addr nexts.what reported is_sent notices nexts.reported_is sees),
+          )
           does wrote
           (next_goes gives g.met.L.CountedLink.few line next c.args.addr host after reported is_sent went.has_failed notices writes.1
           c.in-Ok.ensures.setup c.in-Ok.ensures.goes_on nexts)
@@ -58,7 +71,8 @@ returns-in-Err g c =
     let entries = c.make.new.page.report.items in
     record {
       acts = acts_broke sink.written sink.puts sink.faults
-          (Exchanges g.L.Link.gives link.sent link.failures c.args.link.now c.make.new.link) c.in-Err.ensures.link
+          (Both (Exchanges g.L.Link.gives link.sent link.failures c.args.link.now c.make.new.link)
+          (FollowsDesk (Err Disk) c.args.desk.now c.args.desk.now)) (c.in-Err.ensures.link, (c.args.desk.now, refl))
           c.args.out.now c.args.host.now c.make.new.host c.args.addr (IsAttemptWith is_sent entries c.args.addr)
           c.in-Err.ensures.setup c.in-Err.ensures.fails c.in-Err.ensures.between
           (record {

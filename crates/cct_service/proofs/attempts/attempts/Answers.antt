@@ -9,7 +9,7 @@ pub loop-made-init : goal.loop-made-init
 loop-made-init g c =
     let sink = g.K.Sink in
     let link = g.L.CountedLink in
-    link_none sink.written sink.puts sink.faults g.L.Link.gives link.sent link.failures c.args.link.now c.args.out.now
+    link_none sink.written sink.puts sink.faults g.L.Link.gives link.sent link.failures c.args.link.now c.args.desk.now c.args.out.now
     c.args.host.now (Times 0 (GoesOn c.args.addr)) c.requires.whole (refl, refl)
 
 pub returns-in-Err : goal.returns-in-Err
@@ -26,7 +26,7 @@ returns-in-Err g c =
           c.attempt.new.host (OneMore made addr) (MakesAttempts until addr)
           (attempts_broken until addr made (omega (arith, c.loop-made-test.true)))
           (link_then sink.written sink.puts sink.faults g.L.Link.gives link.sent link.failures c.args.link.now c.loop-made.link
-          c.attempt.new.link (Err c.in-Err.how) c.args.out.now c.loop-made.out c.attempt.new.out c.args.host.now
+          c.attempt.new.link c.args.desk.now c.loop-made.desk c.attempt.new.desk (Err c.in-Err.how) c.args.out.now c.loop-made.out c.attempt.new.out c.args.host.now
           c.loop-made.host c.attempt.new.host (Times made (GoesOn addr)) (IsAttemptWith sent entries addr)
           (OneMore made addr) (one_more_made made addr sent entries) c.loop-made.invariant c.in-Err.ensures.acts);
     }
@@ -40,7 +40,7 @@ loop-made-preserved g c =
     let sent = link.sent c.attempt.new.link in
     let entries = c.attempt.new.page.report.items in
     link_then sink.written sink.puts sink.faults g.L.Link.gives link.sent link.failures c.args.link.now c.loop-made.link
-    c.attempt.new.link (Ok tt) c.args.out.now c.loop-made.out c.attempt.new.out c.args.host.now
+    c.attempt.new.link c.args.desk.now c.loop-made.desk c.attempt.new.desk (Ok tt) c.args.out.now c.loop-made.out c.attempt.new.out c.args.host.now
     c.loop-made.host c.attempt.new.host (Times made (GoesOn addr)) (IsAttemptWith sent entries addr)
     (Times (made + 1) (GoesOn addr)) (goes_on_one addr made sent entries (c.is_over.ensures.goes_on c.if-is_over.false))
     c.loop-made.invariant c.in-Ok.ensures.acts
@@ -56,7 +56,7 @@ returns-then-is_over g c =
     let entries = c.attempt.new.page.report.items in
     record {
       acts = link_then sink.written sink.puts sink.faults g.L.Link.gives link.sent link.failures c.args.link.now c.loop-made.link
-          c.attempt.new.link (Ok tt) c.args.out.now c.loop-made.out c.attempt.new.out
+          c.attempt.new.link c.args.desk.now c.loop-made.desk c.attempt.new.desk (Ok tt) c.args.out.now c.loop-made.out c.attempt.new.out
           c.args.host.now c.loop-made.host c.attempt.new.host (Times made (GoesOn addr)) (IsAttemptWith sent entries addr)
           (MakesAttempts until addr)
           (last_made until addr made sent entries (omega (arith, c.loop-made-test.true))

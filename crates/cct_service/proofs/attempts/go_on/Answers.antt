@@ -22,6 +22,6 @@ returns-else-is_some g c =
     let link = g.L.CountedLink in
     let addr = c.args.addr in
     record {
-      acts = link_none sink.written sink.puts sink.faults g.L.Link.gives link.sent link.failures c.args.link.now c.args.out.now c.args.host.now (AreAttempts addr MOST_ATTEMPTS)
+      acts = link_none sink.written sink.puts sink.faults g.L.Link.gives link.sent link.failures c.args.link.now c.args.desk.now c.args.out.now c.args.host.now (AreAttempts addr MOST_ATTEMPTS)
           c.requires.whole (none_made addr);
     }

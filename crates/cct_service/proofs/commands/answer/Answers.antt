@@ -1,6 +1,7 @@
 use Rattle.std.proofs.Common.{◌∷◌, ◌++◌, [], ◌∙◌, ap, refl, sym, subst}
 use Rattle.cct_host.specs.Host.{disk_of}
 use Rattle.cct_lives.specs.LiveStep as live
+use Rattle.cct_service.specs.AtDesk.{Both, IsApart}
 use Rattle.cct_service.specs.Doing.{TellsOne}
 use Rattle.cct_service.specs.Linked.{AreQuiet}
 use Rattle.cct_service.specs.Parts.{Acts}
@@ -18,9 +19,9 @@ returns g c =
     let does = TellsOne (live.command c.args.command.now) in
     let alone = c.push.ensures.items ∙ ap (λ es. es ++ told ∷ []) c.clear.ensures in
     record {
-      acts = subst (λ r. Acts sink.written sink.puts sink.faults AreQuiet does r c.args.out.now c.write_report.new.out host after)
+      acts = subst (λ r. Acts sink.written sink.puts sink.faults (Both AreQuiet IsApart) does r c.args.out.now c.write_report.new.out host after)
           (sym c.by_writing.ensures)
-          (acts_step sink.written sink.puts sink.faults AreQuiet c.write_report.result c.args.out.now c.write_report.new.out host
+          (acts_step sink.written sink.puts sink.faults (Both AreQuiet IsApart) c.write_report.result c.args.out.now c.write_report.new.out host
           after (live.command c.args.command.now) (as_told (told ∷ [])) c.answer_of.ensures.quiet
           does
           (subst (λ es. WritesTold sink.written sink.puts c.args.out.now (as_told es) c.write_report.result c.write_report.new.out)

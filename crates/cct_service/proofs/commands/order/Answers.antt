@@ -1,5 +1,6 @@
 use Rattle.std.proofs.Common.{◌∷◌, [], refl, sym, subst}
 use Rattle.cct_service.specs.declared.notice.Notice.TheVariants as notice_of
+use Rattle.cct_service.specs.AtDesk.{Both, IsApart}
 use Rattle.cct_service.specs.Doing.{IsOrder}
 use Rattle.cct_service.specs.Linked.{AreQuiet}
 use Rattle.cct_service.specs.Parts.{Acts}
@@ -16,9 +17,10 @@ returns g c =
     let known = c.order_told-told.result in
     let what = notice (notice_of.Order c.args.id known) in
     record {
-      acts = subst (λ r. Acts sink.written sink.puts sink.faults AreQuiet (IsOrder c.args.id) r out c.tell.new.out host host)
+      acts = subst (λ r. Acts sink.written sink.puts sink.faults (Both AreQuiet IsApart) (IsOrder c.args.id) r out c.tell.new.out host host)
           (sym c.by_writing.ensures)
-          (acts_told sink.written sink.puts sink.faults AreQuiet c.tell.result out c.tell.new.out host (what ∷ []) refl
+          (acts_told sink.written sink.puts sink.faults (Both AreQuiet IsApart) c.tell.result out c.tell.new.out host (what ∷ [])
+          (refl, λ desk. refl)
           (IsOrder c.args.id)
           refl (λ past keeps. (tt, tt)) (told_one sink.written sink.puts out c.tell.new.out what c.tell.result c.tell.ensures.puts) c.requires.whole
           c.tell.ensures.serves (refl, (known, refl)));

@@ -2,14 +2,15 @@ use Rattle.std.proofs.Common.{◌≡◌, ◌∷◌, [], Ok, Err, refl, inr, sym,
 use Rattle.cct_host.specs.Host.{disk_of, setup_of}
 use Rattle.cct_script.specs.Endless.{held_of}
 use Rattle.cct_service.specs.Causes.{IsDiskFault, IsUnread, IsUnwritten}
+use Rattle.cct_service.specs.AtDesk.{Both, FollowsDesk}
 use Rattle.cct_service.specs.Doing.{DoesLine, DoesLines, Finds}
 use Rattle.cct_service.specs.Linked.{UsesLink}
 use Rattle.cct_service.specs.Said.{HasSaid}
 use Rattle.cct_service.proofs.Causing.{input_no_fault, input_not_unwritten, unread_of_input}
 use Rattle.cct_service.proofs.Doings.{next_number}
 use Rattle.cct_service.proofs.Found.{lines_none, lines_then}
-use Rattle.cct_service.proofs.Linking.{roll_none, roll_then}
-use Rattle.cct_service.proofs.Parts.{acts_weaker, breaks, disk_weaker, ends_to, lives_weaker, serves_none, serves_then, serves_weaker, stops_to}
+use Rattle.cct_service.proofs.Linking.{lives_end, lives_stop, roll_desk, roll_none}
+use Rattle.cct_service.proofs.Parts.{acts_weaker, breaks, disk_weaker, lives_weaker, serves_none, serves_then, serves_weaker}
 use Rattle.cct_service.proofs.Saying.{said_all, said_broken, said_many, said_more, said_none}
 use Rattle.cct_service.proofs.play.play.Goals as goal
 
@@ -20,12 +21,13 @@ loop-number-init g c =
     let link = g.L.CountedLink in
     let left = source.left c.args.input.now in
     let first = c.args.roll.now.findings in
+    let devices = (setup_of c.args.host.now).devices in
     record {
       said = [];
       count = refl;
       acts = roll_none sink.written sink.puts sink.faults g.L.Link.gives link.sent link.failures
-          (setup_of c.args.host.now).devices c.args.roll.now c.args.link.now c.args.out.now c.args.host.now
-          (Finds first first (DoesLines first [])) c.requires.whole (lines_none first);
+          devices c.args.roll.now c.args.link.now (FollowsDesk (Ok tt) c.args.desk.now c.args.desk.now) refl c.args.out.now
+          c.args.host.now (Finds first first (DoesLines devices first [])) c.requires.whole (lines_none devices first);
       says = subst (λ held. HasSaid left [] held left) (sym c.new-lines.ensures) (said_none left);
       serves = serves_none source.left source.faults c.args.input.now ⊥ (λ fails. fails);
     }
@@ -39,18 +41,20 @@ returns-in-Err g c =
     let before = c.loop-number.invariant in
     let how = c.in-Err.how in
     let ends = c.in-Err.ensures.ends in
-    let uses = UsesLink g.L.Link.gives link.sent link.failures (setup_of c.args.host.now).devices c.args.roll.now
-    c.loop-number.roll c.args.link.now c.loop-number.link in
     let first = c.args.roll.now.findings in
-    let does = DoesLines first before.said in
+    let devices = (setup_of c.args.host.now).devices in
+    let uses = UsesLink g.L.Link.gives link.sent link.failures devices c.args.roll.now c.loop-number.roll c.args.link.now
+    c.loop-number.link in
+    let does = DoesLines devices first before.said in
     record {
       whole = λ is. before.acts.whole;
       setup = before.acts.setup;
       plays = record {
         lines = before.said;
-        lives = stops_to sink.written sink.puts
-            uses how does c.args.out.now c.loop-number.out c.args.host.now c.loop-number.host
-            ends (lives_weaker sink.written sink.puts uses (Ok tt) c.args.out.now c.loop-number.out c.args.host.now
+        lives = lives_stop sink.written sink.puts uses how c.args.desk.now c.loop-number.desk does c.args.out.now
+            c.loop-number.out c.args.host.now c.loop-number.host ends
+            (lives_weaker sink.written sink.puts (Both uses (FollowsDesk (Ok tt) c.args.desk.now c.loop-number.desk)) (Ok tt)
+            c.args.out.now c.loop-number.out c.args.host.now
             c.loop-number.host (Finds first c.loop-number.roll.findings does) does (λ s t h. h.0) before.acts.lives);
         says = said_all c.loop-number.number how (source.left c.args.input.now) (source.left c.loop-number.input)
             (source.left c.next_line.new.input) (held_of c.loop-number.lines) (held_of c.next_line.new.lines) before.said
@@ -73,29 +77,35 @@ returns-in-Err-take_line g c =
     let how = c.in-Err-take_line.how in
     let line = c.in-Ok.line in
     let first = c.args.roll.now.findings in
+    let devices = (setup_of c.args.host.now).devices in
     let known = c.loop-number.roll.findings in
     let now = c.take_line.new.roll.findings in
     let number = c.loop-number.number in
     let left = source.left c.args.input.now in
     let out = c.args.out.now in
     let host = c.args.host.now in
-    let does = DoesLines first (line ∷ before.said) in
-    let uses = UsesLink g.L.Link.gives link.sent link.failures (setup_of host).devices c.args.roll.now
-    c.take_line.new.roll c.args.link.now c.take_line.new.link in
+    let does = DoesLines devices first (line ∷ before.said) in
+    let was = c.args.desk.now in
+    let desk = c.take_line.new.desk in
+    let uses = UsesLink g.L.Link.gives link.sent link.failures devices c.args.roll.now c.take_line.new.roll c.args.link.now
+    c.take_line.new.link in
+    let follows = Both uses (FollowsDesk (Err how) was desk) in
     let acts = acts_weaker sink.written sink.puts sink.faults (Err how) out c.take_line.new.out host c.take_line.new.host
     (Finds first now does) does (λ s t h. h.0)
-    (roll_then sink.written sink.puts sink.faults g.L.Link.gives link.sent link.failures c.args.roll.now c.loop-number.roll
-    c.take_line.new.roll c.args.link.now c.loop-number.link c.take_line.new.link (Err how) out c.loop-number.out c.take_line.new.out host
-    c.loop-number.host c.take_line.new.host (Finds first known (DoesLines first before.said))
-    (Finds known now (DoesLine known number line)) (Finds first now does)
-    (lines_then first known now before.said number line before.count) before.acts c.in-Err-take_line.ensures.acts) in
-    let other = breaks sink.written sink.puts uses how does out c.take_line.new.out host c.take_line.new.host acts.lives in
+    (roll_desk sink.written sink.puts sink.faults g.L.Link.gives link.sent link.failures c.args.roll.now c.loop-number.roll
+    c.take_line.new.roll c.args.link.now c.loop-number.link c.take_line.new.link was c.loop-number.desk desk (Err how) out
+    c.loop-number.out c.take_line.new.out host
+    c.loop-number.host c.take_line.new.host (Finds first known (DoesLines devices first before.said))
+    (Finds known now (DoesLine (setup_of c.loop-number.host).devices known number line)) (Finds first now does)
+    (lines_then (setup_of host) (setup_of c.loop-number.host) before.acts.setup first known now before.said number line
+    before.count) before.acts c.in-Err-take_line.ensures.acts) in
+    let other = breaks sink.written sink.puts follows how does out c.take_line.new.out host c.take_line.new.host acts.lives in
     record {
       whole = λ is. absurd (other is);
       setup = acts.setup;
       plays = record {
         lines = line ∷ before.said;
-        lives = ends_to sink.written sink.puts uses how does out c.take_line.new.out host c.take_line.new.host acts.lives;
+        lives = lives_end sink.written sink.puts uses how was desk does out c.take_line.new.out host c.take_line.new.host acts.lives;
         says = said_broken how left (source.left c.next_line.new.input) (held_of c.next_line.new.lines)
             (line ∷ before.said) other
             (said_more number left (source.left c.loop-number.input) (source.left c.next_line.new.input)
@@ -115,6 +125,7 @@ loop-number-preserved g c =
     let before = c.loop-number.invariant in
     let line = c.in-Ok.line in
     let first = c.args.roll.now.findings in
+    let devices = (setup_of c.args.host.now).devices in
     let known = c.loop-number.roll.findings in
     let now = c.take_line.new.roll.findings in
     let number = c.loop-number.number in
@@ -122,11 +133,14 @@ loop-number-preserved g c =
     record {
       said = line ∷ before.said;
       count = next_number (length before.said) number before.count;
-      acts = roll_then sink.written sink.puts sink.faults g.L.Link.gives link.sent link.failures c.args.roll.now c.loop-number.roll
-          c.take_line.new.roll c.args.link.now c.loop-number.link c.take_line.new.link (Ok tt) c.args.out.now c.loop-number.out c.take_line.new.out
-          c.args.host.now c.loop-number.host c.take_line.new.host (Finds first known (DoesLines first before.said))
-          (Finds known now (DoesLine known number line)) (Finds first now (DoesLines first (line ∷ before.said)))
-          (lines_then first known now before.said number line before.count) before.acts c.in-Ok-take_line.ensures.acts;
+      acts = roll_desk sink.written sink.puts sink.faults g.L.Link.gives link.sent link.failures c.args.roll.now c.loop-number.roll
+          c.take_line.new.roll c.args.link.now c.loop-number.link c.take_line.new.link c.args.desk.now c.loop-number.desk
+          c.take_line.new.desk (Ok tt) c.args.out.now c.loop-number.out c.take_line.new.out
+          c.args.host.now c.loop-number.host c.take_line.new.host (Finds first known (DoesLines devices first before.said))
+          (Finds known now (DoesLine (setup_of c.loop-number.host).devices known number line))
+          (Finds first now (DoesLines devices first (line ∷ before.said)))
+          (lines_then (setup_of c.args.host.now) (setup_of c.loop-number.host) before.acts.setup first known now before.said
+          number line before.count) before.acts c.in-Ok-take_line.ensures.acts;
       says = said_more number left (source.left c.loop-number.input) (source.left c.next_line.new.input)
           (held_of c.loop-number.lines) (held_of c.next_line.new.lines) before.said line before.says c.in-Ok.ensures.comes;
       serves = serves_then source.left source.faults c.args.input.now c.loop-number.input c.next_line.new.input ⊥ ⊥
@@ -140,11 +154,12 @@ returns g c =
     let link = g.L.CountedLink in
     let disk = g.D.Disk in
     let before = c.loop-number.invariant in
-    let uses = UsesLink g.L.Link.gives link.sent link.failures (setup_of c.args.host.now).devices c.args.roll.now
-    c.loop-number.roll c.args.link.now c.loop-number.link in
+    let uses = Both (UsesLink g.L.Link.gives link.sent link.failures (setup_of c.args.host.now).devices c.args.roll.now
+    c.loop-number.roll c.args.link.now c.loop-number.link) (FollowsDesk (Ok tt) c.args.desk.now c.loop-number.desk) in
     let last : c.loop-number.number ≡ 4294967295 = omega (arith, c.loop-number-test.false, c.loop-number.auto.number-end) in
     let first = c.args.roll.now.findings in
-    let does = DoesLines first before.said in
+    let devices = (setup_of c.args.host.now).devices in
+    let does = DoesLines devices first before.said in
     record {
       whole = λ is. before.acts.whole;
       setup = before.acts.setup;

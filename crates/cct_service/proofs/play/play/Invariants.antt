@@ -2,6 +2,7 @@ use Rattle.std.proofs.Common.{◌≡◌, suc, List, length, Ok}
 use Rattle.cct_edge.specs.Bytes.{Serves}
 use Rattle.cct_host.specs.Host.{setup_of}
 use Rattle.cct_script.specs.Endless.{held_of}
+use Rattle.cct_service.specs.AtDesk.{Both, FollowsDesk}
 use Rattle.cct_service.specs.Doing.{DoesLines, Finds}
 use Rattle.cct_service.specs.Linked.{UsesLink}
 use Rattle.cct_service.specs.Parts.{Acts}
@@ -18,8 +19,9 @@ invariant-loop-number g l =
       said : List Said;
       count : suc (length said) ≡ l.number;
       acts : Acts sink.written sink.puts sink.faults
-          (UsesLink g.L.Link.gives link.sent link.failures (setup_of l.fn.host).devices l.fn.roll l.roll l.fn.link l.link)
-          (Finds l.fn.roll.findings l.roll.findings (DoesLines l.fn.roll.findings said)) (Ok tt) l.fn.out l.out l.fn.host
+          (Both (UsesLink g.L.Link.gives link.sent link.failures (setup_of l.fn.host).devices l.fn.roll l.roll l.fn.link l.link)
+          (FollowsDesk (Ok tt) l.fn.desk l.desk))
+          (Finds l.fn.roll.findings l.roll.findings (DoesLines (setup_of l.fn.host).devices l.fn.roll.findings said)) (Ok tt) l.fn.out l.out l.fn.host
           l.host;
       says : HasSaid (source.left l.fn.input) said (held_of l.lines) (source.left l.input);
       serves : Serves source.left source.faults l.fn.input l.input ⊥;

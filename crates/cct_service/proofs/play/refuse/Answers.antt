@@ -1,4 +1,5 @@
 use Rattle.std.proofs.Common.{refl, sym, subst}
+use Rattle.cct_service.specs.AtDesk.{Both, IsApart}
 use Rattle.cct_service.specs.Doing.{Tells}
 use Rattle.cct_service.specs.Linked.{AreQuiet}
 use Rattle.cct_service.specs.Parts.{Acts}
@@ -12,8 +13,8 @@ returns g c =
     let host = c.args.host.now in
     let what = refused c.args.number c.args.kind in
     record {
-      acts = subst (λ r. Acts sink.written sink.puts sink.faults AreQuiet (Tells what) r c.args.out.now c.write_entry.new.out host
+      acts = subst (λ r. Acts sink.written sink.puts sink.faults (Both AreQuiet IsApart) (Tells what) r c.args.out.now c.write_entry.new.out host
           host) (sym c.by_writing.ensures)
-          (acts_line sink.written sink.puts sink.faults AreQuiet c.write_entry.result c.args.out.now c.write_entry.new.out host
-          what refl refl (λ past. tt) c.write_entry.ensures.puts c.requires.whole c.write_entry.ensures.serves);
+          (acts_line sink.written sink.puts sink.faults (Both AreQuiet IsApart) c.write_entry.result c.args.out.now c.write_entry.new.out host
+          what (refl, λ desk. refl) refl (λ past. tt) c.write_entry.ensures.puts c.requires.whole c.write_entry.ensures.serves);
     }

@@ -1,14 +1,15 @@
-use Rattle.std.proofs.Common.{Ok, subst, sym}
+use Rattle.std.proofs.Common.{◌∙◌, Ok, false, subst, sym, ap}
 use Rattle.cct_host.specs.Host.{setup_of}
 use Rattle.cct_model.specs.lines.entry.LineKind.TheVariants as kind
-use Rattle.cct_service.specs.Doing.{Does, DoesLine, Finds, Tells}
+use Rattle.cct_service.specs.AtDesk.{Both, FollowsDesk}
+use Rattle.cct_service.specs.Doing.{Does, DoesLine, Finds, Tells, is_known}
 use Rattle.cct_service.specs.Linked.{UsesLink}
 use Rattle.cct_service.specs.Parts.{Acts}
 use Rattle.cct_service.specs.Told.{refused}
 use Rattle.cct_service.proofs.Found.{finds_none, finds_weaker, tells_finds}
-use Rattle.cct_service.proofs.Linking.{roll_quiet}
+use Rattle.cct_service.proofs.Linking.{quiet_at_desk, roll_quiet}
 use Rattle.cct_service.proofs.Parts.{acts_weaker}
-use Rattle.cct_service.proofs.Sessions.{said_line, unknown_line}
+use Rattle.cct_service.proofs.Sessions.{known_line, unknown_line}
 use Rattle.cct_service.proofs.play.take_line.Goals as goal
 
 pub returns-in-Err : goal.returns-in-Err
@@ -18,20 +19,24 @@ returns-in-Err g c =
     let roll = c.args.roll.now in
     let known = roll.findings in
     let line = c.args.link.now in
+    let desk = c.args.desk.now in
     let host = c.args.host.now in
     let devices = (setup_of host).devices in
     let number = c.args.number in
-    let why = c.in-Err.kind in
-    let does = Tells (refused number why) in
-    let uses = UsesLink g.L.Link.gives link.sent link.failures devices roll roll line line in
+    let result = c.refuse.result in
+    let does = Tells (refused number c.in-Err.kind) in
+    let follows = FollowsDesk result desk desk in
+    let uses = Both (UsesLink g.L.Link.gives link.sent link.failures devices roll roll line line) follows in
     record {
-      acts = subst (λ said. Acts sink.written sink.puts sink.faults uses (Finds known known (DoesLine known number said))
-          c.refuse.result c.args.out.now c.refuse.new.out host c.refuse.new.host) (sym c.in-Err.is)
-          (roll_quiet sink.written sink.puts sink.faults g.L.Link.gives link.sent link.failures devices roll line
-          c.refuse.result c.args.out.now c.refuse.new.out host c.refuse.new.host (Finds known known does)
-          (acts_weaker sink.written sink.puts sink.faults c.refuse.result c.args.out.now c.refuse.new.out host
-          c.refuse.new.host does (Finds known known does) (finds_none known does (tells_finds number why))
-          c.refuse.ensures.acts));
+      acts = subst (λ said. Acts sink.written sink.puts sink.faults uses (Finds known known (DoesLine devices known number said))
+          result c.args.out.now c.refuse.new.out host c.refuse.new.host) (sym c.in-Err.is)
+          (roll_quiet sink.written sink.puts sink.faults g.L.Link.gives link.sent link.failures devices roll line follows
+          result c.args.out.now c.refuse.new.out host c.refuse.new.host (Finds known known does)
+          (quiet_at_desk sink.written sink.puts sink.faults desk result c.args.out.now c.refuse.new.out host c.refuse.new.host
+          (Finds known known does)
+          (acts_weaker sink.written sink.puts sink.faults result c.args.out.now c.refuse.new.out host
+          c.refuse.new.host does (Finds known known does) (finds_none known does (tells_finds number c.in-Err.kind))
+          c.refuse.ensures.acts)));
     }
 
 pub returns-then-is_known : goal.returns-then-is_known
@@ -42,16 +47,19 @@ returns-then-is_known g c =
     let known = roll.findings in
     let now = c.obey.new.roll.findings in
     let host = c.args.host.now in
+    let devices = (setup_of host).devices in
     let number = c.args.number in
     let said = c.in-Ok.said in
-    let uses = UsesLink g.L.Link.gives link.sent link.failures (setup_of host).devices roll c.obey.new.roll c.args.link.now
-    c.obey.new.link in
+    let there = sym (ap (λ setup. is_known setup.devices said) c.setup.ensures) ∙ sym c.is_known.ensures ∙ c.if-is_known.true in
+    let uses = Both (UsesLink g.L.Link.gives link.sent link.failures devices roll c.obey.new.roll c.args.link.now
+    c.obey.new.link) (FollowsDesk c.obey.result c.args.desk.now c.obey.new.desk) in
     record {
-      acts = subst (λ said. Acts sink.written sink.puts sink.faults uses (Finds known now (DoesLine known number said))
+      acts = subst (λ said. Acts sink.written sink.puts sink.faults uses (Finds known now (DoesLine devices known number said))
           c.obey.result c.args.out.now c.obey.new.out host c.obey.new.host) (sym c.in-Ok.is)
           (acts_weaker sink.written sink.puts sink.faults c.obey.result c.args.out.now c.obey.new.out host c.obey.new.host
-          (Finds known now (Does known said)) (Finds known now (DoesLine known number (Ok said)))
-          (finds_weaker known now (Does known said) (DoesLine known number (Ok said)) (said_line known number said))
+          (Finds known now (Does known said)) (Finds known now (DoesLine devices known number (Ok said)))
+          (finds_weaker known now (Does known said) (DoesLine devices known number (Ok said))
+          (known_line (is_known devices said) there known number said))
           c.obey.ensures.acts);
     }
 
@@ -62,22 +70,28 @@ returns-else-is_known g c =
     let roll = c.args.roll.now in
     let known = roll.findings in
     let line = c.args.link.now in
+    let desk = c.args.desk.now in
     let host = c.args.host.now in
     let devices = (setup_of host).devices in
     let number = c.args.number in
     let said = c.in-Ok.said in
+    let result = c.refuse_unknown.result in
     let does = Tells (refused number kind.Device) in
-    let uses = UsesLink g.L.Link.gives link.sent link.failures devices roll roll line line in
+    let there = sym (ap (λ setup. is_known setup.devices said) c.setup.ensures) ∙ sym c.is_known.ensures ∙ c.if-is_known.false in
+    let follows = FollowsDesk result desk desk in
+    let uses = Both (UsesLink g.L.Link.gives link.sent link.failures devices roll roll line line) follows in
     record {
-      acts = subst (λ said. Acts sink.written sink.puts sink.faults uses (Finds known known (DoesLine known number said))
-          c.refuse_unknown.result c.args.out.now c.refuse_unknown.new.out host c.refuse_unknown.new.host) (sym c.in-Ok.is)
-          (roll_quiet sink.written sink.puts sink.faults g.L.Link.gives link.sent link.failures devices roll line
-          c.refuse_unknown.result c.args.out.now c.refuse_unknown.new.out host c.refuse_unknown.new.host
-          (Finds known known (DoesLine known number (Ok said)))
-          (acts_weaker sink.written sink.puts sink.faults c.refuse_unknown.result c.args.out.now c.refuse_unknown.new.out host
-          c.refuse_unknown.new.host does (Finds known known (DoesLine known number (Ok said)))
-          (λ steps told h. finds_weaker known known does (DoesLine known number (Ok said))
-          (unknown_line known number said (c.is_known.ensures c.if-is_known.false)) steps told
+      acts = subst (λ said. Acts sink.written sink.puts sink.faults uses (Finds known known (DoesLine devices known number said))
+          result c.args.out.now c.refuse_unknown.new.out host c.refuse_unknown.new.host) (sym c.in-Ok.is)
+          (roll_quiet sink.written sink.puts sink.faults g.L.Link.gives link.sent link.failures devices roll line follows
+          result c.args.out.now c.refuse_unknown.new.out host c.refuse_unknown.new.host
+          (Finds known known (DoesLine devices known number (Ok said)))
+          (quiet_at_desk sink.written sink.puts sink.faults desk result c.args.out.now c.refuse_unknown.new.out host
+          c.refuse_unknown.new.host (Finds known known (DoesLine devices known number (Ok said)))
+          (acts_weaker sink.written sink.puts sink.faults result c.args.out.now c.refuse_unknown.new.out host
+          c.refuse_unknown.new.host does (Finds known known (DoesLine devices known number (Ok said)))
+          (λ steps told h. finds_weaker known known does (DoesLine devices known number (Ok said))
+          (unknown_line (is_known devices said) there known number said) steps told
           (finds_none known does (tells_finds number kind.Device) steps told h))
-          c.refuse_unknown.ensures.acts));
+          c.refuse_unknown.ensures.acts)));
     }

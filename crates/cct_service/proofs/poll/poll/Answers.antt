@@ -2,7 +2,7 @@ use Rattle.std.proofs.Common.{Err}
 use Rattle.cct_host.specs.Host.{setup_of}
 use Rattle.cct_service.specs.Doing.{Finds, IsPoll, MayServe, Then}
 use Rattle.cct_service.proofs.Found.{finds_then}
-use Rattle.cct_service.proofs.Linking.{roll_then}
+use Rattle.cct_service.proofs.Linking.{roll_desk}
 use Rattle.cct_service.proofs.Parts.{acts_weaker}
 use Rattle.cct_service.proofs.Sessions.{served_alone, served_then}
 use Rattle.cct_service.proofs.poll.poll.Goals as goal
@@ -16,8 +16,9 @@ returns-in-Ok g c =
     let mid = c.go_on_with_session.new.roll in
     let now = c.visit_all.new.roll.findings in
     record {
-      acts = roll_then sink.written sink.puts sink.faults g.L.Link.gives link.sent link.failures roll mid c.visit_all.new.roll
-          c.args.link.now c.go_on_with_session.new.link c.visit_all.new.link c.visit_all.result c.args.out.now
+      acts = roll_desk sink.written sink.puts sink.faults g.L.Link.gives link.sent link.failures roll mid c.visit_all.new.roll
+          c.args.link.now c.go_on_with_session.new.link c.visit_all.new.link c.args.desk.now c.go_on_with_session.new.desk
+          c.visit_all.new.desk c.visit_all.result c.args.out.now
           c.go_on_with_session.new.out c.visit_all.new.out c.args.host.now c.go_on_with_session.new.host c.visit_all.new.host
           (Finds known mid.findings (MayServe known)) (Finds mid.findings now IsPoll)
           (Finds known now (Then (MayServe known) IsPoll))

@@ -9,6 +9,6 @@ returns-else-is_sound g c =
     let sink = g.K.Sink in
     let link = g.L.CountedLink in
     record {
-      acts = link_none sink.written sink.puts sink.faults g.L.Link.gives link.sent link.failures c.args.link.now c.args.out.now c.args.host.now IsVisit c.requires.whole
+      acts = link_none sink.written sink.puts sink.faults g.L.Link.gives link.sent link.failures c.args.link.now c.args.desk.now c.args.out.now c.args.host.now IsVisit c.requires.whole
           (many_none (IsStepOf (λ addr. command.Round addr)));
     }

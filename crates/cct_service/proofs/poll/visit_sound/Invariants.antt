@@ -1,4 +1,5 @@
 use Rattle.std.proofs.Common.{Ok}
+use Rattle.cct_service.specs.AtDesk.{Both, FollowsDesk}
 use Rattle.cct_service.specs.Doing.{IsVisit}
 use Rattle.cct_service.specs.Linked.{Exchanges}
 use Rattle.cct_service.specs.Parts.{Acts}
@@ -9,5 +10,5 @@ abbrev pub invariant-loop-step : goal.invariant-loop-step
 invariant-loop-step g l =
     let sink = g.K.Sink in
     let link = g.L.CountedLink in
-    Acts sink.written sink.puts sink.faults (Exchanges g.L.Link.gives link.sent link.failures l.fn.link l.link)
+    Acts sink.written sink.puts sink.faults (Both (Exchanges g.L.Link.gives link.sent link.failures l.fn.link l.link) (FollowsDesk (Ok tt) l.fn.desk l.desk))
     IsVisit (Ok tt) l.fn.out l.out l.fn.host l.host

@@ -2,6 +2,7 @@ use Rattle.std.proofs.Common.{◌≡◌, inl, inr, refl, sym, ◌∙◌, subst}
 use Rattle.cct_host.specs.Host.{disk_of, setup_of}
 use Rattle.cct_model.specs.Setup.{IsSoundSetup}
 use Rattle.cct_service.specs.Causes.{DiskServes, IsDiskFault, IsUnread, IsUnwritten}
+use Rattle.cct_service.specs.AtDesk.{Both, FollowsTo}
 use Rattle.cct_service.specs.Doing.{ServesLines}
 use Rattle.cct_service.specs.Found.{FoundOn}
 use Rattle.cct_service.specs.Linked.{UsesLink}
@@ -30,14 +31,18 @@ returns g c =
     let line = c.args.link.now in
     let next = c.live_on-how.new.link in
     let ends = c.args.ends in
+    let desk = c.args.desk.now in
+    let left_desk = c.live_on-how.new.desk in
+    let linked = Both (UsesLink g.L.Link.gives link.sent link.failures (setup_of host).devices roll now line next)
+    (FollowsTo how desk left_desk) in
     let plays = c.live_on-how.ensures.plays begun opened.has opened.there_is in
     let opening = opening_of (setup_of host) begun in
     let p = c.live_on-how.ensures.setup ∙ c.in-Ok.ensures.setup in
     record {
       lived = inl (subst (λ s. Lived sink.written sink.puts g.L.Link.gives link.sent link.failures disk.size disk.honest
-          disk.seen disk.may_leave disk.moment disk.left_since disk.cuts c.args.disk back s roll now ends left how c.args.out.now c.live_on-how.new.out line next) p
+          disk.seen disk.may_leave disk.moment disk.left_since disk.cuts c.args.disk back s roll now desk left_desk ends left how c.args.out.now c.live_on-how.new.out line next) p
           (lived_by sink.written sink.puts g.L.Link.gives link.sent link.failures c.args.disk back host last begun roll now
-          ends left line next
+          desk left_desk ends left line next
           (sym c.live_on-how.ensures.setup) (subst IsSoundSetup (sym p) c.requires.sound) c.into_disk.ensures
           (subst (λ s. BegunOn disk.seen c.args.disk s begun) (sym p) opened.on)
           (λ found on. subst (λ s. opening_of s begun ≡ opening_over s begun found) (sym p)
@@ -47,12 +52,10 @@ returns g c =
           (subst (λ s. FoundOn disk.honest disk.seen disk.may_leave c.args.disk s begun found) p on))
           how c.args.out.now c.live_on-how.new.out
           (subst (λ s. Plays sink.written sink.puts
-          (UsesLink g.L.Link.gives link.sent link.failures (setup_of host).devices roll now line next)
-          (ServesLines (opening_of s begun) roll.findings ends) left how c.args.out.now c.live_on-how.new.out host last)
+          linked (ServesLines s.devices (opening_of s begun) roll.findings ends) left how c.args.out.now c.live_on-how.new.out host last)
           (sym c.live_on-how.ensures.setup) plays)));
       suits = lived_suits sink.written sink.puts {g = disk} c.args.disk back c.args.setup.now
-          (UsesLink g.L.Link.gives link.sent link.failures (setup_of host).devices roll now line next)
-          (ServesLines opening roll.findings ends plays.lines) how c.args.out.now c.live_on-how.new.out host last plays.lives;
+          linked (ServesLines (setup_of host).devices opening roll.findings ends plays.lines) how c.args.out.now c.live_on-how.new.out host last plays.lives;
       size = λ other. absurd (other c.in-Ok.ensures.sized);
       input = c.live_on-how.ensures.input;
       sink = c.live_on-how.ensures.sink;
@@ -69,7 +72,7 @@ returns-in-Err g c =
     let how = c.in-Err.ended.0 in
     let refuses = c.in-Err.ensures.refuses in
     record {
-      lived = inr (refuses.of_disk, refl, refl, refl);
+      lived = inr (refuses.of_disk, refl, refl, refl, refl);
       suits = refuses.suits;
       size = refuses.other;
       input = serves_none source.left source.faults c.args.input.now (IsUnread how) (disk_not_unread how refuses.of_disk);

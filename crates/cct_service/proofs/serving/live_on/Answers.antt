@@ -1,13 +1,15 @@
 use Rattle.std.proofs.Common.{◌∙◌, Ok, Err, inr}
 use Rattle.cct_host.specs.Host.{disk_of, setup_of}
 use Rattle.cct_service.specs.Causes.{IsDiskFault, IsUnread, IsUnwritten}
+use Rattle.cct_service.specs.AtDesk.{Both, FollowsDesk, FollowsTo}
 use Rattle.cct_service.specs.Doing.{PlaysLines, ServesLines, StopsBy}
 use Rattle.cct_service.specs.Linked.{UsesLink}
 use Rattle.cct_service.specs.Opening.{opening_of}
 use Rattle.cct_service.proofs.Causing.{unread_of_input}
+use Rattle.cct_service.proofs.Desks.{follows_then}
 use Rattle.cct_service.proofs.Doings.{end_none, end_then}
-use Rattle.cct_service.proofs.Linking.{roll_told, uses_then}
-use Rattle.cct_service.proofs.Parts.{breaks, disk_then, ends_to, lives_then, lives_to_weaker, serves_then, serves_weaker}
+use Rattle.cct_service.proofs.Linking.{both_then, lives_end, roll_told, uses_then}
+use Rattle.cct_service.proofs.Parts.{breaks, disk_then, lives_then, lives_to_weaker, serves_then, serves_weaker}
 use Rattle.cct_service.proofs.Saying.{said_ended}
 use Rattle.cct_service.proofs.serving.live_on.Goals as goal
 
@@ -22,6 +24,7 @@ returns-in-Ok g c =
     let known = c.args.roll.now.findings in
     let ends = c.args.ends in
     let host = c.args.host.now in
+    let devices = (setup_of host).devices in
     let mid = c.open_and_play.new.host in
     let last = c.stop_at_end.new.host in
     let out = c.args.out.now in
@@ -33,14 +36,22 @@ returns-in-Ok g c =
     let line = c.args.link.now in
     let between_line = c.open_and_play.new.link in
     let last_line = c.stop_at_end.new.link in
+    let was = c.args.desk.now in
+    let between_desk = c.open_and_play.new.desk in
+    let last_desk = c.stop_at_end.new.desk in
     let played = UsesLink g.L.Link.gives link.sent link.failures (setup_of host).devices roll between_roll line between_line in
     let stopped = UsesLink g.L.Link.gives link.sent link.failures (setup_of mid).devices between_roll between_roll between_line
     last_line in
     let uses = UsesLink g.L.Link.gives link.sent link.failures (setup_of host).devices roll between_roll line last_line in
-    let links = uses_then g.L.Link.gives link.sent link.failures (setup_of host) (setup_of mid) before.setup roll between_roll
-    between_roll line between_line last_line in
+    let first = Both played (FollowsDesk (Ok tt) was between_desk) in
+    let then = Both stopped (FollowsDesk (Ok tt) between_desk last_desk) in
+    let all = Both uses (FollowsDesk (Ok tt) was last_desk) in
+    let links = both_then played stopped uses (FollowsDesk (Ok tt) was between_desk)
+    (FollowsDesk (Ok tt) between_desk last_desk) (FollowsDesk (Ok tt) was last_desk)
+    (uses_then g.L.Link.gives link.sent link.failures (setup_of host) (setup_of mid) before.setup roll between_roll
+    between_roll line between_line last_line) (follows_then (Ok tt) was between_desk last_desk) in
     let acts = roll_told sink.written sink.puts sink.faults g.L.Link.gives link.sent link.failures (setup_of mid).devices
-    between_roll between_line last_line (Ok tt) between told mid last (StopsBy ends) c.in-Ok.ensures.acts in
+    between_roll between_line last_line between_desk last_desk (Ok tt) between told mid last (StopsBy ends) c.in-Ok.ensures.acts in
     record {
       setup = acts.setup ∙ before.setup;
       plays = λ begun has there.
@@ -49,8 +60,8 @@ returns-in-Ok g c =
           let opening = opening_of (setup_of host) begun in
           record {
             lines = lines;
-            lives = lives_then sink.written sink.puts played stopped uses links (Ok tt) out between told host mid last (PlaysLines opening known lines)
-                (StopsBy ends) (ServesLines opening known ends lines) (end_then opening known ends lines) before.setup
+            lives = lives_then sink.written sink.puts first then all links (Ok tt) out between told host mid last (PlaysLines devices opening known lines)
+                (StopsBy ends) (ServesLines devices opening known ends lines) (end_then devices opening known ends lines) before.setup
                 plays.lives acts.lives;
             says = plays.says;
           };
@@ -69,6 +80,7 @@ returns-in-Err g c =
     let known = c.args.roll.now.findings in
     let ends = c.args.ends in
     let host = c.args.host.now in
+    let devices = (setup_of host).devices in
     let mid = c.open_and_play.new.host in
     let last = c.stop_at_end.new.host in
     let out = c.args.out.now in
@@ -81,15 +93,23 @@ returns-in-Err g c =
     let line = c.args.link.now in
     let between_line = c.open_and_play.new.link in
     let last_line = c.stop_at_end.new.link in
+    let was = c.args.desk.now in
+    let between_desk = c.open_and_play.new.desk in
+    let last_desk = c.stop_at_end.new.desk in
     let played = UsesLink g.L.Link.gives link.sent link.failures (setup_of host).devices roll between_roll line between_line in
     let stopped = UsesLink g.L.Link.gives link.sent link.failures (setup_of mid).devices between_roll between_roll between_line
     last_line in
     let uses = UsesLink g.L.Link.gives link.sent link.failures (setup_of host).devices roll between_roll line last_line in
-    let links = uses_then g.L.Link.gives link.sent link.failures (setup_of host) (setup_of mid) before.setup roll between_roll
-    between_roll line between_line last_line in
+    let first = Both played (FollowsDesk (Ok tt) was between_desk) in
+    let then = Both stopped (FollowsDesk (Err how) between_desk last_desk) in
+    let all = Both uses (FollowsDesk (Err how) was last_desk) in
+    let links = both_then played stopped uses (FollowsDesk (Ok tt) was between_desk)
+    (FollowsDesk (Err how) between_desk last_desk) (FollowsDesk (Err how) was last_desk)
+    (uses_then g.L.Link.gives link.sent link.failures (setup_of host) (setup_of mid) before.setup roll between_roll
+    between_roll line between_line last_line) (follows_then (Err how) was between_desk last_desk) in
     let acts = roll_told sink.written sink.puts sink.faults g.L.Link.gives link.sent link.failures (setup_of mid).devices
-    between_roll between_line last_line (Err how) between told mid last (StopsBy ends) c.in-Err.ensures.acts in
-    let other = breaks sink.written sink.puts stopped how (StopsBy ends) between told mid last acts.lives in
+    between_roll between_line last_line between_desk last_desk (Err how) between told mid last (StopsBy ends) c.in-Err.ensures.acts in
+    let other = breaks sink.written sink.puts then how (StopsBy ends) between told mid last acts.lives in
     record {
       setup = acts.setup ∙ before.setup;
       plays = λ begun has there.
@@ -98,9 +118,9 @@ returns-in-Err g c =
           let opening = opening_of (setup_of host) begun in
           record {
             lines = lines;
-            lives = ends_to sink.written sink.puts uses how (ServesLines opening known ends lines) out told host last
-                (lives_then sink.written sink.puts played stopped uses links (Err how) out between told host mid last (PlaysLines opening known lines)
-                (StopsBy ends) (ServesLines opening known ends lines) (end_then opening known ends lines) before.setup plays.lives acts.lives);
+            lives = lives_end sink.written sink.puts uses how was last_desk (ServesLines devices opening known ends lines) out told host last
+                (lives_then sink.written sink.puts first then all links (Err how) out between told host mid last (PlaysLines devices opening known lines)
+                (StopsBy ends) (ServesLines devices opening known ends lines) (end_then devices opening known ends lines) before.setup plays.lives acts.lives);
             says = said_ended how (source.left c.args.input.now) lines other plays.says;
           };
       input = serves_weaker source.left source.faults c.args.input.now c.open_and_play.new.input ⊥ (IsUnread how)
@@ -118,9 +138,10 @@ returns-in_default g c =
     let known = c.args.roll.now.findings in
     let ends = c.args.ends in
     let host = c.args.host.now in
+    let devices = (setup_of host).devices in
     let before = c.open_and_play.ensures in
-    let uses = UsesLink g.L.Link.gives link.sent link.failures (setup_of c.args.host.now).devices c.args.roll.now
-    c.open_and_play.new.roll c.args.link.now c.open_and_play.new.link in
+    let uses = Both (UsesLink g.L.Link.gives link.sent link.failures devices c.args.roll.now c.open_and_play.new.roll
+    c.args.link.now c.open_and_play.new.link) (FollowsTo c.open_and_play.result c.args.desk.now c.open_and_play.new.desk) in
     record {
       setup = before.setup;
       plays = λ begun has there.
@@ -130,8 +151,8 @@ returns-in_default g c =
           record {
             lines = lines;
             lives = lives_to_weaker sink.written sink.puts uses c.open_and_play.result c.args.out.now c.open_and_play.new.out
-                host c.open_and_play.new.host (PlaysLines opening known lines) (ServesLines opening known ends lines)
-                (end_none opening known ends lines) plays.lives;
+                host c.open_and_play.new.host (PlaysLines devices opening known lines) (ServesLines devices opening known ends lines)
+                (end_none devices opening known ends lines) plays.lives;
             says = plays.says;
           };
       input = before.input;

@@ -3,14 +3,16 @@ use Rattle.cct_edge.specs.declared.fault.Failed.{Failed}
 use Rattle.cct_host.specs.Host.{disk_of, setup_of}
 use Rattle.cct_service.specs.Causes.{IsUnwritten}
 use Rattle.cct_service.specs.declared.served.Served.TheVariants.{Unwritten}
+use Rattle.cct_service.specs.AtDesk.{Both, FollowsDesk, FollowsTo}
 use Rattle.cct_service.specs.Doing.{DoesLines, FrontOf, PlaysLines, Tells}
 use Rattle.cct_service.specs.Opening.{opening_of}
 use Rattle.cct_service.specs.Linked.{UsesLink}
 use Rattle.cct_service.specs.Since.{StandsSince}
 use Rattle.cct_service.specs.Told.{notice}
 use Rattle.cct_service.proofs.Begins.{opening_put}
+use Rattle.cct_service.proofs.Desks.{follows_to_then}
 use Rattle.cct_service.proofs.Doings.{opening_alone, opening_then}
-use Rattle.cct_service.proofs.Linking.{opening_quiet, uses_quiet, uses_then}
+use Rattle.cct_service.proofs.Linking.{both_then, opening_quiet, uses_quiet, uses_then}
 use Rattle.cct_service.proofs.Parts.{disk_none, front_whole, lives_to, part_line, serves_none, serves_then, serves_weaker}
 use Rattle.cct_service.proofs.Reporting.{so_opening}
 use Rattle.cct_service.proofs.Saying.{said_broken, said_none}
@@ -30,8 +32,13 @@ returns-in-Ok g c =
     let roll = c.args.roll.now in
     let line = c.args.link.now in
     let devices = (setup_of host).devices in
-    let quiet = UsesLink g.L.Link.gives link.sent link.failures devices roll roll line line in
-    let uses = UsesLink g.L.Link.gives link.sent link.failures devices roll c.play.new.roll line c.play.new.link in
+    let desk = c.args.desk.now in
+    let new = c.play.new.desk in
+    let result = c.play.result in
+    let still = UsesLink g.L.Link.gives link.sent link.failures devices roll roll line line in
+    let goes = UsesLink g.L.Link.gives link.sent link.failures devices roll c.play.new.roll line c.play.new.link in
+    let quiet = Both still (FollowsDesk (Ok tt) desk desk) in
+    let uses = Both goes (FollowsTo result desk new) in
     record {
       whole = c.play.ensures.whole;
       setup = c.play.ensures.setup;
@@ -39,15 +46,18 @@ returns-in-Ok g c =
         lines = plays.lines;
         lives = let opening = opening_of (setup_of host) begun in
             lives_to sink.written sink.puts quiet uses uses
+            (both_then still goes goes (FollowsDesk (Ok tt) desk desk) (FollowsTo result desk new) (FollowsTo result desk new)
             (uses_then g.L.Link.gives link.sent link.failures (setup_of host) (setup_of host) refl roll roll c.play.new.roll
-            line line c.play.new.link)
-            c.play.result out between c.play.new.out host host c.play.new.host
-            (Tells (notice opening)) (DoesLines known plays.lines) (PlaysLines opening known plays.lines)
-            (opening_then opening known plays.lines) refl
+            line line c.play.new.link) (follows_to_then result desk desk new))
+            result out between c.play.new.out host host c.play.new.host
+            (Tells (notice opening)) (DoesLines devices known plays.lines) (PlaysLines devices opening known plays.lines)
+            (opening_then devices opening known plays.lines) refl
             (part_line sink.written sink.puts quiet out between (Ok tt) (setup_of host) (StandsSince host) (notice opening)
-            (Tells (notice opening)) refl (λ past. so_opening (setup_of host) past begun) (opening_put sink.written sink.puts host tells begun has there) (refl, refl)
-            (uses_quiet g.L.Link.gives link.sent link.failures devices roll line (notice opening ∷ [])
-            (opening_quiet (setup_of host) begun)))
+            (Tells (notice opening)) refl (λ past. so_opening (setup_of host) past begun) (opening_put sink.written sink.puts host tells begun has there) (refl, refl) (
+              uses_quiet g.L.Link.gives link.sent link.failures devices roll line (notice opening ∷ [])
+                  (opening_quiet (setup_of host) begun),
+              refl,
+            ))
             plays.lives;
         says = plays.says;
       };
@@ -73,7 +83,8 @@ returns-in-Err g c =
     let roll = c.args.roll.now in
     let line = c.args.link.now in
     let devices = (setup_of host).devices in
-    let uses = UsesLink g.L.Link.gives link.sent link.failures devices roll roll line line in
+    let desk = c.args.desk.now in
+    let uses = Both (UsesLink g.L.Link.gives link.sent link.failures devices roll roll line line) (FollowsTo Unwritten desk desk) in
     let broke : Result (Unit {0}) Failed = Err why in
     record {
       whole = λ is. absurd is;
@@ -83,13 +94,15 @@ returns-in-Err g c =
         lives = (
           why,
           let opening = opening_of (setup_of host) begun in
-              let whole = PlaysLines opening known [] in
+              let whole = PlaysLines devices opening known [] in
               part_line sink.written sink.puts uses out between (Err why) (setup_of host) (StandsSince host) (notice opening)
               (FrontOf whole) refl (λ past. so_opening (setup_of host) past begun) (opening_put sink.written sink.puts host tells begun has there)
               (front_whole whole [] (notice opening ∷ [])
-              (opening_alone opening known [] (notice opening ∷ []) (refl, refl)))
-              (uses_quiet g.L.Link.gives link.sent link.failures devices roll line (notice opening ∷ [])
-              (opening_quiet (setup_of host) begun)),
+              (opening_alone devices opening known [] (notice opening ∷ []) (refl, refl))) (
+                uses_quiet g.L.Link.gives link.sent link.failures devices roll line (notice opening ∷ [])
+                    (opening_quiet (setup_of host) begun),
+                (desk, refl),
+              ),
         );
         says = said_broken Unwritten left left [] [] (λ is. is) (said_none left);
       };

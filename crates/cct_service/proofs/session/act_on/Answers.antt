@@ -1,8 +1,10 @@
-use Rattle.std.proofs.Common.{subst, sym}
+use Rattle.std.proofs.Common.{◌∷◌, [], ap, subst, sym}
 use Rattle.cct_host.specs.Host.{setup_of}
-use Rattle.cct_model.specs.Legal.{falls_short, is_idle, is_odd, is_served, waits}
 use Rattle.cct_model.specs.lines.command.Step.TheVariants as step
-use Rattle.cct_service.specs.Doing.{DecidesPay, Finds, Gives, IsServing, TellsStep}
+use Rattle.cct_model.specs.lines.entry.Entry.TheVariants as entry_of
+use Rattle.cct_change.specs.Serving.{Ends, ServesBy}
+use Rattle.cct_service.specs.AtDesk.{FollowsDesk}
+use Rattle.cct_service.specs.Doing.{DecidesPay, Finds, IsServing, TellsStep}
 use Rattle.cct_service.specs.Session.{HasAsked}
 use Rattle.cct_service.proofs.Found.{finds_none, finds_weaker}
 use Rattle.cct_service.proofs.Linking.{roll_quiet}
@@ -22,9 +24,10 @@ returns-in-Pay g c =
     let now = c.pay.new.roll.findings in
     let p = c.in-Pay.payment in
     record {
-      acts = acts_weaker sink.written sink.puts sink.faults c.pay.result c.args.out.now c.pay.new.out c.args.host.now
+      acts = λ old serves. acts_weaker sink.written sink.puts sink.faults c.pay.result c.args.out.now c.pay.new.out c.args.host.now
           c.pay.new.host (Finds known now (DecidesPay known p)) (Finds known now (IsServing known))
-          (finds_weaker known now (DecidesPay known p) (IsServing known) (pay_serves known p)) c.pay.ensures.acts;
+          (finds_weaker known now (DecidesPay known p) (IsServing known) (pay_serves known p))
+          (c.pay.ensures.acts old (subst (λ serving. ServesBy serving old c.args.desk.now) c.in-Pay.is serves));
     }
 
 pub returns-in-Idle : goal.returns-in-Idle
@@ -34,16 +37,19 @@ returns-in-Idle g c =
     let roll = c.args.roll.now in
     let known = roll.findings in
     let host = c.args.host.now in
-    let serves = IsServing known in
+    let new = c.args.desk.now in
+    let result = c.tell_desk.result in
     record {
-      acts = roll_quiet sink.written sink.puts sink.faults g.L.Link.gives link.sent link.failures (setup_of host).devices roll
-          c.args.link.now c.tell_desk.result c.args.out.now c.tell_desk.new.out host c.tell_desk.new.host
-          (Finds known known serves)
-          (acts_weaker sink.written sink.puts sink.faults c.tell_desk.result c.args.out.now c.tell_desk.new.out host
-          c.tell_desk.new.host (TellsStep step.Serve) (Finds known known serves)
-          (λ steps told h. finds_weaker known known (TellsStep step.Serve) serves (step_serves known) steps told
+      acts = λ old serves.
+          let ends = subst (λ serving. ServesBy serving old new) c.in-Idle.is serves in
+          roll_quiet sink.written sink.puts sink.faults g.L.Link.gives link.sent link.failures (setup_of host).devices roll
+          c.args.link.now (FollowsDesk result old new) result c.args.out.now c.tell_desk.new.out host c.tell_desk.new.host
+          (Finds known known (IsServing known))
+          (acts_weaker sink.written sink.puts sink.faults result c.args.out.now c.tell_desk.new.out host
+          c.tell_desk.new.host (TellsStep step.Serve) (Finds known known (IsServing known))
+          (λ steps told h. finds_weaker known known (TellsStep step.Serve) (IsServing known) (step_serves known) steps told
           (finds_none known (TellsStep step.Serve) (step_finds step.Serve) steps told h))
-          (c.tell_desk.ensures.acts step.Serve (λ capacity setup past. is_idle)));
+          (c.tell_desk.ensures.acts step.Serve old new (tt, ends.entries) ends.desk));
     }
 
 pub returns-in-Wait : goal.returns-in-Wait
@@ -53,16 +59,19 @@ returns-in-Wait g c =
     let roll = c.args.roll.now in
     let known = roll.findings in
     let host = c.args.host.now in
-    let serves = IsServing known in
+    let new = c.args.desk.now in
+    let result = c.tell_desk-in-Wait.result in
     record {
-      acts = roll_quiet sink.written sink.puts sink.faults g.L.Link.gives link.sent link.failures (setup_of host).devices roll
-          c.args.link.now c.tell_desk-in-Wait.result c.args.out.now c.tell_desk-in-Wait.new.out host c.tell_desk-in-Wait.new.host
-          (Finds known known serves)
-          (acts_weaker sink.written sink.puts sink.faults c.tell_desk-in-Wait.result c.args.out.now c.tell_desk-in-Wait.new.out host
-          c.tell_desk-in-Wait.new.host (TellsStep step.Serve) (Finds known known serves)
-          (λ steps told h. finds_weaker known known (TellsStep step.Serve) serves (step_serves known) steps told
+      acts = λ old serves.
+          let ends = subst (λ serving. ServesBy serving old new) c.in-Wait.is serves in
+          roll_quiet sink.written sink.puts sink.faults g.L.Link.gives link.sent link.failures (setup_of host).devices roll
+          c.args.link.now (FollowsDesk result old new) result c.args.out.now c.tell_desk-in-Wait.new.out host c.tell_desk-in-Wait.new.host
+          (Finds known known (IsServing known))
+          (acts_weaker sink.written sink.puts sink.faults result c.args.out.now c.tell_desk-in-Wait.new.out host
+          c.tell_desk-in-Wait.new.host (TellsStep step.Serve) (Finds known known (IsServing known))
+          (λ steps told h. finds_weaker known known (TellsStep step.Serve) (IsServing known) (step_serves known) steps told
           (finds_none known (TellsStep step.Serve) (step_finds step.Serve) steps told h))
-          (c.tell_desk-in-Wait.ensures.acts step.Serve (λ capacity setup past. waits c.in-Wait.addr)));
+          (c.tell_desk-in-Wait.ensures.acts step.Serve old new (tt, ends.entries) ends.desk));
     }
 
 pub returns-in-Odd : goal.returns-in-Odd
@@ -72,16 +81,19 @@ returns-in-Odd g c =
     let roll = c.args.roll.now in
     let known = roll.findings in
     let host = c.args.host.now in
-    let serves = IsServing known in
+    let new = c.args.desk.now in
+    let result = c.tell_desk-in-Odd.result in
     record {
-      acts = roll_quiet sink.written sink.puts sink.faults g.L.Link.gives link.sent link.failures (setup_of host).devices roll
-          c.args.link.now c.tell_desk-in-Odd.result c.args.out.now c.tell_desk-in-Odd.new.out host c.tell_desk-in-Odd.new.host
-          (Finds known known serves)
-          (acts_weaker sink.written sink.puts sink.faults c.tell_desk-in-Odd.result c.args.out.now c.tell_desk-in-Odd.new.out host
-          c.tell_desk-in-Odd.new.host (TellsStep step.Serve) (Finds known known serves)
-          (λ steps told h. finds_weaker known known (TellsStep step.Serve) serves (step_serves known) steps told
+      acts = λ old serves.
+          let ends = subst (λ serving. ServesBy serving old new) c.in-Odd.is serves in
+          roll_quiet sink.written sink.puts sink.faults g.L.Link.gives link.sent link.failures (setup_of host).devices roll
+          c.args.link.now (FollowsDesk result old new) result c.args.out.now c.tell_desk-in-Odd.new.out host c.tell_desk-in-Odd.new.host
+          (Finds known known (IsServing known))
+          (acts_weaker sink.written sink.puts sink.faults result c.args.out.now c.tell_desk-in-Odd.new.out host
+          c.tell_desk-in-Odd.new.host (TellsStep step.Serve) (Finds known known (IsServing known))
+          (λ steps told h. finds_weaker known known (TellsStep step.Serve) (IsServing known) (step_serves known) steps told
           (finds_none known (TellsStep step.Serve) (step_finds step.Serve) steps told h))
-          (c.tell_desk-in-Odd.ensures.acts step.Serve (λ capacity setup past. is_odd c.in-Odd.id)));
+          (c.tell_desk-in-Odd.ensures.acts step.Serve old new (tt, ends.entries) ends.desk));
     }
 
 pub returns-in-Served : goal.returns-in-Served
@@ -91,16 +103,19 @@ returns-in-Served g c =
     let roll = c.args.roll.now in
     let known = roll.findings in
     let host = c.args.host.now in
-    let serves = IsServing known in
+    let new = c.args.desk.now in
+    let result = c.tell_desk-in-Served.result in
     record {
-      acts = roll_quiet sink.written sink.puts sink.faults g.L.Link.gives link.sent link.failures (setup_of host).devices roll
-          c.args.link.now c.tell_desk-in-Served.result c.args.out.now c.tell_desk-in-Served.new.out host c.tell_desk-in-Served.new.host
-          (Finds known known serves)
-          (acts_weaker sink.written sink.puts sink.faults c.tell_desk-in-Served.result c.args.out.now c.tell_desk-in-Served.new.out host
-          c.tell_desk-in-Served.new.host (TellsStep step.Serve) (Finds known known serves)
-          (λ steps told h. finds_weaker known known (TellsStep step.Serve) serves (step_serves known) steps told
+      acts = λ old serves.
+          let ends = subst (λ serving. ServesBy serving old new) c.in-Served.is serves in
+          roll_quiet sink.written sink.puts sink.faults g.L.Link.gives link.sent link.failures (setup_of host).devices roll
+          c.args.link.now (FollowsDesk result old new) result c.args.out.now c.tell_desk-in-Served.new.out host c.tell_desk-in-Served.new.host
+          (Finds known known (IsServing known))
+          (acts_weaker sink.written sink.puts sink.faults result c.args.out.now c.tell_desk-in-Served.new.out host
+          c.tell_desk-in-Served.new.host (TellsStep step.Serve) (Finds known known (IsServing known))
+          (λ steps told h. finds_weaker known known (TellsStep step.Serve) (IsServing known) (step_serves known) steps told
           (finds_none known (TellsStep step.Serve) (step_finds step.Serve) steps told h))
-          (c.tell_desk-in-Served.ensures.acts step.Serve (λ capacity setup past. is_served c.in-Served.amount)));
+          (c.tell_desk-in-Served.ensures.acts step.Serve old new (tt, ends.entries) ends.desk));
     }
 
 pub returns-in-Short : goal.returns-in-Short
@@ -110,15 +125,18 @@ returns-in-Short g c =
     let roll = c.args.roll.now in
     let known = roll.findings in
     let host = c.args.host.now in
-    let serves = IsServing known in
+    let new = c.args.desk.now in
+    let result = c.tell_desk-in-Short.result in
     record {
-      acts = roll_quiet sink.written sink.puts sink.faults g.L.Link.gives link.sent link.failures (setup_of host).devices roll
-          c.args.link.now c.tell_desk-in-Short.result c.args.out.now c.tell_desk-in-Short.new.out host c.tell_desk-in-Short.new.host
-          (Finds known known serves)
-          (acts_weaker sink.written sink.puts sink.faults c.tell_desk-in-Short.result c.args.out.now c.tell_desk-in-Short.new.out host
-          c.tell_desk-in-Short.new.host (TellsStep step.Serve) (Finds known known serves)
-          (λ steps told h. finds_weaker known known (TellsStep step.Serve) serves (step_serves known) steps told
+      acts = λ old serves.
+          let ends = subst (Ends old new) (sym c.short_entry.ensures)
+          (subst (λ serving. ServesBy serving old new) c.in-Short.is serves) in
+          roll_quiet sink.written sink.puts sink.faults g.L.Link.gives link.sent link.failures (setup_of host).devices roll
+          c.args.link.now (FollowsDesk result old new) result c.args.out.now c.tell_desk-in-Short.new.out host c.tell_desk-in-Short.new.host
+          (Finds known known (IsServing known))
+          (acts_weaker sink.written sink.puts sink.faults result c.args.out.now c.tell_desk-in-Short.new.out host
+          c.tell_desk-in-Short.new.host (TellsStep step.Serve) (Finds known known (IsServing known))
+          (λ steps told h. finds_weaker known known (TellsStep step.Serve) (IsServing known) (step_serves known) steps told
           (finds_none known (TellsStep step.Serve) (step_finds step.Serve) steps told h))
-          (c.tell_desk-in-Short.ensures.acts step.Serve (subst (Gives step.Serve) (sym c.short_entry.ensures)
-          (λ capacity setup past. falls_short c.in-Short.shortfall.paid c.in-Short.shortfall.rest))));
+          (c.tell_desk-in-Short.ensures.acts step.Serve old new (tt, ends.entries) ends.desk));
     }

@@ -2,10 +2,12 @@ use Rattle.std.proofs.Common.{◌∷◌, [], ◌∙◌, None, inl, inr, refl, sy
 use Rattle.cct_host.specs.Host.{disk_of}
 use Rattle.cct_lives.specs.LiveStep as live
 use Rattle.cct_model.specs.lines.entry.Entry.TheVariants as entry_of
+use Rattle.cct_service.specs.AtDesk.{Both, FollowsDesk}
 use Rattle.cct_service.specs.Doing.{DoesPay}
 use Rattle.cct_service.specs.Linked.{AreQuiet}
 use Rattle.cct_service.specs.Parts.{Acts}
 use Rattle.cct_service.specs.Told.{WritesTold, as_told, falls_short, pay_of, pays, refused_for, taken}
+use Rattle.cct_service.proofs.Desks.{follows, refused_at_desk, taken_at_desk}
 use Rattle.cct_service.proofs.Parts.{acts_step, disk_same}
 use Rattle.cct_service.proofs.Telling.{told_as}
 use Rattle.cct_service.proofs.Sessions.{session_runs}
@@ -22,10 +24,14 @@ returns-in-Ok g c =
     let told = pays p taken ∷ [] in
     let does = DoesPay p None in
     record {
-      acts = subst (λ r. Acts sink.written sink.puts sink.faults AreQuiet does r c.args.out.now c.write_report.new.out host after)
+      acts = λ old asks.
+          let new = c.taken.new.self in
+          let linked = Both AreQuiet (FollowsDesk c.by_writing.result old new) in
+          subst (λ r. Acts sink.written sink.puts sink.faults linked does r c.args.out.now c.write_report.new.out host after)
           (sym c.by_writing.ensures)
-          (acts_step sink.written sink.puts sink.faults AreQuiet c.write_report.result c.args.out.now c.write_report.new.out host
-          after (live.command (pay_of p)) told refl does
+          (acts_step sink.written sink.puts sink.faults linked c.write_report.result c.args.out.now c.write_report.new.out host
+          after (live.command (pay_of p)) told
+          (refl, follows c.by_writing.result old new told (taken_at_desk old c.args.desk.now new p asks c.taken.ensures)) does
           (told_as sink.written sink.puts c.args.out.now c.write_report.new.out (as_told es) told c.write_report.result refl refl
           (subst (λ rs. WritesTold sink.written sink.puts c.args.out.now (as_told rs) c.write_report.result c.write_report.new.out)
           c.report_taken.ensures c.write_report.ensures.writes))
@@ -46,10 +52,18 @@ returns-in-Err g c =
     let told = pays p (refused_for c.in-Err.why) ∷ falls_short p c.refused-shortfall.result.paid c.refused-shortfall.result.rest ∷ [] in
     let does = DoesPay p None in
     record {
-      acts = subst (λ r. Acts sink.written sink.puts sink.faults AreQuiet does r c.args.out.now c.write_report-in-Err.new.out host after)
+      acts = λ old asks.
+          let new = c.refused-shortfall.new.self in
+          let linked = Both AreQuiet (FollowsDesk c.by_writing-in-Err.result old new) in
+          subst (λ r. Acts sink.written sink.puts sink.faults linked does r c.args.out.now c.write_report-in-Err.new.out host after)
           (sym c.by_writing-in-Err.ensures)
-          (acts_step sink.written sink.puts sink.faults AreQuiet c.write_report-in-Err.result c.args.out.now c.write_report-in-Err.new.out host
-          after (live.command (pay_of p)) told refl does
+          (acts_step sink.written sink.puts sink.faults linked c.write_report-in-Err.result c.args.out.now c.write_report-in-Err.new.out host
+          after (live.command (pay_of p)) told (
+            refl,
+            follows c.by_writing-in-Err.result old new told (refused_at_desk old c.args.desk.now new p c.in-Err.why
+                c.refused-shortfall.result.paid c.refused-shortfall.result.rest asks c.refused-shortfall.ensures.told
+                c.refused-shortfall.ensures.desk),
+          ) does
           (told_as sink.written sink.puts c.args.out.now c.write_report-in-Err.new.out (as_told es) told c.write_report-in-Err.result refl refl
           (subst (λ rs. WritesTold sink.written sink.puts c.args.out.now (as_told rs) c.write_report-in-Err.result c.write_report-in-Err.new.out)
           c.report_refused.ensures c.write_report-in-Err.ensures.writes))

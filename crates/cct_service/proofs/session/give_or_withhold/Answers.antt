@@ -1,5 +1,6 @@
 use Rattle.std.proofs.Common.{◌≡◌, ◌∙◌, None, Some, ap, subst, sym}
 use Rattle.cct_survey.specs.Finding.{withheld_by}
+use Rattle.cct_service.specs.AtDesk.{Both, FollowsDesk}
 use Rattle.cct_service.specs.Doing.{DoesPay}
 use Rattle.cct_service.specs.Linked.{AreQuiet}
 use Rattle.cct_service.specs.Parts.{Acts}
@@ -14,8 +15,9 @@ returns-in-None g c =
     let is : withheld_by findings (pay_of p) ≡ None =
     ap (withheld_by findings) (sym c.command_of.ensures) ∙ sym c.withheld_by.ensures ∙ c.in-None.is in
     record {
-      acts = subst (λ why. Acts sink.written sink.puts sink.faults AreQuiet (DoesPay p why) c.give.result c.args.out.now
-          c.give.new.out c.args.host.now c.give.new.host) (sym is) c.give.ensures.acts;
+      acts = λ old asks. subst (λ why. Acts sink.written sink.puts sink.faults
+          (Both AreQuiet (FollowsDesk c.give.result old c.give.new.desk)) (DoesPay p why) c.give.result c.args.out.now
+          c.give.new.out c.args.host.now c.give.new.host) (sym is) (c.give.ensures.acts old asks);
     }
 
 pub returns-in-Some : goal.returns-in-Some
@@ -26,6 +28,7 @@ returns-in-Some g c =
     let is : withheld_by findings (pay_of p) ≡ Some c.in-Some.why =
     ap (withheld_by findings) (sym c.command_of.ensures) ∙ sym c.withheld_by.ensures ∙ c.in-Some.is in
     record {
-      acts = subst (λ why. Acts sink.written sink.puts sink.faults AreQuiet (DoesPay p why) c.withhold.result c.args.out.now
-          c.withhold.new.out c.args.host.now c.withhold.new.host) (sym is) c.withhold.ensures.acts;
+      acts = λ old asks. subst (λ why. Acts sink.written sink.puts sink.faults
+          (Both AreQuiet (FollowsDesk c.withhold.result old c.withhold.new.desk)) (DoesPay p why) c.withhold.result c.args.out.now
+          c.withhold.new.out c.args.host.now c.withhold.new.host) (sym is) (c.withhold.ensures.acts old asks);
     }

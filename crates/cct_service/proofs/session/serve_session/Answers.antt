@@ -6,3 +6,6 @@ act_on-requires g c = record {
   whole = c.requires.whole;
   asked = asked_by c.serve-serving.result c.args.desk.now c.serve-serving.new.self c.serve-serving.ensures;
 }
+
+pub returns : goal.returns
+returns g c = record { acts = c.act_on.ensures.acts c.args.desk.now c.serve-serving.ensures }

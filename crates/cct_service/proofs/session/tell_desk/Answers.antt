@@ -1,8 +1,10 @@
-use Rattle.std.proofs.Common.{refl, subst, sym}
+use Rattle.std.proofs.Common.{◌∷◌, [], refl, subst, sym}
+use Rattle.cct_service.specs.AtDesk.{Both, FollowsDesk}
 use Rattle.cct_service.specs.Doing.{Tells, TellsStep}
 use Rattle.cct_service.specs.Linked.{AreQuiet}
 use Rattle.cct_service.specs.Parts.{Acts}
 use Rattle.cct_service.specs.Told.{operates}
+use Rattle.cct_service.proofs.Desks.{follows}
 use Rattle.cct_service.proofs.Parts.{acts_line, acts_weaker}
 use Rattle.cct_service.proofs.Sessions.{tells_step}
 use Rattle.cct_service.proofs.session.tell_desk.Goals as goal
@@ -12,11 +14,15 @@ returns g c =
     let sink = g.K.Sink in
     let host = c.args.host.now in
     let e = c.args.entry.now in
+    let result = c.by_writing.result in
     record {
-      acts = λ s gives. subst (λ r. Acts sink.written sink.puts sink.faults AreQuiet (TellsStep s) r c.args.out.now c.write_entry.new.out
+      acts = λ s old new gives is.
+          let linked = Both AreQuiet (FollowsDesk result old new) in
+          subst (λ r. Acts sink.written sink.puts sink.faults linked (TellsStep s) r c.args.out.now c.write_entry.new.out
           host host) (sym c.by_writing.ensures)
           (acts_weaker sink.written sink.puts sink.faults _ c.args.out.now c.write_entry.new.out host host
-          (Tells (operates s e)) (TellsStep s) (tells_step s e gives)
-          (acts_line sink.written sink.puts sink.faults AreQuiet c.write_entry.result c.args.out.now c.write_entry.new.out host
-          (operates s e) refl refl (λ past. tt) c.write_entry.ensures.puts c.requires.whole c.write_entry.ensures.serves));
+          (Tells (operates s e)) (TellsStep s) (tells_step s e)
+          (acts_line sink.written sink.puts sink.faults linked c.write_entry.result c.args.out.now c.write_entry.new.out host
+          (operates s e) (refl, follows result old new (operates s e ∷ []) (gives, is)) refl (λ past. tt) c.write_entry.ensures.puts
+          c.requires.whole c.write_entry.ensures.serves));
     }

@@ -23,7 +23,7 @@ returns-then-is_to_stop g c =
     let link = g.L.CountedLink in
     let begun : ℕ → Command = λ addr. command.Stop addr in
     record {
-      acts = link_then sink.written sink.puts sink.faults g.L.Link.gives link.sent link.failures c.args.link.now c.go_on.new.link c.stop_idle.new.link
+      acts = link_then sink.written sink.puts sink.faults g.L.Link.gives link.sent link.failures c.args.link.now c.go_on.new.link c.stop_idle.new.link c.args.desk.now c.go_on.new.desk c.stop_idle.new.desk
           c.stop_idle.result c.args.out.now c.go_on.new.out
           c.stop_idle.new.out c.args.host.now c.go_on.new.host c.stop_idle.new.host IsStopping IsStopping IsStopping
           (many_then (IsStepOf begun))

@@ -9,7 +9,7 @@ pub loop-addr-init : goal.loop-addr-init
 loop-addr-init g c =
     let sink = g.K.Sink in
     let link = g.L.CountedLink in
-    link_none sink.written sink.puts sink.faults g.L.Link.gives link.sent link.failures c.args.link.now c.args.out.now c.args.host.now IsStopping c.requires.whole
+    link_none sink.written sink.puts sink.faults g.L.Link.gives link.sent link.failures c.args.link.now c.args.desk.now c.args.out.now c.args.host.now IsStopping c.requires.whole
     (many_none (IsStepOf (λ addr. command.Stop addr)))
 
 pub returns-in-Err : goal.returns-in-Err
@@ -17,7 +17,7 @@ returns-in-Err g c =
     let sink = g.K.Sink in
     let link = g.L.CountedLink in
     record {
-      acts = link_then sink.written sink.puts sink.faults g.L.Link.gives link.sent link.failures c.args.link.now c.loop-addr.link c.stop_if_running.new.link (Err c.in-Err.how) c.args.out.now c.loop-addr.out
+      acts = link_then sink.written sink.puts sink.faults g.L.Link.gives link.sent link.failures c.args.link.now c.loop-addr.link c.stop_if_running.new.link c.args.desk.now c.loop-addr.desk c.stop_if_running.new.desk (Err c.in-Err.how) c.args.out.now c.loop-addr.out
           c.stop_if_running.new.out c.args.host.now c.loop-addr.host c.stop_if_running.new.host IsStopping IsStopping
           IsStopping (many_then (IsStepOf (λ addr. command.Stop addr))) c.loop-addr.invariant c.in-Err.ensures.acts;
     }
@@ -26,7 +26,7 @@ pub loop-addr-preserved : goal.loop-addr-preserved
 loop-addr-preserved g c =
     let sink = g.K.Sink in
     let link = g.L.CountedLink in
-    link_then sink.written sink.puts sink.faults g.L.Link.gives link.sent link.failures c.args.link.now c.loop-addr.link c.stop_if_running.new.link (Ok tt) c.args.out.now c.loop-addr.out c.stop_if_running.new.out
+    link_then sink.written sink.puts sink.faults g.L.Link.gives link.sent link.failures c.args.link.now c.loop-addr.link c.stop_if_running.new.link c.args.desk.now c.loop-addr.desk c.stop_if_running.new.desk (Ok tt) c.args.out.now c.loop-addr.out c.stop_if_running.new.out
     c.args.host.now c.loop-addr.host c.stop_if_running.new.host IsStopping IsStopping IsStopping
     (many_then (IsStepOf (λ addr. command.Stop addr))) c.loop-addr.invariant c.in-Ok.ensures.acts
 
@@ -35,7 +35,7 @@ returns-in-Ok g c =
     let sink = g.K.Sink in
     let link = g.L.CountedLink in
     record {
-      acts = link_then sink.written sink.puts sink.faults g.L.Link.gives link.sent link.failures c.args.link.now c.loop-addr.link c.stop_if_running.new.link (Ok tt) c.args.out.now c.loop-addr.out c.stop_if_running.new.out
+      acts = link_then sink.written sink.puts sink.faults g.L.Link.gives link.sent link.failures c.args.link.now c.loop-addr.link c.stop_if_running.new.link c.args.desk.now c.loop-addr.desk c.stop_if_running.new.desk (Ok tt) c.args.out.now c.loop-addr.out c.stop_if_running.new.out
           c.args.host.now c.loop-addr.host c.stop_if_running.new.host IsStopping IsStopping IsStopping
           (many_then (IsStepOf (λ addr. command.Stop addr))) c.loop-addr.invariant c.in-Ok.ensures.acts;
     }

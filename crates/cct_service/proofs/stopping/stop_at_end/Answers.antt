@@ -1,5 +1,6 @@
 use Rattle.std.proofs.Common.{Ok, refl, subst, sym}
 use Rattle.cct_service.specs.declared.stopping.AtEnd.TheVariants as at_end
+use Rattle.cct_service.specs.AtDesk.{Both, FollowsDesk}
 use Rattle.cct_service.specs.Doing.{StopsBy}
 use Rattle.cct_service.specs.Linked.{Exchanges}
 use Rattle.cct_service.specs.Parts.{Acts}
@@ -13,8 +14,9 @@ returns-in-Leave g c =
     let out = c.args.out.now in
     let host = c.args.host.now in
     let line = c.args.link.now in
+    let desk = c.args.desk.now in
     record {
-      acts = subst (λ ends. Acts sink.written sink.puts sink.faults (Exchanges g.L.Link.gives link.sent link.failures line line) (StopsBy ends) (Ok tt) out out host host)
+      acts = subst (λ ends. Acts sink.written sink.puts sink.faults (Both (Exchanges g.L.Link.gives link.sent link.failures line line) (FollowsDesk (Ok tt) desk desk)) (StopsBy ends) (Ok tt) out out host host)
           (sym c.in-Leave.is)
-          (link_none sink.written sink.puts sink.faults g.L.Link.gives link.sent link.failures line out host (StopsBy at_end.Leave) c.requires.whole (refl, refl));
+          (link_none sink.written sink.puts sink.faults g.L.Link.gives link.sent link.failures line desk out host (StopsBy at_end.Leave) c.requires.whole (refl, refl));
     }

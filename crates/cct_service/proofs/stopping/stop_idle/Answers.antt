@@ -15,9 +15,9 @@ returns-in-Ok g c =
     let link = g.L.CountedLink in
     let begun : ℕ → Command = λ addr. command.Stop addr in
     record {
-      acts = link_then sink.written sink.puts sink.faults g.L.Link.gives link.sent link.failures c.args.link.now c.args.link.now c.go_on.new.link c.go_on.result c.args.out.now c.answer.new.out c.go_on.new.out
+      acts = link_then sink.written sink.puts sink.faults g.L.Link.gives link.sent link.failures c.args.link.now c.args.link.now c.go_on.new.link c.args.desk.now c.args.desk.now c.go_on.new.desk c.go_on.result c.args.out.now c.answer.new.out c.go_on.new.out
           c.args.host.now c.answer.new.host c.go_on.new.host IsStopping IsStopping IsStopping (many_then (IsStepOf begun))
-          (link_quiet sink.written sink.puts sink.faults g.L.Link.gives link.sent link.failures c.args.link.now (Ok tt)
+          (link_quiet sink.written sink.puts sink.faults g.L.Link.gives link.sent link.failures c.args.link.now c.args.desk.now (Ok tt)
           c.args.out.now c.answer.new.out c.args.host.now c.answer.new.host IsStopping
           (acts_weaker sink.written sink.puts sink.faults (Ok tt) c.args.out.now c.answer.new.out c.args.host.now
           c.answer.new.host (TellsOne (live.command (command.Stop c.args.addr))) IsStopping
@@ -32,7 +32,7 @@ returns-in-Err g c =
     let sink = g.K.Sink in
     let link = g.L.CountedLink in
     record {
-      acts = link_quiet sink.written sink.puts sink.faults g.L.Link.gives link.sent link.failures c.args.link.now (Err c.in-Err.how)
+      acts = link_quiet sink.written sink.puts sink.faults g.L.Link.gives link.sent link.failures c.args.link.now c.args.desk.now (Err c.in-Err.how)
           c.args.out.now c.answer.new.out c.args.host.now c.answer.new.host IsStopping
           (acts_weaker sink.written sink.puts sink.faults (Err c.in-Err.how) c.args.out.now c.answer.new.out
           c.args.host.now c.answer.new.host (TellsOne (live.command (command.Stop c.args.addr))) IsStopping

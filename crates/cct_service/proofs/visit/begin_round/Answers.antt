@@ -2,6 +2,7 @@ use Rattle.cct_model.specs.lines.command.Command.TheVariants as command
 use Rattle.cct_lives.specs.LiveStep as live
 use Rattle.std.proofs.Common.{refl}
 use Rattle.cct_service.specs.Linked.{AreQuiet}
+use Rattle.cct_service.specs.AtDesk.{Both, IsApart}
 use Rattle.cct_service.specs.Doing.{IsStepOf, IsVisit, TellsOne}
 use Rattle.cct_service.proofs.Doings.{command_step, many_none}
 use Rattle.cct_service.proofs.Parts.{acts_none, acts_weaker}
@@ -20,6 +21,6 @@ pub returns-else-is_none : goal.returns-else-is_none
 returns-else-is_none g c =
     let sink = g.K.Sink in
     record {
-      acts = acts_none sink.written sink.puts sink.faults AreQuiet refl c.args.out.now c.args.host.now IsVisit c.requires.whole
+      acts = acts_none sink.written sink.puts sink.faults (Both AreQuiet IsApart) (refl, λ desk. refl) c.args.out.now c.args.host.now IsVisit c.requires.whole
           (many_none (IsStepOf (λ addr. command.Round addr)));
     }

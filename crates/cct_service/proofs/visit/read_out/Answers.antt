@@ -9,7 +9,7 @@ pub loop-round-init : goal.loop-round-init
 loop-round-init g c =
     let sink = g.K.Sink in
     let link = g.L.CountedLink in
-    link_none sink.written sink.puts sink.faults g.L.Link.gives link.sent link.failures c.args.link.now c.args.out.now c.args.host.now IsVisit c.requires.whole
+    link_none sink.written sink.puts sink.faults g.L.Link.gives link.sent link.failures c.args.link.now c.args.desk.now c.args.out.now c.args.host.now IsVisit c.requires.whole
     (many_none (IsStepOf (λ addr. command.Round addr)))
 
 pub returns-in-Err : goal.returns-in-Err
@@ -17,7 +17,7 @@ returns-in-Err g c =
     let sink = g.K.Sink in
     let link = g.L.CountedLink in
     record {
-      acts = link_then sink.written sink.puts sink.faults g.L.Link.gives link.sent link.failures c.args.link.now c.loop-round.link c.round.new.link (Err c.in-Err.how) c.args.out.now c.loop-round.out c.round.new.out
+      acts = link_then sink.written sink.puts sink.faults g.L.Link.gives link.sent link.failures c.args.link.now c.loop-round.link c.round.new.link c.args.desk.now c.loop-round.desk c.round.new.desk (Err c.in-Err.how) c.args.out.now c.loop-round.out c.round.new.out
           c.args.host.now c.loop-round.host c.round.new.host IsVisit IsVisit IsVisit
           (many_then (IsStepOf (λ addr. command.Round addr))) c.loop-round.invariant c.in-Err.ensures.acts;
     }
@@ -26,7 +26,7 @@ pub loop-round-preserved : goal.loop-round-preserved
 loop-round-preserved g c =
     let sink = g.K.Sink in
     let link = g.L.CountedLink in
-    link_then sink.written sink.puts sink.faults g.L.Link.gives link.sent link.failures c.args.link.now c.loop-round.link c.round.new.link (Ok tt) c.args.out.now c.loop-round.out c.round.new.out c.args.host.now
+    link_then sink.written sink.puts sink.faults g.L.Link.gives link.sent link.failures c.args.link.now c.loop-round.link c.round.new.link c.args.desk.now c.loop-round.desk c.round.new.desk (Ok tt) c.args.out.now c.loop-round.out c.round.new.out c.args.host.now
     c.loop-round.host c.round.new.host IsVisit IsVisit IsVisit (many_then (IsStepOf (λ addr. command.Round addr)))
     c.loop-round.invariant c.in-Ok.ensures.acts
 
@@ -35,7 +35,7 @@ returns-then-not-has_moved g c =
     let sink = g.K.Sink in
     let link = g.L.CountedLink in
     record {
-      acts = link_then sink.written sink.puts sink.faults g.L.Link.gives link.sent link.failures c.args.link.now c.loop-round.link c.round.new.link (Ok tt) c.args.out.now c.loop-round.out c.round.new.out
+      acts = link_then sink.written sink.puts sink.faults g.L.Link.gives link.sent link.failures c.args.link.now c.loop-round.link c.round.new.link c.args.desk.now c.loop-round.desk c.round.new.desk (Ok tt) c.args.out.now c.loop-round.out c.round.new.out
           c.args.host.now c.loop-round.host c.round.new.host IsVisit IsVisit IsVisit
           (many_then (IsStepOf (λ addr. command.Round addr))) c.loop-round.invariant c.in-Ok.ensures.acts;
     }

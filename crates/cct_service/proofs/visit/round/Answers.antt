@@ -14,9 +14,9 @@ returns-in-Ok g c =
     let link = g.L.CountedLink in
     let begun : ℕ → Command = λ addr. command.Round addr in
     record {
-      acts = link_then sink.written sink.puts sink.faults g.L.Link.gives link.sent link.failures c.args.link.now c.args.link.now c.go_on.new.link c.go_on.result c.args.out.now c.begin_round.new.out c.go_on.new.out
+      acts = link_then sink.written sink.puts sink.faults g.L.Link.gives link.sent link.failures c.args.link.now c.args.link.now c.go_on.new.link c.args.desk.now c.args.desk.now c.go_on.new.desk c.go_on.result c.args.out.now c.begin_round.new.out c.go_on.new.out
           c.args.host.now c.begin_round.new.host c.go_on.new.host IsVisit IsVisit IsVisit (many_then (IsStepOf begun))
-          (link_quiet sink.written sink.puts sink.faults g.L.Link.gives link.sent link.failures c.args.link.now (Ok tt) c.args.out.now c.begin_round.new.out
+          (link_quiet sink.written sink.puts sink.faults g.L.Link.gives link.sent link.failures c.args.link.now c.args.desk.now (Ok tt) c.args.out.now c.begin_round.new.out
           c.args.host.now c.begin_round.new.host IsVisit c.in-Ok.ensures.acts)
           (acts_weaker sink.written sink.puts sink.faults c.go_on.result c.begin_round.new.out c.go_on.new.out
           c.begin_round.new.host c.go_on.new.host (AreAttempts c.args.addr MOST_ATTEMPTS) IsVisit
@@ -28,7 +28,7 @@ returns-in-Err g c =
     let sink = g.K.Sink in
     let link = g.L.CountedLink in
     record {
-      acts = link_quiet sink.written sink.puts sink.faults g.L.Link.gives link.sent link.failures c.args.link.now
+      acts = link_quiet sink.written sink.puts sink.faults g.L.Link.gives link.sent link.failures c.args.link.now c.args.desk.now
           (Err c.in-Err.how) c.args.out.now c.begin_round.new.out c.args.host.now c.begin_round.new.host IsVisit
           c.in-Err.ensures.acts;
     }
