@@ -1,11 +1,8 @@
-//! The lines of bus logs as people have them (`docs/SHOW.md`): bytes in hexadecimal, which way they went, and a time.
+//! The messages of bus logs as people have them (`docs/SHOW.md`): one may take several lines, and a line may have several.
 #![tactic(auto)]
 
-mod gather;
-mod line;
-mod time;
-mod word;
+mod joined;
+mod reader;
 
-pub use gather::{LogBytes, MOST_LOGGED};
-pub use line::{LogLine, Said, read_log_line};
-pub use time::{Time, after_time};
+pub use joined::Said;
+pub use reader::{LogLine, LogReader};

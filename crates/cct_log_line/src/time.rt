@@ -1,7 +1,12 @@
 //! The time that stands in a line.
 
+use crate::word::next_word;
+
 /// How many digits of a fraction of a second count.
 const FRACTION_DIGITS: usize = 6;
+
+/// Twelve hours, in millionths of a second.
+const NOON: u64 = 43_200_000_000;
 
 /// A time of day, or a time since some beginning, as it stands in a line.
 #[derive(Clone, Copy)]
@@ -11,16 +16,16 @@ pub struct Time<'l> {
     pub micros: u64,
 }
 
-/// The time that a word spells: `H:M:S`, `M:S` or seconds with a point, each with a fraction or without, in brackets or
-/// not, and after a date and a `T` or not.
+/// The time that a word spells: `H:M:S`, `H:M:S:MILLIS`, `M:S` or seconds with a point, each with a fraction or without, in
+/// brackets or not, after a date and a `T` or not, and with a time zone or not.
 pub(crate) fn time_in(word: &[u8]) -> Option<Time<'_>> {
     let text = without_frame(word);
-    let of_day = text.rsplit(|byte| *byte == b'T').next()?;
+    let of_day = without_zone(text.rsplit(|byte| *byte == b'T').next()?);
     if !of_day.iter().any(|byte| *byte == b':' || *byte == b'.') {
         return None;
     }
     let mut halves = of_day.split(|byte| *byte == b'.');
-    let seconds = seconds_in(halves.next()?)?;
+    let whole = micros_in(halves.next()?)?;
     let fraction = match halves.next() {
         None => 0,
         Some(digits) => fraction_in(digits)?,
@@ -30,8 +35,54 @@ pub(crate) fn time_in(word: &[u8]) -> Option<Time<'_>> {
     }
     Some(Time {
         text,
-        micros: seconds.checked_mul(1_000_000)?.checked_add(fraction)?,
+        micros: whole.checked_add(fraction)?,
     })
+}
+
+/// The time that stands in a line before a place: the first word that spells one, with a fraction behind a comma, AM or
+/// PM, or else, where `is_number_time`, the last word that is a number, which counts milliseconds.
+pub(crate) fn time_at(line: &[u8], end: usize, is_number_time: bool) -> Option<Time<'_>> {
+    let mut number = None;
+    let mut at = 0;
+    for _ in line {
+        let Some(word) = next_word(line, at) else {
+            break;
+        };
+        if word.from >= end {
+            break;
+        }
+        if let Some(time) = time_in(word.text) {
+            return Some(completed(line, time, word.to));
+        }
+        if let Some(count) = number_in(without_frame(word.text)) {
+            number = Some(Time {
+                text: word.text,
+                micros: count.saturating_mul(1000),
+            });
+        }
+        at = word.to;
+    }
+    if is_number_time { number } else { None }
+}
+
+/// A time with what stands behind it, at a place in its line: milliseconds or millionths behind a comma, AM or PM.
+fn completed<'l>(line: &'l [u8], time: Time<'l>, place: usize) -> Time<'l> {
+    let mut time = time;
+    let Some(next) = next_word(line, place) else {
+        return time;
+    };
+    let is_fraction = matches!(next.text.len(), 3 | 6)
+        && line.get(place) == Some(&b',')
+        && line.get(next.to) != Some(&b',');
+    if is_fraction && let Some(micros) = fraction_in(next.text) {
+        time.micros = time.micros.saturating_add(micros);
+    }
+    match next.text {
+        b"PM" | b"pm" if time.micros < NOON => time.micros = time.micros.saturating_add(NOON),
+        b"AM" | b"am" if time.micros >= NOON => time.micros = time.micros.saturating_sub(NOON),
+        _ => {}
+    }
+    time
 }
 
 /// The time that stands before the rest of a line, in the first word or after a date, and that rest; without one, the
@@ -97,17 +148,38 @@ fn without_frame(word: &[u8]) -> &[u8] {
     word.strip_suffix(b"Z").unwrap_or(word)
 }
 
-/// The seconds that numbers with colons between them spell.
-fn seconds_in(text: &[u8]) -> Option<u64> {
-    let mut seconds = 0u64;
-    for part in text.split(|byte| *byte == b':') {
-        seconds = seconds.checked_mul(60)?.checked_add(number_in(part)?)?;
+/// A time of day without its time zone.
+fn without_zone(text: &[u8]) -> &[u8] {
+    match text.iter().position(|byte| matches!(*byte, b'+' | b'-')) {
+        Some(place) if place > 0 => text.get(..place).unwrap_or(text),
+        _ => text,
     }
-    Some(seconds)
+}
+
+/// The millionths that numbers with colons between them spell: up to three, or four, of which the last are milliseconds.
+fn micros_in(text: &[u8]) -> Option<u64> {
+    let mut count = 0u32;
+    let mut seconds = 0u64;
+    let mut millis = 0u64;
+    for part in text.split(|byte| *byte == b':') {
+        let number = number_in(part)?;
+        count = count.saturating_add(1);
+        if count <= 3 {
+            seconds = seconds.checked_mul(60)?.checked_add(number)?;
+        } else if count == 4 && part.len() == 3 {
+            millis = number;
+        } else {
+            return None;
+        }
+    }
+    seconds
+        .checked_mul(1000)?
+        .checked_add(millis)?
+        .checked_mul(1000)
 }
 
 /// The number that digits spell, of which there is at least one.
-fn number_in(digits: &[u8]) -> Option<u64> {
+pub(crate) fn number_in(digits: &[u8]) -> Option<u64> {
     if digits.is_empty() {
         return None;
     }

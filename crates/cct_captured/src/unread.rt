@@ -1,0 +1,99 @@
+//! The lines of a log that weren't understood.
+
+use arrayvec::ArrayVec;
+use std::fmt;
+use std::fmt::Write;
+
+/// How many of them are told by their numbers.
+const MOST_TOLD: usize = 12;
+
+/// The words of a capture's lines without an exchange.
+const OTHER_WORDS: &[&[u8]] = &[b"watch", b"begin", b"end"];
+
+/// The lines of a log so far, and those of them that weren't understood.
+#[derive(Drop)]
+pub struct Unread {
+    /// The number of the last line.
+    pub line: u64,
+    /// How many lines were understood as a log's.
+    pub read: u64,
+    /// How many weren't, and the numbers of the first of them.
+    count: u64,
+    first: ArrayVec<u64, MOST_TOLD>,
+}
+
+impl Unread {
+    /// No line.
+    pub fn new() -> Unread {
+        Unread {
+            line: 0,
+            read: 0,
+            count: 0,
+            first: ArrayVec::new(),
+        }
+    }
+
+    /// Counts one more line.
+    pub fn next_line(&mut self) {
+        self.line = self.line.saturating_add(1);
+    }
+
+    /// Counts the last line as one that was understood as a log's.
+    pub fn take(&mut self) {
+        self.read = self.read.saturating_add(1);
+    }
+
+    /// Counts the last line as one that wasn't understood, unless it is empty, or one that a capture has.
+    pub fn pass_over(&mut self, line: &[u8]) {
+        if !is_other_line(line) {
+            self.count = self.count.saturating_add(1);
+            // The first ones are told.
+            let _ = self.first.try_push(self.line);
+        }
+    }
+
+    /// Whether a tenth of the lines, or more, wasn't understood.
+    pub fn is_much(&self) -> bool {
+        let lines = self.read.saturating_add(self.count);
+        self.count != 0 && self.count.saturating_mul(10) >= lines
+    }
+
+    /// Says on standard error which lines weren't understood.
+    pub fn tell(&self, rt: &impl Eprint) {
+        if self.count != 0 {
+            // Nothing more can be done where that can't be written.
+            let _ = eprintln!(rt; "cct_show: {self}");
+        }
+    }
+}
+
+impl fmt::Display for Unread {
+    fn fmt<W: fmt::Write>(&self, f: &mut fmt::Formatter<W>) -> fmt::Result {
+        let line = self.line;
+        match self.count {
+            1 => f.write_str("1 line is no line of a log, and is left out:")?,
+            count => write!(
+                f,
+                "{count} of {line} lines are no lines of a log, and are left out:"
+            )?,
+        }
+        let mut before = " line ";
+        for number in self.first.as_slice() {
+            write!(f, "{before}{number}")?;
+            before = ", ";
+        }
+        f.write_str(if self.count > MOST_TOLD as u64 {
+            ", .."
+        } else {
+            ""
+        })
+    }
+}
+
+/// Whether a line is one of a capture's without an exchange, or has no byte.
+pub fn is_other_line(line: &[u8]) -> bool {
+    match line.split(|byte| *byte == b' ').next() {
+        Some(word) => word.is_empty() || OTHER_WORDS.contains(&word),
+        None => true,
+    }
+}

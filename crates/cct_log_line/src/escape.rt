@@ -1,0 +1,91 @@
+//! Bytes as the text of a programming language: `b'\x02\x00'`, or `"\2\0"` as `strace` writes it.
+
+use crate::byte::{LogBytes, value_of};
+
+/// The bytes of the first text of a line with an escape in it. `None` where there is none, or it isn't there whole.
+pub(crate) fn escaped_in(line: &[u8]) -> Option<LogBytes> {
+    let escape = line.iter().position(|byte| *byte == b'\\')?;
+    let (before, _) = line.split_at_checked(escape)?;
+    let quote = before
+        .iter()
+        .rposition(|byte| matches!(*byte, b'\'' | b'"'));
+    let (bytes, after) = match quote {
+        Some(place) => unescaped(line.get(place.saturating_add(1)..)?, *line.get(place)?)?,
+        None => unescaped(line.get(escape..)?, b' ')?,
+    };
+    if after.starts_with(b"..") {
+        None
+    } else {
+        Some(bytes)
+    }
+}
+
+/// The bytes of a text up to its end mark, and what stands after that. Only a space may be left out at the end of a line.
+fn unescaped(text: &[u8], end: u8) -> Option<(LogBytes, &[u8])> {
+    let mut bytes = LogBytes::new();
+    let mut rest = text;
+    for _ in text {
+        match rest {
+            [b'\\', after @ ..] => {
+                let (byte, after) = escape_in(after)?;
+                bytes.try_push(byte).ok()?;
+                rest = after;
+            }
+            [byte, after @ ..] if *byte == end => return Some((bytes, after)),
+            [byte, after @ ..] => {
+                bytes.try_push(*byte).ok()?;
+                rest = after;
+            }
+            [] => break,
+        }
+    }
+    if end == b' ' && rest.is_empty() {
+        Some((bytes, rest))
+    } else {
+        None
+    }
+}
+
+/// The byte of an escape, without its backslash, and what stands after it.
+fn escape_in(text: &[u8]) -> Option<(u8, &[u8])> {
+    match text {
+        [b'x', high, low, rest @ ..] | [b'u', b'0', b'0', high, low, rest @ ..] => {
+            Some(((value_of(*high)? & 15) << 4 | value_of(*low)?, rest))
+        }
+        [b'0'..=b'7', ..] => octal_in(text),
+        [letter, rest @ ..] => Some((letter_byte(*letter)?, rest)),
+        [] => None,
+    }
+}
+
+/// The byte of up to three octal digits, and what stands after them.
+fn octal_in(text: &[u8]) -> Option<(u8, &[u8])> {
+    let mut number = 0u8;
+    let mut rest = text;
+    for _ in 0..3 {
+        match rest {
+            [digit @ b'0'..=b'7', after @ ..] => {
+                number = number.checked_mul(8)?.checked_add(*digit - b'0')?;
+                rest = after;
+            }
+            _ => break,
+        }
+    }
+    Some((number, rest))
+}
+
+/// The byte that a letter behind a backslash stands for.
+fn letter_byte(letter: u8) -> Option<u8> {
+    match letter {
+        b'a' => Some(7),
+        b'b' => Some(8),
+        b't' => Some(9),
+        b'n' => Some(10),
+        b'v' => Some(11),
+        b'f' => Some(12),
+        b'r' => Some(13),
+        b'e' => Some(27),
+        b'\\' | b'\'' | b'"' => Some(letter),
+        _ => None,
+    }
+}

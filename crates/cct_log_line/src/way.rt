@@ -1,0 +1,198 @@
+//! Where a line says which way its bytes went.
+
+use crate::byte::{is_hex, without_angles};
+use crate::name::{Way, arrow_way, is_host, maybe_way, named_way};
+use crate::word::{Word, next_word};
+
+/// A place in a line that says a way.
+#[derive(Clone, Copy)]
+pub(crate) struct WayAt {
+    pub(crate) way: Way,
+    /// Whether its word may say something else.
+    pub(crate) is_weak: bool,
+    /// Whether it is a part of its word.
+    pub(crate) is_part: bool,
+    /// The place at which it begins, and the place after it.
+    pub(crate) from: usize,
+    pub(crate) to: usize,
+}
+
+/// The first way that a line says at a place or after it: one that can be nothing else, or where none is there the first
+/// that may be one.
+pub(crate) fn first_way(line: &[u8], place: usize) -> Option<WayAt> {
+    let mut weak = None;
+    let mut at = place;
+    let mut before: &[u8] = b"";
+    for _ in line {
+        let Some(word) = next_word(line, at) else {
+            break;
+        };
+        match way_at(line, before, &word) {
+            Some(found) if !found.is_weak => return Some(found),
+            Some(found) if weak.is_none() => weak = Some(found),
+            _ => {}
+        }
+        before = word.text;
+        at = word.to;
+    }
+    weak
+}
+
+/// The way that a word says, after the word before it.
+fn way_at(line: &[u8], before: &[u8], word: &Word<'_>) -> Option<WayAt> {
+    let (arrow, _) = cut_arrow(word.text);
+    if let Some(found) = arrow_at(line, before, word, arrow) {
+        return Some(found);
+    }
+    if let Some(way) = way_between(word.text) {
+        return Some(WayAt {
+            way,
+            is_weak: false,
+            is_part: false,
+            from: word.from,
+            to: word.to,
+        });
+    }
+    named_at(word)
+}
+
+/// The way that an arrow says at the beginning of a word: from the host, if not the other end is named as it.
+fn arrow_at(line: &[u8], before: &[u8], word: &Word<'_>, arrow: &[u8]) -> Option<WayAt> {
+    let way = arrow_way(arrow)?;
+    let after = word.text.get(arrow.len()..)?;
+    let is_alone = after.is_empty() || after == b":".as_slice();
+    if !is_alone && (!is_hex(without_angles(after)) || is_bracket(line, word)) {
+        return None;
+    }
+    let mut found = WayAt {
+        way,
+        is_weak: false,
+        is_part: false,
+        from: word.from,
+        to: word.from.saturating_add(arrow.len()),
+    };
+    if is_alone {
+        found.to = word.to;
+        if let Some(next) = next_word(line, word.to) {
+            turn(&mut found, before, &next);
+        }
+    }
+    Some(found)
+}
+
+/// Whether a word begins bytes in angle brackets: with the first one, where a later word, or this one, ends with the other.
+fn is_bracket(line: &[u8], word: &Word<'_>) -> bool {
+    if !word.text.starts_with(b"<") {
+        return false;
+    }
+    let mut at = word.from;
+    for _ in line {
+        let Some(next) = next_word(line, at) else {
+            return false;
+        };
+        if !is_hex(without_angles(next.text)) {
+            return false;
+        }
+        if next.text.ends_with(b">") {
+            return true;
+        }
+        at = next.to;
+    }
+    false
+}
+
+/// Takes the other end of an arrow into account, where the host is named at one.
+fn turn(found: &mut WayAt, before: &[u8], next: &Word<'_>) {
+    if is_end_host(next.text) {
+        found.way = against(found.way);
+        found.to = next.to;
+    } else if is_end_host(before) {
+        found.to = next.to;
+    }
+}
+
+/// The other way.
+fn against(way: Way) -> Way {
+    match way {
+        Way::Sent => Way::Heard,
+        Way::Heard => Way::Sent,
+    }
+}
+
+/// The way that a word says in which an arrow stands between two ends, of which one is the host.
+fn way_between(word: &[u8]) -> Option<Way> {
+    let place = word
+        .iter()
+        .position(|byte| matches!(*byte, b'-' | b'=' | b'>' | b'<'))?;
+    let left = word.get(..place)?;
+    let (arrow, right) = cut_arrow(word.get(place..)?);
+    let way = arrow_way(arrow)?;
+    if right.is_empty() {
+        None
+    } else if is_end_host(left) {
+        Some(way)
+    } else if is_end_host(right) {
+        Some(against(way))
+    } else {
+        None
+    }
+}
+
+/// Whether an end of an arrow is the host, with a colon after it or without.
+fn is_end_host(end: &[u8]) -> bool {
+    is_host(end.strip_suffix(b":").unwrap_or(end))
+}
+
+/// The bytes of an arrow that begins a word, and the rest.
+fn cut_arrow(word: &[u8]) -> (&[u8], &[u8]) {
+    let len = word
+        .iter()
+        .position(|byte| !matches!(*byte, b'-' | b'=' | b'>' | b'<' | 0x80..=0xff))
+        .unwrap_or(word.len());
+    word.split_at_checked(len).unwrap_or((b"", word))
+}
+
+/// The way that a word names, with marks behind it or without. A part of a longer word may name it too.
+fn named_at(word: &Word<'_>) -> Option<WayAt> {
+    let mut from = 0usize;
+    for part in word.text.split(|byte| !byte.is_ascii_alphabetic()) {
+        let to = from.saturating_add(part.len());
+        if let Some((way, is_weak)) = part_way(word.text, from, part) {
+            let rest = word.text.get(to..)?;
+            if is_weak && matches!(rest, [b'.', b'a'..=b'z' | b'A'..=b'Z', ..]) {
+                // It is the name of a file or a program.
+                return None;
+            }
+            let marks = rest
+                .iter()
+                .position(|byte| byte.is_ascii_alphanumeric())
+                .unwrap_or(rest.len());
+            return Some(WayAt {
+                way,
+                is_weak,
+                is_part: from != 0,
+                from: word.from,
+                to: word.from.saturating_add(to).saturating_add(marks),
+            });
+        }
+        from = to.saturating_add(1);
+    }
+    None
+}
+
+/// The way that a part of a word names, which begins at this place of it, and whether it may say something else. Such a
+/// part begins the word, or stands behind a low line.
+fn part_way(word: &[u8], from: usize, part: &[u8]) -> Option<(Way, bool)> {
+    if let Some(way) = named_way(part) {
+        return Some((way, false));
+    }
+    let is_front = match from.checked_sub(1) {
+        Some(place) => word.get(place) == Some(&b'_'),
+        None => true,
+    };
+    if is_front {
+        Some((maybe_way(part)?, true))
+    } else {
+        None
+    }
+}
