@@ -4,7 +4,6 @@ use Rattle.std.specs.List.{slice_split}
 use Rattle.std.specs.Io.KnownBytes.{Consumes}
 use Rattle.std.proofs.lemmas.List.{append-nil, reverse-append}
 use Rattle.cct_edge.proofs.Chains.{Consumes-nil, Consumes-trans}
-use Rattle.cct_model.specs.lines.entry.Entry.{Entry}
 use Rattle.cct_model.specs.lines.entry.LineKind.{LineKind}
 use Rattle.cct_model.specs.Script.{is_line_feed, refusal_at}
 use Rattle.cct_script.specs.Scripts.{GoesOnIn, IsClosedIn, StopsIn, WithMoreTaken, unfinished_by}
@@ -13,6 +12,8 @@ use Rattle.cct_script.specs.declared.stops.ScriptStop.{ScriptStop}
 use Rattle.cct_script.specs.declared.stops.ScriptStop.TheVariants as stop
 use Rattle.cct_script.proofs.Continuing.{ended}
 use Rattle.cct_script.proofs.Sources.{told_by}
+use Rattle.cct_monitor.specs.declared.monitor.Monitor.{Monitor}
+use Rattle.cct_monitor.specs.Monitor.{StandsFor}
 use Rattle.cct_monitor.specs.Watches.{Came}
 use Rattle.cct_audit.specs.Audit.{Audited, BreaksOff, Ends, at_end, at_tap}
 use Rattle.cct_audit.specs.declared.auditing.AuditEnd.{AuditEnd}
@@ -82,17 +83,17 @@ no_more past number why = ap (λ came. record { came = came; refused = refusal_a
 
 -- the bytes of an audit
 of_going : (left0 left : Option (List ℕ)) (held : List ℕ) (number : ℕ) (stage : Stage) (past : List Came)
-    (how : AuditEnd) (W : List Entry → Type 0) (B : List Entry → List Entry → Type 0)
-    → (g : Going left0 left held number stage past) → Ends how (g.taken ++ to_come left) g.taken past W B
-    → OfBytes left0 (λ bytes. Audited bytes how left W B)
-of_going left0 left held number stage past how W B g ends = (
+    (how : AuditEnd) (monitor : Monitor) (W : List (List ℕ) → Type 0) (B : List (List ℕ) → List (List ℕ) → Type 0)
+    → (g : Going left0 left held number stage past) → StandsFor monitor past → Ends how (g.taken ++ to_come left) g.taken past W B
+    → OfBytes left0 (λ bytes. Audited bytes how monitor left W B)
+of_going left0 left held number stage past how monitor W B g stands ends = (
   g.taken ++ to_come left,
   told_by left0 left g.taken g.consumed,
-  record { taken = g.taken; past = past; took = refl; ends = ends },
+  record { taken = g.taken; past = past; took = refl; stands = stands; ends = ends },
 )
 
 stopped_here : (left0 left : Option (List ℕ)) (held : List ℕ) (number : ℕ) (stage : Stage) (past : List Came)
-    (why : ScriptStop) (W : List Entry → Type 0) (B : List Entry → List Entry → Type 0)
+    (why : ScriptStop) (W : List (List ℕ) → Type 0) (B : List (List ℕ) → List (List ℕ) → Type 0)
     → (g : Going left0 left held number stage past) → StopsIn of_capture number stage why left held → W (told past)
     → Ends (ending.Stopped number why) (g.taken ++ to_come left) g.taken past W B
 stopped_here left0 left held number stage past stop.Unread W B g stops wrote =
@@ -114,12 +115,13 @@ stopped_here left0 left held number stage past (stop.Refused why) W B g stops wr
 
 -- it is read no further
 pub audit_stops : (left0 left left1 : Option (List ℕ)) (held : List ℕ) (number : ℕ) (stage : Stage) (past : List Came)
-    (why : ScriptStop) (W : List Entry → Type 0) (B : List Entry → List Entry → Type 0)
-    → Going left0 left held number stage past → WithMoreTaken held left left1 (StopsIn of_capture number stage why left1)
-    → W (told past) → OfBytes left0 (λ bytes. Audited bytes (ending.Stopped number why) left1 W B)
-audit_stops left0 left left1 held number stage past why W B g r wrote =
+    (why : ScriptStop) (monitor : Monitor) (W : List (List ℕ) → Type 0) (B : List (List ℕ) → List (List ℕ) → Type 0)
+    → Going left0 left held number stage past → StandsFor monitor past
+    → WithMoreTaken held left left1 (StopsIn of_capture number stage why left1)
+    → W (told past) → OfBytes left0 (λ bytes. Audited bytes (ending.Stopped number why) monitor left1 W B)
+audit_stops left0 left left1 held number stage past why monitor W B g stands r wrote =
     let now = going_came left0 left left1 held r.0 number stage past g r.1 in
-    of_going left0 left1 (held ++ r.0) number stage past (ending.Stopped number why) W B now
+    of_going left0 left1 (held ++ r.0) number stage past (ending.Stopped number why) monitor W B now stands
     (stopped_here left0 left1 (held ++ r.0) number stage past why W B now r.2 wrote)
 
 -- it is read to its end, and what is said there is written, or breaks off
@@ -132,42 +134,42 @@ ended_here left0 left left1 held number past g r =
     let now = going_came left0 left left1 held r.0 number over past g r.1 in
     now.says (to_come left1) ∙ ap (with_came (reverse past)) r.2 ∙ no_more past number None
 
-pub audit_done : (left0 left left1 : Option (List ℕ)) (held : List ℕ) (number : ℕ) (past : List Came)
-    (W : List Entry → Type 0) (B : List Entry → List Entry → Type 0) → Going left0 left held number over past
-    → WithMoreTaken held left left1 (IsClosedIn of_capture number over None left1) → W (told past ++ told_last past)
-    → OfBytes left0 (λ bytes. Audited bytes ending.Done left1 W B)
+pub audit_done : (left0 left left1 : Option (List ℕ)) (held : List ℕ) (number : ℕ) (past : List Came) (monitor : Monitor)
+    (W : List (List ℕ) → Type 0) (B : List (List ℕ) → List (List ℕ) → Type 0) → Going left0 left held number over past
+    → StandsFor monitor past → WithMoreTaken held left left1 (IsClosedIn of_capture number over None left1) → W (told past ++ told_last past)
+    → OfBytes left0 (λ bytes. Audited bytes ending.Done monitor left1 W B)
 unfolding going_came
-audit_done left0 left left1 held number past W B g r wrote =
-    of_going left0 left1 (held ++ r.0) number over past ending.Done W B
-    (going_came left0 left left1 held r.0 number over past g r.1)
+audit_done left0 left left1 held number past monitor W B g stands r wrote =
+    of_going left0 left1 (held ++ r.0) number over past ending.Done monitor W B
+    (going_came left0 left left1 held r.0 number over past g r.1) stands
     (ended_here left0 left left1 held number past g r, wrote)
 
-pub audit_broke_last : (left0 left left1 : Option (List ℕ)) (held : List ℕ) (number : ℕ) (past : List Came)
-    (W : List Entry → Type 0) (B : List Entry → List Entry → Type 0) → Going left0 left held number over past
-    → WithMoreTaken held left left1 (IsClosedIn of_capture number over None left1) → B (told past) (told_last past)
-    → OfBytes left0 (λ bytes. Audited bytes ending.Unwritten left1 W B)
+pub audit_broke_last : (left0 left left1 : Option (List ℕ)) (held : List ℕ) (number : ℕ) (past : List Came) (monitor : Monitor)
+    (W : List (List ℕ) → Type 0) (B : List (List ℕ) → List (List ℕ) → Type 0) → Going left0 left held number over past
+    → StandsFor monitor past → WithMoreTaken held left left1 (IsClosedIn of_capture number over None left1) → B (told past) (told_last past)
+    → OfBytes left0 (λ bytes. Audited bytes ending.Unwritten monitor left1 W B)
 unfolding going_came
-audit_broke_last left0 left left1 held number past W B g r broke =
-    of_going left0 left1 (held ++ r.0) number over past ending.Unwritten W B
-    (going_came left0 left left1 held r.0 number over past g r.1)
+audit_broke_last left0 left left1 held number past monitor W B g stands r broke =
+    of_going left0 left1 (held ++ r.0) number over past ending.Unwritten monitor W B
+    (going_came left0 left left1 held r.0 number over past g r.1) stands
     (at_end past (ended_here left0 left left1 held number past g r) broke)
 
 -- writing broke off at a tap
 pub audit_broke : (left0 left : Option (List ℕ)) (held : List ℕ) (number : ℕ) (stage : Stage) (c : Came)
-    (before : List Came) (W : List Entry → Type 0) (B : List Entry → List Entry → Type 0)
-    → Going left0 left held number stage (c ∷ before) → B (told before) (tells before c)
-    → OfBytes left0 (λ bytes. Audited bytes ending.Unwritten left W B)
-audit_broke left0 left held number stage c before W B g broke =
+    (before : List Came) (monitor : Monitor) (W : List (List ℕ) → Type 0) (B : List (List ℕ) → List (List ℕ) → Type 0)
+    → Going left0 left held number stage (c ∷ before) → StandsFor monitor (c ∷ before) → B (told before) (tells before c)
+    → OfBytes left0 (λ bytes. Audited bytes ending.Unwritten monitor left W B)
+audit_broke left0 left held number stage c before monitor W B g stands broke =
     let later = capture_from number stage (slice_split is_line_feed (held ++ to_come left)) in
-    of_going left0 left held number stage (c ∷ before) ending.Unwritten W B g
+    of_going left0 left held number stage (c ∷ before) ending.Unwritten monitor W B g stands
     (at_tap c before later.came (ap (λ (x : Capture). x.came) (g.says (to_come left))) broke)
 
 -- what is said of the writing, told otherwise
-pub audited_as : (bytes : List ℕ) (how : AuditEnd) (left : Option (List ℕ)) (W V : List Entry → Type 0)
-    (B A : List Entry → List Entry → Type 0) → ((es : List Entry) → W es → V es)
-    → ((xs ys : List Entry) → B xs ys → A xs ys) → Audited bytes how left W B → Audited bytes how left V A
-audited_as bytes how left W V B A wrote broke a =
-    record { taken = a.taken; past = a.past; took = a.took; ends = ends_as how a.past a.ends }
+pub audited_as : (bytes : List ℕ) (how : AuditEnd) (monitor : Monitor) (left : Option (List ℕ)) (W V : List (List ℕ) → Type 0)
+    (B A : List (List ℕ) → List (List ℕ) → Type 0) → ((es : List (List ℕ)) → W es → V es)
+    → ((xs ys : List (List ℕ)) → B xs ys → A xs ys) → Audited bytes how monitor left W B → Audited bytes how monitor left V A
+audited_as bytes how monitor left W V B A wrote broke a =
+    record { taken = a.taken; past = a.past; took = a.took; stands = a.stands; ends = ends_as how a.past a.ends }
   where
     breaks_as : (past : List Came) → BreaksOff bytes B past → BreaksOff bytes A past
     breaks_as _ (at_tap c before rest came is) = at_tap c before rest came (broke (told before) (tells before c) is)

@@ -6,10 +6,9 @@ use Rattle.std.specs.List.{list_any, slice_split}
 use Rattle.std.proofs.lemmas.Bool.Decides.{nat_tests}
 use Rattle.std.proofs.lemmas.List.{map-append, reverse-reverse}
 use Rattle.std.proofs.lemmas.List.Elements.{All-cons, All-head, All-nil, All-tail}
-use Rattle.cct_model.specs.lines.entry.Entry.TheVariants as entry
 use Rattle.cct_model.specs.lines.entry.LineKind.{LineKind}
 use Rattle.cct_model.specs.lines.entry.LineKind.TheVariants as kind
-use Rattle.cct_model.specs.lines.entry.Said.{Said}
+use Rattle.cct_taps.specs.declared.said.Said.{Said}
 use Rattle.cct_model.specs.Script.{is_line_feed, most_bytes, most_lines}
 use Rattle.cct_script.specs.declared.capture.CaptureLine.{CaptureLine}
 use Rattle.cct_script.specs.declared.capture.CaptureLine.TheVariants as says
@@ -18,22 +17,26 @@ use Rattle.cct_script.specs.Scripts.{tested}
 use Rattle.cct_monitor.specs.declared.places.TheConstants.{WATCHED}
 use Rattle.cct_monitor.specs.Once.{is_between, is_of_at}
 use Rattle.cct_monitor.specs.Spans.{spans}
-use Rattle.cct_monitor.specs.Taps.{shown}
+use Rattle.cct_taps.specs.Taps.{quiet_shown, shown}
 use Rattle.cct_monitor.specs.Watches.{Came, Watch, all_told, finally_of_all, made_tap, made_watch, said_of_all}
-use Rattle.cct_monitor.proofs.Among.{IsOnly, NoneAt, once_among_all}
+use Rattle.cct_monitor.proofs.Among.{IsOnly, NoneAt, once_among_all, quiet_among_all}
 use Rattle.cct_monitor.proofs.Reported.{has_none, head_or_rest}
-use Rattle.cct_audit.specs.Capture.{Capture, Read, Stage, addresses_in, capture, capture_form, capture_from, capture_read, comes, goes_on, is_over, is_refused, opens, over, refuses, stage_after, tap_read, tapping, watch_read, watching}
-use Rattle.cct_audit.specs.Telling.{told, told_last}
-use Rattle.cct_audit.specs.Joined.{SaysSo, taps_among, watches_in}
+use Rattle.cct_audit.specs.Capture.{Capture, Read, Stage, addresses_in, capture, capture_form, capture_from, capture_read, comes, goes_on, is_over, is_refused, opens, over, refuses, stage_after, tap_read, tapping, watch_line, watch_read, watching}
+use Rattle.cct_audit.specs.declared.opening.WatchLine.{WatchLine}
+use Rattle.cct_audit.specs.declared.opening.WatchLine.TheVariants as opens_by
+use Rattle.cct_taps.specs.declared.money.Money.{Money}
+use Rattle.cct_monitor.specs.declared.watched.Family.TheVariants as family
+use Rattle.cct_audit.specs.Telling.{said_line, told, told_last}
+use Rattle.cct_audit.specs.Joined.{taps_among, watches_in}
 use Rattle.cct_audit.proofs.Going.{after_others}
 
 -- what is written is what is said
-pub told_is : (past : List Came) → told past ≡ map entry.Said (all_told past)
+pub told_is : (past : List Came) → told past ≡ map said_line (all_told past)
 told_is [] = refl
 told_is (made_watch w ∷ past) = append-nil (told past) ∙ told_is past
 told_is (made_tap t ∷ past) =
-    ap (λ es. es ++ map entry.Said (said_of_all t past)) (told_is past)
-    ∙ sym (map-append entry.Said (all_told past) (said_of_all t past))
+    ap (λ es. es ++ map said_line (said_of_all t past)) (told_is past)
+    ∙ sym (map-append said_line (all_told past) (said_of_all t past))
 
 -- newest first: each device came before all taps, and after others at other addresses
 abbrev IsOrdered : List Came → Type 0
@@ -77,19 +80,17 @@ nor : (a b : Bool) → (a || b) ≡ false → b ≡ false
 nor true b is = absurd cc
 nor false b is = is
 
-watch_suits : (past : List Came) (line : Result CaptureLine LineKind) → Suits (watching past) (watch_read past line)
+watch_suits : (past : List Came) (line : Result WatchLine LineKind) → Suits (watching past) (watch_read past line)
 watch_suits past (Err why) = tt
-watch_suits past (Ok (says.Watch addr check acceptor)) = by_test (is_refused (addresses_in past) addr) refl
+watch_suits past (Ok (opens_by.Watch addr check fam)) = by_test (is_refused (addresses_in past) addr) refl
   where
     by_test : (test : Bool) → is_refused (addresses_in past) addr ≡ test → Suits (watching past) (cond test (refuses kind.Device)
-        (comes (made_watch (record { addr = addr; kind = check; acceptor = acceptor }))
-        (watching (made_watch (record { addr = addr; kind = check; acceptor = acceptor }) ∷ past))))
+        (comes (made_watch (record { addr = addr; kind = check; family = fam }))
+        (watching (made_watch (record { addr = addr; kind = check; family = fam }) ∷ past))))
     by_test true is = tt
     by_test false is =
         (neither (list_any (λ a. a == addr) (addresses_in past)) (nat_le WATCHED (length (addresses_in past))) is, refl)
-watch_suits past (Ok says.Begin) = tt
-watch_suits past (Ok (says.Tap sent heard)) = tt
-watch_suits past (Ok says.End) = tt
+watch_suits past (Ok opens_by.Begin) = tt
 
 tap_suits : (line : Result CaptureLine LineKind) → Suits tapping (tap_read line)
 tap_suits (Err why) = tt
@@ -100,7 +101,7 @@ tap_suits (Ok says.End) = tt
 
 form_suits : (stage : Stage) (line : List ℕ) → Suits stage (capture_form stage line)
 unfolding capture_form
-form_suits (watching past) line = watch_suits past (capture_line false line)
+form_suits (watching past) line = watch_suits past (watch_line line)
 form_suits tapping line = tap_suits (capture_line true line)
 form_suits over line = tt
 
@@ -217,7 +218,7 @@ only (made_watch v ∷ past) w are among = by_place (head_or_rest v w (watches_i
 
 -- so each span of each acceptor is said once
 pub spoken_once : (bytes : List ℕ) (past more : List Came) (w : Watch) (first last : ℕ) →
-    (capture bytes).came ≡ reverse past ++ more → Contains (watches_in past) w → w.acceptor ≡ true →
+    (capture bytes).came ≡ reverse past ++ more → Contains (watches_in past) w → w.family ≡ family.Acceptor →
     length (filter (is_of_at w.addr first last) (all_told past ++ finally_of_all past))
     ≡ length (filter (is_between first last) (spans (map (shown w.kind w.addr) (taps_among past))))
 spoken_once bytes past more w first last is among accepts =
@@ -225,18 +226,19 @@ spoken_once bytes past more w first last is among accepts =
     ap (λ came. length (filter (is_of_at w.addr first last) (all_told came ++ finally_of_all came))) (apart past are)
     ∙ once_among_all w first last (watches_in past) (taps_among past) accepts (only past w are among)
 
-each_said : (P : Said → Type 0) (all : List Said) → All P all → All (SaysSo P) (map entry.Said all)
-each_said P [] are = All-nil (SaysSo P)
-each_said P (x ∷ xs) are =
-    All-cons (SaysSo P) (entry.Said x) (map entry.Said xs) (All-head P x xs are) (each_said P xs (All-tail P x xs are))
+pub spoken_quietly : (bytes : List ℕ) (past more : List Came) (money : Money) (w : Watch) (first last : ℕ) →
+    (capture bytes).came ≡ reverse past ++ more → Contains (watches_in past) w → w.family ≡ family.QuietAcceptor money →
+    length (filter (is_of_at w.addr first last) (all_told past ++ finally_of_all past))
+    ≡ length (filter (is_between first last) (spans (map (quiet_shown money w.kind w.addr) (taps_among past))))
+spoken_quietly bytes past more money w first last is among accepts =
+    let are = ordered bytes past more is in
+    ap (λ came. length (filter (is_of_at w.addr first last) (all_told came ++ finally_of_all came))) (apart past are)
+    ∙ quiet_among_all money w first last (watches_in past) (taps_among past) accepts (only past w are among)
 
--- and what holds of all that is said of the taps after the devices holds of each line that is written
+-- and what holds of all that is said of the taps after the devices holds of all that is written
 pub joined : (P : Said → Type 0) (bytes : List ℕ) (past more : List Came) → (capture bytes).came ≡ reverse past ++ more →
     All P (all_told (map made_tap (taps_among past) ++ map made_watch (watches_in past))
     ++ finally_of_all (map made_tap (taps_among past) ++ map made_watch (watches_in past)))
-    → All (SaysSo P) (told past ++ told_last past)
+    → All P (all_told past ++ finally_of_all past)
 joined P bytes past more is all =
-    subst (All (SaysSo P))
-    (map-append entry.Said (all_told past) (finally_of_all past) ∙ ap (λ es. es ++ told_last past) (sym (told_is past)))
-    (each_said P (all_told past ++ finally_of_all past)
-    (subst (λ came. All P (all_told came ++ finally_of_all came)) (sym (came_apart bytes past more is)) all))
+    subst (λ came. All P (all_told came ++ finally_of_all came)) (sym (came_apart bytes past more is)) all

@@ -1,13 +1,13 @@
 -- Captures by their lines.
 use Rattle.std.proofs.Common.{◌≡◌, ◌<◌, ◌≤◌, ℕ, List, get_or, length, map, take, refl, ap, sym, ◌∙◌, subst}
 use Rattle.std.proofs.lemmas.List.{get_or-map, length-map, take_all}
-use Rattle.cct_model.specs.lines.entry.Entry.TheVariants as entry
-use Rattle.cct_model.specs.lines.entry.Said.{Said}
+use Rattle.cct_taps.specs.declared.said.Said.{Said}
 use Rattle.cct_monitor.specs.declared.monitor.Monitor.{Monitor}
 use Rattle.cct_monitor.specs.Watches.{Came}
 use Rattle.cct_script.proofs.Continuing.{Lawful}
 use Rattle.cct_audit.specs.Capture.{Read, capture_form, of_capture}
 use Rattle.cct_audit.specs.Reading.{TakesTap, TakesWatch}
+use Rattle.cct_audit.specs.Telling.{said_line}
 use Rattle.cct_audit.specs.declared.reading.Opened.{Opened}
 use Rattle.cct_audit.specs.declared.reading.Opened.TheVariants as opened
 use Rattle.cct_audit.specs.declared.reading.Tapped.{Tapped}
@@ -32,13 +32,13 @@ pub tap_told : (past : List Came) (t : Tapped) (monitor : Monitor) (report : Lis
 tap_told past tapped.Tapped monitor report P Q more takes = (takes.0, more _ takes.1, takes.2, takes.3)
 tap_told past tapped.Ended monitor report P Q more takes = (more _ takes.0, takes.1)
 
--- the entries of what is said stand where that stands
-pub said_within : (all : List Said) (i : ℕ) → i < length all → i < length (map entry.Said all)
-said_within all i inside = subst (λ n. i < n) (sym (length-map all entry.Said)) inside
+-- the lines of what is said stand where that stands
+pub said_within : (all : List Said) (i : ℕ) → i < length all → i < length (map said_line all)
+said_within all i inside = subst (λ n. i < n) (sym (length-map all said_line)) inside
 
 pub said_at : (all : List Said) (i : ℕ) (x : Said) → i < length all → x ≡ get_or all i x
-    → entry.Said x ≡ get_or (map entry.Said all) i (entry.Said x)
-said_at all i x inside is = ap entry.Said is ∙ sym (get_or-map entry.Said all i x (entry.Said x) inside)
+    → said_line x ≡ get_or (map said_line all) i (said_line x)
+said_at all i x inside is = ap said_line is ∙ sym (get_or-map said_line all i x (said_line x) inside)
 
-pub said_whole : (all : List Said) (i : ℕ) → length all ≤ i → take i (map entry.Said all) ≡ map entry.Said all
-said_whole all i past = take_all i (map entry.Said all) (subst (λ n. n ≤ i) (sym (length-map all entry.Said)) past)
+pub said_whole : (all : List Said) (i : ℕ) → length all ≤ i → take i (map said_line all) ≡ map said_line all
+said_whole all i past = take_all i (map said_line all) (subst (λ n. n ≤ i) (sym (length-map all said_line)) past)

@@ -1,8 +1,9 @@
 -- What an audit of a capture leaves, by how it ends.
 use Rattle.std.specs.Prelude.{◌≡◌, ℕ, List, ◌∷◌, ◌++◌, reverse, Option, Some, None, ⊤}
-use Rattle.cct_model.specs.lines.entry.Entry.{Entry}
 use Rattle.cct_script.specs.Source.{to_come}
 use Rattle.cct_script.specs.declared.stops.ScriptStop.TheVariants as stop
+use Rattle.cct_monitor.specs.declared.monitor.Monitor.{Monitor}
+use Rattle.cct_monitor.specs.Monitor.{StandsFor}
 use Rattle.cct_monitor.specs.Watches.{Came}
 use Rattle.cct_audit.specs.declared.auditing.AuditEnd.{AuditEnd}
 use Rattle.cct_audit.specs.declared.auditing.AuditEnd.TheVariants as ending
@@ -16,7 +17,7 @@ IsUnread how = ⊥
 
 -- Writing broke off. It was in what the last tap made said, and all that was said at the taps before it was written whole;
 -- or it was in what is said at the end.
-pub data BreaksOff (bytes : List ℕ) (Breaks : List Entry → List Entry → Type 0) : List Came → Type 0 where
+pub data BreaksOff (bytes : List ℕ) (Breaks : List (List ℕ) → List (List ℕ) → Type 0) : List Came → Type 0 where
   at_tap : (c : Came) (before rest : List Came) → (capture bytes).came ≡ reverse (c ∷ before) ++ rest →
       Breaks (told before) (tells before c) → BreaksOff bytes Breaks (c ∷ before)
   at_end : (past : List Came) → capture bytes ≡ record { came = reverse past; refused = None } →
@@ -25,7 +26,7 @@ pub data BreaksOff (bytes : List ℕ) (Breaks : List Entry → List Entry → Ty
 -- What was written of a capture of these bytes, of which these were taken, and of which this came, newest first: at its end
 -- all that is said, in its order; where a line is refused, what is said at the taps before it; where reading fails, what is
 -- said at the taps whose lines stand whole in the bytes taken.
-abbrev pub Ends : AuditEnd → List ℕ → List ℕ → List Came → (List Entry → Type 0) → (List Entry → List Entry → Type 0)
+abbrev pub Ends : AuditEnd → List ℕ → List ℕ → List Came → (List (List ℕ) → Type 0) → (List (List ℕ) → List (List ℕ) → Type 0)
     → Type 0
 Ends ending.Done bytes taken past Written Breaks =
     (capture bytes ≡ record { came = reverse past; refused = None }) × Written (told past ++ told_last past)
@@ -36,11 +37,12 @@ Ends (ending.Stopped number (stop.Refused why)) bytes taken past Written Breaks 
     × Written (told past)
 Ends ending.Unwritten bytes taken past Written Breaks = BreaksOff bytes Breaks past
 
--- An audit of a capture of these bytes: what it took of them, what came of it, newest first, and what was written. The bytes
--- are those taken and those still to come; a source that tells none is taken to have no more.
-pub record Audited (bytes : List ℕ) (how : AuditEnd) (left : Option (List ℕ)) (Written : List Entry → Type 0)
-    (Breaks : List Entry → List Entry → Type 0) : Type 0 where
+-- An audit of a capture of these bytes: what it took of them, what came of it, newest first, for which the monitor stands, and
+-- what was written. The bytes are those taken and those still to come; a source that tells none is taken to have no more.
+pub record Audited (bytes : List ℕ) (how : AuditEnd) (monitor : Monitor) (left : Option (List ℕ)) (Written : List (List ℕ) → Type 0)
+    (Breaks : List (List ℕ) → List (List ℕ) → Type 0) : Type 0 where
   pub taken : List ℕ
   pub past : List Came
   pub took : bytes ≡ taken ++ to_come left
+  pub stands : StandsFor monitor past
   pub ends : Ends how bytes taken past Written Breaks

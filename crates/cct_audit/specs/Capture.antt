@@ -1,16 +1,28 @@
 -- What a capture says: the devices that are watched, the taps, and the first line that is refused (docs/AUDIT.md).
-use Rattle.std.specs.Prelude.{ℕ, ◌+◌, ◌==◌, ◌||◌, nat_le, Bool, true, false, List, [], ◌∷◌, length, if◌then◌else◌, Option, Some, Result, Ok, Err}
+use Rattle.std.specs.Prelude.{ℕ, ◌+◌, ◌-◌, ◌==◌, ◌||◌, nat_le, Bool, true, false, List, [], ◌∷◌, length, take, drop, if◌then◌else◌, Option, Some, None, Result, Ok, Err, codes, bytes_eq}
 use Rattle.std.specs.List.{list_any, slice_split}
+use Rattle.std.specs.Option.{option_map}
+use Rattle.cct_model.specs.terms.wire.CheckKind.{CheckKind}
+use Rattle.cct_model.specs.terms.wire.CheckKind.TheVariants.{Simple, Crc}
 use Rattle.cct_model.specs.lines.entry.LineKind.{LineKind}
 use Rattle.cct_model.specs.lines.entry.LineKind.TheVariants as kind
+use Rattle.cct_model.specs.Grammar.{ranged}
 use Rattle.cct_model.specs.Script.{Refusal, is_line_feed, refusal_at}
 use Rattle.cct_script.specs.declared.capture.CaptureLine.{CaptureLine}
 use Rattle.cct_script.specs.declared.capture.CaptureLine.TheVariants as says
 use Rattle.cct_script.specs.Capture.{capture_line}
 use Rattle.cct_script.specs.Scripts.{Kind, tested, unfinished_by}
+use Rattle.cct_taps.specs.declared.money.Money.{Money}
+use Rattle.cct_taps.specs.declared.money.Money.TheVariants.{Coins, Bills}
+use Rattle.cct_monitor.specs.declared.watched.Family.{Family}
+use Rattle.cct_monitor.specs.declared.watched.Family.TheVariants as family
 use Rattle.cct_monitor.specs.declared.places.TheConstants.{WATCHED}
-use Rattle.cct_monitor.specs.Taps.{tap_of}
+use Rattle.cct_taps.specs.Taps.{tap_of}
 use Rattle.cct_monitor.specs.Watches.{Came, made_tap, made_watch}
+use Rattle.cct_audit.specs.declared.opening.Manner.{Manner}
+use Rattle.cct_audit.specs.declared.opening.Manner.TheVariants as manner
+use Rattle.cct_audit.specs.declared.opening.WatchLine.{WatchLine}
+use Rattle.cct_audit.specs.declared.opening.WatchLine.TheVariants as opens_by
 
 -- Which line a capture wants next: one that watches a device, after those that came, newest first; a tap; or none.
 pub data Stage : Type 0 where
@@ -39,15 +51,70 @@ addresses_in (made_tap t ∷ past) = addresses_in past
 abbrev pub is_refused : List ℕ → ℕ → Bool
 is_refused addrs addr = list_any (λ a. a == addr) addrs || nat_le WATCHED (length addrs)
 
+-- `watch A CHECK KIND` or `begin`.
+abbrev pub plain_line : Result CaptureLine LineKind → Result WatchLine LineKind
+plain_line (Err why) = Err why
+plain_line (Ok (says.Watch addr check acceptor)) =
+    Ok (opens_by.Watch addr check (if acceptor then family.Acceptor else family.Hopper))
+plain_line (Ok says.Begin) = Ok opens_by.Begin
+plain_line (Ok line) = Err kind.Word
+
+-- The family of an acceptor of this money that is watched in a manner.
+abbrev pub family_in : Manner → Money → Family
+family_in manner.Quiet money = family.QuietAcceptor money
+family_in manner.Premises money = family.Premises money
+
+-- `watch A CHECK acceptor`, where a word for a manner follows.
+abbrev pub mannered_form : Manner → Result CaptureLine LineKind → Result WatchLine LineKind
+mannered_form m (Err why) = Err why
+mannered_form m (Ok (says.Watch addr check true)) = Ok (opens_by.Watch addr check (family_in m Coins))
+mannered_form m (Ok line) = Err kind.Form
+
+-- `watch A CHECK bills`, where such a word follows, by `watch A` and the check.
+abbrev pub bills_at : Manner → CheckKind → List ℕ → Option WatchLine
+bills_at m check named =
+    if bytes_eq (take 6 named) (codes "watch ")
+    then option_map (λ addr. opens_by.Watch addr check (family_in m Bills)) (ranged 2 255 (drop 6 named))
+    else None
+
+-- By what stands before the word `bills`.
+abbrev pub bills_under : Manner → List ℕ → Option WatchLine
+bills_under m checked =
+    if bytes_eq (drop (length checked - 7) checked) (codes " simple") then bills_at m Simple (take (length checked - 7) checked)
+    else if bytes_eq (drop (length checked - 4) checked) (codes " crc") then bills_at m Crc (take (length checked - 4) checked)
+    else None
+
+-- By what stands before the word for the manner.
+abbrev pub bills_line : Manner → List ℕ → Option WatchLine
+bills_line m front =
+    if bytes_eq (drop (length front - 6) front) (codes " bills") then bills_under m (take (length front - 6) front) else None
+
+-- What was found, or else this.
+abbrev pub found_or : Option WatchLine → Result WatchLine LineKind → Result WatchLine LineKind
+found_or None other = other
+found_or (Some found) other = Ok found
+
+-- A line whose last word is for a manner, by what stands before that.
+abbrev pub mannered_watch : Manner → List ℕ → Result WatchLine LineKind
+mannered_watch m front = found_or (bills_line m front) (mannered_form m (capture_line false front))
+
+-- What a line says before `begin`; its last word may be `quiet` or `premises`.
+abbrev pub watch_line : List ℕ → Result WatchLine LineKind
+watch_line line =
+    if bytes_eq (drop (length line - 6) line) (codes " quiet")
+    then mannered_watch manner.Quiet (take (length line - 6) line)
+    else if bytes_eq (drop (length line - 9) line) (codes " premises")
+    then mannered_watch manner.Premises (take (length line - 9) line)
+    else plain_line (capture_line false line)
+
 -- What a line is before `begin`: a device is watched, where it can be; or the taps begin.
-abbrev pub watch_read : List Came → Result CaptureLine LineKind → Read
+abbrev pub watch_read : List Came → Result WatchLine LineKind → Read
 watch_read past (Err why) = refuses why
-watch_read past (Ok (says.Watch addr check acceptor)) =
+watch_read past (Ok (opens_by.Watch addr check fam)) =
     if is_refused (addresses_in past) addr then refuses kind.Device
-    else comes (made_watch (record { addr = addr; kind = check; acceptor = acceptor }))
-    (watching (made_watch (record { addr = addr; kind = check; acceptor = acceptor }) ∷ past))
-watch_read past (Ok says.Begin) = opens tapping
-watch_read past (Ok line) = refuses kind.Word
+    else comes (made_watch (record { addr = addr; kind = check; family = fam }))
+    (watching (made_watch (record { addr = addr; kind = check; family = fam }) ∷ past))
+watch_read past (Ok opens_by.Begin) = opens tapping
 
 -- What a line is after `begin`: a tap, or the end.
 abbrev pub tap_read : Result CaptureLine LineKind → Read
@@ -58,7 +125,7 @@ tap_read (Ok line) = refuses kind.Word
 
 -- A whole line, by its word and its form.
 unfoldable pub capture_form : Stage → List ℕ → Read
-capture_form (watching past) line = watch_read past (capture_line false line)
+capture_form (watching past) line = watch_read past (watch_line line)
 capture_form tapping line = tap_read (capture_line true line)
 capture_form over line = refuses kind.Trailing
 

@@ -2,7 +2,6 @@
 use Rattle.std.specs.Prelude.{◌≡◌, ◌≤◌, ◌*◌, ℕ, List, [], ◌++◌, reverse, Option}
 use Rattle.std.specs.List.{slice_split}
 use Rattle.std.specs.Io.KnownBytes.{Consumes}
-use Rattle.cct_model.specs.lines.entry.Entry.{Entry}
 use Rattle.cct_model.specs.Script.{is_line_feed}
 use Rattle.cct_script.specs.Giving.{Standing}
 use Rattle.cct_script.specs.Scripts.{IsNext}
@@ -40,7 +39,7 @@ pub record Opens (left0 left : Option (List ℕ)) (standing : Standing) (number 
 -- What the reading of taps keeps, of any capture that goes so where it begins: it goes on, the monitor stands for what came,
 -- and what that made said was written.
 pub record Taps (first : ℕ) (left1 left : Option (List ℕ)) (standing1 standing : Standing) (number : ℕ)
-    (monitor1 monitor : Monitor) (Written : List Entry → Type 0) (Source Sink : Type 0) : Type 0 where
+    (monitor1 monitor : Monitor) (Written : List (List ℕ) → Type 0) (Source Sink : Type 0) : Type 0 where
   pub going : (left0 : Option (List ℕ)) (begun : List Came) → Going left0 left1 standing1.held first tapping begun
       → StandsFor monitor1 begun → told begun ≡ [] → (past : List Came) × Going left0 left standing.held number tapping past
       × StandsFor monitor past × Written (told past)

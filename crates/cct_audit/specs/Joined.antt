@@ -1,9 +1,6 @@
--- What came of a capture, its devices and its taps; and what an audit writes of it says something that is so.
+-- What came of a capture: its devices and its taps.
 use Rattle.std.specs.Prelude.{List, [], ◌∷◌}
-use Rattle.cct_model.specs.lines.entry.Entry.{Entry}
-use Rattle.cct_model.specs.lines.entry.Entry.TheVariants as entry
-use Rattle.cct_model.specs.lines.entry.Said.{Said}
-use Rattle.cct_monitor.specs.Taps.{Tap}
+use Rattle.cct_taps.specs.Taps.{Tap}
 use Rattle.cct_monitor.specs.Watches.{Came, Watch, made_tap, made_watch}
 
 -- The devices among what came, newest first.
@@ -17,8 +14,3 @@ abbrev pub taps_among : List Came → List Tap
 taps_among [] = []
 taps_among (made_watch w ∷ past) = taps_among past
 taps_among (made_tap t ∷ past) = t ∷ taps_among past
-
--- An entry says something that is so.
-abbrev pub SaysSo : (Said → Type 0) → Entry → Type 0
-SaysSo P (entry.Said said) = P said
-SaysSo P e = ⊥

@@ -1,4 +1,5 @@
 pub mod Capture
+pub mod Writing
 pub mod Telling
 pub mod Reading
 pub mod Going

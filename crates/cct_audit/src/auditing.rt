@@ -2,7 +2,6 @@
 ghost use Rattle.std.specs.Prelude.{◌≡◌, ◌+◌, ◌≤◌, ℕ, [], List, IfOk, IsErrAnd, Option};
 ghost use Rattle.std.specs.Result.{IfErr};
 ghost use Rattle.cct_edge.specs.Bytes.{Serves};
-ghost use Rattle.cct_text.specs.Writing.{Broke, IsNothing, NeverBroke, Wrote};
 ghost use Rattle.cct_script.specs.Giving.{none_given, standing_of};
 ghost use Rattle.cct_script.specs.Scripts.{IsNext};
 ghost use Rattle.cct_script.specs.Source.{OfBytes};
@@ -13,6 +12,7 @@ ghost use Rattle.cct_audit.specs.Capture.{over, tapping};
 ghost use Rattle.cct_audit.specs.Going.{Going};
 ghost use Rattle.cct_audit.specs.Reading.{Watches};
 ghost use Rattle.cct_audit.specs.Telling.{told};
+ghost use Rattle.cct_audit.specs.Writing.{BrokeLines, NeverBroke, NoLine, WroteLines};
 
 use crate::reading::{Opened, Tapped, read_tap, read_watch};
 use crate::writing::write_all;
@@ -46,7 +46,7 @@ fn read_watches<S: Source>(
     ensures next { IfOk result (λ number. IsNext number (standing_of lines.new)) }
     ensures taps { tap_count monitor.new ≡ tap_count monitor.old }
     ensures ended { IfErr result (λ how. OfBytes (S.left script.old) (λ bytes.
-        Audited bytes how (S.left script.new) IsNothing NeverBroke)) }
+        Audited bytes how monitor.new (S.left script.new) NoLine NeverBroke)) }
     ensures source { Serves S.left S.faults script.old script.new (IsErrAnd result IsUnread) }
 {
     let mut number = 1;
@@ -71,9 +71,9 @@ fn finish<S: Source, K: Sink>(
 ) -> AuditEnd
     ensures audited { (left0 : Option (List ℕ)) (past : List Came)
         → Going left0 (S.left script.old) (standing_of lines.old).held number over past → StandsFor monitor.old past
-        → (before : K) → Wrote K.written K.puts before out.old (told past)
-        → OfBytes left0 (λ bytes. Audited bytes result (S.left script.new)
-        (Wrote K.written K.puts before out.new) (Broke K.written K.puts before out.new)) }
+        → (before : K) → WroteLines K.written K.puts before out.old (told past)
+        → OfBytes left0 (λ bytes. Audited bytes result monitor.new (S.left script.new)
+        (WroteLines K.written K.puts before out.new) (BrokeLines K.written K.puts before out.new)) }
     ensures source { Serves S.left S.faults script.old script.new (IsUnread result) }
     ensures sink { Serves K.written K.faults out.old out.new (result ≡ AuditEnd.Unwritten) }
 {
@@ -103,8 +103,8 @@ fn play_taps<S: Source, K: Sink>(
     requires few { tap_count monitor.old ≡ 0 }
     ensures audited { (left0 : Option (List ℕ)) (past : List Came)
         → Going left0 (S.left script.old) (standing_of lines.old).held first tapping past → StandsFor monitor.old past
-        → told past ≡ [] → OfBytes left0 (λ bytes. Audited bytes result (S.left script.new)
-        (Wrote K.written K.puts out.old out.new) (Broke K.written K.puts out.old out.new)) }
+        → told past ≡ [] → OfBytes left0 (λ bytes. Audited bytes result monitor.new (S.left script.new)
+        (WroteLines K.written K.puts out.old out.new) (BrokeLines K.written K.puts out.old out.new)) }
     ensures source { Serves S.left S.faults script.old script.new (IsUnread result) }
     ensures sink { Serves K.written K.faults out.old out.new (result ≡ AuditEnd.Unwritten) }
 {
@@ -126,17 +126,24 @@ fn play_taps<S: Source, K: Sink>(
 
 /// Audits a capture: reads it to its end, a line at a time, and writes what a monitor of its devices says, at each tap
 /// before the next line is read, and at the end. A line that is refused, a fault in reading and a fault in writing end it
-/// at once, and then what is said at the end isn't written. It takes no memory.
-pub fn audit<S: Source, K: Sink>(script: &mut S, out: &mut K, line: &mut TextLine) -> AuditEnd
-    ensures audited { OfBytes (S.left script.old) (λ bytes. Audited bytes result (S.left script.new)
-        (Wrote K.written K.puts out.old out.new) (Broke K.written K.puts out.old out.new)) }
+/// at once, and then what is said at the end isn't written. It takes no memory. The monitor is a new one; afterwards it tells
+/// how many taps were for each device.
+pub fn audit<S: Source, K: Sink>(
+    script: &mut S,
+    out: &mut K,
+    line: &mut TextLine,
+    monitor: &mut Monitor,
+) -> AuditEnd
+    requires new { Watches monitor.old [] }
+    requires few { tap_count monitor.old ≡ 0 }
+    ensures audited { OfBytes (S.left script.old) (λ bytes. Audited bytes result monitor.new (S.left script.new)
+        (WroteLines K.written K.puts out.old out.new) (BrokeLines K.written K.puts out.old out.new)) }
     ensures source { Serves S.left S.faults script.old script.new (IsUnread result) }
     ensures sink { Serves K.written K.faults out.old out.new (result ≡ AuditEnd.Unwritten) }
 {
     let mut lines = Lines::new();
-    let mut monitor = Monitor::new();
-    match read_watches(&mut lines, &mut monitor, script) {
-        Ok(first) => play_taps(&mut lines, &mut monitor, first, script, out, line),
+    match read_watches(&mut lines, monitor, script) {
+        Ok(first) => play_taps(&mut lines, monitor, first, script, out, line),
         Err(ended) => ended,
     }
 }

@@ -4,6 +4,7 @@
 
 mod auditing;
 mod laws;
+mod opening;
 mod reading;
 mod writing;
 

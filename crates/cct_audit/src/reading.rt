@@ -1,19 +1,20 @@
 //! The lines of a capture, and what they do to the monitor.
-ghost use Rattle.std.specs.Prelude.{◌≡◌, ◌+◌, ◌-◌, ◌^◌, ◌<◌, List, Err, Ok, IfOk, MatchResult, OnOk};
+ghost use Rattle.std.specs.Prelude.{◌≡◌, ◌+◌, ◌-◌, ◌^◌, ◌<◌, List, Err, Ok, IfOk, MatchResult, OnErr, OnOk};
 ghost use Rattle.std.specs.Result.{IfErr};
 ghost use Rattle.cct_edge.specs.Bytes.{Serves};
-ghost use Rattle.cct_script.specs.declared.capture.CaptureLine.TheVariants as says;
 ghost use Rattle.cct_script.specs.Giving.{standing_of};
 ghost use Rattle.cct_script.specs.Scripts.{GoesOnIn, IsNext, StopsIn, WithMoreTaken};
 ghost use Rattle.cct_monitor.specs.Monitor.{StandsFor, tap_count};
 ghost use Rattle.cct_monitor.specs.Watches.{Came};
 ghost use Rattle.cct_audit.specs.Capture.{capture_form, of_capture, refuses, tapping, watch_read, watching};
 ghost use Rattle.cct_audit.specs.Reading.{TakesTap, TakesWatch, Watches};
+ghost use Rattle.cct_audit.specs.declared.opening.WatchLine.TheVariants as opens_by;
 
+use crate::opening::{WatchLine, read_watch_line};
 use arrayvec::ArrayVec;
 use cct_edge::Source;
-use cct_model::{CheckKind, LineKind, Said};
-use cct_monitor::{Monitor, WATCHED};
+use cct_model::{CheckKind, LineKind};
+use cct_monitor::{Family, Monitor, Said, WATCHED};
 use cct_script::{CaptureLine, Lines, ScriptStop, before_end, read_capture_line};
 
 /// What a line before `begin` does.
@@ -39,17 +40,18 @@ fn watch(
     monitor: &mut Monitor,
     addr: u8,
     kind: CheckKind,
-    acceptor: bool,
+    family: Family,
 ) -> Result<Opened, LineKind>
     ensures watches { (past : List Came) → Watches monitor.old past → MatchResult result
-        (λ opened. TakesWatch past opened monitor.new (λ read. watch_read past (Ok (says.Watch addr kind acceptor)) ≡ read))
-        (λ why. watch_read past (Ok (says.Watch addr kind acceptor)) ≡ refuses why) }
+        (λ opened. TakesWatch past opened monitor.new (λ read. watch_read past (Ok (opens_by.Watch addr kind family)) ≡ read))
+        (λ why. watch_read past (Ok (opens_by.Watch addr kind family)) ≡ refuses why) }
     ensures taps { tap_count monitor.new ≡ tap_count monitor.old }
+    ensures same { OnErr result (monitor.new ≡ monitor.old) }
 {
     if monitor.is_watched(addr) || monitor.watched() >= WATCHED {
         return Err(LineKind::Device);
     }
-    monitor.watch(addr, kind, acceptor);
+    monitor.watch(addr, kind, family);
     Ok(Opened::Watched)
 }
 
@@ -60,17 +62,11 @@ fn take_watch(monitor: &mut Monitor, line: &[u8]) -> Result<Opened, LineKind>
         (λ opened. TakesWatch past opened monitor.new (λ read. capture_form (watching past) line.now ≡ read))
         (λ why. capture_form (watching past) line.now ≡ refuses why) }
     ensures taps { tap_count monitor.new ≡ tap_count monitor.old }
+    ensures same { OnErr result (monitor.new ≡ monitor.old) }
 {
-    match read_capture_line(false, line) {
-        Ok(
-            CaptureLine::Watch {
-                addr,
-                kind,
-                acceptor,
-            },
-        ) => watch(monitor, addr, kind, acceptor),
-        Ok(CaptureLine::Begin) => Ok(Opened::Begun),
-        Ok(_) => Err(LineKind::Word),
+    match read_watch_line(line) {
+        Ok(WatchLine::Watch { addr, kind, family }) => watch(monitor, addr, kind, family),
+        Ok(WatchLine::Begin) => Ok(Opened::Begun),
         Err(why) => Err(why),
     }
 }
@@ -87,6 +83,7 @@ fn take_tap(
         (λ tapped. TakesTap past tapped monitor.new report.new.items (λ read. capture_form tapping line.now ≡ read)) }
     ensures refused { IfErr result (λ why. capture_form tapping line.now ≡ refuses why) }
     ensures taps { tap_count monitor.new < tap_count monitor.old + 2 }
+    ensures same { OnErr result (monitor.new ≡ monitor.old) }
 {
     match read_capture_line(true, line) {
         Ok(CaptureLine::Tap { sent, heard }) => {
@@ -115,6 +112,7 @@ pub(crate) fn read_watch<S: Source>(
         WithMoreTaken (standing_of lines.old).held (S.left script.old) (S.left script.new)
         (StopsIn of_capture number (watching past) why (S.left script.new))) }
     ensures taps { tap_count monitor.new ≡ tap_count monitor.old }
+    ensures same { OnErr result (monitor.new ≡ monitor.old) }
     ensures source { Serves S.left S.faults script.old script.new (result ≡ Err ScriptStop.Unread) }
 {
     let line = before_end(lines.line(script))?;
@@ -142,6 +140,7 @@ pub(crate) fn read_tap<S: Source>(
     ensures stops { IfErr result (λ why. WithMoreTaken (standing_of lines.old).held (S.left script.old) (S.left script.new)
         (StopsIn of_capture number tapping why (S.left script.new))) }
     ensures taps { tap_count monitor.new < tap_count monitor.old + 2 }
+    ensures same { OnErr result (monitor.new ≡ monitor.old) }
     ensures source { Serves S.left S.faults script.old script.new (result ≡ Err ScriptStop.Unread) }
 {
     let line = before_end(lines.line(script))?;

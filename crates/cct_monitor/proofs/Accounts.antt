@@ -1,17 +1,23 @@
 -- What is kept of all watched devices goes on by what comes.
-use Rattle.std.proofs.Common.{◌≡◌, ℕ, suc, ◌+◌, Bool, true, false, cond, nat_le, List, [], ◌∷◌, ◌++◌, map, flat_map, length, refl, sym, ap, ap₂, ◌∙◌, length-append, arith}
+use Rattle.std.proofs.Common.{◌≡◌, ℕ, suc, ◌+◌, Bool, true, false, cond, nat_le, Option, List, [], ◌∷◌, ◌++◌, map, flat_map, length, refl, sym, ap, ap₂, ◌∙◌, length-append, arith}
 use Rattle.std.specs.Prelude.{⊤}
 use Rattle.std.proofs.lemmas.List.{length-map, length-replicate}
 use Rattle.cct_monitor.specs.declared.watched.Kept.{Kept}
-use Rattle.cct_monitor.specs.declared.watched.Kept.TheVariants.{Acceptor, Hopper}
-use Rattle.cct_monitor.specs.Taps.{Tap, shown, life_shown}
-use Rattle.cct_monitor.specs.Spans.{said_at, said_last}
+use Rattle.cct_monitor.specs.declared.watched.Kept.TheVariants.{Acceptor, QuietAcceptor, Premises, Hopper}
+use Rattle.cct_taps.specs.declared.money.Money.{Money}
+use Rattle.cct_monitor.specs.declared.watched.Family.{Family}
+use Rattle.cct_monitor.specs.declared.watched.Family.TheVariants as family
+use Rattle.cct_monitor.specs.declared.watched.Heard.{Heard}
+use Rattle.cct_taps.specs.Signs.{broken_at, broken_by, known_after, known_on, sign}
+use Rattle.cct_taps.specs.Taps.{Tap, shown, quiet_shown, life_shown}
+use Rattle.cct_monitor.specs.Spans.{said_at, said_last, quiet_at}
 use Rattle.cct_monitor.specs.Lives.{fell_at, fell_by, last_life}
-use Rattle.cct_monitor.specs.Machine.{acceptor_after, acceptor_on, acceptor_says, ends_by, ends_on, kept_on, life_on, says_by, says_on, watched_on}
+use Rattle.cct_monitor.specs.Machine.{acceptor_after, acceptor_on, acceptor_says, ends_by, ends_on, family_of, heard_as, kept_on, last_on, life_on, quiet_after, quiet_says, says_by, says_on, watched_on}
 use Rattle.cct_monitor.specs.Places.{put_watched}
-use Rattle.cct_monitor.specs.Monitor.{watched_as}
-use Rattle.cct_monitor.specs.Watches.{Account, Came, accounts, finally_of, lives_of, looks_of, made_tap, made_watch, put_by_address, said_of, taps_in, with_tap}
-use Rattle.cct_monitor.proofs.Machine.{ends_is, life_is, says_is}
+use Rattle.cct_monitor.specs.Monitor.{heard_of, kept_by, watched_as}
+use Rattle.cct_monitor.specs.Tallies.{tally_by, tally_of}
+use Rattle.cct_monitor.specs.Watches.{Account, Came, accounts, finally_by, finally_of, lives_of, looks_of, made_tap, made_watch, put_by_address, quiet_looks_of, signs_of, said_by, said_of, taps_in, with_tap}
+use Rattle.cct_monitor.proofs.Machine.{ends_is, life_is, quiet_is, says_is}
 
 -- of each device xs many taps came xs of all
 abbrev AreCounted : ℕ → List Account → Type 0
@@ -45,19 +51,48 @@ counted (made_tap t ∷ past) = tap_counted (taps_in past) t (accounts past) (co
 looks_counted : (a : Account) → length (looks_of a) ≡ length a.taps + a.before
 looks_counted a = simp (length-append, length-map, length-replicate)
 
+quiet_counted : (money : Money) (a : Account) → length (quiet_looks_of money a) ≡ length a.taps + a.before
+quiet_counted money a = simp (length-append, length-map, length-replicate)
+
+signs_counted : (money : Money) (a : Account) → length (signs_of money a) ≡ length a.taps + a.before
+signs_counted money a = simp (length-append, length-map, length-replicate)
+
 lives_counted : (a : Account) → length (lives_of a) ≡ length a.taps + a.before
 lives_counted a = simp (length-append, length-map, length-replicate)
 
 -- one device
+family_kept : (fam : Family) (a : Account) → family_of (kept_by fam a) ≡ fam
+family_kept family.Acceptor a = refl
+family_kept (family.QuietAcceptor money) a = refl
+family_kept (family.Premises money) a = refl
+family_kept family.Hopper a = refl
+
 one_on : (t : Tap) (n : ℕ) (a : Account) → length a.taps + a.before ≡ n →
     watched_on t (suc n) (watched_as a) ≡ watched_as (with_tap t a)
 one_on t n a own =
-    ap (λ (kept : Kept). record { addr = a.watch.addr; kind = a.watch.kind; kept = kept }) (by_kind a.watch.acceptor)
+    ap₂ (λ (fam : Family) (kept : Kept). record {
+      addr = a.watch.addr;
+      kind = a.watch.kind;
+      tally = tally_by fam a.watch.kind a.watch.addr t (tally_of a.watch.family a.watch.kind a.watch.addr a.taps);
+      kept = kept;
+    }) (family_kept a.watch.family a) (by_family a.watch.family)
   where
     look : acceptor_on (shown a.watch.kind a.watch.addr t) (suc n) (acceptor_after (looks_of a))
         ≡ acceptor_after (looks_of (with_tap t a))
     look = ap (λ m. acceptor_on (shown a.watch.kind a.watch.addr t) (suc m) (acceptor_after (looks_of a)))
         (sym (looks_counted a ∙ own))
+
+    quiet : (money : Money) → last_on (quiet_shown money a.watch.kind a.watch.addr t) (suc n) (quiet_after (quiet_looks_of money a))
+        ≡ quiet_after (quiet_looks_of money (with_tap t a))
+    quiet money = ap (λ m. last_on (quiet_shown money a.watch.kind a.watch.addr t) (suc m) (quiet_after (quiet_looks_of money a)))
+        (sym (quiet_counted money a ∙ own))
+
+    known : (money : Money) →
+        known_on (suc n) (sign money a.watch.kind a.watch.addr t) (known_after (signs_of money a))
+        ≡ known_after (signs_of money (with_tap t a))
+    known money =
+        ap (λ m. known_on (suc m) (sign money a.watch.kind a.watch.addr t) (known_after (signs_of money a)))
+        (sym (signs_counted money a ∙ own))
 
     live : life_on (life_shown a.watch.kind a.watch.addr t) (suc n) (last_life (lives_of a))
         ≡ last_life (lives_of (with_tap t a))
@@ -65,15 +100,15 @@ one_on t n a own =
         (sym (lives_counted a ∙ own))
         ∙ life_is (life_shown a.watch.kind a.watch.addr t) (lives_of a)
 
-    by_kind : (acceptor : Bool) → kept_on a.watch.kind a.watch.addr t (suc n)
-        (cond acceptor (Acceptor (acceptor_after (looks_of a))) (Hopper (last_life (lives_of a))))
-        ≡ cond acceptor (Acceptor (acceptor_after (looks_of (with_tap t a)))) (Hopper (last_life (lives_of (with_tap t a))))
-    by_kind true = ap Acceptor look
-    by_kind false = ap Hopper live
+    by_family : (fam : Family) → kept_on a.watch.kind a.watch.addr t (suc n) (kept_by fam a) ≡ kept_by fam (with_tap t a)
+    by_family family.Acceptor = ap Acceptor look
+    by_family (family.QuietAcceptor money) = ap (QuietAcceptor money) (quiet money)
+    by_family (family.Premises money) = ap (Premises money) (known money)
+    by_family family.Hopper = ap Hopper live
 
 one_says : (t : Tap) (n : ℕ) (a : Account) → length a.taps + a.before ≡ n →
     says_on t (suc n) (watched_as a) ≡ said_of t a
-one_says t n a own = by_kind a.watch.acceptor
+one_says t n a own = by_family a.watch.family
   where
     look : acceptor_says a.watch.addr (shown a.watch.kind a.watch.addr t) (suc n) (acceptor_after (looks_of a))
         ≡ said_at a.watch.addr (shown a.watch.kind a.watch.addr t) (looks_of a)
@@ -81,26 +116,54 @@ one_says t n a own = by_kind a.watch.acceptor
         (sym (looks_counted a ∙ own))
         ∙ says_is a.watch.addr (shown a.watch.kind a.watch.addr t) (looks_of a)
 
+    quiet : (money : Money) →
+        quiet_says a.watch.addr (quiet_shown money a.watch.kind a.watch.addr t) (suc n) (quiet_after (quiet_looks_of money a))
+        ≡ quiet_at a.watch.addr (quiet_shown money a.watch.kind a.watch.addr t) (quiet_looks_of money a)
+    quiet money =
+        ap (λ m. quiet_says a.watch.addr (quiet_shown money a.watch.kind a.watch.addr t) (suc m)
+        (quiet_after (quiet_looks_of money a))) (sym (quiet_counted money a ∙ own))
+        ∙ quiet_is a.watch.addr (quiet_shown money a.watch.kind a.watch.addr t) (quiet_looks_of money a)
+
+    broken : (money : Money) →
+        broken_by a.watch.addr (suc n) (sign money a.watch.kind a.watch.addr t) (known_after (signs_of money a))
+        ≡ broken_at a.watch.addr (sign money a.watch.kind a.watch.addr t) (signs_of money a)
+    broken money =
+        ap (λ m. broken_by a.watch.addr (suc m) (sign money a.watch.kind a.watch.addr t) (known_after (signs_of money a)))
+        (sym (signs_counted money a ∙ own))
+
     live : fell_by a.watch.addr (suc n) (life_shown a.watch.kind a.watch.addr t) (last_life (lives_of a))
         ≡ fell_at a.watch.addr (life_shown a.watch.kind a.watch.addr t) (lives_of a)
     live = ap (λ m. fell_by a.watch.addr (suc m) (life_shown a.watch.kind a.watch.addr t) (last_life (lives_of a)))
         (sym (lives_counted a ∙ own))
 
-    by_kind : (acceptor : Bool) → says_by a.watch.kind a.watch.addr t (suc n)
-        (cond acceptor (Acceptor (acceptor_after (looks_of a))) (Hopper (last_life (lives_of a))))
-        ≡ cond acceptor (said_at a.watch.addr (shown a.watch.kind a.watch.addr t) (looks_of a))
-        (fell_at a.watch.addr (life_shown a.watch.kind a.watch.addr t) (lives_of a))
-    by_kind true = look
-    by_kind false = live
+    by_family : (fam : Family) → says_by a.watch.kind a.watch.addr t (suc n) (kept_by fam a) ≡ said_by fam t a
+    by_family family.Acceptor = look
+    by_family (family.QuietAcceptor money) = quiet money
+    by_family (family.Premises money) = broken money
+    by_family family.Hopper = live
 
 one_ends : (a : Account) → ends_on (watched_as a) ≡ finally_of a
-one_ends a = by_kind a.watch.acceptor
+one_ends a = by_family a.watch.family
   where
-    by_kind : (acceptor : Bool) → ends_by a.watch.addr
-        (cond acceptor (Acceptor (acceptor_after (looks_of a))) (Hopper (last_life (lives_of a))))
-        ≡ cond acceptor (said_last a.watch.addr (looks_of a)) []
-    by_kind true = ends_is a.watch.addr (looks_of a)
-    by_kind false = refl
+    by_family : (fam : Family) → ends_by a.watch.addr (kept_by fam a) ≡ finally_by fam a
+    by_family family.Acceptor = ends_is a.watch.addr (looks_of a)
+    by_family (family.QuietAcceptor money) = refl
+    by_family (family.Premises money) = refl
+    by_family family.Hopper = refl
+
+-- what is told of one
+one_heard : (a : Account) → heard_as (watched_as a) ≡ heard_of a
+one_heard a =
+    ap (λ (fam : Family). record {
+      addr = a.watch.addr;
+      kind = a.watch.kind;
+      family = fam;
+      tally = tally_of a.watch.family a.watch.kind a.watch.addr a.taps;
+    }) (family_kept a.watch.family a)
+
+pub all_heard : (xs : List Account) → map heard_as (map watched_as xs) ≡ map heard_of xs
+all_heard [] = refl
+all_heard (a ∷ xs) = ap₂ (λ (h : Heard) hs. h ∷ hs) (one_heard a) (all_heard xs)
 
 -- all devices
 all_on : (t : Tap) (n : ℕ) (xs : List Account) → AreCounted n xs →

@@ -1,27 +1,38 @@
 -- Each span of each watched acceptor is said once, among all that is said of the watched devices; and what is said at the end
 -- are spans in doubt.
-use Rattle.std.proofs.Common.{◌≡◌, ◌⊎◌, inl, inr, ℕ, ◌==◌, ◌&&◌, nat_le, Bool, true, false, cond, List, [], ◌∷◌, ◌++◌, map, filter, flat_map, length, reverse, refl, ap, ap₂, sym, ◌∙◌, subst, append-nil, All, Option, Some, None, arith}
+use Rattle.std.proofs.Common.{◌≡◌, ◌⊎◌, inl, inr, ℕ, suc, ◌==◌, ◌&&◌, ◌||◌, nat_le, Bool, true, false, cond, List, [], ◌∷◌, ◌++◌, map, filter, flat_map, length, reverse, refl, ap, ap₂, sym, ◌∙◌, subst, append-nil, All, Option, Some, None, arith}
 use Rattle.std.specs.Prelude.{⊤}
+use Rattle.std.specs.List.{list_any}
 use Rattle.std.proofs.lemmas.Bool.Decides.{nat_tests}
 use Rattle.std.proofs.lemmas.List.Elements.{All-append, All-cons, All-head, All-nil, All-tail, filter-append}
-use Rattle.cct_model.specs.lines.entry.Said.{Said}
-use Rattle.cct_model.specs.lines.entry.Said.TheVariants.{Sure, Doubt, Fell}
-use Rattle.cct_monitor.specs.declared.shown.Shown.{Shown}
-use Rattle.cct_monitor.specs.declared.shown.Shown.TheVariants.{Read, Masked, Set, Nothing}
+use Rattle.cct_taps.specs.declared.said.Said.{Said}
+use Rattle.cct_taps.specs.declared.said.Said.TheVariants.{Sure, Quiet, Doubt, Fell, Broken}
+use Rattle.cct_taps.specs.declared.shown.Shown.{Shown}
+use Rattle.cct_taps.specs.declared.shown.Shown.TheVariants.{Read, Masked, Set, Nothing}
 use Rattle.cct_monitor.specs.declared.hopper.LastLife.{LastLife}
+use Rattle.cct_taps.specs.declared.money.Money.{Money}
+use Rattle.cct_monitor.specs.declared.watched.Family.{Family}
+use Rattle.cct_monitor.specs.declared.watched.Family.TheVariants as family
 use Rattle.cct_monitor.specs.Lives.{fell_at, fell_by, last_life}
-use Rattle.cct_monitor.specs.Once.{all_said, is_between, is_of, is_of_at}
-use Rattle.cct_monitor.specs.Spans.{Span, doubted, is_whole, last_reading, refused, said_at, said_last, spans, spans_by, surely, turned, waits}
-use Rattle.cct_monitor.specs.Taps.{Tap, life_shown, shown}
-use Rattle.cct_monitor.specs.Watches.{Account, Came, Watch, accounts, all_told, by_address, finally_of, finally_of_all, from_begin, lives_of, looks_of, made_tap, made_watch, put_watch, said_of, said_of_all}
+use Rattle.cct_monitor.specs.Once.{all_quietly, all_said, is_between, is_of, is_of_at}
+use Rattle.cct_monitor.specs.Spans.{Span, coins_of, doubted, is_whole, last_reading, quiet_at, quietly, refused, said_at, said_last, spans, spans_by, surely, turned, waits}
+use Rattle.cct_model.specs.terms.coin.Credits.{Credits}
+use Rattle.cct_taps.specs.declared.signs.KnownMask.{KnownMask}
+use Rattle.cct_taps.specs.declared.signs.Sign.{Sign}
+use Rattle.cct_taps.specs.declared.signs.Sign.TheVariants as signs
+use Rattle.cct_taps.specs.Signs.{broken_buffer, broken_by, broken_reset, is_credit, is_event, known_after, sign}
+use Rattle.cct_taps.specs.Taps.{Tap, life_shown, quiet_shown, shown}
+use Rattle.cct_monitor.specs.Watches.{Account, Came, Watch, accounts, all_told, by_address, finally_by, finally_of, finally_of_all, from_begin, lives_of, looks_of, made_tap, made_watch, put_watch, quiet_looks_of, signs_of, said_by, said_of, said_of_all}
 use Rattle.cct_monitor.proofs.Captures.{from_the_begin}
-use Rattle.cct_monitor.proofs.Once.{said_once}
+use Rattle.cct_monitor.proofs.Once.{quietly_once, said_once}
 
 -- what is said names the address
 addr_of : Said → ℕ
 addr_of (Sure a f l coins) = a
+addr_of (Quiet a f l coins) = a
 addr_of (Doubt a f l) = a
 addr_of (Fell a f l count) = a
+addr_of (Broken a premise f l) = a
 
 abbrev NamesAll : ℕ → List Said → Type 0
 NamesAll addr xs = All (λ x. addr_of x ≡ addr) xs
@@ -63,32 +74,77 @@ unfolding addr_of
 doubts_name addr [] = no_names addr
 doubts_name addr (x ∷ xs) = both_name addr (doubted addr x ∷ []) (map (doubted addr) xs) (one_names addr (doubted addr x) refl) (doubts_name addr xs)
 
+one_quiet : (addr : ℕ) (x : Span) → addr_of (quietly addr x) ≡ addr
+unfolding addr_of
+one_quiet addr x = by_test (is_whole x)
+  where
+    by_test : (b : Bool) → addr_of (cond b (Quiet addr x.first.number x.last.number (coins_of x)) (doubted addr x)) ≡ addr
+    by_test true = refl
+    by_test false = refl
+
+quiet_name : (addr : ℕ) (xs : List Span) → NamesAll addr (map (quietly addr) xs)
+quiet_name addr [] = no_names addr
+quiet_name addr (x ∷ xs) =
+    both_name addr (quietly addr x ∷ []) (map (quietly addr) xs) (one_names addr (quietly addr x) (one_quiet addr x))
+    (quiet_name addr xs)
+
 fell_names : (addr number : ℕ) (now : Option ℕ) (life : Option LastLife) → NamesAll addr (fell_by addr number now life)
 unfolding addr_of
 fell_names addr number None life = no_names addr
 fell_names addr number (Some now) None = no_names addr
 fell_names addr number (Some now) (Some life) = one_names addr _ refl
 
+one_or_none : (addr : ℕ) (test : Bool) (x : Said) → addr_of x ≡ addr → NamesAll addr (cond test (x ∷ []) [])
+one_or_none addr true x is = one_names addr x is
+one_or_none addr false x is = no_names addr
+
+none_or_one : (addr : ℕ) (test : Bool) (x : Said) → addr_of x ≡ addr → NamesAll addr (cond test [] (x ∷ []))
+none_or_one addr true x is = no_names addr
+none_or_one addr false x is = one_names addr x is
+
+reset_names : (addr number : ℕ) (c : Credits) (known : Option KnownMask) → NamesAll addr (broken_reset addr number c known)
+unfolding addr_of
+reset_names addr number c None = no_names addr
+reset_names addr number c (Some k) = one_or_none addr (k.is_fresh && list_any is_credit c.pairs) _ refl
+
+broken_names : (addr number : ℕ) (s : Sign) (known : Option KnownMask) → NamesAll addr (broken_by addr number s known)
+unfolding addr_of
+broken_names addr number (signs.Events c) known =
+    both_name addr (broken_buffer addr number c) (broken_reset addr number c known)
+    (one_or_none addr ((c.counter == 0) && list_any is_event c.pairs) _ refl) (reset_names addr number c known)
+broken_names addr number (signs.Mask mask) None = no_names addr
+broken_names addr number (signs.Mask mask) (Some k) = none_or_one addr ((mask == 0) || (mask == k.mask)) _ refl
+broken_names addr number (signs.MaskTaken mask) known = no_names addr
+broken_names addr number signs.MaskLost known = no_names addr
+broken_names addr number signs.ResetTaken known = no_names addr
+broken_names addr number signs.Nothing known = no_names addr
+
 said_names : (t : Tap) (a : Account) → NamesAll a.watch.addr (said_of t a)
-said_names t a = by_kind a.watch.acceptor
+said_names t a = by_family a.watch.family
   where
-    by_kind : (acceptor : Bool) → NamesAll a.watch.addr (cond acceptor
-        (said_at a.watch.addr (shown a.watch.kind a.watch.addr t) (looks_of a))
-        (fell_at a.watch.addr (life_shown a.watch.kind a.watch.addr t) (lives_of a)))
-    by_kind true =
+    by_family : (fam : Family) → NamesAll a.watch.addr (said_by fam t a)
+    by_family family.Acceptor =
         let s = shown a.watch.kind a.watch.addr t in
         let past = looks_of a in
         both_name a.watch.addr _ _
         (all_name a.watch.addr (turned a.watch.addr s) (reverse (filter waits (spans past))) (turned_names a.watch.addr s))
         (all_name a.watch.addr (refused a.watch.addr) (spans_by s (last_reading past) _) (refused_names a.watch.addr))
-    by_kind false = fell_names a.watch.addr _ (life_shown a.watch.kind a.watch.addr t) (last_life (lives_of a))
+    by_family (family.QuietAcceptor money) =
+        quiet_name a.watch.addr
+        (spans_by (quiet_shown money a.watch.kind a.watch.addr t) (last_reading (quiet_looks_of money a))
+        (suc (length (quiet_looks_of money a))))
+    by_family (family.Premises money) =
+        broken_names a.watch.addr _ (sign money a.watch.kind a.watch.addr t) (known_after (signs_of money a))
+    by_family family.Hopper = fell_names a.watch.addr _ (life_shown a.watch.kind a.watch.addr t) (last_life (lives_of a))
 
 last_names : (a : Account) → NamesAll a.watch.addr (finally_of a)
-last_names a = by_kind a.watch.acceptor
+last_names a = by_family a.watch.family
   where
-    by_kind : (acceptor : Bool) → NamesAll a.watch.addr (cond acceptor (said_last a.watch.addr (looks_of a)) [])
-    by_kind true = doubts_name a.watch.addr (reverse (filter waits (spans (looks_of a))))
-    by_kind false = no_names a.watch.addr
+    by_family : (fam : Family) → NamesAll a.watch.addr (finally_by fam a)
+    by_family family.Acceptor = doubts_name a.watch.addr (reverse (filter waits (spans (looks_of a))))
+    by_family (family.QuietAcceptor money) = no_names a.watch.addr
+    by_family (family.Premises money) = no_names a.watch.addr
+    by_family family.Hopper = no_names a.watch.addr
 
 same_number : (n : ℕ) → (n == n) ≡ true
 same_number n = by_test (n == n) refl
@@ -101,14 +157,18 @@ same_number n = by_test (n == n) refl
 own_test : (addr f l : ℕ) (x : Said) → addr_of x ≡ addr → is_of_at addr f l x ≡ is_of f l x
 unfolding addr_of
 own_test addr f l (Sure a g m coins) is = ap (λ b. b && ((g == f) && (m == l))) (ap (λ n. n == addr) is ∙ same_number addr)
+own_test addr f l (Quiet a g m coins) is = ap (λ b. b && ((g == f) && (m == l))) (ap (λ n. n == addr) is ∙ same_number addr)
 own_test addr f l (Doubt a g m) is = ap (λ b. b && ((g == f) && (m == l))) (ap (λ n. n == addr) is ∙ same_number addr)
 own_test addr f l (Fell a g m count) is = refl
+own_test addr f l (Broken a premise g m) is = refl
 
 other_test : (addr f l other : ℕ) (x : Said) → addr_of x ≡ other → (other == addr) ≡ false → is_of_at addr f l x ≡ false
 unfolding addr_of
 other_test addr f l other (Sure a g m coins) is apart = ap (λ b. b && ((g == f) && (m == l))) (ap (λ n. n == addr) is ∙ apart)
+other_test addr f l other (Quiet a g m coins) is apart = ap (λ b. b && ((g == f) && (m == l))) (ap (λ n. n == addr) is ∙ apart)
 other_test addr f l other (Doubt a g m) is apart = ap (λ b. b && ((g == f) && (m == l))) (ap (λ n. n == addr) is ∙ apart)
 other_test addr f l other (Fell a g m count) is apart = refl
+other_test addr f l other (Broken a premise g m) is apart = refl
 
 own_only : (addr f l : ℕ) (xs : List Said) → NamesAll addr xs → filter (is_of_at addr f l) xs ≡ filter (is_of f l) xs
 own_only addr f l [] names = refl
@@ -199,14 +259,13 @@ none_told (w ∷ ws) = none_told ws
 looks_from : (w : Watch) (taps : List Tap) → looks_of (from_begin taps w) ≡ map (shown w.kind w.addr) taps
 looks_from w taps = append-nil (map (shown w.kind w.addr) taps)
 
-at_tap : (w : Watch) (f l : ℕ) (t : Tap) (taps : List Tap) → w.acceptor ≡ true → filter (is_of f l) (said_of t (from_begin taps w))
+at_tap : (w : Watch) (f l : ℕ) (t : Tap) (taps : List Tap) → w.family ≡ family.Acceptor → filter (is_of f l) (said_of t (from_begin taps w))
     ≡ filter (is_of f l) (said_at w.addr (shown w.kind w.addr t) (map (shown w.kind w.addr) taps))
 at_tap w f l t taps accepts =
-    ap (λ b. filter (is_of f l) (cond b (said_at w.addr (shown w.kind w.addr t) (looks_of (from_begin taps w)))
-    (fell_at w.addr (life_shown w.kind w.addr t) (lives_of (from_begin taps w))))) accepts
+    ap (λ fam. filter (is_of f l) (said_by fam t (from_begin taps w))) accepts
     ∙ ap (λ past. filter (is_of f l) (said_at w.addr (shown w.kind w.addr t) past)) (looks_from w taps)
 
-told_there : (w : Watch) (f l : ℕ) (ws : List Watch) (taps : List Tap) → w.acceptor ≡ true → IsOnly w ws →
+told_there : (w : Watch) (f l : ℕ) (ws : List Watch) (taps : List Tap) → w.family ≡ family.Acceptor → IsOnly w ws →
     filter (is_of_at w.addr f l) (all_told (map made_tap taps ++ map made_watch ws))
     ≡ filter (is_of f l) (all_said w.addr (map (shown w.kind w.addr) taps))
 told_there w f l ws [] accepts only = ap (filter (is_of_at w.addr f l)) (none_told ws)
@@ -220,17 +279,17 @@ told_there w f l ws (t ∷ taps) accepts only =
     ∙ at_tap w f l t taps accepts)
     ∙ sym (filter-append (is_of f l) (all_said w.addr past) (said_at w.addr (shown w.kind w.addr t) past))
 
-last_there : (w : Watch) (f l : ℕ) (ws : List Watch) (taps : List Tap) → w.acceptor ≡ true → IsOnly w ws →
+last_there : (w : Watch) (f l : ℕ) (ws : List Watch) (taps : List Tap) → w.family ≡ family.Acceptor → IsOnly w ws →
     filter (is_of_at w.addr f l) (finally_of_all (map made_tap taps ++ map made_watch ws))
     ≡ filter (is_of f l) (said_last w.addr (map (shown w.kind w.addr) taps))
 last_there w f l ws taps accepts only =
     ap (λ there. filter (is_of_at w.addr f l) (flat_map finally_of there)) (from_the_begin ws taps)
     ∙ only_said w f l taps finally_of last_names (by_address ws) (only_by_address w ws only)
-    ∙ ap (λ b. filter (is_of f l) (cond b (said_last w.addr (looks_of (from_begin taps w))) [])) accepts
+    ∙ ap (λ fam. filter (is_of f l) (finally_by fam (from_begin taps w))) accepts
     ∙ ap (λ past. filter (is_of f l) (said_last w.addr past)) (looks_from w taps)
 
 -- so each span of it is said once among all
-pub once_among_all : (w : Watch) (f l : ℕ) (ws : List Watch) (taps : List Tap) → w.acceptor ≡ true → IsOnly w ws →
+pub once_among_all : (w : Watch) (f l : ℕ) (ws : List Watch) (taps : List Tap) → w.family ≡ family.Acceptor → IsOnly w ws →
     length (filter (is_of_at w.addr f l) (all_told (map made_tap taps ++ map made_watch ws)
     ++ finally_of_all (map made_tap taps ++ map made_watch ws)))
     ≡ length (filter (is_between f l) (spans (map (shown w.kind w.addr) taps)))
@@ -242,6 +301,50 @@ once_among_all w f l ws taps accepts only =
     ∙ sym (filter-append (is_of f l) (all_said w.addr past) (said_last w.addr past)))
     ∙ said_once f l w.addr past
 
+-- the same of one that is watched for resets alone
+quiet_at_tap : (money : Money) (w : Watch) (f l : ℕ) (t : Tap) (taps : List Tap) → w.family ≡ family.QuietAcceptor money →
+    filter (is_of f l) (said_of t (from_begin taps w))
+    ≡ filter (is_of f l) (quiet_at w.addr (quiet_shown money w.kind w.addr t) (map (quiet_shown money w.kind w.addr) taps))
+quiet_at_tap money w f l t taps accepts =
+    ap (λ fam. filter (is_of f l) (said_by fam t (from_begin taps w))) accepts
+    ∙ ap (λ past. filter (is_of f l) (quiet_at w.addr (quiet_shown money w.kind w.addr t) past))
+    (append-nil (map (quiet_shown money w.kind w.addr) taps))
+
+quiet_there : (money : Money) (w : Watch) (f l : ℕ) (ws : List Watch) (taps : List Tap) → w.family ≡ family.QuietAcceptor money →
+    IsOnly w ws →
+    filter (is_of_at w.addr f l) (all_told (map made_tap taps ++ map made_watch ws))
+    ≡ filter (is_of f l) (all_quietly w.addr (map (quiet_shown money w.kind w.addr) taps))
+quiet_there money w f l ws [] accepts only = ap (filter (is_of_at w.addr f l)) (none_told ws)
+quiet_there money w f l ws (t ∷ taps) accepts only =
+    let came = map made_tap taps ++ map made_watch ws in
+    let past = map (quiet_shown money w.kind w.addr) taps in
+    filter-append (is_of_at w.addr f l) (all_told came) (said_of_all t came)
+    ∙ ap₂ (λ xs ys. xs ++ ys) (quiet_there money w f l ws taps accepts only)
+    (ap (λ there. filter (is_of_at w.addr f l) (flat_map (said_of t) there)) (from_the_begin ws taps)
+    ∙ only_said w f l taps (said_of t) (said_names t) (by_address ws) (only_by_address w ws only)
+    ∙ quiet_at_tap money w f l t taps accepts)
+    ∙ sym (filter-append (is_of f l) (all_quietly w.addr past) (quiet_at w.addr (quiet_shown money w.kind w.addr t) past))
+
+quiet_last : (money : Money) (w : Watch) (f l : ℕ) (ws : List Watch) (taps : List Tap) → w.family ≡ family.QuietAcceptor money →
+    IsOnly w ws →
+    filter (is_of_at w.addr f l) (finally_of_all (map made_tap taps ++ map made_watch ws)) ≡ []
+quiet_last money w f l ws taps accepts only =
+    ap (λ there. filter (is_of_at w.addr f l) (flat_map finally_of there)) (from_the_begin ws taps)
+    ∙ only_said w f l taps finally_of last_names (by_address ws) (only_by_address w ws only)
+    ∙ ap (λ fam. filter (is_of f l) (finally_by fam (from_begin taps w))) accepts
+
+pub quiet_among_all : (money : Money) (w : Watch) (f l : ℕ) (ws : List Watch) (taps : List Tap) → w.family ≡ family.QuietAcceptor money →
+    IsOnly w ws → length (filter (is_of_at w.addr f l) (all_told (map made_tap taps ++ map made_watch ws)
+    ++ finally_of_all (map made_tap taps ++ map made_watch ws)))
+    ≡ length (filter (is_between f l) (spans (map (quiet_shown money w.kind w.addr) taps)))
+quiet_among_all money w f l ws taps accepts only =
+    let came = map made_tap taps ++ map made_watch ws in
+    let past = map (quiet_shown money w.kind w.addr) taps in
+    ap length (filter-append (is_of_at w.addr f l) (all_told came) (finally_of_all came)
+    ∙ ap₂ (λ xs ys. xs ++ ys) (quiet_there money w f l ws taps accepts only) (quiet_last money w f l ws taps accepts only)
+    ∙ append-nil (filter (is_of f l) (all_quietly w.addr past)))
+    ∙ quietly_once f l w.addr past
+
 -- what is said at the end are spans in doubt
 all_doubts : (P : Said → Type 0) → ((addr f l : ℕ) → P (Doubt addr f l)) → (addr : ℕ) (xs : List Span) →
     All P (map (doubted addr) xs)
@@ -251,11 +354,13 @@ all_doubts P doubts addr (x ∷ xs) =
     (all_doubts P doubts addr xs)
 
 last_doubts : (P : Said → Type 0) → ((addr f l : ℕ) → P (Doubt addr f l)) → (a : Account) → All P (finally_of a)
-last_doubts P doubts a = by_kind a.watch.acceptor
+last_doubts P doubts a = by_family a.watch.family
   where
-    by_kind : (acceptor : Bool) → All P (cond acceptor (said_last a.watch.addr (looks_of a)) [])
-    by_kind true = all_doubts P doubts a.watch.addr (reverse (filter waits (spans (looks_of a))))
-    by_kind false = All-nil P
+    by_family : (fam : Family) → All P (finally_by fam a)
+    by_family family.Acceptor = all_doubts P doubts a.watch.addr (reverse (filter waits (spans (looks_of a))))
+    by_family (family.QuietAcceptor money) = All-nil P
+    by_family (family.Premises money) = All-nil P
+    by_family family.Hopper = All-nil P
 
 each_last : (P : Said → Type 0) → ((addr f l : ℕ) → P (Doubt addr f l)) → (all : List Account) → All P (flat_map finally_of all)
 each_last P doubts [] = All-nil P

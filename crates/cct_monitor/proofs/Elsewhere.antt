@@ -1,33 +1,44 @@
 -- A tap for another address shows nothing of a device.
-use Rattle.std.proofs.Common.{◌≡◌, ℕ, ◌+◌, ◌*◌, ◌%◌, ◌==◌, ◌&&◌, Bool, true, false, cond, List, [], ◌∷◌, refl, ap, Option, Some, None, option_and_then, sum, take, slice_index}
+use Rattle.std.proofs.Common.{◌≡◌, ℕ, ◌+◌, ◌*◌, ◌%◌, ◌==◌, ◌&&◌, Bool, true, false, cond, List, [], ◌∷◌, refl, ap, ap₂, Option, Some, None, option_and_then, sum, take, slice_index}
 use Rattle.cct_model.specs.terms.wire.TheConstants.{BROADCAST}
 use Rattle.cct_model.specs.terms.wire.CheckKind.{CheckKind}
 use Rattle.cct_model.specs.terms.wire.CheckKind.TheVariants.{Simple, Crc}
 use Rattle.cct_model.specs.terms.request.Request.{Request}
-use Rattle.cct_model.specs.terms.request.Request.TheVariants.{AddressPoll}
+use Rattle.cct_model.specs.terms.request.Request.TheVariants.{AddressPoll, SetMask}
 use Rattle.cct_model.specs.terms.request.ReplyForm.{ReplyForm}
 use Rattle.cct_model.specs.Exchange.{asked_of, got, to_all, to_one}
 use Rattle.cct_model.specs.Message.{Message, message, length_agrees, crc}
 use Rattle.cct_model.specs.Reply.{Reply}
 use Rattle.cct_model.specs.Request.{request_of}
-use Rattle.cct_monitor.specs.declared.shown.Shown.TheVariants.{Nothing}
+use Rattle.cct_taps.specs.declared.shown.Shown.{Shown}
+use Rattle.cct_taps.specs.declared.shown.Shown.TheVariants.{Nothing}
 use Rattle.cct_monitor.specs.declared.watched.Kept.{Kept}
-use Rattle.cct_monitor.specs.declared.watched.Kept.TheVariants.{Acceptor, Hopper}
+use Rattle.cct_monitor.specs.declared.watched.Kept.TheVariants.{Acceptor, QuietAcceptor, Premises, Hopper}
+use Rattle.cct_monitor.specs.declared.tally.Tally.{Tally}
+use Rattle.cct_taps.specs.declared.money.Money.{Money}
+use Rattle.cct_taps.specs.declared.money.Money.TheVariants.{Coins, Bills}
+use Rattle.cct_monitor.specs.declared.watched.Family.{Family}
+use Rattle.cct_monitor.specs.declared.watched.Family.TheVariants as family
 use Rattle.cct_monitor.specs.declared.watched.Watched.{Watched}
-use Rattle.cct_monitor.specs.Taps.{Tap, asks_at, life_by, life_shown, shown, shown_by, tap_of}
+use Rattle.cct_taps.specs.declared.signs.Sign.TheVariants as signs
+use Rattle.cct_taps.specs.Signs.{broken_by, known_on, sign, sign_by}
+use Rattle.cct_taps.specs.Taps.{Tap, asks_at, bills_by, but_masks, is_message, is_to, life_by, life_shown, quiet_shown, shown, shown_by, tap_of}
+use Rattle.cct_monitor.specs.Tallies.{is_events, is_life, is_mask, is_masked, is_reading, tally_by, tally_more}
 use Rattle.cct_monitor.specs.Lives.{fell_by}
-use Rattle.cct_monitor.specs.Machine.{acceptor_on, acceptor_says, kept_on, life_on, says_by, says_on, watched_on}
+use Rattle.cct_monitor.specs.Machine.{acceptor_on, acceptor_says, family_of, kept_on, last_on, life_on, quiet_says, says_by, says_on, watched_on}
 
 -- what is asked shows nothing, whatever is replied
 pub record IsIdle (asked : Option Request) : Type 0 where
   pub looks : (replied : ReplyForm → Option Reply) → shown_by asked replied ≡ Nothing
+  pub bills : (replied : ReplyForm → Option Reply) → bills_by asked replied ≡ Nothing
+  pub premises : (money : Money) (replied : ReplyForm → Option Reply) → sign_by money asked replied ≡ signs.Nothing
   pub lives : (replied : ReplyForm → Option Reply) → life_by asked replied ≡ None
 
 no_request : IsIdle None
-no_request = record { looks = λ replied. refl; lives = λ replied. refl }
+no_request = record { looks = λ replied. refl; bills = λ replied. refl; premises = λ money replied. refl; lives = λ replied. refl }
 
 asked_all : (asked : Option Request) → IsIdle (to_all asked)
-asked_all (Some AddressPoll) = record { looks = λ replied. refl; lives = λ replied. refl }
+asked_all (Some AddressPoll) = record { looks = λ replied. refl; bills = λ replied. refl; premises = λ money replied. refl; lives = λ replied. refl }
 asked_all asked = no_request
 
 asked_other : (addr : ℕ) (m : Message) → (m.to == addr) ≡ false → IsIdle (asked_of addr m)
@@ -66,41 +77,100 @@ unfolding message
 by_nothing addr Simple = no_request
 by_nothing addr Crc = no_request
 
--- a tap that shows nothing changes nothing, and makes nothing said
+-- nor is it a message to the device
+if_one : (addr : ℕ) (whole : Bool) (m : Message) → (m.to == addr) ≡ false → is_to addr (cond whole (Some m) None) ≡ false
+if_one addr true m other = other
+if_one addr false m other = refl
+
+pub no_message : (addr to : ℕ) (kind : CheckKind) (rest : List ℕ) → (to == addr) ≡ false →
+    is_message kind addr (to ∷ rest) ≡ false
+unfolding message
+no_message addr to Simple [] other = refl
+no_message addr to Simple (said ∷ []) other = refl
+no_message addr to Simple (said ∷ from ∷ []) other = refl
+no_message addr to Simple (said ∷ from ∷ header ∷ rest) other =
+    if_one addr (length_agrees said rest && (sum (to ∷ said ∷ from ∷ header ∷ rest) % 256 == 0))
+    (record { to = to; from = Some from; header = header; body = take said rest }) other
+no_message addr to Crc [] other = refl
+no_message addr to Crc (said ∷ []) other = refl
+no_message addr to Crc (said ∷ low ∷ []) other = refl
+no_message addr to Crc (said ∷ low ∷ header ∷ rest) other =
+    if_one addr
+    (length_agrees said rest && (crc (to ∷ said ∷ header ∷ take said rest) == low + 256 * slice_index rest said))
+    (record { to = to; from = None; header = header; body = take said rest }) other
+
+no_message_in : (addr : ℕ) (kind : CheckKind) → is_message kind addr [] ≡ false
+unfolding message
+no_message_in addr Simple = refl
+no_message_in addr Crc = refl
+
+-- a tap that is no message to a device, and shows nothing of it, changes nothing, and makes nothing said
+still_nothing : (asked : Option Request) (s : Shown) → s ≡ Nothing → but_masks asked s ≡ Nothing
+still_nothing None s is = is
+still_nothing (Some (SetMask mask)) s is = refl
+still_nothing (Some q) s is = is
+
+look_is : (kind : CheckKind) (addr : ℕ) (t : Tap) → IsIdle (asks_at kind addr t.sent) → shown kind addr t ≡ Nothing
+look_is kind addr t idle = idle.looks (λ form. got kind addr form t.sent t.heard)
+
+quiet_look_is : (money : Money) (kind : CheckKind) (addr : ℕ) (t : Tap) → IsIdle (asks_at kind addr t.sent) →
+    quiet_shown money kind addr t ≡ Nothing
+quiet_look_is Coins kind addr t idle = still_nothing (asks_at kind addr t.sent) (shown kind addr t) (look_is kind addr t idle)
+quiet_look_is Bills kind addr t idle = idle.bills (λ form. got kind addr form t.sent t.heard)
+
+sign_is : (money : Money) (kind : CheckKind) (addr : ℕ) (t : Tap) → IsIdle (asks_at kind addr t.sent) →
+    sign money kind addr t ≡ signs.Nothing
+sign_is money kind addr t idle = idle.premises money (λ form. got kind addr form t.sent t.heard)
+
+live_is : (kind : CheckKind) (addr : ℕ) (t : Tap) → IsIdle (asks_at kind addr t.sent) → life_shown kind addr t ≡ None
+live_is kind addr t idle = idle.lives (λ form. got kind addr form t.sent t.heard)
+
+tally_same : (fam : Family) (kind : CheckKind) (addr : ℕ) (t : Tap) (tally : Tally) → is_message kind addr t.sent ≡ false →
+    IsIdle (asks_at kind addr t.sent) → tally_by fam kind addr t tally ≡ tally
+tally_same family.Acceptor kind addr t tally none idle =
+    ap₂ (λ to_it s. tally_more to_it (is_reading s) (is_masked s) tally) none (look_is kind addr t idle)
+tally_same (family.QuietAcceptor money) kind addr t tally none idle =
+    ap₂ (λ to_it s. tally_more to_it (is_reading s) (is_masked s) tally) none (quiet_look_is money kind addr t idle)
+tally_same (family.Premises money) kind addr t tally none idle =
+    ap₂ (λ to_it s. tally_more to_it (is_events s) (is_mask s) tally) none (sign_is money kind addr t idle)
+tally_same family.Hopper kind addr t tally none idle =
+    ap₂ (λ to_it s. tally_more to_it (is_life s) false tally) none (live_is kind addr t idle)
+
 keeps : (kind : CheckKind) (addr : ℕ) (t : Tap) (number : ℕ) (kept : Kept) → IsIdle (asks_at kind addr t.sent) →
     kept_on kind addr t number kept ≡ kept
-keeps kind addr t number (Acceptor kept) idle =
-    let look : shown kind addr t ≡ Nothing = idle.looks (λ form. got kind addr form t.sent t.heard) in
-    ap (λ s. Acceptor (acceptor_on s number kept)) look
-keeps kind addr t number (Hopper life) idle =
-    let live : life_shown kind addr t ≡ None = idle.lives (λ form. got kind addr form t.sent t.heard) in
-    ap (λ s. Hopper (life_on s number life)) live
+keeps kind addr t number (Acceptor kept) idle = ap (λ s. Acceptor (acceptor_on s number kept)) (look_is kind addr t idle)
+keeps kind addr t number (QuietAcceptor money last) idle =
+    ap (λ s. QuietAcceptor money (last_on s number last)) (quiet_look_is money kind addr t idle)
+keeps kind addr t number (Premises money known) idle =
+    ap (λ s. Premises money (known_on number s known)) (sign_is money kind addr t idle)
+keeps kind addr t number (Hopper life) idle = ap (λ s. Hopper (life_on s number life)) (live_is kind addr t idle)
 
 is_silent : (kind : CheckKind) (addr : ℕ) (t : Tap) (number : ℕ) (kept : Kept) → IsIdle (asks_at kind addr t.sent) →
     says_by kind addr t number kept ≡ []
-is_silent kind addr t number (Acceptor kept) idle =
-    let look : shown kind addr t ≡ Nothing = idle.looks (λ form. got kind addr form t.sent t.heard) in
-    ap (λ s. acceptor_says addr s number kept) look
-is_silent kind addr t number (Hopper life) idle =
-    let live : life_shown kind addr t ≡ None = idle.lives (λ form. got kind addr form t.sent t.heard) in
-    ap (λ s. fell_by addr number s life) live
+is_silent kind addr t number (Acceptor kept) idle = ap (λ s. acceptor_says addr s number kept) (look_is kind addr t idle)
+is_silent kind addr t number (QuietAcceptor money last) idle =
+    ap (λ s. quiet_says addr s number last) (quiet_look_is money kind addr t idle)
+is_silent kind addr t number (Premises money known) idle =
+    ap (λ s. broken_by addr number s known) (sign_is money kind addr t idle)
+is_silent kind addr t number (Hopper life) idle = ap (λ s. fell_by addr number s life) (live_is kind addr t idle)
 
 -- a tap passes a device by
 pub record PassesBy (t : Tap) (number : ℕ) (w : Watched) : Type 0 where
   pub same : watched_on t number w ≡ w
   pub silent : says_on t number w ≡ []
 
-idle_passes : (t : Tap) (number : ℕ) (w : Watched) → IsIdle (asks_at w.kind w.addr t.sent) → PassesBy t number w
-idle_passes t number w idle = record {
-  same = ap (λ (kept : Kept). record { addr = w.addr; kind = w.kind; kept = kept })
-      (keeps w.kind w.addr t number w.kept idle);
+idle_passes : (t : Tap) (number : ℕ) (w : Watched) → is_message w.kind w.addr t.sent ≡ false →
+    IsIdle (asks_at w.kind w.addr t.sent) → PassesBy t number w
+idle_passes t number w none idle = record {
+  same = ap₂ (λ (tally : Tally) (kept : Kept). record { addr = w.addr; kind = w.kind; tally = tally; kept = kept })
+      (tally_same (family_of w.kept) w.kind w.addr t w.tally none idle) (keeps w.kind w.addr t number w.kept idle);
   silent = is_silent w.kind w.addr t number w.kept idle;
 }
 
 pub other_passes : (to : ℕ) (rest heard : List ℕ) (number : ℕ) (w : Watched) → (w.addr == to) ≡ false →
     (to == w.addr) ≡ false → PassesBy (tap_of (to ∷ rest) heard) number w
 other_passes to rest heard number w other same =
-    idle_passes (tap_of (to ∷ rest) heard) number w (by_kind w.addr to w.kind rest same)
+    idle_passes (tap_of (to ∷ rest) heard) number w (no_message w.addr to w.kind rest same) (by_kind w.addr to w.kind rest same)
 
 pub nothing_passes : (heard : List ℕ) (number : ℕ) (w : Watched) → PassesBy (tap_of [] heard) number w
-nothing_passes heard number w = idle_passes (tap_of [] heard) number w (by_nothing w.addr w.kind)
+nothing_passes heard number w = idle_passes (tap_of [] heard) number w (no_message_in w.addr w.kind) (by_nothing w.addr w.kind)

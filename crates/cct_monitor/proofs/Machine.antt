@@ -3,14 +3,14 @@ use Rattle.std.proofs.Common.{◌≡◌, ℕ, suc, ◌==◌, ◌&&◌, ◌||◌,
 use Rattle.std.specs.List.{list_any}
 use Rattle.cct_model.specs.terms.coin.Credits.{Credits}
 use Rattle.cct_model.specs.Reading.{distance}
-use Rattle.cct_monitor.specs.declared.shown.Shown.{Shown}
-use Rattle.cct_monitor.specs.declared.shown.Shown.TheVariants.{Read, Masked, Set, Nothing}
-use Rattle.cct_model.specs.lines.entry.Said.{Said}
+use Rattle.cct_taps.specs.declared.shown.Shown.{Shown}
+use Rattle.cct_taps.specs.declared.shown.Shown.TheVariants.{Read, Masked, Set, Nothing}
+use Rattle.cct_taps.specs.declared.said.Said.{Said}
 use Rattle.cct_monitor.specs.declared.acceptor.LastReading.{LastReading}
 use Rattle.cct_monitor.specs.declared.acceptor.WaitingSpan.{WaitingSpan}
-use Rattle.cct_monitor.specs.Spans.{Reading, Span, after_it, doubted, goes_on, is_set, is_whole, last_reading, leaves_open, new_reading, refused, said_at, said_last, spans, spans_by, turned, waits}
+use Rattle.cct_monitor.specs.Spans.{Reading, Span, after_it, doubted, goes_on, is_set, is_whole, last_reading, leaves_open, new_reading, quiet_at, quietly, refused, said_at, said_last, spans, spans_by, turned, waits}
 use Rattle.cct_monitor.specs.Lives.{last_life}
-use Rattle.cct_monitor.specs.Machine.{acceptor_after, acceptor_says, after_setting, doubt_new, doubt_waiting, life_on, sure_waiting, waiting_new}
+use Rattle.cct_monitor.specs.Machine.{acceptor_after, acceptor_says, after_setting, doubt_new, doubt_waiting, life_on, quiet_after, quiet_says, sure_waiting, waiting_new}
 
 -- the last reading, as it is kept
 abbrev last_as : Option Reading → Option LastReading
@@ -196,6 +196,29 @@ map_one addr (x ∷ y ∷ xs) (Some span) is = absurd cc
 pub ends_is : (addr : ℕ) (past : List Shown) → doubt_waiting addr (acceptor_after past).waiting ≡ said_last addr past
 ends_is addr past =
     sym (map_one addr (filter waits (spans past)) (acceptor_after past).waiting (waiting_kept past))
+
+-- the last reading of an acceptor that is watched for resets alone
+pub quiet_kept : (past : List Shown) → quiet_after past ≡ last_as (last_reading past)
+quiet_kept [] = refl
+quiet_kept (Read c ∷ past) = refl
+quiet_kept (Masked mask ∷ past) = quiet_kept past ∙ sym (unset (Masked mask) (last_reading past) refl)
+quiet_kept (Set ∷ past) = ap after_setting (quiet_kept past) ∙ after_set (last_reading past)
+quiet_kept (Nothing ∷ past) = quiet_kept past ∙ sym (unset Nothing (last_reading past) refl)
+
+quiet_new_is : (addr number : ℕ) (c : Credits) (found : Option Reading) →
+    quiet_says addr (Read c) number (last_as found) ≡ map (quietly addr) (spans_by (Read c) found number)
+quiet_new_is addr number c None = refl
+quiet_new_is addr number c (Some r) = refl
+
+-- what a tap makes said of it
+pub quiet_is : (addr : ℕ) (s : Shown) (past : List Shown) →
+    quiet_says addr s (suc (length past)) (quiet_after past) ≡ quiet_at addr s past
+quiet_is addr (Read c) past =
+    ap (quiet_says addr (Read c) (suc (length past))) (quiet_kept past)
+    ∙ quiet_new_is addr (suc (length past)) c (last_reading past)
+quiet_is addr (Masked mask) past = refl
+quiet_is addr Set past = refl
+quiet_is addr Nothing past = refl
 
 -- the last life count goes on by a tap
 pub life_is : (s : Option ℕ) (past : List (Option ℕ)) →

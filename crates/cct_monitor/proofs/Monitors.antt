@@ -1,19 +1,26 @@
 -- A monitor stands for one thing more that came to it.
 use Rattle.std.proofs.Common.{◌≡◌, ℕ, zero, suc, ◌+◌, ◌==◌, ◌||◌, Bool, true, false, cond, List, [], ◌∷◌, map, flat_map, length, replicate, refl, sym, ap, ap₂, ◌∙◌, None, arith}
+use Rattle.std.specs.Prelude.{Option, slice_get}
 use Rattle.std.specs.List.{list_any}
 use Rattle.cct_monitor.specs.declared.monitor.Monitor.{Monitor}
-use Rattle.cct_model.specs.lines.entry.Said.{Said}
-use Rattle.cct_monitor.specs.declared.shown.Shown.TheVariants.{Nothing}
+use Rattle.cct_taps.specs.declared.said.Said.{Said}
+use Rattle.cct_taps.specs.declared.shown.Shown.TheVariants.{Nothing}
 use Rattle.cct_monitor.specs.declared.watched.Kept.{Kept}
-use Rattle.cct_monitor.specs.declared.watched.Kept.TheVariants.{Acceptor, Hopper}
+use Rattle.cct_monitor.specs.declared.watched.Kept.TheVariants.{Acceptor, QuietAcceptor, Premises, Hopper}
+use Rattle.cct_monitor.specs.declared.watched.Family.{Family}
+use Rattle.cct_monitor.specs.declared.watched.Family.TheVariants as family
+use Rattle.cct_monitor.specs.declared.watched.Heard.{Heard}
 use Rattle.cct_monitor.specs.declared.watched.Watched.{Watched}
-use Rattle.cct_monitor.specs.Taps.{Tap}
+use Rattle.cct_taps.specs.declared.signs.Sign.TheVariants as signs
+use Rattle.cct_taps.specs.Signs.{known_after}
+use Rattle.cct_taps.specs.Taps.{Tap}
 use Rattle.cct_monitor.specs.Lives.{last_life}
-use Rattle.cct_monitor.specs.Machine.{acceptor_after, ends_on, new_watched, no_tap, says_on, watched_on}
+use Rattle.cct_monitor.specs.Machine.{acceptor_after, ends_on, heard_as, kept_first, new_watched, no_tap, quiet_after, says_on, watched_on}
 use Rattle.cct_monitor.specs.Places.{are_apart, has_addr, put_watched}
-use Rattle.cct_monitor.specs.Monitor.{StandsFor, tap_count, watched_as}
+use Rattle.cct_monitor.specs.Monitor.{StandsFor, heard_of, kept_by, tap_count, watched_as}
+use Rattle.cct_monitor.specs.Tallies.{no_tally}
 use Rattle.cct_monitor.specs.Watches.{Account, Came, Watch, accounts, finally_of_all, made_tap, made_watch, said_of_all, taps_in}
-use Rattle.cct_monitor.proofs.Accounts.{all_end, put_kept, tap_kept, tap_says}
+use Rattle.cct_monitor.proofs.Accounts.{all_end, all_heard, put_kept, tap_kept, tap_says}
 use Rattle.cct_monitor.proofs.Insertions.{any_put, put_apart, put_more}
 
 -- a device of which no tap told
@@ -28,17 +35,26 @@ no_life (suc n) = no_life n
 abbrev unseen : Watch → ℕ → Account
 unseen w n = record { watch = w; before = n; taps = [] }
 
-new_is : (w : Watch) (n : ℕ) → new_watched w.addr w.kind w.acceptor ≡ watched_as (unseen w n)
-new_is w n = ap (λ (kept : Kept). record { addr = w.addr; kind = w.kind; kept = kept }) (by_kind w.acceptor)
+no_quiet : (n : ℕ) → quiet_after (replicate n Nothing) ≡ None
+no_quiet zero = refl
+no_quiet (suc n) = no_quiet n
+
+no_sign : (n : ℕ) → known_after (replicate n signs.Nothing) ≡ None
+no_sign zero = refl
+no_sign (suc n) = no_sign n
+
+new_is : (w : Watch) (n : ℕ) → new_watched w.addr w.kind w.family ≡ watched_as (unseen w n)
+new_is w n = ap (λ (kept : Kept). record { addr = w.addr; kind = w.kind; tally = no_tally; kept = kept }) (by_family w.family)
   where
-    by_kind : (acceptor : Bool) → cond acceptor (Acceptor no_tap) (Hopper None)
-        ≡ cond acceptor (Acceptor (acceptor_after (replicate n Nothing))) (Hopper (last_life (replicate n None)))
-    by_kind true = ap Acceptor (sym (no_look n))
-    by_kind false = ap Hopper (sym (no_life n))
+    by_family : (fam : Family) → kept_first fam ≡ kept_by fam (unseen w n)
+    by_family family.Acceptor = ap Acceptor (sym (no_look n))
+    by_family (family.QuietAcceptor money) = ap (QuietAcceptor money) (sym (no_quiet n))
+    by_family (family.Premises money) = ap (Premises money) (sym (no_sign n))
+    by_family family.Hopper = ap Hopper (sym (no_life n))
 
 pub watch_stands : (w : Watch) (past : List Came) (old new : Monitor) → StandsFor old past →
     tap_count new ≡ tap_count old →
-    new.devices.items ≡ put_watched (new_watched w.addr w.kind w.acceptor) old.devices.items →
+    new.devices.items ≡ put_watched (new_watched w.addr w.kind w.family) old.devices.items →
     StandsFor new (made_watch w ∷ past)
 watch_stands w past old new stands same is = record {
   counted = same ∙ stands.counted;
@@ -89,3 +105,8 @@ tap_told t past old number report stands more is =
 pub finish_told : (past : List Came) (old : Monitor) (report : List Said) → StandsFor old past →
     report ≡ flat_map ends_on old.devices.items → report ≡ finally_of_all past
 finish_told past old report stands is = is ∙ ap (flat_map ends_on) stands.devices ∙ all_end (accounts past)
+
+pub heard_told : (past : List Came) (old : Monitor) (place : ℕ) (found : Option Heard) → StandsFor old past →
+    found ≡ slice_get (map heard_as old.devices.items) place → found ≡ slice_get (map heard_of (accounts past)) place
+heard_told past old place found stands is =
+    is ∙ ap (λ hs. slice_get hs place) (ap (map heard_as) stands.devices ∙ all_heard (accounts past))

@@ -3,12 +3,13 @@ use Rattle.std.proofs.Common.{◌≡◌, ℕ, suc, ◌+◌, ◌<◌, ◌≤◌, 
 use Rattle.std.specs.Prelude.{⊤}
 use Rattle.std.proofs.lemmas.Bool.Decides.{nat_tests}
 use Rattle.std.proofs.lemmas.List.{reverse-append}
-use Rattle.cct_model.specs.lines.entry.Said.{Said}
-use Rattle.cct_monitor.specs.declared.shown.Shown.{Shown}
-use Rattle.cct_monitor.specs.declared.shown.Shown.TheVariants.{Read, Masked, Set, Nothing}
+use Rattle.cct_taps.specs.declared.said.Said.{Said}
+use Rattle.cct_taps.specs.declared.said.Said.TheVariants.{Quiet}
+use Rattle.cct_taps.specs.declared.shown.Shown.{Shown}
+use Rattle.cct_taps.specs.declared.shown.Shown.TheVariants.{Read, Masked, Set, Nothing}
 use Rattle.cct_monitor.specs.Confirmed.{confirms, is_confirmed, is_sure}
-use Rattle.cct_monitor.specs.Once.{all_said, is_between, is_of}
-use Rattle.cct_monitor.specs.Spans.{Reading, Span, doubted, goes_on, is_whole, last_reading, leaves_open, new_reading, refused, said_at, said_last, spans, spans_by, surely, turned, waits}
+use Rattle.cct_monitor.specs.Once.{all_quietly, all_said, is_between, is_of}
+use Rattle.cct_monitor.specs.Spans.{Reading, Span, coins_of, doubted, goes_on, is_whole, last_reading, leaves_open, new_reading, quiet_at, quietly, refused, said_at, said_last, spans, spans_by, surely, turned, waits}
 use Rattle.cct_monitor.proofs.Confirmed.{filter_more, new_unconfirmed, stays_confirmed, sure_are}
 use Rattle.cct_monitor.proofs.Machine.{all_wait, none_waits}
 
@@ -185,6 +186,33 @@ balance f l addr (s ∷ past) =
     (many (is_between f l) new) (many (is_between f l) (spans past)) (balance f l addr past)
     (moved f l addr s (spans past)) (begun f l addr (suc (length past)) s (last_reading past))
     ∙ sym all
+
+-- of an acceptor that is watched for resets alone each is said at once
+one_quietly : (f l addr : ℕ) (x : Span) → is_of f l (quietly addr x) ≡ is_between f l x
+one_quietly f l addr x = by_test (is_whole x)
+  where
+    by_test : (whole : Bool) →
+        is_of f l (cond whole (Quiet addr x.first.number x.last.number (coins_of x)) (doubted addr x)) ≡ is_between f l x
+    by_test true = refl
+    by_test false = refl
+
+each_quietly : (f l addr : ℕ) (xs : List Span) → many (is_of f l) (map (quietly addr) xs) ≡ many (is_between f l) xs
+each_quietly f l addr [] = refl
+each_quietly f l addr (x ∷ xs) =
+    maybe_one (is_of f l) (quietly addr x) (map (quietly addr) xs)
+    ∙ ap₂ (λ b n. one b + n) (one_quietly f l addr x) (each_quietly f l addr xs)
+    ∙ sym (maybe_one (is_between f l) x xs)
+
+pub quietly_once : (f l addr : ℕ) (past : List Shown) →
+    length (filter (is_of f l) (all_quietly addr past)) ≡ length (filter (is_between f l) (spans past))
+quietly_once f l addr [] = refl
+quietly_once f l addr (s ∷ past) =
+    let new = spans_by s (last_reading past) (suc (length past)) in
+    many_more (is_of f l) (all_quietly addr past) (quiet_at addr s past)
+    ∙ ap₂ (λ a b. a + b) (quietly_once f l addr past) (each_quietly f l addr new)
+    ∙ sum_turned (many (is_between f l) new) (many (is_between f l) (spans past)) (many (is_between f l) (spans (s ∷ past)))
+    (sym (many_more (is_between f l) new (map (goes_on s) (spans past))
+    ∙ ap (λ n. many (is_between f l) new + n) (many_go_on f l s (spans past))))
 
 -- at the end, each that waits is said
 each_doubted : (f l addr : ℕ) (xs : List Span) → many (is_of f l) (map (doubted addr) xs) ≡ many (is_between f l) xs

@@ -3,15 +3,17 @@ use Rattle.std.proofs.Common.{◌≡◌, ◌⊎◌, inl, inr, ℕ, zero, suc, �
 use Rattle.std.proofs.lemmas.Bool.{and_parts}
 use Rattle.std.proofs.lemmas.List.{reverse-append}
 use Rattle.std.proofs.lemmas.List.Elements.{All-append, All-cons, All-head, All-map, All-nil, All-tail, All-weaker, Contains-append_cases, Contains-append_left, Contains-append_right, Contains-push}
-use Rattle.cct_model.specs.lines.entry.Said.{Said}
-use Rattle.cct_monitor.specs.declared.shown.Shown.{Shown}
-use Rattle.cct_monitor.specs.declared.shown.Shown.TheVariants.{Read, Masked, Set, Nothing}
+use Rattle.cct_taps.specs.declared.said.Said.{Said}
+use Rattle.cct_taps.specs.declared.shown.Shown.{Shown}
+use Rattle.cct_taps.specs.declared.shown.Shown.TheVariants.{Read, Masked, Set, Nothing}
+use Rattle.cct_taps.specs.declared.money.Money.{Money}
+use Rattle.cct_monitor.specs.declared.watched.Family.TheVariants.{Acceptor, QuietAcceptor}
 use Rattle.cct_monitor.specs.Confirmed.{confirms, has_mask, is_confirmed}
 use Rattle.cct_monitor.specs.Lives.{fell_at}
-use Rattle.cct_monitor.specs.Once.{all_said}
-use Rattle.cct_monitor.specs.Spans.{Span, goes_on, last_reading, refused, said_at, spans, spans_by, surely, turned, waits}
-use Rattle.cct_monitor.specs.Taps.{Tap, life_shown, shown}
-use Rattle.cct_monitor.specs.Watches.{Came, Watch, all_told, by_address, from_begin, lives_of, looks_of, made_tap, made_watch, put_watch, said_of, said_of_all}
+use Rattle.cct_monitor.specs.Once.{all_quietly, all_said}
+use Rattle.cct_monitor.specs.Spans.{Span, goes_on, last_reading, quiet_at, quietly, refused, said_at, spans, spans_by, surely, turned, waits}
+use Rattle.cct_taps.specs.Taps.{Tap, life_shown, quiet_shown, shown}
+use Rattle.cct_monitor.specs.Watches.{Came, Watch, all_told, by_address, from_begin, lives_of, looks_of, made_tap, made_watch, put_watch, said_by, said_of, said_of_all}
 use Rattle.cct_monitor.proofs.Captures.{from_the_begin}
 use Rattle.cct_monitor.proofs.Confirmed.{confirms_is, new_unconfirmed}
 
@@ -157,12 +159,11 @@ in_by_address v (w ∷ ws) among = in_put v w (by_address ws) (by_place (head_or
     by_place (inl same) rest = subst (λ x. Contains (x ∷ by_address ws) v) (sym same) (is_first v (by_address ws))
     by_place (inr there) rest = is_later w v (by_address ws) (rest there)
 
-at_tap : (w : Watch) (t : Tap) (taps : List Tap) (x : Said) → w.acceptor ≡ true →
+at_tap : (w : Watch) (t : Tap) (taps : List Tap) (x : Said) → w.family ≡ Acceptor →
     Contains (said_at w.addr (shown w.kind w.addr t) (map (shown w.kind w.addr) taps)) x →
     Contains (said_of t (from_begin taps w)) x
 at_tap w t taps x accepts there =
-    subst (λ b. Contains (cond b (said_at w.addr (shown w.kind w.addr t) (looks_of (from_begin taps w)))
-    (fell_at w.addr (life_shown w.kind w.addr t) (lives_of (from_begin taps w)))) x) (sym accepts)
+    subst (λ fam. Contains (said_by fam t (from_begin taps w)) x) (sym accepts)
     (subst (λ past. Contains (said_at w.addr (shown w.kind w.addr t) past) x)
     (sym (append-nil (map (shown w.kind w.addr) taps))) there)
 
@@ -181,7 +182,7 @@ in_accounts w t taps x now (v ∷ vs) there = by_place (head_or_rest v w vs ther
     by_place (inr later) rest = Contains-append_right (said_of t (from_begin taps v)) others x (rest later)
 
 -- what is said of an acceptor at these taps is said by a monitor that watches it
-pub told_of_one : (w : Watch) (ws : List Watch) (taps : List Tap) (x : Said) → w.acceptor ≡ true → Contains ws w →
+pub told_of_one : (w : Watch) (ws : List Watch) (taps : List Tap) (x : Said) → w.family ≡ Acceptor → Contains ws w →
     Contains (all_said w.addr (map (shown w.kind w.addr) taps)) x →
     Contains (all_told (map made_tap taps ++ map made_watch ws)) x
 told_of_one w ws [] x accepts among there = absurd (has_none x there)
@@ -203,3 +204,59 @@ told_of_one w ws (t ∷ taps) x accepts among there =
         Contains-append_right (all_told came) (said_of_all t came) x
         (subst (λ accounts. Contains (flat_map (said_of t) accounts) x) (sym (from_the_begin ws taps))
         (in_accounts w t taps x (at_tap w t taps x accepts now) (by_address ws) (in_by_address w ws among)))
+
+-- and the same of an acceptor that is watched for resets alone: each span is said at its last reading
+new_said : (addr : ℕ) (xs : List Span) → All (λ x. Contains (map (quietly addr) xs) (quietly addr x)) xs
+new_said addr [] = All-nil (λ x. Contains (map (quietly addr) []) (quietly addr x))
+new_said addr (x ∷ xs) =
+    let all : List Said = quietly addr x ∷ map (quietly addr) xs in
+    All-cons (λ y. Contains all (quietly addr y)) x xs (is_first (quietly addr x) (map (quietly addr) xs))
+    (All-weaker (λ y. Contains (map (quietly addr) xs) (quietly addr y)) (λ y. Contains all (quietly addr y))
+    (λ y there. is_later (quietly addr x) (quietly addr y) (map (quietly addr) xs) there) xs (new_said addr xs))
+
+pub quietly_said : (addr : ℕ) (shows : List Shown) →
+    All (λ x. Contains (all_quietly addr shows) (quietly addr x)) (spans shows)
+quietly_said addr [] = All-nil (λ x. Contains (all_quietly addr []) (quietly addr x))
+quietly_said addr (s ∷ past) =
+    let P : Span → Type 0 = λ x. Contains (all_quietly addr (s ∷ past)) (quietly addr x) in
+    let new : List Span = spans_by s (last_reading past) (suc (length past)) in
+    All-append P new (map (goes_on s) (spans past))
+    (All-weaker (λ x. Contains (map (quietly addr) new) (quietly addr x)) P
+    (λ x there. Contains-append_right (all_quietly addr past) (quiet_at addr s past) (quietly addr x) there)
+    new (new_said addr new))
+    (All-map P (goes_on s) (spans past)
+    (All-weaker (λ x. Contains (all_quietly addr past) (quietly addr x)) (λ x. P (goes_on s x))
+    (λ x there. Contains-append_left (all_quietly addr past) (quiet_at addr s past) (quietly addr x) there)
+    (spans past) (quietly_said addr past)))
+
+quiet_at_tap : (money : Money) (w : Watch) (t : Tap) (taps : List Tap) (x : Said) → w.family ≡ QuietAcceptor money →
+    Contains (quiet_at w.addr (quiet_shown money w.kind w.addr t) (map (quiet_shown money w.kind w.addr) taps)) x →
+    Contains (said_of t (from_begin taps w)) x
+quiet_at_tap money w t taps x accepts there =
+    subst (λ fam. Contains (said_by fam t (from_begin taps w)) x) (sym accepts)
+    (subst (λ past. Contains (quiet_at w.addr (quiet_shown money w.kind w.addr t) past) x)
+    (sym (append-nil (map (quiet_shown money w.kind w.addr) taps))) there)
+
+pub quiet_of_one : (money : Money) (w : Watch) (ws : List Watch) (taps : List Tap) (x : Said) → w.family ≡ QuietAcceptor money →
+    Contains ws w →
+    Contains (all_quietly w.addr (map (quiet_shown money w.kind w.addr) taps)) x →
+    Contains (all_told (map made_tap taps ++ map made_watch ws)) x
+quiet_of_one money w ws [] x accepts among there = absurd (has_none x there)
+quiet_of_one money w ws (t ∷ taps) x accepts among there =
+    by_place (quiet_of_one money w ws taps x accepts among)
+    (Contains-append_cases (all_quietly w.addr (map (quiet_shown money w.kind w.addr) taps))
+    (quiet_at w.addr (quiet_shown money w.kind w.addr t) (map (quiet_shown money w.kind w.addr) taps)) x there)
+  where
+    came : List Came
+    came = map made_tap taps ++ map made_watch ws
+
+    by_place : (Contains (all_quietly w.addr (map (quiet_shown money w.kind w.addr) taps)) x → Contains (all_told came) x) →
+        Contains (all_quietly w.addr (map (quiet_shown money w.kind w.addr) taps)) x
+        ⊎ Contains (quiet_at w.addr (quiet_shown money w.kind w.addr t) (map (quiet_shown money w.kind w.addr) taps)) x →
+        Contains (all_told came ++ said_of_all t came) x
+    by_place earlier (inl before) =
+        Contains-append_left (all_told came) (said_of_all t came) x (earlier before)
+    by_place earlier (inr now) =
+        Contains-append_right (all_told came) (said_of_all t came) x
+        (subst (λ accounts. Contains (flat_map (said_of t) accounts) x) (sym (from_the_begin ws taps))
+        (in_accounts w t taps x (quiet_at_tap money w t taps x accepts now) (by_address ws) (in_by_address w ws among)))

@@ -1,10 +1,10 @@
 -- Which spans are confirmed.
 use Rattle.std.specs.Prelude.{◌==◌, ◌&&◌, not, Bool, true, false, List, [], ◌∷◌, if◌then◌else◌}
 use Rattle.std.specs.List.{list_any}
-use Rattle.cct_monitor.specs.declared.shown.Shown.{Shown}
-use Rattle.cct_monitor.specs.declared.shown.Shown.TheVariants.{Read, Masked, Set, Nothing}
-use Rattle.cct_model.specs.lines.entry.Said.{Said}
-use Rattle.cct_model.specs.lines.entry.Said.TheVariants.{Sure, Doubt, Fell}
+use Rattle.cct_taps.specs.declared.shown.Shown.{Shown}
+use Rattle.cct_taps.specs.declared.shown.Shown.TheVariants.{Read, Masked, Set, Nothing}
+use Rattle.cct_taps.specs.declared.said.Said.{Said}
+use Rattle.cct_taps.specs.declared.said.Said.TheVariants.{Sure, Quiet, Doubt, Fell, Broken}
 use Rattle.cct_monitor.specs.Spans.{Span, goes_on, is_whole}
 
 -- A tap ends the window of a span: it is the next reading, or a setting.
@@ -38,5 +38,7 @@ confirms s span = is_confirmed (goes_on s span) && not (is_confirmed span)
 -- It is said that a span is sure.
 abbrev pub is_sure : Said → Bool
 is_sure (Sure addr first last coins) = true
+is_sure (Quiet addr first last coins) = false
 is_sure (Doubt addr first last) = false
 is_sure (Fell addr first last count) = false
+is_sure (Broken addr premise first last) = false

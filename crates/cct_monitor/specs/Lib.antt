@@ -1,8 +1,8 @@
-pub mod Taps
 pub mod Spans
 pub mod Confirmed
 pub mod Once
 pub mod Lives
+pub mod Tallies
 pub mod Machine
 pub mod Watches
 pub mod Places

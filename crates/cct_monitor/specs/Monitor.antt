@@ -1,14 +1,19 @@
 -- A monitor that stands for all that came to it.
-use Rattle.std.specs.Prelude.{◌≡◌, ℕ, Bool, List, map, length, if◌then◌else◌}
+use Rattle.std.specs.Prelude.{◌≡◌, ℕ, Bool, List, map, length}
 use Rattle.std.specs.List.{list_any}
 use Rattle.cct_monitor.specs.declared.watched.Kept.{Kept}
-use Rattle.cct_monitor.specs.declared.watched.Kept.TheVariants.{Acceptor, Hopper}
+use Rattle.cct_monitor.specs.declared.watched.Kept.TheVariants.{Acceptor, QuietAcceptor, Premises, Hopper}
+use Rattle.cct_monitor.specs.declared.watched.Family.{Family}
+use Rattle.cct_monitor.specs.declared.watched.Heard.{Heard}
+use Rattle.cct_monitor.specs.declared.watched.Family.TheVariants as family
 use Rattle.cct_monitor.specs.declared.watched.Watched.{Watched}
 use Rattle.cct_monitor.specs.declared.monitor.Monitor.{Monitor}
+use Rattle.cct_taps.specs.Signs.{known_after}
 use Rattle.cct_monitor.specs.Lives.{last_life}
-use Rattle.cct_monitor.specs.Machine.{acceptor_after}
+use Rattle.cct_monitor.specs.Machine.{acceptor_after, quiet_after}
+use Rattle.cct_monitor.specs.Tallies.{tally_of}
 use Rattle.cct_monitor.specs.Places.{has_addr}
-use Rattle.cct_monitor.specs.Watches.{Account, Came, accounts, lives_of, looks_of, taps_in}
+use Rattle.cct_monitor.specs.Watches.{Account, Came, accounts, lives_of, looks_of, quiet_looks_of, signs_of, taps_in}
 
 -- How many taps came to a monitor.
 abbrev pub tap_count : Monitor → ℕ
@@ -22,13 +27,30 @@ watch_count monitor = length monitor.devices.items
 abbrev pub is_watched : Monitor → ℕ → Bool
 is_watched monitor addr = list_any (has_addr addr) monitor.devices.items
 
--- What is kept of a watched device, by its kind.
-abbrev pub kept_of : Account → Kept
-kept_of a = if a.watch.acceptor then Acceptor (acceptor_after (looks_of a)) else Hopper (last_life (lives_of a))
+-- What is kept of a watched device, by its family.
+abbrev pub kept_by : Family → Account → Kept
+kept_by family.Acceptor a = Acceptor (acceptor_after (looks_of a))
+kept_by (family.QuietAcceptor money) a = QuietAcceptor money (quiet_after (quiet_looks_of money a))
+kept_by (family.Premises money) a = Premises money (known_after (signs_of money a))
+kept_by family.Hopper a = Hopper (last_life (lives_of a))
 
 -- A watched device with what is kept of it.
 abbrev pub watched_as : Account → Watched
-watched_as a = record { addr = a.watch.addr; kind = a.watch.kind; kept = kept_of a }
+watched_as a = record {
+  addr = a.watch.addr;
+  kind = a.watch.kind;
+  tally = tally_of a.watch.family a.watch.kind a.watch.addr a.taps;
+  kept = kept_by a.watch.family a;
+}
+
+-- What is told of a watched device: how many taps were for it.
+abbrev pub heard_of : Account → Heard
+heard_of a = record {
+  addr = a.watch.addr;
+  kind = a.watch.kind;
+  family = a.watch.family;
+  tally = tally_of a.watch.family a.watch.kind a.watch.addr a.taps;
+}
 
 -- A monitor stands for all that came to it, newest first: it counted the taps, and keeps what it has to of each watched
 -- device, in rising order of address.

@@ -5,10 +5,10 @@ use Rattle.cct_model.specs.terms.coin.TheConstants.{EVENTS}
 use Rattle.cct_model.specs.terms.coin.Coin.{Coin}
 use Rattle.cct_model.specs.terms.coin.Credits.{Credits}
 use Rattle.cct_model.specs.Reading.{distance, posted_of}
-use Rattle.cct_monitor.specs.declared.shown.Shown.{Shown}
-use Rattle.cct_monitor.specs.declared.shown.Shown.TheVariants.{Read, Masked, Set, Nothing}
-use Rattle.cct_model.specs.lines.entry.Said.{Said}
-use Rattle.cct_model.specs.lines.entry.Said.TheVariants.{Sure, Doubt}
+use Rattle.cct_taps.specs.declared.shown.Shown.{Shown}
+use Rattle.cct_taps.specs.declared.shown.Shown.TheVariants.{Read, Masked, Set, Nothing}
+use Rattle.cct_taps.specs.declared.said.Said.{Said}
+use Rattle.cct_taps.specs.declared.said.Said.TheVariants.{Sure, Quiet, Doubt}
 
 -- A reading: its number among the taps, the credits that it shows, and what the taps after it showed, newest first.
 pub record Reading : Type 0 where
@@ -92,6 +92,15 @@ coins_of span = posted_of (distance span.first.credits.counter span.last.credits
 -- What is sure of a span.
 abbrev pub surely : ℕ → Span → Said
 surely addr span = Sure addr span.first.number span.last.number (coins_of span)
+
+-- What is said at once of a span of an acceptor that is watched for resets alone.
+abbrev pub quietly : ℕ → Span → Said
+quietly addr span =
+    if is_whole span then Quiet addr span.first.number span.last.number (coins_of span) else doubted addr span
+
+-- What a tap makes said of such an acceptor at an address after the taps before it, newest first.
+abbrev pub quiet_at : ℕ → Shown → List Shown → List Said
+quiet_at addr s past = map (quietly addr) (spans_by s (last_reading past) (suc (length past)))
 
 -- What a tap makes said of a span that waits: it is sure where the tap shows a mask other than 0, and in doubt where the
 -- tap ends its window.

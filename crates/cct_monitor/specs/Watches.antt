@@ -1,19 +1,25 @@
 -- The watched devices of a monitor, and what is said of them.
-use Rattle.std.specs.Prelude.{ℕ, suc, nat_le, Bool, List, [], ◌∷◌, ◌++◌, map, replicate, if◌then◌else◌, Option, None}
+use Rattle.std.specs.Prelude.{ℕ, suc, nat_le, List, [], ◌∷◌, ◌++◌, map, replicate, if◌then◌else◌, Option, None}
 use Rattle.std.specs.List.{flat_map}
 use Rattle.cct_model.specs.terms.wire.CheckKind.{CheckKind}
-use Rattle.cct_monitor.specs.declared.shown.Shown.{Shown}
-use Rattle.cct_monitor.specs.declared.shown.Shown.TheVariants.{Nothing}
-use Rattle.cct_model.specs.lines.entry.Said.{Said}
-use Rattle.cct_monitor.specs.Taps.{Tap, shown, life_shown}
-use Rattle.cct_monitor.specs.Spans.{said_at, said_last}
+use Rattle.cct_taps.specs.declared.shown.Shown.{Shown}
+use Rattle.cct_taps.specs.declared.shown.Shown.TheVariants.{Nothing}
+use Rattle.cct_taps.specs.declared.said.Said.{Said}
+use Rattle.cct_taps.specs.declared.money.Money.{Money}
+use Rattle.cct_monitor.specs.declared.watched.Family.{Family}
+use Rattle.cct_monitor.specs.declared.watched.Family.TheVariants.{Acceptor, QuietAcceptor, Premises, Hopper}
+use Rattle.cct_taps.specs.declared.signs.Sign.{Sign}
+use Rattle.cct_taps.specs.declared.signs.Sign.TheVariants as signs
+use Rattle.cct_taps.specs.Signs.{broken_at, sign}
+use Rattle.cct_taps.specs.Taps.{Tap, shown, quiet_shown, life_shown}
+use Rattle.cct_monitor.specs.Spans.{said_at, said_last, quiet_at}
 use Rattle.cct_monitor.specs.Lives.{fell_at}
 
--- A device that is watched: its address and its check, and whether it is an acceptor, else a hopper.
+-- A device that is watched: its address, its check and its family.
 pub record Watch : Type 0 where
   pub addr : ℕ
   pub kind : CheckKind
-  pub acceptor : Bool
+  pub family : Family
 
 -- What comes to a monitor: a device that is watched from then on, and a tap.
 pub data Came : Type 0 where
@@ -40,6 +46,14 @@ with_tap t a = record { watch = a.watch; before = a.before; taps = t ∷ a.taps 
 abbrev pub looks_of : Account → List Shown
 looks_of a = map (shown a.watch.kind a.watch.addr) a.taps ++ replicate a.before Nothing
 
+-- The same of one of this money that is watched for resets alone.
+abbrev pub quiet_looks_of : Money → Account → List Shown
+quiet_looks_of money a = map (quiet_shown money a.watch.kind a.watch.addr) a.taps ++ replicate a.before Nothing
+
+-- What all taps show of a watched acceptor of this money of which premises are tried, newest first.
+abbrev pub signs_of : Money → Account → List Sign
+signs_of money a = map (sign money a.watch.kind a.watch.addr) a.taps ++ replicate a.before signs.Nothing
+
 -- The life counts that all taps show of a watched hopper, newest first: those before it was watched, none.
 abbrev pub lives_of : Account → List (Option ℕ)
 lives_of a = map (life_shown a.watch.kind a.watch.addr) a.taps ++ replicate a.before None
@@ -55,11 +69,17 @@ accounts [] = []
 accounts (made_watch w ∷ past) = put_by_address (record { watch = w; before = taps_in past; taps = [] }) (accounts past)
 accounts (made_tap t ∷ past) = map (with_tap t) (accounts past)
 
+-- What a tap makes said of a watched device of a family.
+abbrev pub said_by : Family → Tap → Account → List Said
+said_by Acceptor t a = said_at a.watch.addr (shown a.watch.kind a.watch.addr t) (looks_of a)
+said_by (QuietAcceptor money) t a =
+    quiet_at a.watch.addr (quiet_shown money a.watch.kind a.watch.addr t) (quiet_looks_of money a)
+said_by (Premises money) t a = broken_at a.watch.addr (sign money a.watch.kind a.watch.addr t) (signs_of money a)
+said_by Hopper t a = fell_at a.watch.addr (life_shown a.watch.kind a.watch.addr t) (lives_of a)
+
 -- What a tap makes said of a watched device.
 abbrev pub said_of : Tap → Account → List Said
-said_of t a =
-    if a.watch.acceptor then said_at a.watch.addr (shown a.watch.kind a.watch.addr t) (looks_of a)
-    else fell_at a.watch.addr (life_shown a.watch.kind a.watch.addr t) (lives_of a)
+said_of t a = said_by a.watch.family t a
 
 -- What a tap makes said of all watched devices.
 abbrev pub said_of_all : Tap → List Came → List Said
@@ -71,9 +91,16 @@ all_told [] = []
 all_told (made_watch w ∷ past) = all_told past
 all_told (made_tap t ∷ past) = all_told past ++ said_of_all t past
 
+-- What is said of a watched device of a family at the end.
+abbrev pub finally_by : Family → Account → List Said
+finally_by Acceptor a = said_last a.watch.addr (looks_of a)
+finally_by (QuietAcceptor money) a = []
+finally_by (Premises money) a = []
+finally_by Hopper a = []
+
 -- What is said of a watched device at the end.
 abbrev pub finally_of : Account → List Said
-finally_of a = if a.watch.acceptor then said_last a.watch.addr (looks_of a) else []
+finally_of a = finally_by a.watch.family a
 
 -- What is said of all at the end, in rising order of address.
 abbrev pub finally_of_all : List Came → List Said

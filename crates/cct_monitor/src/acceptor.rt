@@ -2,12 +2,12 @@
 ghost use Rattle.std.specs.Prelude.{◌≡◌, ◌+◌, ◌<◌, ◌≤◌, ◌++◌, [], None, length};
 ghost use Rattle.cct_monitor.specs.Machine.{acceptor_on, acceptor_says, after_setting, doubt_new, doubt_waiting, fits, no_tap, sure_waiting, waiting_new};
 ghost use Rattle.cct_monitor.specs.Spans.{are_near};
-ghost use Rattle.cct_monitor.specs.declared.shown.Shown.TheVariants.{Read};
+ghost use Rattle.cct_taps.specs.declared.shown.Shown.TheVariants.{Read};
 
-use crate::shown::Shown;
 use arrayvec::ArrayVec;
 use cct_epoch::{distance, posted};
-use cct_model::{Credits, EVENTS, Said};
+use cct_model::{Credits, EVENTS};
+use cct_taps::{Said, Shown};
 
 /// The last reading of an acceptor.
 #[derive(Clone, Copy, Debug, PartialEq, Eq)]
@@ -115,7 +115,7 @@ impl AcceptorWatch {
 }
 
 /// The last reading after a setting.
-fn after_setting(last: Option<LastReading>) -> Option<LastReading>
+pub(crate) fn after_setting(last: Option<LastReading>) -> Option<LastReading>
     ensures { result ≡ after_setting last }
 {
     match last {
@@ -130,7 +130,7 @@ fn after_setting(last: Option<LastReading>) -> Option<LastReading>
 
 /// Whether a new reading of this event counter makes with the last one a span that can be sure: no setting came between
 /// them, the counter isn't back at 0, and it tells no more events than the credit buffer keeps.
-fn fits(last: &LastReading, counter: u8) -> bool
+pub(crate) fn fits(last: &LastReading, counter: u8) -> bool
     ensures { result ≡ fits last.now counter }
 {
     !last.was_set && are_near(last.counter, counter)

@@ -4,7 +4,7 @@ ghost use Rattle.cct_model.specs.Order.{life_between};
 ghost use Rattle.cct_monitor.specs.Lives.{fell_by};
 
 use arrayvec::ArrayVec;
-use cct_model::Said;
+use cct_taps::Said;
 
 /// How many values the life count has, which is three bytes long.
 const COUNTS: u64 = 1 << 24;

@@ -1,11 +1,11 @@
 //! What holds of whatever comes to a monitor.
 ghost use Rattle.std.specs.Prelude.{◌≡◌, ◌≤◌, ◌++◌, ℕ, true, Option, List, [], length, map, reverse};
 ghost use Rattle.std.specs.List.{All, Contains, filter};
-ghost use Rattle.cct_monitor.specs.declared.shown.Shown.{Shown};
+ghost use Rattle.cct_taps.specs.declared.shown.Shown.{Shown};
 ghost use Rattle.cct_monitor.specs.Confirmed.{confirms, is_confirmed, is_sure};
-ghost use Rattle.cct_monitor.specs.Once.{all_said, is_between, is_of};
-ghost use Rattle.cct_monitor.specs.Spans.{Reading, Span, goes_on, said_at, said_last, spans, spans_by, surely};
-ghost use Rattle.cct_monitor.specs.Taps.{Tap};
+ghost use Rattle.cct_monitor.specs.Once.{all_quietly, all_said, is_between, is_of};
+ghost use Rattle.cct_monitor.specs.Spans.{Reading, Span, goes_on, quietly, said_at, said_last, spans, spans_by, surely};
+ghost use Rattle.cct_taps.specs.Taps.{Tap};
 ghost use Rattle.cct_monitor.specs.Watches.{Watch, accounts, by_address, from_begin, made_tap, made_watch};
 
 /// Where the taps come after all devices that are to be watched, as in a capture, each device is watched from the first
@@ -27,7 +27,8 @@ pub fn a_tap_makes_sure_what_it_confirms()
 {}
 
 /// Each span of an acceptor is said once, at a tap or at the end of the taps: to be sure where it was confirmed, with its
-/// coins, and else to be in doubt. No two spans are between the same readings, so what is said of one is said of no other.
+/// coins, and else to be in doubt. Of one that is watched for resets alone each is said once, at its last reading. No two spans
+/// are between the same readings, so what is said of one is said of no other.
 pub fn each_span_is_said_once()
     ensures once { (first last addr : ℕ) (past : List Shown)
         → length (filter (is_of first last) (all_said addr past ++ said_last addr past))
@@ -37,6 +38,10 @@ pub fn each_span_is_said_once()
         ≡ length (filter (is_between first last) (filter is_confirmed (spans past))) }
     ensures told { (addr : ℕ) (past : List Shown)
         → All (λ span. is_confirmed span ≡ true → Contains (all_said addr past) (surely addr span)) (spans past) }
+    ensures quietly { (first last addr : ℕ) (past : List Shown)
+        → length (filter (is_of first last) (all_quietly addr past)) ≡ length (filter (is_between first last) (spans past)) }
+    ensures each_quietly { (addr : ℕ) (past : List Shown)
+        → All (λ span. Contains (all_quietly addr past) (quietly addr span)) (spans past) }
     ensures at_most_one { (first last : ℕ) (past : List Shown)
         → length (filter (is_between first last) (spans past)) ≤ 1 }
 {}

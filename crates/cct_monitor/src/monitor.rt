@@ -1,13 +1,14 @@
 //! The monitor.
-ghost use Rattle.std.specs.Prelude.{◌≡◌, ◌+◌, ◌-◌, ◌^◌, ◌<◌, ◌==◌, ◌||◌, ℕ, true, false, List, [], ◌∷◌};
+ghost use Rattle.std.specs.Prelude.{◌≡◌, ◌+◌, ◌-◌, ◌^◌, ◌<◌, ◌==◌, ◌||◌, ℕ, true, false, List, [], ◌∷◌, map, slice_get};
 ghost use Rattle.cct_monitor.specs.Places.{are_apart};
-ghost use Rattle.cct_monitor.specs.Taps.{tap_of};
-ghost use Rattle.cct_monitor.specs.Watches.{Came, Watch, finally_of_all, made_tap, made_watch, said_of_all};
+ghost use Rattle.cct_taps.specs.Taps.{tap_of};
+ghost use Rattle.cct_monitor.specs.Watches.{Came, Watch, accounts, finally_of_all, made_tap, made_watch, said_of_all};
 
-use crate::places::{WATCHED, finish_devices, has_device, put_device, tap_devices};
-use crate::watched::Watched;
+use crate::places::{WATCHED, finish_devices, has_device, heard_at, put_device, tap_devices};
+use crate::watched::{Family, Heard, Watched};
 use arrayvec::ArrayVec;
-use cct_model::{CheckKind, Said};
+use cct_model::CheckKind;
+use cct_taps::Said;
 
 /// A monitor of a wire, whoever is its host. It takes no memory, and keeps as much after each tap as before it.
 ///
@@ -21,7 +22,7 @@ pub struct Monitor {
 }
 
 impl Monitor {
-    ghost use Rattle.cct_monitor.specs.Monitor.{StandsFor, is_watched, tap_count, watch_count};
+    ghost use Rattle.cct_monitor.specs.Monitor.{StandsFor, heard_of, is_watched, tap_count, watch_count};
 
     /// A monitor that watches no device.
     pub fn new() -> Monitor
@@ -36,18 +37,25 @@ impl Monitor {
         }
     }
 
-    /// Watches the device at an address from the next tap on, by the check of its messages: an acceptor, or else a hopper.
-    /// There must be room, and the address must be new.
-    pub fn watch(&mut self, addr: u8, kind: CheckKind, acceptor: bool)
+    /// Watches the device at an address from the next tap on, by the check of its messages and its family. There must be
+    /// room, and the address must be new.
+    pub fn watch(&mut self, addr: u8, kind: CheckKind, family: Family)
         requires room { watch_count self.old < WATCHED }
         requires new_address { is_watched self.old addr ≡ false }
         ensures taps { tap_count self.new ≡ tap_count self.old }
         ensures devices { watch_count self.new ≡ watch_count self.old + 1 }
         ensures addresses { (other : ℕ) → is_watched self.new other ≡ ((addr == other) || is_watched self.old other) }
         ensures stands { (past : List Came) → StandsFor self.old past
-            → StandsFor self.new (made_watch (record { addr = addr; kind = kind; acceptor = acceptor }) ∷ past) }
+            → StandsFor self.new (made_watch (record { addr = addr; kind = kind; family = family }) ∷ past) }
     {
-        put_device(&mut self.devices, Watched::new(addr, kind, acceptor));
+        put_device(&mut self.devices, Watched::new(addr, kind, family));
+    }
+
+    /// How many taps came to it.
+    pub fn taps(&self) -> u32
+        ensures { result ≡ tap_count self.now }
+    {
+        self.taps
     }
 
     /// How many devices it watches, 32 at most.
@@ -55,6 +63,14 @@ impl Monitor {
         ensures { result ≡ watch_count self.now }
     {
         self.devices.len()
+    }
+
+    /// What is told of the watched device of a place, from 0 and in rising order of address: how many taps were for it. None
+    /// where there is none.
+    pub fn heard(&self, place: usize) -> Option<Heard>
+        ensures { (past : List Came) → StandsFor self.now past → result ≡ slice_get (map heard_of (accounts past)) place }
+    {
+        heard_at(self.devices.as_slice(), place)
     }
 
     /// Whether it watches a device at an address.

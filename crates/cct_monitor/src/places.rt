@@ -1,13 +1,13 @@
 //! The watched devices by their places, in rising order of address.
-ghost use Rattle.std.specs.Prelude.{◌≡◌, ◌<◌, ◌≤◌, [], true, length, map, slice_index_or, slice_set, IfSome};
+ghost use Rattle.std.specs.Prelude.{◌≡◌, ◌<◌, ◌≤◌, [], true, length, map, slice_get, slice_index_or, slice_set, IfSome};
 ghost use Rattle.std.specs.List.{flat_map, list_any, position, position_or_len};
-ghost use Rattle.cct_monitor.specs.Machine.{ends_on, says_on, watched_on};
+ghost use Rattle.cct_monitor.specs.Machine.{ends_on, heard_as, says_on, watched_on};
 ghost use Rattle.cct_monitor.specs.Places.{are_apart, has_addr, is_behind, put_watched};
-ghost use Rattle.cct_monitor.specs.Taps.{tap_of};
+ghost use Rattle.cct_taps.specs.Taps.{tap_of};
 
-use crate::watched::Watched;
+use crate::watched::{Heard, Watched};
 use arrayvec::ArrayVec;
-use cct_model::Said;
+use cct_taps::Said;
 
 /// The most devices that a monitor watches.
 pub const WATCHED: usize = 32;
@@ -58,6 +58,13 @@ pub(crate) fn finish_devices(devices: &[Watched], report: &mut ArrayVec<Said, WA
     for device in devices {
         device.finish(report);
     }
+}
+
+/// What is told of the device at a place, or none where there is none.
+pub(crate) fn heard_at(devices: &[Watched], place: usize) -> Option<Heard>
+    ensures { result ≡ slice_get (map heard_as devices.now) place }
+{
+    devices.get(place).map(Watched::heard)
 }
 
 /// The device at a place.

@@ -1,18 +1,39 @@
 //! What is kept of a watched device.
 ghost use Rattle.std.specs.Prelude.{◌≡◌, ◌+◌, ◌<◌, ◌≤◌, ◌++◌, [], length};
-ghost use Rattle.cct_monitor.specs.Machine.{ends_on, life_on, new_watched, says_on, watched_on};
-ghost use Rattle.cct_monitor.specs.Taps.{tap_of};
+ghost use Rattle.cct_monitor.specs.Machine.{ends_on, family_of, heard_as, kept_first, life_on, new_watched, says_on, watched_on};
+ghost use Rattle.cct_taps.specs.Taps.{tap_of};
 
-use crate::acceptor::AcceptorWatch;
+use crate::acceptor::{AcceptorWatch, LastReading};
 use crate::hopper::{LastLife, fell};
-use crate::shown::{life_at, shown_at};
+use crate::quiet::{last_on, say_quietly};
+use crate::tally::Tally;
 use arrayvec::ArrayVec;
-use cct_model::{CheckKind, Said};
+use cct_model::CheckKind;
+use cct_taps::{
+    KnownMask, Money, Said, is_message, known_on, life_at, quiet_shown_at, shown_at, sign_at,
+    tell_broken,
+};
 
-/// What is kept of a watched device, by its kind.
+/// What a watched device is, and what is taken for granted of it.
+#[derive(Clone, Copy, Debug, PartialEq, Eq)]
+pub enum Family {
+    /// An acceptor of coins. Its spans are sure where its inhibit mask shows that it didn't reset.
+    Acceptor,
+    /// An acceptor of this money that is taken to reset only where the taps show it: it is asked to, or its event counter falls to
+    /// 0.
+    QuietAcceptor(Money),
+    /// An acceptor of this money of which it is told what it isn't as it is taken to be.
+    Premises(Money),
+    /// A hopper.
+    Hopper,
+}
+
+/// What is kept of a watched device, by its family.
 #[derive(Clone, Copy, Debug, PartialEq, Eq)]
 pub(crate) enum Kept {
     Acceptor(AcceptorWatch),
+    QuietAcceptor(Money, Option<LastReading>),
+    Premises(Money, Option<KnownMask>),
     Hopper(Option<LastLife>),
 }
 
@@ -21,36 +42,86 @@ pub(crate) enum Kept {
 pub(crate) struct Watched {
     pub addr: u8,
     pub kind: CheckKind,
+    pub tally: Tally,
     pub kept: Kept,
+}
+
+/// A watched device, and how many taps were for it.
+#[derive(Clone, Copy, Debug, PartialEq, Eq)]
+pub struct Heard {
+    pub addr: u8,
+    pub kind: CheckKind,
+    pub family: Family,
+    pub tally: Tally,
 }
 
 impl Default for Watched {
     ghost use Rattle.std.specs.Prelude.{None};
     ghost use Rattle.cct_model.specs.terms.wire.CheckKind.TheVariants.{Simple};
     ghost use Rattle.cct_monitor.specs.declared.watched.Kept.TheVariants.{Hopper};
+    ghost use Rattle.cct_monitor.specs.Tallies.{no_tally};
 
-    ghost is_default = { λ w. w ≡ record { addr = 0; kind = Simple; kept = Hopper None } };
+    ghost is_default = { λ w. w ≡ record { addr = 0; kind = Simple; tally = no_tally; kept = Hopper None } };
 
     fn default() -> Self {
         Watched {
             addr: 0,
             kind: CheckKind::Simple,
+            tally: Tally::new(),
             kept: Kept::Hopper(None),
+        }
+    }
+}
+
+impl Kept {
+    /// What is kept of a device of a family of which no tap came.
+    fn new(family: Family) -> Kept
+        ensures { result ≡ kept_first family }
+    {
+        match family {
+            Family::Acceptor => Kept::Acceptor(AcceptorWatch::new()),
+            Family::QuietAcceptor(money) => Kept::QuietAcceptor(money, None),
+            Family::Premises(money) => Kept::Premises(money, None),
+            Family::Hopper => Kept::Hopper(None),
+        }
+    }
+
+    /// The family of the device.
+    fn family(&self) -> Family
+        ensures { result ≡ family_of self.now }
+    {
+        match self {
+            Kept::Acceptor(_) => Family::Acceptor,
+            Kept::QuietAcceptor(money, _) => Family::QuietAcceptor(*money),
+            Kept::Premises(money, _) => Family::Premises(*money),
+            Kept::Hopper(_) => Family::Hopper,
         }
     }
 }
 
 impl Watched {
     /// A device of which no tap came.
-    pub(crate) fn new(addr: u8, kind: CheckKind, acceptor: bool) -> Watched
-        ensures { result ≡ new_watched addr kind acceptor }
+    pub(crate) fn new(addr: u8, kind: CheckKind, family: Family) -> Watched
+        ensures { result ≡ new_watched addr kind family }
     {
-        let kept = if acceptor {
-            Kept::Acceptor(AcceptorWatch::new())
-        } else {
-            Kept::Hopper(None)
-        };
-        Watched { addr, kind, kept }
+        Watched {
+            addr,
+            kind,
+            tally: Tally::new(),
+            kept: Kept::new(family),
+        }
+    }
+
+    /// What is told of the device.
+    pub(crate) fn heard(&self) -> Heard
+        ensures { result ≡ heard_as self.now }
+    {
+        Heard {
+            addr: self.addr,
+            kind: self.kind,
+            family: self.kept.family(),
+            tally: self.tally,
+        }
     }
 
     /// The device after a tap of a number, and in the report what that makes said.
@@ -65,7 +136,13 @@ impl Watched {
         ensures kept { result ≡ watched_on (tap_of sent.now heard.now) number self }
         ensures says { report.new.items ≡ says_on (tap_of sent.now heard.now) number self }
     {
-        let Watched { addr, kind, kept } = self;
+        let Watched {
+            addr,
+            kind,
+            tally,
+            kept,
+        } = self;
+        let to_it = is_message(kind, addr, sent);
         match kept {
             Kept::Acceptor(mut acceptor) => {
                 let shown = shown_at(kind, addr, sent, heard);
@@ -73,7 +150,28 @@ impl Watched {
                 Watched {
                     addr,
                     kind,
+                    tally: tally.after_shown(to_it, &shown),
                     kept: Kept::Acceptor(acceptor),
+                }
+            }
+            Kept::QuietAcceptor(money, last) => {
+                let shown = quiet_shown_at(money, kind, addr, sent, heard);
+                say_quietly(addr, number, shown, last, report);
+                Watched {
+                    addr,
+                    kind,
+                    tally: tally.after_shown(to_it, &shown),
+                    kept: Kept::QuietAcceptor(money, last_on(shown, number, last)),
+                }
+            }
+            Kept::Premises(money, known) => {
+                let sign = sign_at(money, kind, addr, sent, heard);
+                tell_broken(addr, number, sign, known, report);
+                Watched {
+                    addr,
+                    kind,
+                    tally: tally.after_sign(to_it, &sign),
+                    kept: Kept::Premises(money, known_on(number, sign, known)),
                 }
             }
             Kept::Hopper(last) => {
@@ -82,6 +180,7 @@ impl Watched {
                 Watched {
                     addr,
                     kind,
+                    tally: tally.after_life(to_it, count),
                     kept: Kept::Hopper(life_on(count, number, last)),
                 }
             }
@@ -96,6 +195,8 @@ impl Watched {
     {
         match self.kept {
             Kept::Acceptor(acceptor) => acceptor.finish(self.addr, report),
+            Kept::QuietAcceptor(_, _) => {}
+            Kept::Premises(_, _) => {}
             Kept::Hopper(_) => {}
         }
     }

@@ -3,15 +3,16 @@ use Rattle.std.proofs.Common.{◌≡◌, ℕ, List, [], ◌∷◌, ◌++◌, tru
 use Prim.Native.String.{String}
 use Rattle.std.specs.Prelude.{codes}
 use Rattle.cct_model.specs.terms.wire.CheckKind.TheVariants.{Simple}
-use Rattle.cct_model.specs.lines.entry.Said.{Said}
-use Rattle.cct_model.specs.lines.entry.Said.TheVariants.{Sure, Doubt, Fell}
+use Rattle.cct_taps.specs.declared.said.Said.{Said}
+use Rattle.cct_taps.specs.declared.said.Said.TheVariants.{Sure, Doubt, Fell}
 use Rattle.cct_model.specs.Message.{message}
 use Rattle.cct_model.specs.Request.{request_of, requests_with}
 use Rattle.cct_model.specs.Reply.{reply_in}
 use Rattle.cct_model.specs.Exchange.{after_echo, got}
 use Rattle.cct_model.specs.Reading.{distance}
 use Rattle.cct_model.specs.Order.{life_between}
-use Rattle.cct_monitor.specs.Taps.{Tap, tap_of}
+use Rattle.cct_taps.specs.Taps.{Tap, tap_of}
+use Rattle.cct_monitor.specs.declared.watched.Family.TheVariants as watched_as
 use Rattle.cct_monitor.specs.Watches.{Came, finally_of_all, made_tap, made_watch, said_of_all}
 use Rattle.cct_vectors.proofs.Played.{bytes_of}
 
@@ -21,10 +22,10 @@ tap sent reply = let asked = bytes_of (codes sent) in tap_of asked (asked ++ byt
 
 -- an acceptor is to be watched, and a hopper
 abbrev acceptor : ℕ → Came
-acceptor addr = made_watch (record { addr = addr; kind = Simple; acceptor = true })
+acceptor addr = made_watch (record { addr = addr; kind = Simple; family = watched_as.Acceptor })
 
 abbrev hopper : ℕ → Came
-hopper addr = made_watch (record { addr = addr; kind = Simple; acceptor = false })
+hopper addr = made_watch (record { addr = addr; kind = Simple; family = watched_as.Hopper })
 
 -- what is said at each of these taps, after all that came before, newest first
 abbrev says : List Came → List Tap → List (List Said)

@@ -29,9 +29,9 @@ use Rattle.cct_model.specs.Setup.{IsSoundSetup}
 use Rattle.cct_model.specs.Transcript.{at, doses, doses_of, got_by, heard_after, heard_by_devices, lines_of, met, own, pending}
 use Rattle.cct_laws.specs.Law.{IsOf}
 use Rattle.cct_laws.proofs.jobs.Brought.{Comes, takes_coin, leaves_coin, takes_bill, leaves_bill, leaves_alien, drops_coin, drops_none, jams, jams_none, is_reset}
-use Rattle.cct_monitor.specs.declared.shown.Shown.{Shown}
-use Rattle.cct_monitor.specs.declared.shown.Shown.TheVariants.{Read, Masked, Set, Nothing}
-use Rattle.cct_monitor.specs.Taps.{Tap, shown, tap_of}
+use Rattle.cct_taps.specs.declared.shown.Shown.{Shown}
+use Rattle.cct_taps.specs.declared.shown.Shown.TheVariants.{Read, Masked, Set, Nothing}
+use Rattle.cct_taps.specs.Taps.{Tap, shown, tap_of}
 use Rattle.cct_wild.specs.Wild.{WildStep, WildFrom, before_tap, taps}
 use Rattle.cct_wild.specs.Claims.{looks, pieces}
 use Rattle.cct_wild.proofs.Moments.{World, Quiet, Runs, Shows, quiet_refl, quiet_then, runs_same}
@@ -46,24 +46,24 @@ abbrev pub world_of : DeviceSetup → List Entry → World
 world_of d past = world_by (met d past) (lines_of d past)
 
 -- an acceptor is no other kind of device
-no_bill : (body : DeviceBody) → IsAcceptor body → IsBill body → ⊥
+pub no_bill : (body : DeviceBody) → IsAcceptor body → IsBill body → ⊥
 no_bill (Acceptor accepts values ids) accepting banking = banking
 no_bill (Hopper life value) accepting banking = accepting
 no_bill (Bill accepts values ids) accepting banking = accepting
 
-no_hopper : (body : DeviceBody) → IsAcceptor body → IsHopper body → ⊥
+pub no_hopper : (body : DeviceBody) → IsAcceptor body → IsHopper body → ⊥
 no_hopper (Acceptor accepts values ids) accepting paying = paying
 no_hopper (Hopper life value) accepting paying = accepting
 no_hopper (Bill accepts values ids) accepting paying = accepting
 
 -- a coin that is let in is an event, and one that isn't is an event without a coin
-let_in : (ms : List Met) (place : ℕ) → 1 ≤ place → accepts ms place ≡ true →
+pub let_in : (ms : List Met) (place : ℕ) → 1 ≤ place → accepts ms place ≡ true →
     coins_among (coin_event ms place ∷ []) ≡ record { place = place; path = path_of ms place } ∷ []
 let_in ms place low lets =
     let some : (place == 0) ≡ false = grind (arith, nat_tests) in
     rw lets (rw some refl)
 
-kept_out : (ms : List Met) (place : ℕ) → accepts ms place ≡ false → coins_among (coin_event ms place ∷ []) ≡ []
+pub kept_out : (ms : List Met) (place : ℕ) → accepts ms place ≡ false → coins_among (coin_event ms place ∷ []) ≡ []
 kept_out ms place out = rw out refl
 
 -- what comes to it
@@ -110,7 +110,7 @@ quiet_seen d past _ accepting (elsewhere e meets_are own_are) =
     (quiet_refl (world_of d past))
 
 -- lines that tell of no piece
-same_with : (ms : List Met) (lines : List Line) (x : Line) (b : Bool) → coins (x ∷ lines) ≡ coins lines →
+pub same_with : (ms : List Met) (lines : List Line) (x : Line) (b : Bool) → coins (x ∷ lines) ≡ coins lines →
     pieces (x ∷ lines) ≡ pieces lines → world_by ms (cond b (x ∷ []) [] ++ lines) ≡ world_by ms lines
 same_with ms lines x true no_coin no_piece =
     ap₂ (λ cs n. record { mask = mask_of ms; events = events ms; coins = cs; came = n }) no_coin no_piece
@@ -149,7 +149,7 @@ no_lines [] ys zs none = ap (λ y. y ++ zs) none
 no_lines (x ∷ xs) ys zs none = ap (λ rest. x ∷ rest) (no_lines xs ys zs none)
 
 -- an exchange, whoever it is for
-wire_lines : (d : DeviceSetup) (past : List Entry) (addr : ℕ) (sent piece : List ℕ) (ms : List Met) → IsAcceptor d.body →
+pub wire_lines : (d : DeviceSetup) (past : List Entry) (addr : ℕ) (sent piece : List ℕ) (ms : List Met) → IsAcceptor d.body →
     world_by ms (own d past (entry.Wire addr sent piece) ++ lines_of d past) ≡ world_by ms (lines_of d past)
 wire_lines d past addr sent piece ms accepting =
     let x = line.exchange (asked d.kind sent) (got_by d sent piece) in

@@ -11,10 +11,10 @@ use Rattle.cct_model.specs.lines.entry.Entry.TheVariants as entry
 use Rattle.cct_model.specs.Claims.{coins}
 use Rattle.cct_model.specs.Line.{Line, accepted}
 use Rattle.cct_model.specs.Transcript.{lines_of, own}
-use Rattle.cct_monitor.specs.declared.shown.Shown.{Shown}
-use Rattle.cct_monitor.specs.declared.shown.Shown.TheVariants.{Read, Masked, Set, Nothing}
+use Rattle.cct_taps.specs.declared.shown.Shown.{Shown}
+use Rattle.cct_taps.specs.declared.shown.Shown.TheVariants.{Read, Masked, Set, Nothing}
 use Rattle.cct_monitor.specs.Spans.{Reading, Span, after_it, goes_on, last_reading, new_reading, spans, spans_by}
-use Rattle.cct_monitor.specs.Taps.{shown}
+use Rattle.cct_taps.specs.Taps.{shown}
 use Rattle.cct_wild.specs.Wild.{before_tap, taps}
 use Rattle.cct_wild.specs.Claims.{AreApart, StandsIn, coins_before, looks}
 

@@ -1,6 +1,5 @@
 -- A span is confirmed just where no setting came between its readings, few pieces came, and a tap of its window shows a mask.
 use Rattle.std.proofs.Common.{◌≡◌, ◌≢◌, ℕ, suc, ◌+◌, ◌<◌, ◌≤◌, ◌==◌, ◌||◌, ◌&&◌, nat_le, not, Bool, true, false, cond, List, [], ◌∷◌, ◌++◌, map, length, refl, sym, ap, ap₂, ◌∙◌, subst, subst₂, arith, Option, Some, None, All, Contains, length-append, true≢false}
-use Rattle.std.specs.Prelude.{MatchBool}
 use Rattle.std.specs.List.{list_any}
 use Rattle.std.proofs.lemmas.Bool.{and_parts, or_parts, eq-eqb}
 use Rattle.std.proofs.lemmas.Bool.Decides.{nat_tests}
@@ -9,24 +8,25 @@ use Rattle.cct_model.specs.terms.coin.Credits.{Credits}
 use Rattle.cct_model.specs.terms.device.DeviceSetup.{DeviceSetup}
 use Rattle.cct_model.specs.terms.device.Setup.{Setup}
 use Rattle.cct_model.specs.lines.entry.Entry.{Entry}
-use Rattle.cct_model.specs.lines.entry.Said.{Said}
+use Rattle.cct_taps.specs.declared.said.Said.{Said}
 use Rattle.cct_model.specs.Acceptor.{counter, credits_in}
-use Rattle.cct_model.specs.Device.{IsAcceptor, IsHopper}
+use Rattle.cct_model.specs.Device.{IsAcceptor}
 use Rattle.cct_model.specs.Honest.{HonestPast}
 use Rattle.cct_model.specs.Reading.{distance}
 use Rattle.cct_model.specs.Setup.{IsSoundSetup}
 use Rattle.cct_laws.specs.Law.{IsOf}
-use Rattle.cct_monitor.specs.declared.shown.Shown.{Shown}
-use Rattle.cct_monitor.specs.declared.shown.Shown.TheVariants.{Read, Masked, Set, Nothing}
+use Rattle.cct_taps.specs.declared.shown.Shown.{Shown}
+use Rattle.cct_taps.specs.declared.shown.Shown.TheVariants.{Read, Masked, Set, Nothing}
 use Rattle.cct_monitor.specs.Confirmed.{ends_window, has_mask, is_confirmed, window}
 use Rattle.cct_monitor.specs.Spans.{Reading, Span, are_near, coins_of, goes_on, is_set, is_whole, last_reading, spans, spans_by, surely}
 use Rattle.cct_monitor.specs.Once.{all_said}
-use Rattle.cct_monitor.specs.Taps.{shown}
+use Rattle.cct_taps.specs.Taps.{shown}
+use Rattle.cct_monitor.specs.declared.watched.Family.TheVariants as watched_as
 use Rattle.cct_monitor.specs.Watches.{Watch, all_told, made_tap, made_watch}
 use Rattle.cct_monitor.proofs.Confirmed.{whole_window}
 use Rattle.cct_monitor.proofs.Reported.{IsSaid, all_both, confirmed_said, told_of_one}
 use Rattle.cct_wild.specs.Wild.{WildStep, WildFrom, before_tap, taps}
-use Rattle.cct_wild.specs.Claims.{IsPlain, IsSureWherePlain, IsToldWhole, IsWatchOf, looks}
+use Rattle.cct_wild.specs.Claims.{IsOfFamily, IsPlain, IsSureWherePlain, IsToldWhole, IsWatchOf, looks}
 use Rattle.cct_wild.proofs.Moments.{World, Behind, Runs, Shows}
 use Rattle.cct_wild.proofs.Sure.{SpanIn, all_spans, behind_told}
 use Rattle.cct_wild.proofs.Acceptors.{acceptor_runs, world_of}
@@ -90,7 +90,7 @@ all_masked at (s ∷ past) now runs =
     (all_masked at past before runs.2))))
 
 -- event counters tell a whole where few events came
-near_where_few : (new old : ℕ) → new ≤ 5 → are_near (counter old) (counter (new + old)) ≡ true
+pub near_where_few : (new old : ℕ) → new ≤ 5 → are_near (counter old) (counter (new + old)) ≡ true
 unfolding distance
 near_where_few new old few = grind (arith, nat_tests)
 
@@ -99,7 +99,7 @@ unfolding distance
 few_where_near new old less near = grind (arith, nat_tests)
 
 -- the event counters of a span behind whose last reading all that came are events
-counters_are : (first last : Credits) (w v : World) (is : Behind w v) → first ≡ credits_in w.events →
+pub counters_are : (first last : Credits) (w v : World) (is : Behind w v) → first ≡ credits_in w.events →
     last ≡ credits_in v.events →
     are_near first.counter last.counter
     ≡ are_near (counter (length w.events)) (counter (length is.new + length w.events))
@@ -113,7 +113,7 @@ is_false : (b : Bool) → not b ≡ true → b ≡ false
 is_false true test = absurd cc
 is_false false test = refl
 
-both_true : (a b : Bool) → a ≡ true → b ≡ true → (a && b) ≡ true
+pub both_true : (a b : Bool) → a ≡ true → b ≡ true → (a && b) ≡ true
 both_true a b is also = rw (is, also) refl
 
 -- what is so of a span at its moments
@@ -193,14 +193,14 @@ whole_told d past told x is masked said plain =
 
 -- by any monitor that watches the acceptor
 pub plain_told : (setup : Setup) (steps : List WildStep) (past : List Entry) (watches : List Watch) (w : Watch) (d : DeviceSetup) →
-    IsSoundSetup setup → WildFrom setup [] steps past → HonestPast past → Contains watches w → w.acceptor ≡ true →
+    IsSoundSetup setup → WildFrom setup [] steps past → HonestPast past → Contains watches w → w.family ≡ watched_as.Acceptor →
     IsOf setup d → IsWatchOf w d →
     All (λ x. IsPlain d past x → IsToldWhole d past (all_told (map made_tap (taps past) ++ map made_watch watches)) x)
     (spans (looks d past))
 plain_told setup steps past watches w d sound goes honest among accepts own is =
     let at : ℕ → World = λ n. world_of d (before_tap n past) in
     let told = all_told (map made_tap (taps past) ++ map made_watch watches) in
-    let accepting : IsAcceptor d.body = subst (λ b. MatchBool b (IsAcceptor d.body) (IsHopper d.body)) accepts is.body_is in
+    let accepting : IsAcceptor d.body = subst (λ fam. IsOfFamily fam d.body) accepts is.body_is in
     let runs = acceptor_runs setup steps past d sound own accepting goes honest in
     All-weaker (λ x. (SpanIn at (world_of d past) x × IsMasked at x) × IsSaid d.addr (looks d past) x)
     (λ x. IsPlain d past x → IsToldWhole d past told x)

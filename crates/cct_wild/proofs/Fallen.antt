@@ -2,8 +2,8 @@
 use Rattle.std.proofs.Common.{◌≡◌, ℕ, suc, ◌+◌, ◌<◌, ◌≤◌, List, [], ◌∷◌, length, refl, sym, subst, arith, Option, Some, None, All}
 use Rattle.std.specs.Prelude.{◌%◌, ◌^◌, ⊤}
 use Rattle.std.proofs.lemmas.List.Elements.{All-append, All-cons, All-nil}
-use Rattle.cct_model.specs.lines.entry.Said.{Said}
-use Rattle.cct_model.specs.lines.entry.Said.TheVariants.{Sure, Doubt, Fell}
+use Rattle.cct_taps.specs.declared.said.Said.{Said}
+use Rattle.cct_taps.specs.declared.said.Said.TheVariants.{Sure, Quiet, Doubt, Fell, Broken}
 use Rattle.cct_model.specs.Order.{life_between}
 use Rattle.cct_monitor.specs.declared.hopper.LastLife.{LastLife}
 use Rattle.cct_monitor.specs.Lives.{fell_at, fell_by, last_life}
@@ -70,9 +70,11 @@ since_exact start first last before now was is more near = omega (arith, was, is
 -- what is said of the hopper at an address is true
 abbrev pub HoldsFell : (ℕ → ℕ) → ℕ → Said → Type 0
 HoldsFell at addr (Sure there first last coins) = ⊥
+HoldsFell at addr (Quiet there first last coins) = ⊥
 HoldsFell at addr (Doubt there first last) = ⊤
 HoldsFell at addr (Fell there first last count) =
     (there ≡ addr) × (at last < at first + 2 ^ 24 → at last ≡ count + at first)
+HoldsFell at addr (Broken there premise first last) = ⊥
 
 fell_holds : (at : ℕ → ℕ) (start addr number : ℕ) (s : Option ℕ) (found : Option LastLife) →
     ShowsLife start s (at number) → IfLife at start (at number) found →

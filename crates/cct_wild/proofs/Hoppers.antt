@@ -25,7 +25,7 @@ use Rattle.cct_laws.specs.Coins.{all_fallen}
 use Rattle.cct_laws.specs.Law.{IsOf}
 use Rattle.cct_laws.proofs.Replies.{start_of}
 use Rattle.cct_laws.proofs.jobs.Brought.{Comes, takes_coin, leaves_coin, takes_bill, leaves_bill, leaves_alien, drops_coin, drops_none, jams, jams_none, is_reset}
-use Rattle.cct_monitor.specs.Taps.{Tap, life_shown, tap_of}
+use Rattle.cct_taps.specs.Taps.{Tap, life_shown, tap_of}
 use Rattle.cct_wild.specs.Wild.{WildStep, WildFrom, before_tap, taps}
 use Rattle.cct_wild.specs.Claims.{fallen_before, lives}
 use Rattle.cct_wild.proofs.Fallen.{LifeRuns, ShowsLife, lives_on, lives_same}

@@ -5,9 +5,13 @@ pub mod Hoppers
 pub mod Moments
 pub mod Run
 pub mod Sure
+pub mod Resets
+pub mod QuietRuns
 pub mod True
 pub mod Wire
+pub mod Premises
 pub mod Worked
 pub mod Complete
+pub mod QuietTold
 pub mod Undisturbed
 pub mod Rounds

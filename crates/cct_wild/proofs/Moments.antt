@@ -5,8 +5,8 @@ use Rattle.cct_model.specs.terms.coin.Pair.{Pair}
 use Rattle.cct_model.specs.terms.coin.Coin.{Coin}
 use Rattle.cct_model.specs.Acceptor.{credits_in}
 use Rattle.cct_model.specs.Reading.{coins_among}
-use Rattle.cct_monitor.specs.declared.shown.Shown.{Shown}
-use Rattle.cct_monitor.specs.declared.shown.Shown.TheVariants.{Read, Masked, Set, Nothing}
+use Rattle.cct_taps.specs.declared.shown.Shown.{Shown}
+use Rattle.cct_taps.specs.declared.shown.Shown.TheVariants.{Read, Masked, Set, Nothing}
 use Rattle.cct_monitor.specs.Spans.{is_set}
 use Rattle.cct_laws.proofs.acceptor.Newest.{coins_among-append}
 

@@ -17,10 +17,10 @@ use Rattle.cct_model.specs.Setup.{IsSoundSetup}
 use Rattle.cct_model.specs.Transcript.{heard_by_devices, lines_of, met, pending}
 use Rattle.cct_laws.specs.Law.{IsOf}
 use Rattle.cct_laws.proofs.Exchanges.{asks_back}
-use Rattle.cct_monitor.specs.declared.shown.Shown.{Shown}
-use Rattle.cct_monitor.specs.declared.shown.Shown.TheVariants.{Masked, Nothing, Read, Set}
+use Rattle.cct_taps.specs.declared.shown.Shown.{Shown}
+use Rattle.cct_taps.specs.declared.shown.Shown.TheVariants.{Masked, Nothing, Read, Set}
 use Rattle.cct_monitor.specs.Spans.{Reading, Span, after_it, goes_on, is_set, last_reading, spans, spans_by}
-use Rattle.cct_monitor.specs.Taps.{shown}
+use Rattle.cct_taps.specs.Taps.{shown}
 use Rattle.cct_wild.specs.Wild.{before_tap, taps}
 use Rattle.cct_wild.specs.Claims.{IsPlain, after_round, asked_then, came_before, looks, pieces, span_of_round}
 use Rattle.cct_wild.proofs.Run.{at_earlier, at_last}

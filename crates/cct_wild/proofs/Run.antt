@@ -17,7 +17,7 @@ use Rattle.cct_model.specs.Transcript.{heard_after, meets, met, own}
 use Rattle.cct_laws.specs.Law.{IsOf}
 use Rattle.cct_laws.proofs.Setups.{same_or_other}
 use Rattle.cct_laws.proofs.jobs.Brought.{AtDevice, came, took, halted, idled, made_exchange, made_put, Brought, of_device, faulted, refused, began_scan, began_sale, nobody, polled, sold, balanced, of_desk, ended_short, lost_power, lost_in_put, lost_in_sale, brought, told_of, Comes, takes_coin, leaves_coin, takes_bill, leaves_bill, leaves_alien, drops_coin, drops_none, jams, jams_none, is_reset, IsOfDesk, tells_stock, begins_change, keeps_change, serves_none, serves_later, serves_odd, serves_all, serves_short}
-use Rattle.cct_monitor.specs.Taps.{Tap}
+use Rattle.cct_taps.specs.Taps.{Tap}
 use Rattle.cct_wild.specs.Wild.{WildStep, outside, exchange, IsOutside, WildEntries, WildFrom, before_tap, taps}
 
 -- what one entry brought

@@ -9,14 +9,15 @@ use Rattle.std.proofs.lemmas.List.Elements.{All-append, All-cons, All-head, All-
 use Rattle.cct_model.specs.terms.coin.Pair.{Pair}
 use Rattle.cct_model.specs.terms.coin.Coin.{Coin}
 use Rattle.cct_model.specs.terms.coin.Credits.{Credits}
-use Rattle.cct_model.specs.lines.entry.Said.{Said}
-use Rattle.cct_model.specs.lines.entry.Said.TheVariants.{Sure, Doubt, Fell}
+use Rattle.cct_taps.specs.declared.said.Said.{Said}
+use Rattle.cct_taps.specs.declared.said.Said.TheVariants.{Sure, Doubt, Fell, Broken}
+use Rattle.cct_taps.specs.declared.said.Said.TheVariants as spoken
 use Rattle.cct_model.specs.Acceptor.{counter, credits_in, last_five}
 use Rattle.cct_model.specs.Reading.{coins_among, distance, posted_of}
 use Rattle.cct_epoch.proofs.Counters.{distance_most, distance_near}
 use Rattle.cct_laws.proofs.acceptor.Newest.{buffer_newest, coins_among-append}
-use Rattle.cct_monitor.specs.declared.shown.Shown.{Shown}
-use Rattle.cct_monitor.specs.declared.shown.Shown.TheVariants.{Read, Masked, Set, Nothing}
+use Rattle.cct_taps.specs.declared.shown.Shown.{Shown}
+use Rattle.cct_taps.specs.declared.shown.Shown.TheVariants.{Read, Masked, Set, Nothing}
 use Rattle.cct_monitor.specs.Once.{all_said}
 use Rattle.cct_monitor.specs.Spans.{Reading, Span, after_it, are_near, coins_of, doubted, goes_on, is_set, is_whole, last_reading, leaves_open, new_reading, refused, said_at, spans, spans_by, surely, turned, waits, with_after}
 use Rattle.cct_wild.proofs.Moments.{World, Behind, Quiet, Runs, Shows, quiet_then}
@@ -26,7 +27,7 @@ pub record ReadIn (at : ℕ → World) (now : World) (r : Reading) : Type 0 wher
   pub credits_are : r.credits ≡ credits_in (at r.number).events
   pub quiet : list_any is_set r.after ≡ false → Quiet (at r.number) now
 
-abbrev IfRead : (ℕ → World) → World → Option Reading → Type 0
+abbrev pub IfRead : (ℕ → World) → World → Option Reading → Type 0
 IfRead at now None = ⊤
 IfRead at now (Some r) = ReadIn at now r
 
@@ -200,8 +201,10 @@ sure_span at now x is waiting masked =
 -- what is said of the acceptor at an address is true
 abbrev pub Holds : (ℕ → World) → ℕ → Said → Type 0
 Holds at addr (Sure there first last posted) = (there ≡ addr) × AreTold (at first) (at last) posted
+Holds at addr (spoken.Quiet there first last posted) = ⊥
 Holds at addr (Doubt there first last) = ⊤
 Holds at addr (Fell there first last count) = ⊥
+Holds at addr (Broken there premise first last) = ⊥
 
 each_said : {A B : Type 0} (P : A → Type 0) (Q : B → Type 0) (f : A → List B) → ((x : A) → P x → All Q (f x)) →
     (xs : List A) → All P xs → All Q (flat_map f xs)

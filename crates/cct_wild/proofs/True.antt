@@ -1,13 +1,13 @@
 -- All that a monitor says at the taps of a wild run is true.
 use Rattle.std.proofs.Common.{◌≡◌, ℕ, Bool, true, false, cond, List, [], ◌∷◌, ◌++◌, map, flat_map, sym, subst, subst₂, append-nil, All, nat_le}
-use Rattle.std.specs.Prelude.{⊤, MatchBool}
+use Rattle.std.specs.Prelude.{⊤}
 use Rattle.std.proofs.lemmas.List.Elements.{All-append, All-cons, All-head, All-nil, All-tail, All-weaker}
 use Rattle.cct_model.specs.terms.wire.CheckKind.{CheckKind}
 use Rattle.cct_model.specs.terms.device.DeviceSetup.{DeviceSetup}
 use Rattle.cct_model.specs.terms.device.Setup.{Setup}
 use Rattle.cct_model.specs.lines.entry.Entry.{Entry}
-use Rattle.cct_model.specs.lines.entry.Said.{Said}
-use Rattle.cct_model.specs.lines.entry.Said.TheVariants.{Sure, Doubt, Fell}
+use Rattle.cct_taps.specs.declared.said.Said.{Said}
+use Rattle.cct_taps.specs.declared.said.Said.TheVariants.{Sure, Quiet, Doubt, Fell, Broken}
 use Rattle.cct_model.specs.Device.{IsAcceptor, IsHopper}
 use Rattle.cct_model.specs.Exchange.{device_at}
 use Rattle.cct_model.specs.Honest.{HonestPast}
@@ -17,19 +17,26 @@ use Rattle.cct_model.specs.Transcript.{lines_of}
 use Rattle.cct_laws.specs.Law.{IsOf}
 use Rattle.cct_laws.proofs.Replies.{start_of}
 use Rattle.cct_laws.specs.Coins.{all_fallen}
-use Rattle.cct_monitor.specs.Taps.{Tap, life_shown, shown}
+use Rattle.cct_taps.specs.Signs.{broken_at, sign}
+use Rattle.cct_taps.specs.Taps.{Tap, life_shown, quiet_shown, shown}
 use Rattle.cct_monitor.specs.Lives.{fell_at}
-use Rattle.cct_monitor.specs.Once.{all_said}
-use Rattle.cct_monitor.specs.Spans.{said_at}
-use Rattle.cct_monitor.specs.Watches.{Watch, all_told, by_address, finally_of_all, from_begin, made_tap, made_watch, put_watch, said_of, said_of_all}
+use Rattle.cct_monitor.specs.Once.{all_quietly, all_said}
+use Rattle.cct_monitor.specs.Spans.{quiet_at, said_at}
+use Rattle.cct_taps.specs.declared.money.Money.{Money}
+use Rattle.cct_monitor.specs.declared.watched.Family.{Family}
+use Rattle.cct_monitor.specs.declared.watched.Family.TheVariants as watched_as
+use Rattle.cct_monitor.specs.Watches.{Watch, all_told, by_address, finally_of_all, from_begin, made_tap, made_watch, put_watch, said_by, said_of, said_of_all}
 use Rattle.cct_monitor.proofs.Among.{finally_doubts, none_told}
 use Rattle.cct_monitor.proofs.Captures.{from_the_begin}
 use Rattle.cct_wild.specs.Wild.{WildStep, WildFrom, before_tap, taps}
-use Rattle.cct_wild.specs.Claims.{AreFallen, AreSure, IsTrue, IsWatched, all_fell, fallen_before, lives, looks}
+use Rattle.cct_wild.specs.Claims.{AreFallen, AreQuiet, AreSure, IsOfFamily, IsTrue, IsWatched, Takes, all_fell, came_before, fallen_before, lives, looks, quiet_looks}
 use Rattle.cct_wild.proofs.Acceptors.{acceptor_runs, world_of}
 use Rattle.cct_wild.proofs.Hoppers.{hopper_runs}
 use Rattle.cct_wild.proofs.Fallen.{HoldsFell, fell_true}
 use Rattle.cct_wild.proofs.Sure.{Holds, said_true}
+use Rattle.cct_wild.proofs.Resets.{HoldsQuiet, quietly_true}
+use Rattle.cct_wild.proofs.Premises.{all_broken, none_broken}
+use Rattle.cct_wild.proofs.QuietRuns.{moment_of, quiet_runs}
 
 -- of one device
 of_found : (setup : Setup) (d : DeviceSetup) (P : DeviceSetup → Type 0) (addr : ℕ) → IsOf setup d → addr ≡ d.addr →
@@ -40,17 +47,40 @@ of_found setup d P addr own here is =
 sure_of : (d : DeviceSetup) (past : List Entry) (x : Said) (setup : Setup) → IsOf setup d →
     Holds (λ n. world_of d (before_tap n past)) d.addr x → IsTrue setup past x
 sure_of d past (Sure addr first last posted) setup own is =
-    of_found setup d (λ e. AreSure e past first last posted) addr own is.0
+    of_found setup d (λ e. AreSure e past (came_before e past) first last posted) addr own is.0
     (record { newest = is.1.newest; exact = is.1.exact })
+sure_of d past (Quiet addr first last posted) setup own is = absurd is
 sure_of d past (Doubt addr first last) setup own is = tt
 sure_of d past (Fell addr first last count) setup own is = absurd is
+sure_of d past (Broken addr premise first last) setup own is = absurd is
 
 fell_of : (d : DeviceSetup) (past : List Entry) (x : Said) (setup : Setup) → IsOf setup d →
     HoldsFell (fallen_before d past) d.addr x → IsTrue setup past x
 fell_of d past (Sure addr first last posted) setup own is = absurd is
+fell_of d past (Quiet addr first last posted) setup own is = absurd is
 fell_of d past (Doubt addr first last) setup own is = tt
 fell_of d past (Fell addr first last count) setup own is =
     of_found setup d (λ e. AreFallen e past first last count) addr own is.0 is.1
+fell_of d past (Broken addr premise first last) setup own is = absurd is
+
+quiet_of : (d : DeviceSetup) (past : List Entry) (x : Said) (setup : Setup) → IsOf setup d →
+    HoldsQuiet (λ n. moment_of d (before_tap n past)) d.addr x → IsTrue setup past x
+quiet_of d past (Sure addr first last posted) setup own is = absurd is
+quiet_of d past (Quiet addr first last posted) setup own is =
+    of_found setup d (λ e. AreQuiet e past first last posted) addr own is.0
+    (λ same. let told = is.1 same in record { newest = told.newest; exact = told.exact })
+quiet_of d past (Doubt addr first last) setup own is = tt
+quiet_of d past (Fell addr first last count) setup own is = absurd is
+quiet_of d past (Broken addr premise first last) setup own is = absurd is
+
+pub quiet_true : (money : Money) (setup : Setup) (steps : List WildStep) (past : List Entry) (d : DeviceSetup) →
+    IsSoundSetup setup → IsOf setup d → Takes money d.body → WildFrom setup [] steps past → HonestPast past →
+    All (IsTrue setup past) (all_quietly d.addr (quiet_looks money d past))
+quiet_true money setup steps past d sound own takes goes honest =
+    All-weaker (HoldsQuiet (λ n. moment_of d (before_tap n past)) d.addr) (IsTrue setup past)
+    (λ x is. quiet_of d past x setup own is) (all_quietly d.addr (quiet_looks money d past))
+    (quietly_true (λ n. moment_of d (before_tap n past)) d.addr (quiet_looks money d past) (moment_of d past)
+    (quiet_runs money setup steps past d sound own takes goes honest))
 
 pub acceptor_true : (setup : Setup) (steps : List WildStep) (past : List Entry) (d : DeviceSetup) →
     IsSoundSetup setup → IsOf setup d → IsAcceptor d.body → WildFrom setup [] steps past → HonestPast past →
@@ -97,6 +127,30 @@ acceptor_taps Q kind addr (t ∷ ts) all =
       acceptor_taps Q kind addr ts (first_all Q (all_said addr before) now all),
     )
 
+quiet_taps : (Q : Said → Type 0) (money : Money) (kind : CheckKind) (addr : ℕ) (ts : List Tap) →
+    All Q (all_quietly addr (map (quiet_shown money kind addr) ts)) →
+    EachTap (λ t before. All Q (quiet_at addr (quiet_shown money kind addr t) (map (quiet_shown money kind addr) before ++ []))) ts
+quiet_taps Q money kind addr [] all = tt
+quiet_taps Q money kind addr (t ∷ ts) all =
+    let before = map (quiet_shown money kind addr) ts in
+    let now = quiet_at addr (quiet_shown money kind addr t) before in (
+      subst (λ xs. All Q (quiet_at addr (quiet_shown money kind addr t) xs)) (sym (append-nil before))
+          (last_all Q (all_quietly addr before) now all),
+      quiet_taps Q money kind addr ts (first_all Q (all_quietly addr before) now all),
+    )
+
+premise_taps : (Q : Said → Type 0) (money : Money) (kind : CheckKind) (addr : ℕ) (ts : List Tap) →
+    All Q (all_broken addr (map (sign money kind addr) ts)) →
+    EachTap (λ t before. All Q (broken_at addr (sign money kind addr t) (map (sign money kind addr) before ++ []))) ts
+premise_taps Q money kind addr [] all = tt
+premise_taps Q money kind addr (t ∷ ts) all =
+    let before = map (sign money kind addr) ts in
+    let now = broken_at addr (sign money kind addr t) before in (
+      subst (λ xs. All Q (broken_at addr (sign money kind addr t) xs)) (sym (append-nil before))
+          (last_all Q (all_broken addr before) now all),
+      premise_taps Q money kind addr ts (first_all Q (all_broken addr before) now all),
+    )
+
 hopper_taps : (Q : Said → Type 0) (kind : CheckKind) (addr : ℕ) (ts : List Tap) →
     All Q (all_fell addr (map (life_shown kind addr) ts)) →
     EachTap (λ t before. All Q (fell_at addr (life_shown kind addr t) (map (life_shown kind addr) before ++ []))) ts
@@ -115,17 +169,25 @@ IsTold setup past w ts = EachTap (λ t before. All (IsTrue setup past) (said_of 
 
 watch_true : (setup : Setup) (steps : List WildStep) (past : List Entry) (w : Watch) → IsSoundSetup setup →
     IsWatched setup w → WildFrom setup [] steps past → HonestPast past → IsTold setup past w (taps past)
-watch_true setup steps past w sound (d, own, is) goes honest = by_kind w.acceptor is.body_is
+watch_true setup steps past w sound (d, own, is) goes honest = by_family w.family is.body_is
   where
-    by_kind : (acceptor : Bool) → MatchBool acceptor (IsAcceptor d.body) (IsHopper d.body) →
-        EachTap (λ t before. All (IsTrue setup past) (cond acceptor
-        (said_at w.addr (shown w.kind w.addr t) (map (shown w.kind w.addr) before ++ []))
-        (fell_at w.addr (life_shown w.kind w.addr t) (map (life_shown w.kind w.addr) before ++ [])))) (taps past)
-    by_kind true accepting =
+    by_family : (fam : Family) → IsOfFamily fam d.body →
+        EachTap (λ t before. All (IsTrue setup past) (said_by fam t (from_begin before w))) (taps past)
+    by_family watched_as.Acceptor accepting =
         acceptor_taps (IsTrue setup past) w.kind w.addr (taps past)
         (subst₂ (λ kind addr. All (IsTrue setup past) (all_said addr (map (shown kind addr) (taps past))))
         (sym is.kind_is) (sym is.addr_is) (acceptor_true setup steps past d sound own accepting goes honest))
-    by_kind false paying =
+    by_family (watched_as.QuietAcceptor money) takes =
+        quiet_taps (IsTrue setup past) money w.kind w.addr (taps past)
+        (subst₂ (λ kind addr. All (IsTrue setup past) (all_quietly addr (map (quiet_shown money kind addr) (taps past))))
+        (sym is.kind_is) (sym is.addr_is) (quiet_true money setup steps past d sound own takes goes honest))
+    by_family (watched_as.Premises money) takes =
+        premise_taps (IsTrue setup past) money w.kind w.addr (taps past)
+        (subst₂ (λ kind addr. All (IsTrue setup past) (all_broken addr (map (sign money kind addr) (taps past))))
+        (sym is.kind_is) (sym is.addr_is)
+        (subst (All (IsTrue setup past)) (sym (none_broken money setup steps past d sound own takes goes honest))
+        (All-nil (IsTrue setup past))))
+    by_family watched_as.Hopper paying =
         hopper_taps (IsTrue setup past) w.kind w.addr (taps past)
         (subst₂ (λ kind addr. All (IsTrue setup past) (all_fell addr (map (life_shown kind addr) (taps past))))
         (sym is.kind_is) (sym is.addr_is) (hopper_true setup steps past d sound own paying goes honest))

@@ -18,8 +18,8 @@ use Rattle.cct_model.specs.Transcript.{got_by, heard_after, met, pending}
 use Rattle.cct_laws.specs.Law.{IsOf}
 use Rattle.cct_laws.proofs.Exchanges.{Replied, asks_back, undisturbed_got}
 use Rattle.cct_msg.proofs.Exchanges.{asked_back}
-use Rattle.cct_monitor.specs.declared.shown.Shown.TheVariants.{Masked, Read}
-use Rattle.cct_monitor.specs.Taps.{mask_in, read_in, shown, shown_by, tap_of}
+use Rattle.cct_taps.specs.declared.shown.Shown.TheVariants.{Masked, Read}
+use Rattle.cct_taps.specs.Taps.{mask_in, read_in, shown, shown_by, tap_of}
 use Rattle.cct_wild.proofs.Wire.{credits_replied, five_kept, mask_replied}
 
 reads_credits : (d : DeviceSetup) (past : List Entry) → IsAcceptor d.body → Replied d (met d past) ReadCredits

@@ -1,15 +1,17 @@
 -- What a tap shows of a device is what the device is, where the wire does honest damage alone.
-use Rattle.std.proofs.Common.{◌≡◌, ◌≢◌, ℕ, ◌+◌, ◌≤◌, ◌==◌, ◌&&◌, nat_le, cond, true, false, Bool, List, [], ◌∷◌, ◌++◌, length, slice_index, flat_map, refl, ap, sym, ◌∙◌, Option, Some, None, option_and_then, unwrap_or, arith, eq-eqb, eqb-true, append-nil, length-append, length-take}
+use Rattle.std.proofs.Common.{subst, ◌≡◌, ◌≢◌, ℕ, ◌+◌, ◌≤◌, ◌==◌, ◌&&◌, nat_le, cond, true, false, Bool, List, [], ◌∷◌, ◌++◌, length, slice_index, flat_map, refl, ap, sym, ◌∙◌, Option, Some, None, option_and_then, unwrap_or, arith, eq-eqb, eqb-true, append-nil, length-append, length-take}
 use Rattle.std.specs.Prelude.{⊤}
 use Rattle.cct_model.specs.terms.coin.Pair.{Pair}
 use Rattle.cct_model.specs.terms.coin.Credits.{Credits}
 use Rattle.cct_model.specs.terms.wire.CheckKind.{CheckKind}
 use Rattle.cct_model.specs.terms.wire.CheckKind.TheVariants.{Simple, Crc}
 use Rattle.cct_model.specs.terms.wire.TheConstants.{HOST, BROADCAST}
+use Rattle.cct_model.specs.terms.device.DeviceBody.{DeviceBody}
+use Rattle.cct_model.specs.terms.device.DeviceBody.TheVariants.{Acceptor, Bill, Hopper}
 use Rattle.cct_model.specs.terms.device.DeviceSetup.{DeviceSetup}
 use Rattle.cct_model.specs.terms.device.Setup.{Setup}
 use Rattle.cct_model.specs.terms.request.Request.{Request}
-use Rattle.cct_model.specs.terms.request.Request.TheVariants.{AddressPoll, ReadCredits, GetMask, GetLife, SetMask, ResetDevice}
+use Rattle.cct_model.specs.terms.request.Request.TheVariants.{AddressPoll, ReadBills, ReadCredits, GetMask, GetLife, SetMask, ResetDevice}
 use Rattle.cct_model.specs.terms.request.ReplyForm.{ReplyForm}
 use Rattle.cct_model.specs.terms.request.ReplyForm.TheVariants as form
 use Rattle.cct_model.specs.lines.command.WireFault.{WireFault}
@@ -20,9 +22,11 @@ use Rattle.cct_model.specs.Request.{request_of}
 use Rattle.cct_model.specs.Reply.{Reply, IsSayable, pair_bytes, reply_data, reply_header, reply_in}
 use Rattle.cct_model.specs.Reply as reply
 use Rattle.cct_model.specs.History.{Met}
-use Rattle.cct_model.specs.Acceptor.{acceptor_reply, credits_of, events, last_five, mask_of, no_event}
+use Rattle.cct_model.specs.Acceptor.{acceptor_reply, credits_in, credits_of, events, last_five, mask_of, no_event}
+use Rattle.cct_model.specs.Bill.{bill_events, bill_reply, bills_of}
 use Rattle.cct_model.specs.Hopper.{life_count}
-use Rattle.cct_model.specs.Device.{IsSound, IsAcceptor, IsHopper, common_reply, reply_of}
+use Rattle.cct_model.specs.Device.{IsSound, IsAcceptor, IsBill, IsHopper, IsTaker, common_reply, reply_of}
+use Rattle.cct_model.specs.Job.{credits_request}
 use Rattle.cct_model.specs.Setup.{AreDistinct, IsSoundSetup}
 use Rattle.cct_model.specs.Exchange.{asked_of, asker, asks_of, answer, after_echo, by_address, device_at, got, put_by_address, replying, reply_from, to_all, to_one}
 use Rattle.cct_model.specs.Honest.{IsHonestFault}
@@ -33,15 +37,16 @@ use Rattle.cct_msg.specs.Forms.{IsWhole, form_shown}
 use Rattle.cct_msg.proofs.Exchanges.{reply_heard}
 use Rattle.cct_laws.specs.Honesty.{DamagesHonestly, IsAddressPoll, IsNoMessage}
 use Rattle.cct_laws.specs.Law.{IsOf}
+use Rattle.cct_laws.specs.Takers.{told_events}
 use Rattle.cct_laws.proofs.Echoes.{echo_known, echo_off}
 use Rattle.cct_laws.proofs.Exchanges.{heard_is, heard_under}
 use Rattle.cct_laws.proofs.HeardBytes.{ask_to, asks_nothing, damaged_asks, none_under}
 use Rattle.cct_laws.proofs.Honesty.{honest_means}
-use Rattle.cct_laws.proofs.Replies.{acceptor_is, replied_life, start_of}
+use Rattle.cct_laws.proofs.Replies.{acceptor_is, bill_is, replied_credits, replied_life, replied_mask, start_of, taker_is}
 use Rattle.cct_laws.proofs.Setups.{found_in, same_some}
-use Rattle.cct_monitor.specs.declared.shown.Shown.TheVariants.{Read, Masked}
+use Rattle.cct_taps.specs.declared.shown.Shown.TheVariants.{Read, Masked}
 use Rattle.cct_monitor.specs.Spans.{is_set}
-use Rattle.cct_monitor.specs.Taps.{life_by, life_in, life_shown, mask_in, read_in, shown, shown_by, tap_of}
+use Rattle.cct_taps.specs.Taps.{asks_at, life_by, life_in, life_shown, mask_in, read_in, shown, shown_by, tap_of}
 
 none_some : {A : Type 0} (x : A) → None ≡ Some x → ⊥
 none_some x e = cc
@@ -395,7 +400,12 @@ pub mask_replied : (d : DeviceSetup) (past : List Met) → IsAcceptor d.body →
 unfolding reply_of common_reply acceptor_reply
 mask_replied d past accepting = acceptor_is d.serial d.body past GetMask accepting
 
-same_credits : (c own : Credits) → reply.credits c ≡ reply.credits own → c ≡ own
+pub bills_replied : (d : DeviceSetup) (past : List Met) → IsBill d.body →
+    reply_of d past ReadBills ≡ Some (reply.credits (bills_of past))
+unfolding reply_of common_reply bill_reply
+bills_replied d past banking = bill_is d.serial d.body past ReadBills banking
+
+pub same_credits : (c own : Credits) → reply.credits c ≡ reply.credits own → c ≡ own
 same_credits c own e = cc
 
 same_mask : (mask own : ℕ) → reply.mask mask ≡ reply.mask own → mask ≡ own
@@ -477,6 +487,27 @@ told setup d past sent sound own accepting honest = record {
       (keeps_asked d sent (heard_after setup past sent) is);
 }
 
+-- what a tap of a bill acceptor shows that asks for its events
+pub bills_told : (setup : Setup) (d : DeviceSetup) (past : List Entry) (sent : List ℕ) (c : Credits) → IsSoundSetup setup →
+    IsOf setup d → IsBill d.body → IsHonestFault (pending past) sent → asks_at d.kind d.addr sent ≡ Some ReadBills →
+    got d.kind d.addr form.Credits sent (heard_after setup past sent) ≡ Some (reply.credits c) → c ≡ bills_of (met d past)
+unfolding asks_of
+bills_told setup d past sent c sound own banking honest asks found =
+    let replies : Replies setup d past sent ReadBills (reply.credits (bills_of (met d past))) form.Credits = record {
+      sound = sound;
+      own = own;
+      no_poll = λ e. cc;
+      asks = asks;
+      replied = bills_replied d (met d past) banking;
+      fits = refl;
+      whole = five_kept (bill_events (met d past));
+      sayable = tt;
+      short = credits_short (bills_of (met d past)) (five_kept (bill_events (met d past)));
+    } in
+    same_credits c (bills_of (met d past))
+    (got_any setup d past sent ReadBills (reply.credits (bills_of (met d past))) (reply.credits c) form.Credits replies honest
+    found)
+
 -- the life count that a tap of a hopper shows
 pub told_life : (setup : Setup) (d : DeviceSetup) (past : List Entry) (sent : List ℕ) (count : ℕ) → IsSoundSetup setup →
     IsOf setup d → IsHopper d.body → IsHonestFault (pending past) sent →
@@ -501,3 +532,125 @@ told_life setup d past sent count sound own paying honest is =
     same_life count (life_count d.serial (start_of d.body) (met d past))
     (got_any setup d past sent GetLife (reply.life (life_count d.serial (start_of d.body) (met d past))) (reply.life count)
     form.Life replies honest parts.1)
+
+-- what a tap shows of a device that takes money, whatever money that is
+
+no_poll_request : (body : DeviceBody) → credits_request body ≡ AddressPoll → ⊥
+no_poll_request (Acceptor counted values ids) is = cc
+no_poll_request (Hopper life value) is = cc
+no_poll_request (Bill counted values ids) is = cc
+
+pub coins_request : (body : DeviceBody) → IsAcceptor body → credits_request body ≡ ReadCredits
+coins_request (Acceptor counted values ids) accepting = refl
+coins_request (Hopper life value) accepting = absurd accepting
+coins_request (Bill counted values ids) accepting = absurd accepting
+
+pub bills_request : (body : DeviceBody) → IsBill body → credits_request body ≡ ReadBills
+bills_request (Acceptor counted values ids) banking = absurd banking
+bills_request (Hopper life value) banking = absurd banking
+bills_request (Bill counted values ids) banking = refl
+
+pub events_told : (setup : Setup) (d : DeviceSetup) (past : List Entry) (sent : List ℕ) (c : Credits) → IsSoundSetup setup →
+    IsOf setup d → IsTaker d.body → IsHonestFault (pending past) sent →
+    asks_at d.kind d.addr sent ≡ Some (credits_request d.body) →
+    got d.kind d.addr form.Credits sent (heard_after setup past sent) ≡ Some (reply.credits c) →
+    c ≡ credits_in (told_events d.body (met d past))
+unfolding asks_of
+events_told setup d past sent c sound own taking honest asks found =
+    let told : Credits = credits_in (told_events d.body (met d past)) in
+    let replies : Replies setup d past sent (credits_request d.body) (reply.credits told) form.Credits = record {
+      sound = sound;
+      own = own;
+      no_poll = no_poll_request d.body;
+      asks = asks;
+      replied = replied_credits d (met d past) taking;
+      fits = refl;
+      whole = five_kept (told_events d.body (met d past));
+      sayable = tt;
+      short = credits_short told (five_kept (told_events d.body (met d past)));
+    } in
+    same_credits c told
+    (got_any setup d past sent (credits_request d.body) (reply.credits told) (reply.credits c) form.Credits replies honest
+    found)
+
+pub masks_told : (setup : Setup) (d : DeviceSetup) (past : List Entry) (sent : List ℕ) (mask : ℕ) → IsSoundSetup setup →
+    IsOf setup d → IsTaker d.body → IsHonestFault (pending past) sent → asks_at d.kind d.addr sent ≡ Some GetMask →
+    got d.kind d.addr form.Mask sent (heard_after setup past sent) ≡ Some (reply.mask mask) → mask ≡ mask_of (met d past)
+unfolding asks_of
+masks_told setup d past sent mask sound own taking honest asks found =
+    let replies : Replies setup d past sent GetMask (reply.mask (mask_of (met d past))) form.Mask = record {
+      sound = sound;
+      own = own;
+      no_poll = λ e. cc;
+      asks = asks;
+      replied = replied_mask d (met d past) taking;
+      fits = refl;
+      whole = tt;
+      sayable = tt;
+      short = mask_short (mask_of (met d past));
+    } in
+    same_mask mask (mask_of (met d past))
+    (got_any setup d past sent GetMask (reply.mask (mask_of (met d past))) (reply.mask mask) form.Mask replies honest found)
+
+-- what a device acknowledges it heard
+
+acted_under : (setup : Setup) (d : DeviceSetup) (past : List Entry) (sent : List ℕ) (q : Request) (y z : Reply)
+    (wanted : ReplyForm) (f : WireFault) → Replies setup d past sent q y wanted → DamagesHonestly f sent →
+    got d.kind d.addr wanted sent (heard_under setup past f sent) ≡ Some z → asks_of d (heard_by_devices f sent) ≡ Some q
+acted_under setup d past sent q y z wanted fault.Clear is damage found = is.asks
+acted_under setup d past sent q y z wanted (fault.DevicesHear piece) is damage found =
+    absurd (none_some z (sym (none_read d.kind d.addr wanted [] (empty_message d.kind))
+    ∙ ap (read_from d.kind d.addr wanted) (sym (damaged_answers setup past piece damage))
+    ∙ sym (got_after d.kind d.addr wanted sent (answers setup past piece)) ∙ found))
+acted_under setup d past sent q y z wanted (fault.HostHears piece) is damage found = is.asks
+acted_under setup d past sent q y z wanted (fault.WholeHeard piece) is damage found = is.asks
+
+ack_short : length (reply_data reply.ack) ≤ 255
+unfolding reply_data
+ack_short = omega arith
+
+pub acked : (setup : Setup) (d : DeviceSetup) (past : List Entry) (sent : List ℕ) (q : Request) → IsSoundSetup setup →
+    IsOf setup d → IsHonestFault (pending past) sent → (q ≡ AddressPoll → ⊥) → asks_at d.kind d.addr sent ≡ Some q →
+    reply_of d (met d past) q ≡ Some reply.ack →
+    got d.kind d.addr form.Ack sent (heard_after setup past sent) ≡ Some reply.ack →
+    asks_of d (heard_by_devices (pending past) sent) ≡ Some q
+unfolding asks_of
+acked setup d past sent q sound own honest no_poll asks replied found =
+    let replies : Replies setup d past sent q reply.ack form.Ack = record {
+      sound = sound;
+      own = own;
+      no_poll = no_poll;
+      asks = asks;
+      replied = replied;
+      fits = refl;
+      whole = tt;
+      sayable = tt;
+      short = ack_short;
+    } in
+    acted_under setup d past sent q reply.ack reply.ack form.Ack (pending past) replies
+    (honest_means (pending past) sent honest)
+    (ap (got d.kind d.addr form.Ack sent) (sym (heard_is setup past sent)) ∙ found)
+
+pub set_replied : (d : DeviceSetup) (past : List Met) (mask : ℕ) → IsTaker d.body →
+    reply_of d past (SetMask mask) ≡ Some reply.ack
+unfolding reply_of common_reply acceptor_reply bill_reply
+set_replied d past mask taking = taker_is d.serial d.body past (SetMask mask) (Some reply.ack) taking refl refl
+
+pub reset_replied : (d : DeviceSetup) (past : List Met) → reply_of d past ResetDevice ≡ Some reply.ack
+unfolding reply_of common_reply
+reset_replied d past = refl
+
+-- a device hears what was sent, or nothing that asks something
+asked_under : (d : DeviceSetup) (f : WireFault) (sent : List ℕ) → DamagesHonestly f sent → (P : Option Request → Type 0) →
+    P None → P (asks_of d sent) → P (asks_of d (heard_by_devices f sent))
+asked_under d fault.Clear sent damage P none is = is
+asked_under d (fault.DevicesHear piece) sent damage P none is = subst P (sym (damaged_asks d piece damage)) none
+asked_under d (fault.HostHears piece) sent damage P none is = is
+asked_under d (fault.WholeHeard piece) sent damage P none is = is
+
+pub asked_or_none : (d : DeviceSetup) (past : List Entry) (sent : List ℕ) → IsHonestFault (pending past) sent →
+    (P : Option Request → Type 0) → P None → P (asks_at d.kind d.addr sent) →
+    P (asks_of d (heard_by_devices (pending past) sent))
+unfolding asks_of
+asked_or_none d past sent honest P none is =
+    asked_under d (pending past) sent (honest_means (pending past) sent honest) P none is

@@ -3,22 +3,25 @@ use Rattle.std.proofs.Common.{◌≡◌, ℕ, List, [], ◌∷◌, ◌++◌, map
 use Rattle.std.specs.Prelude.{codes}
 use Rattle.cct_model.specs.terms.coin.Coin.{Coin}
 use Rattle.cct_model.specs.terms.wire.CheckKind.TheVariants.{Simple}
-use Rattle.cct_model.specs.terms.device.DeviceBody.TheVariants.{Acceptor}
+use Rattle.cct_model.specs.terms.device.DeviceBody.TheVariants.{Acceptor, Bill}
 use Rattle.cct_model.specs.terms.device.Setup.{Setup}
 use Rattle.cct_model.specs.lines.command.Step.TheVariants as step
 use Rattle.cct_model.specs.lines.entry.Entry.{Entry}
 use Rattle.cct_model.specs.lines.entry.Entry.TheVariants as entry
-use Rattle.cct_model.specs.lines.entry.Said.TheVariants.{Sure}
+use Rattle.cct_taps.specs.declared.said.Said.TheVariants.{Sure, Quiet}
 use Rattle.cct_model.specs.Message.{message, spelling, crc}
 use Rattle.cct_model.specs.Request.{data_of, request_of, requests_with, form_of}
 use Rattle.cct_model.specs.Reply.{reply_data, reply_in}
 use Rattle.cct_model.specs.Setting.{has_place}
 use Rattle.cct_model.specs.Acceptor.{acceptor_reply}
+use Rattle.cct_model.specs.Bill.{bill_reply}
 use Rattle.cct_model.specs.Device.{common_reply, reply_of}
 use Rattle.cct_model.specs.Exchange.{ask, asked, asks_of, asker, after_echo, got}
 use Rattle.cct_model.specs.Honest.{HonestPast}
 use Rattle.cct_model.specs.Transcript.{heard_after}
 use Rattle.cct_model.specs.Reading.{distance}
+use Rattle.cct_taps.specs.declared.money.Money.TheVariants.{Coins, Bills}
+use Rattle.cct_monitor.specs.declared.watched.Family.TheVariants as watched_as
 use Rattle.cct_monitor.specs.Watches.{Watch, all_told, made_tap, made_watch}
 use Rattle.cct_wild.specs.Wild.{WildStep, outside, exchange, WildFrom, taps}
 
@@ -108,8 +111,105 @@ honest = (refl, (refl, (tt, (refl, (refl, tt)))))
 
 -- and the coin is sure, between the second tap and the third
 abbrev watched : Watch
-watched = record { addr = 2; kind = Simple; acceptor = true }
+watched = record { addr = 2; kind = Simple; family = watched_as.Acceptor }
 
 coin_is_sure : all_told (map made_tap (taps past) ++ map made_watch (watched ∷ [])) ≡ Sure 2 2 3 (coin ∷ []) ∷ []
 unfolding message request_of requests_with form_of reply_in got after_echo distance
 coin_is_sure = refl
+
+-- one that is watched for resets alone needs no mask
+abbrev watched_quietly : Watch
+watched_quietly = record { addr = 2; kind = Simple; family = watched_as.QuietAcceptor Coins }
+
+coin_is_quiet : all_told (map made_tap (taps past) ++ map made_watch (watched_quietly ∷ [])) ≡ Quiet 2 2 3 (coin ∷ []) ∷ []
+unfolding message request_of requests_with form_of reply_in got after_echo distance
+coin_is_quiet = refl
+
+-- a bill acceptor at address 40: a bill of place 5 is held, and stacked
+abbrev banking : Setup
+banking = record {
+  devices =
+      record {
+        addr = 40;
+        kind = Simple;
+        serial = 1;
+        texts = record { maker = codes "BENCH"; product = codes "CCT"; software = codes "1"; build = codes "1" };
+        named = false;
+        body = Bill 0 (replicate 16 500) (replicate 16 (codes "XX500A"));
+      }
+      ∷ [];
+}
+
+abbrev bill : Coin
+bill = record { place = 5; path = 0 }
+
+abbrev sets_bills : List ℕ
+sets_bills = 40 ∷ 2 ∷ 1 ∷ 231 ∷ 255 ∷ 255 ∷ 240 ∷ []
+
+abbrev asks_bills : List ℕ
+asks_bills = 40 ∷ 0 ∷ 1 ∷ 159 ∷ 56 ∷ []
+
+abbrev stacks : List ℕ
+stacks = 40 ∷ 1 ∷ 1 ∷ 154 ∷ 1 ∷ 59 ∷ []
+
+abbrev acknowledged_bills : List ℕ
+acknowledged_bills = 1 ∷ 0 ∷ 40 ∷ 0 ∷ 215 ∷ []
+
+abbrev no_bill_yet : List ℕ
+no_bill_yet = 1 ∷ 11 ∷ 40 ∷ 0 ∷ 0 ∷ 0 ∷ 0 ∷ 0 ∷ 0 ∷ 0 ∷ 0 ∷ 0 ∷ 0 ∷ 0 ∷ 0 ∷ 204 ∷ []
+
+abbrev bill_is_held : List ℕ
+bill_is_held = 1 ∷ 11 ∷ 40 ∷ 0 ∷ 1 ∷ 5 ∷ 1 ∷ 0 ∷ 0 ∷ 0 ∷ 0 ∷ 0 ∷ 0 ∷ 0 ∷ 0 ∷ 197 ∷ []
+
+abbrev bill_is_stacked : List ℕ
+bill_is_stacked = 1 ∷ 11 ∷ 40 ∷ 0 ∷ 2 ∷ 5 ∷ 0 ∷ 5 ∷ 1 ∷ 0 ∷ 0 ∷ 0 ∷ 0 ∷ 0 ∷ 0 ∷ 191 ∷ []
+
+abbrev bill_steps : List WildStep
+bill_steps =
+    exchange sets_bills ∷ exchange asks_bills ∷ outside (step.Bill 40 5) ∷ exchange asks_bills ∷ exchange stacks
+    ∷ exchange asks_bills ∷ []
+
+abbrev bills_set : Entry
+bills_set = entry.Wire 40 sets_bills (sets_bills ++ acknowledged_bills)
+
+abbrev bills_first : Entry
+bills_first = entry.Wire 40 asks_bills (asks_bills ++ no_bill_yet)
+
+abbrev bills_then : Entry
+bills_then = entry.Wire 40 asks_bills (asks_bills ++ bill_is_held)
+
+abbrev routes : Entry
+routes = entry.Wire 40 stacks (stacks ++ acknowledged_bills)
+
+abbrev bills_last : Entry
+bills_last = entry.Wire 40 asks_bills (asks_bills ++ bill_is_stacked)
+
+abbrev bill_past : List Entry
+bill_past = bills_last ∷ routes ∷ bills_then ∷ entry.Held 40 5 ∷ bills_first ∷ bills_set ∷ []
+
+bill_run : WildFrom banking [] bill_steps bill_past
+unfolding message spelling crc data_of request_of requests_with form_of reply_data reply_in has_place bill_reply
+    common_reply reply_of ask asked asks_of asker after_echo heard_after
+bill_run = (
+  bills_set ∷ [],
+  (40, refl),
+  (
+    bills_first ∷ [],
+    (40, refl),
+    (
+      entry.Held 40 5 ∷ [],
+      (tt, (omega arith, omega arith), refl),
+      (bills_then ∷ [], (40, refl), (routes ∷ [], (40, refl), (bills_last ∷ [], (40, refl), refl))),
+    ),
+  ),
+)
+
+-- it is told to be stacked between the third exchange and the fifth; while it was held it was none
+abbrev bills_watched : Watch
+bills_watched = record { addr = 40; kind = Simple; family = watched_as.QuietAcceptor Bills }
+
+bill_is_quiet :
+    all_told (map made_tap (taps bill_past) ++ map made_watch (bills_watched ∷ []))
+    ≡ Quiet 40 2 3 [] ∷ Quiet 40 3 5 (bill ∷ []) ∷ []
+unfolding message request_of requests_with form_of reply_in got after_echo distance
+bill_is_quiet = refl

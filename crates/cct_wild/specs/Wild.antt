@@ -8,7 +8,7 @@ use Rattle.cct_model.specs.lines.entry.Entry.TheVariants as entry
 use Rattle.cct_model.specs.Legal.{Entries}
 use Rattle.cct_model.specs.Script.{IsInRange}
 use Rattle.cct_model.specs.Transcript.{heard_after}
-use Rattle.cct_monitor.specs.Taps.{Tap, tap_of}
+use Rattle.cct_taps.specs.Taps.{Tap, tap_of}
 
 -- A step of a wild run: something outside the host, as a step of a script plays it, or an exchange of any host.
 pub data WildStep : Type 0 where

@@ -22,16 +22,19 @@ ghost use Rattle.cct_model.specs.Honest.{HonestPast};
 ghost use Rattle.cct_model.specs.Setup.{IsSoundSetup};
 ghost use Rattle.cct_model.specs.Transcript.{heard_after, lines_of, met, pending};
 ghost use Rattle.cct_laws.specs.Law.{IsOf};
-ghost use Rattle.cct_monitor.specs.declared.shown.Shown.TheVariants.{Masked, Read};
+ghost use Rattle.cct_taps.specs.declared.shown.Shown.TheVariants.{Masked, Read};
+ghost use Rattle.cct_taps.specs.declared.money.Money.{Money};
+ghost use Rattle.cct_monitor.specs.declared.watched.Family.TheVariants as Family;
 ghost use Rattle.cct_monitor.specs.Once.{all_said, is_between, is_of};
 ghost use Rattle.cct_monitor.specs.Spans.{Reading, is_set, last_reading, said_last, spans};
-ghost use Rattle.cct_monitor.specs.Taps.{shown, tap_of};
+ghost use Rattle.cct_taps.specs.Taps.{shown, tap_of};
 ghost use Rattle.cct_monitor.specs.Watches.{Watch, all_told, finally_of_all, made_tap, made_watch};
-ghost use Rattle.cct_wild.specs.Claims.{AreApart, IsPlain, IsSureWherePlain, IsToldWhole, IsTrue, IsWatchOf, IsWatched, after_round, came_before, looks, pieces, span_of_round};
+ghost use Rattle.cct_wild.specs.Claims.{AreApart, IsPlain, IsQuietSpan, IsSureWherePlain, IsToldQuiet, IsToldWhole, IsTrue, IsWatchOf, IsWatched, after_round, came_before, looks, pieces, quiet_looks, span_of_round};
 ghost use Rattle.cct_wild.specs.Wild.{WildStep, WildFrom, taps};
 
 /// All that a monitor says at the taps of a wild run and at their end is true, where each device that it watches is one of the
-/// setup, watched as what it is. The coins of a span that is sure are the newest of those that the acceptor accepted between
+/// setup, watched as what it is. What is said of an acceptor, of coins or of bills, that is watched for resets alone is true if
+/// no reset came between the two readings. The coins of a span that is sure are the newest of those that the acceptor accepted between
 /// its readings, in their order; where fewer than 255 pieces came between them, they are all of these. As many coins fell out
 /// of a hopper between two life counts as is said, where that number is below 2 ^ 24.
 ///
@@ -53,7 +56,8 @@ pub fn what_a_monitor_says_is_true()
 /// A monitor is sure wherever it can be. A span of an acceptor between whose readings fewer than 255 pieces came is sure just
 /// where no tap between its readings shows a setting, at most five pieces came between them, as many as the credit buffer
 /// keeps, and a tap of its window shows a mask other than 0. That no reset came isn't asked: the mask shows it. Such a span is
-/// told with just the coins that the acceptor accepted between its readings.
+/// told with just the coins that the acceptor accepted between its readings. Of an acceptor that is watched for resets alone no
+/// mask is wanted: each span is so told where no tap between its readings asks for a reset, none came, and it had at most five events.
 ///
 /// And a host can see to it. Whatever came before, over any wire, its 229 and its 230 without a fault show the credits and the
 /// mask of the acceptor. So a host that asks 229 and then 230 makes the span of that round plain, if no setting came since its
@@ -64,9 +68,14 @@ pub fn a_monitor_is_sure_where_it_can_be()
         → All (IsSureWherePlain d past) (spans (looks d past)) }
     ensures told { (setup : Setup) (steps : List WildStep) (past : List Entry) (watches : List Watch) (w : Watch) (d : DeviceSetup)
         → IsSoundSetup setup → WildFrom setup [] steps past → HonestPast past
-        → Contains watches w → w.acceptor ≡ true → IsOf setup d → IsWatchOf w d
+        → Contains watches w → w.family ≡ Family.Acceptor → IsOf setup d → IsWatchOf w d
         → All (λ span. IsPlain d past span
         → IsToldWhole d past (all_told (map made_tap (taps past) ++ map made_watch watches)) span) (spans (looks d past)) }
+    ensures told_quiet { (setup : Setup) (steps : List WildStep) (past : List Entry) (watches : List Watch) (money : Money) (w : Watch)
+        (d : DeviceSetup) → IsSoundSetup setup → WildFrom setup [] steps past → HonestPast past
+        → Contains watches w → w.family ≡ Family.QuietAcceptor money → IsOf setup d → IsWatchOf w d
+        → All (λ span. IsQuietSpan d past span
+        → IsToldQuiet d past (all_told (map made_tap (taps past) ++ map made_watch watches)) span) (spans (quiet_looks money d past)) }
     ensures credits { (setup : Setup) (d : DeviceSetup) (past : List Entry)
         → IsSoundSetup setup → IsOf setup d → IsAcceptor d.body → pending past ≡ fault.Clear
         → shown d.kind d.addr (tap_of (ask d.kind d.addr ReadCredits) (heard_after setup past (ask d.kind d.addr ReadCredits)))

@@ -1,4 +1,5 @@
 use Rattle.cct_wild.proofs.Complete.{plain_told, sure_where_plain_all}
+use Rattle.cct_wild.proofs.QuietTold.{quiet_told}
 use Rattle.cct_wild.proofs.Rounds.{round_is_plain}
 use Rattle.cct_wild.proofs.Undisturbed.{credits_shown, mask_shown}
 use Rattle.cct_wild.proofs.a_monitor_is_sure_where_it_can_be.Goals as goal
@@ -8,6 +9,9 @@ returns-clause-complete c = sure_where_plain_all
 
 pub returns-clause-told : goal.returns-clause-told
 returns-clause-told c = plain_told
+
+pub returns-clause-told_quiet : goal.returns-clause-told_quiet
+returns-clause-told_quiet c = quiet_told
 
 pub returns-clause-credits : goal.returns-clause-credits
 returns-clause-credits c = credits_shown

@@ -1,6 +1,6 @@
-use Rattle.cct_text.specs.Writing.{Broke, IsNothing, NeverBroke, Wrote}
-use Rattle.cct_text.proofs.Writing.{wrote_nothing}
+use Rattle.cct_audit.proofs.Puts.{wrote_nothing}
 use Rattle.cct_audit.proofs.Going.{audited_as}
+use Rattle.cct_audit.specs.Writing.{BrokeLines, NeverBroke, NoLine, WroteLines}
 use Rattle.cct_audit.proofs.auditing.audit.Goals as goal
 
 pub returns-in-Ok-clause-audited : goal.returns-in-Ok-clause-audited
@@ -15,7 +15,7 @@ returns-in-Err-clause-audited g c =
     let ended = c.in-Err.ensures.ended in (
       ended.0,
       ended.1,
-      audited_as ended.0 c.in-Err.ended (g.S.Source.left c.read_watches.new.script) IsNothing
-          (Wrote sink.written sink.puts out out) NeverBroke (Broke sink.written sink.puts out out)
+      audited_as ended.0 c.in-Err.ended c.read_watches.new.monitor (g.S.Source.left c.read_watches.new.script) NoLine
+          (WroteLines sink.written sink.puts out out) NeverBroke (BrokeLines sink.written sink.puts out out)
           (λ es none. wrote_nothing sink.written sink.puts out es none) (λ xs ys never. absurd never) ended.2,
     )

@@ -1,15 +1,16 @@
 use Rattle.std.proofs.Common.{[], ◌∷◌, refl, sym, ◌∙◌, subst, rules, lit≤}
 use Rattle.std.proofs.lemmas.List.{append-nil}
-use Rattle.cct_text.specs.Writing.{IsNothing, NeverBroke}
 use Rattle.cct_script.specs.Giving.{standing_of}
 use Rattle.cct_script.specs.Scripts.{GoesOnIn, IsNext, WithMoreTaken}
 use Rattle.cct_script.proofs.Sources.{serves_on}
+use Rattle.cct_monitor.specs.Monitor.{StandsFor}
 use Rattle.cct_monitor.specs.Watches.{made_watch}
 use Rattle.cct_audit.specs.Capture.{of_capture, tapping, watching}
 use Rattle.cct_audit.specs.Going.{Going}
 use Rattle.cct_audit.specs.Reading.{TakesWatch}
 use Rattle.cct_audit.specs.Telling.{told}
 use Rattle.cct_audit.proofs.Going.{audit_stops, going_begin, going_comes, going_opens}
+use Rattle.cct_audit.specs.Writing.{NeverBroke, NoLine}
 use Rattle.cct_audit.proofs.auditing.read_watches.Goals as goal
 
 pub loop-number-init : goal.loop-number-init
@@ -50,7 +51,8 @@ returns-in-Err-clause-ended g c =
     let left1 = g.S.Source.left c.read_watch.new.script in
     let runs = c.loop-number.invariant in
     audit_stops left0 left left1 (standing_of c.loop-number.lines).held c.loop-number.number (watching runs.past) runs.past
-    c.in-Err.why IsNothing NeverBroke runs.going (c.in-Err.ensures.stops runs.past runs.watches) runs.nothing
+    c.in-Err.why c.read_watch.new.monitor NoLine NeverBroke runs.going (subst (λ m. StandsFor m runs.past) (sym c.in-Err.ensures.same) runs.watches.stands)
+    (c.in-Err.ensures.stops runs.past runs.watches) runs.nothing
 
 pub loop-number-preserved : goal.loop-number-preserved
 loop-number-preserved g c =

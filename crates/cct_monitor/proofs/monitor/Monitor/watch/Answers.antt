@@ -22,6 +22,6 @@ returns-clause-addresses c = λ other.
 
 pub returns-clause-stands : goal.returns-clause-stands
 returns-clause-stands c = λ past stands.
-    let w : Watch = record { addr = c.args.addr; kind = c.args.kind; acceptor = c.args.acceptor } in
+    let w : Watch = record { addr = c.args.addr; kind = c.args.kind; family = c.args.family } in
     watch_stands w past c.args.self.now _ stands refl
     (c.put_device.ensures ∙ ap (λ (v : Watched). put_watched v c.args.self.now.devices.items) c.new.ensures)

@@ -1,6 +1,6 @@
 //! What a piece asks of the device at an address.
 ghost use Rattle.std.specs.Prelude.{◌≡◌};
-ghost use Rattle.cct_monitor.specs.Taps.{asks_at};
+ghost use Rattle.cct_taps.specs.Taps.{asks_at, is_message};
 
 use cct_frame::read;
 use cct_model::{CheckKind, Request};
@@ -14,5 +14,15 @@ pub(crate) fn asked_at(kind: CheckKind, addr: u8, piece: &[u8]) -> Option<Reques
     match read(kind, piece) {
         Ok(view) => asked_of(addr, &view),
         Err(_) => None,
+    }
+}
+
+/// Whether a piece is a message to an address, whatever it asks.
+pub fn is_message(kind: CheckKind, addr: u8, piece: &[u8]) -> bool
+    ensures { result ≡ is_message kind addr piece.now }
+{
+    match read(kind, piece) {
+        Ok(view) => view.to == addr,
+        Err(_) => false,
     }
 }

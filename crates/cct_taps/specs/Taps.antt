@@ -1,16 +1,19 @@
 -- An exchange as a logger of the wire sees it, and what it shows of a device.
-use Rattle.std.specs.Prelude.{ℕ, List, Option, Some, None, option_and_then}
+use Rattle.std.specs.Prelude.{ℕ, ◌==◌, Bool, false, List, Option, Some, None, option_and_then}
 use Rattle.cct_model.specs.terms.wire.CheckKind.{CheckKind}
 use Rattle.cct_model.specs.terms.request.Request.{Request}
-use Rattle.cct_model.specs.terms.request.Request.TheVariants.{ReadCredits, GetMask, SetMask, ResetDevice, GetLife}
+use Rattle.cct_model.specs.terms.request.Request.TheVariants.{ReadBills, ReadCredits, GetMask, SetMask, ResetDevice, GetLife}
 use Rattle.cct_model.specs.terms.request.ReplyForm.{ReplyForm}
 use Rattle.cct_model.specs.terms.request.ReplyForm.TheVariants as form
-use Rattle.cct_model.specs.Message.{message}
+use Rattle.cct_model.specs.Message.{Message, message}
 use Rattle.cct_model.specs.Reply.{Reply}
 use Rattle.cct_model.specs.Reply as reply
 use Rattle.cct_model.specs.Exchange.{asked_of, got}
-use Rattle.cct_monitor.specs.declared.shown.Shown.{Shown}
-use Rattle.cct_monitor.specs.declared.shown.Shown.TheVariants.{Read, Masked, Set, Nothing}
+use Rattle.cct_model.specs.Job.{settled_events}
+use Rattle.cct_taps.specs.declared.money.Money.{Money}
+use Rattle.cct_taps.specs.declared.money.Money.TheVariants.{Coins, Bills}
+use Rattle.cct_taps.specs.declared.shown.Shown.{Shown}
+use Rattle.cct_taps.specs.declared.shown.Shown.TheVariants.{Read, Masked, Set, Nothing}
 
 -- A tap: what was sent, and what was then heard, the echo first.
 pub record Tap : Type 0 where
@@ -24,6 +27,15 @@ tap_of sent heard = record { sent = sent; heard = heard }
 -- What a piece asks of the device at an address under a check, whoever sent it.
 abbrev pub asks_at : CheckKind → ℕ → List ℕ → Option Request
 asks_at kind addr piece = option_and_then (asked_of addr) (message kind piece)
+
+-- A message is to an address.
+abbrev pub is_to : ℕ → Option Message → Bool
+is_to addr None = false
+is_to addr (Some m) = m.to == addr
+
+-- A piece is a message to an address under a check, whatever it asks.
+abbrev pub is_message : CheckKind → ℕ → List ℕ → Bool
+is_message kind addr piece = is_to addr (message kind piece)
 
 -- A reading of the credits, where a reply is one.
 abbrev pub read_in : Option Reply → Shown
@@ -47,6 +59,36 @@ shown_by asked replied = Nothing
 -- What a tap shows of the acceptor at an address under a check.
 abbrev pub shown : CheckKind → ℕ → Tap → Shown
 shown kind addr tap = shown_by (asks_at kind addr tap.sent) (λ form. got kind addr form tap.sent tap.heard)
+
+-- Another inhibit mask shows nothing of an acceptor that is watched for resets alone.
+abbrev pub but_masks : Option Request → Shown → Shown
+but_masks (Some (SetMask mask)) s = Nothing
+but_masks asked s = s
+
+-- What a tap shows of the acceptor of coins at an address under a check that is watched for resets alone.
+abbrev pub coins_shown : CheckKind → ℕ → Tap → Shown
+coins_shown kind addr tap = but_masks (asks_at kind addr tap.sent) (shown kind addr tap)
+
+-- A reading of a bill acceptor as it is credited: a bill that is held is no money yet.
+abbrev pub settled_in : Shown → Shown
+settled_in (Read c) = Read (settled_events c)
+settled_in s = s
+
+-- What an exchange shows of a bill acceptor that was asked something, by what was replied in a form.
+abbrev pub bills_by : Option Request → (ReplyForm → Option Reply) → Shown
+bills_by (Some ReadBills) replied = settled_in (read_in (replied form.Credits))
+bills_by (Some GetMask) replied = mask_in (replied form.Mask)
+bills_by (Some ResetDevice) replied = Set
+bills_by asked replied = Nothing
+
+-- What a tap shows of the bill acceptor at an address under a check that is watched for resets alone.
+abbrev pub bills_shown : CheckKind → ℕ → Tap → Shown
+bills_shown kind addr tap = bills_by (asks_at kind addr tap.sent) (λ form. got kind addr form tap.sent tap.heard)
+
+-- What a tap shows of the acceptor of this money at an address under a check that is watched for resets alone.
+abbrev pub quiet_shown : Money → CheckKind → ℕ → Tap → Shown
+quiet_shown Coins kind addr tap = coins_shown kind addr tap
+quiet_shown Bills kind addr tap = bills_shown kind addr tap
 
 -- A life count, where a reply is one.
 abbrev pub life_in : Option Reply → Option ℕ
