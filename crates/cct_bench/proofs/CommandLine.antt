@@ -55,22 +55,26 @@ alone_most said [] seed rounds low is = low (same is)
     same e = cc
 alone_most said (field ∷ fields) seed rounds low is = cc is
 
-form_most : (run report upgrade audit check load : Bool) (fields : List (List ℕ)) (seed rounds : ℕ)
+form_most : (run report upgrade audit check state load : Bool) (fields : List (List ℕ)) (seed rounds : ℕ)
     → (if run then alone words.Run fields else if report then alone words.Report fields
     else if upgrade then alone words.Upgrade fields else if audit then alone words.Audit fields
-    else if check then alone words.Check fields else if load then load_words fields else None)
+    else if check then alone words.Check fields else if state then alone words.State fields
+    else if load then load_words fields else None)
     ≡ Some (words.Load seed rounds) → rounds ≤ 10000
-form_most true report upgrade audit check load fields seed rounds is = alone_most words.Run fields seed rounds (λ e. cc e) is
-form_most false true upgrade audit check load fields seed rounds is =
+form_most true report upgrade audit check state load fields seed rounds is =
+    alone_most words.Run fields seed rounds (λ e. cc e) is
+form_most false true upgrade audit check state load fields seed rounds is =
     alone_most words.Report fields seed rounds (λ e. cc e) is
-form_most false false true audit check load fields seed rounds is =
+form_most false false true audit check state load fields seed rounds is =
     alone_most words.Upgrade fields seed rounds (λ e. cc e) is
-form_most false false false true check load fields seed rounds is =
+form_most false false false true check state load fields seed rounds is =
     alone_most words.Audit fields seed rounds (λ e. cc e) is
-form_most false false false false true load fields seed rounds is =
+form_most false false false false true state load fields seed rounds is =
     alone_most words.Check fields seed rounds (λ e. cc e) is
-form_most false false false false false true fields seed rounds is = load_most fields seed rounds is
-form_most false false false false false false fields seed rounds is = cc is
+form_most false false false false false true load fields seed rounds is =
+    alone_most words.State fields seed rounds (λ e. cc e) is
+form_most false false false false false false true fields seed rounds is = load_most fields seed rounds is
+form_most false false false false false false false fields seed rounds is = cc is
 
 -- the words of a load say no more rounds than a load may have
 pub words_most : (list : List (List ℕ)) (seed rounds : ℕ) → words_said list ≡ Some (words.Load seed rounds)
@@ -79,7 +83,8 @@ unfolding words_said
 words_most [] seed rounds is = cc is
 words_most (verb ∷ fields) seed rounds is =
     form_most (bytes_eq verb (codes "run")) (bytes_eq verb (codes "report")) (bytes_eq verb (codes "upgrade"))
-    (bytes_eq verb (codes "audit")) (bytes_eq verb (codes "check")) (bytes_eq verb (codes "load")) fields seed rounds is
+    (bytes_eq verb (codes "audit")) (bytes_eq verb (codes "check")) (bytes_eq verb (codes "state"))
+    (bytes_eq verb (codes "load")) fields seed rounds is
 
 -- what holds of the load that words say holds of any that they say
 pub load_said : (said : Option Words) (seed rounds : ℕ) (P : ℕ → ℕ → Type 0) → said ≡ Some (words.Load seed rounds)

@@ -14,3 +14,4 @@ pub mod UpgradeEnds
 pub mod Scripts
 pub mod AuditEnds
 pub mod CheckEnds
+pub mod StateEnds

@@ -11,6 +11,7 @@ pub mod Run
 pub mod Load
 pub mod CommandLine
 pub mod Report
+pub mod State
 pub mod Upgrade
 pub mod Audit
 pub mod Check

@@ -1,4 +1,4 @@
-//! The bench: plays a script over the machine and writes the transcript, lists a journal, brings one of an earlier version
+//! The bench: plays a script over the machine and writes the transcript, lists a journal or tells its state, brings one of an earlier version
 //! forward, audits a capture, checks a script, or plays a load and writes its sums.
 #![tactic(auto)]
 
@@ -20,11 +20,14 @@ ghost use Rattle.cct_script.specs.Source.{OfBytes};
 ghost use Rattle.cct_text.specs.Writing.{Broke, Writes, Wrote};
 ghost use Rattle.cct_gen.specs.Load.{load_steps};
 ghost use Rattle.cct_audit.specs.Capture.{capture};
+ghost use Rattle.cct_audit.specs.Writing.{BrokeLines, WritesLines, WroteLines};
 ghost use Rattle.cct_bench.specs.Audit.{AuditRan};
 ghost use Rattle.cct_bench.specs.Check.{CheckRan};
 ghost use Rattle.cct_bench.specs.Load.{Loaded};
 ghost use Rattle.cct_bench.specs.Report.{IsDecided, IsOrMemory, Reported, image_known, records_known, size_known};
 ghost use Rattle.cct_bench.specs.Run.{Ran, status_by, Completes};
+ghost use Rattle.cct_bench.specs.State.{Stated, told_disk};
+ghost use Rattle.cct_state.specs.Known.{any_disk, of_image};
 ghost use Rattle.cct_bench.specs.Upgrade.{MayGoForward, Upgraded, old_disk};
 ghost use Rattle.cct_bench.specs.UpgradeScript.{upgrade_script};
 ghost use Rattle.cct_bench.specs.CommandLine.{AreRefused, said_in};
@@ -40,6 +43,7 @@ use loading::run_load;
 use play::Bench;
 use proofreading::run_check;
 use reporting::report;
+use stating::run_state;
 use std::alloc::Global;
 use upgrading::run_upgrade;
 
@@ -51,22 +55,25 @@ mod outcome;
 mod play;
 mod proofreading;
 mod reporting;
+mod stating;
 mod steps;
 mod upgrade_script;
 mod upgrading;
 
+pub use auditing::audit_capture;
+pub use cct_monitor::{Family, Heard, Money, Monitor, Tally};
 pub use cct_words::{Words, WordsNo, read_words};
 pub use outcome::Status;
 
 /// Runs the program: by the words of the command line, without its name, plays a script and writes the transcript
-/// (`docs/SCRIPT.md`, `docs/TRANSCRIPT.md`), lists the records of the journal and their sums, brings a journal of an
+/// (`docs/SCRIPT.md`, `docs/TRANSCRIPT.md`), lists the records of the journal and their sums, tells what it knows now, brings a journal of an
 /// earlier version forward for the devices of a script, audits a capture (`docs/AUDIT.md`), tells each line of a script that
-/// is refused, or plays a load and writes the sums over its transcript. The words are `run`, `report`, `upgrade`, `audit`,
-/// `check`, or `load` with a seed and a number of rounds, 1 to 10,000; any other list is refused.
+/// is refused, or plays a load and writes the sums over its transcript. The words are `run`, `report`, `state`, `upgrade`,
+/// `audit`, `check`, or `load` with a seed and a number of rounds, 1 to 10,000; any other list is refused.
 ///
 /// The script is taken from its source a line at a time, and each step's entries are written before the next line is
 /// read. All buffers are of fixed size, and are taken at once before the first byte of the script; the machine is built
-/// after the line `begin`, before anything is written. A report only reads the disk. A load builds its machine before
+/// after the line `begin`, before anything is written. A report and a state only read the disk. A load builds its machine before
 /// anything is written, and writes no entry of a step. Both take nothing of the script. An upgrade reads the script to its
 /// end before it makes a call of the disk but for its length, and writes one line. An audit makes no call of the disk.
 pub fn bench<S: Source, K: Sink, D: Disk>(
@@ -102,6 +109,20 @@ pub fn bench<S: Source, K: Sink, D: Disk>(
         OnlyReads D.size D.honest D.seen D.may_leave D.moment D.left_since D.cuts disk result.1 }
     ensures report_script { said_in words.now ≡ Some Words.Report → script.new ≡ script.old }
 
+    // With the word `state`: what was taken of the script, and what was written, by the image of the disk where that is told,
+    // and of any disk; and that the disk was only read.
+    ensures stated { said_in words.now ≡ Some Words.State → (image : List ℕ) → D.seen disk ≡ Some image
+        → OfBytes (S.left script.old) (λ bytes.
+        Stated (told_disk (D.size disk) (of_image image) (Rose (D.faults disk) (D.faults result.1)))
+        (Rose (S.faults script.old) (S.faults script.new)) bytes result.0 (S.left script.new)
+        (λ lines answer. WritesLines K.written K.puts out.old lines answer out.new)) }
+    ensures state_lines { said_in words.now ≡ Some Words.State → OfBytes (S.left script.old) (λ bytes.
+        Stated (told_disk (D.size disk) any_disk (Rose (D.faults disk) (D.faults result.1)))
+        (Rose (S.faults script.old) (S.faults script.new)) bytes result.0 (S.left script.new)
+        (λ lines answer. WritesLines K.written K.puts out.old lines answer out.new)) }
+    ensures state_disk { said_in words.now ≡ Some Words.State →
+        OnlyReads D.size D.honest D.seen D.may_leave D.moment D.left_since D.cuts disk result.1 }
+
     // With the word `upgrade`: what was taken of the script, the one line that was written and its cause, and what a power
     // cut may leave on the disk at each moment, and at the end where the journal was brought forward.
     ensures upgraded { said_in words.now ≡ Some Words.Upgrade → OfBytes (S.left script.old) (λ bytes. Upgraded
@@ -113,8 +134,8 @@ pub fn bench<S: Source, K: Sink, D: Disk>(
     // it, in its order, and a last line where it isn't done; that what it says is true of any host's run with these taps, over
     // an honest wire, sure wherever it can be, and each span once. No call of the disk is made.
     ensures audited { said_in words.now ≡ Some Words.Audit → OfBytes (S.left script.old) (λ bytes.
-        AuditRan bytes result.0 (S.left script.new) (Rose (S.faults script.old) (S.faults script.new))
-        (Wrote K.written K.puts out.old out.new) (Broke K.written K.puts out.old out.new)) }
+        AuditRan bytes result.0 None (S.left script.new) (Rose (S.faults script.old) (S.faults script.new))
+        (WroteLines K.written K.puts out.old out.new) (BrokeLines K.written K.puts out.old out.new)) }
     ensures audit_disk { said_in words.now ≡ Some Words.Audit → result.1 ≡ disk }
 
     // With the word `check`: what was taken of the script, and what was written: each line that is refused, where those
@@ -146,8 +167,8 @@ pub fn bench<S: Source, K: Sink, D: Disk>(
     ensures read_cause { result.0 ≡ Status.ReadFault → Rose (S.faults script.old) (S.faults script.new) }
     ensures write_cause { result.0 ≡ Status.WriteFault → Rose (K.faults out.old) (K.faults out.new) }
     ensures disk_cause { result.0 ≡ Status.DiskFault → Rose (D.faults disk) (D.faults result.1) }
-    ensures lost_cause { said_in words.now ≢ Some Words.Report → said_in words.now ≢ Some Words.Upgrade
-        → result.0 ≡ Status.JournalLost → Rose (D.cuts disk) (D.cuts result.1) }
+    ensures lost_cause { said_in words.now ≢ Some Words.Report → said_in words.now ≢ Some Words.State
+        → said_in words.now ≢ Some Words.Upgrade → result.0 ≡ Status.JournalLost → Rose (D.cuts disk) (D.cuts result.1) }
     ensures upgrade_cause { result.0 ≡ Status.NotUpgraded → said_in words.now ≡ Some Words.Upgrade }
     ensures words_cause { result.0 ≡ Status.WordsRefused → AreRefused (said_in words.now) }
     ensures memory_cause { result.0 ≡ Status.OutOfMemory → out.new ≡ out.old }
@@ -204,6 +225,7 @@ pub fn bench<S: Source, K: Sink, D: Disk>(
         Ok(Words::Upgrade) => run_upgrade(script, out, disk),
         Ok(Words::Audit) => (run_audit(script, out), disk),
         Ok(Words::Check) => (run_check(script, out), disk),
+        Ok(Words::State) => run_state(script, out, disk),
         Ok(Words::Load { seed, rounds }) => run_load(alloc, Load { seed, rounds }, out, disk),
         Err(WordsNo::Refused) => (refuse_words(out), disk),
         Err(WordsNo::Memory) => (Status::OutOfMemory, disk),

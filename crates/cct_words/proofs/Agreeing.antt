@@ -23,7 +23,7 @@ use Rattle.cct_words.specs.declared.words.Words.{Words}
 use Rattle.cct_words.specs.declared.words.WordsNo.{WordsNo}
 use Rattle.cct_words.specs.declared.words.WordsNo.TheVariants.{Refused}
 use Rattle.cct_words.proofs.Walks.{EntersBare, bare_met, entering_audit, entering_load, entering_report, entering_run, entering_upgrade}
-use Rattle.cct_words.proofs.Walks.{entering_check}
+use Rattle.cct_words.proofs.Walks.{entering_check, entering_state}
 use Rattle.cct_words.proofs.Walks.{load_more, load_none, load_one}
 use Rattle.cct_words.proofs.Walks.{load_rows, load_two, none_given, nothing_behind, other_given, something_behind}
 use Rattle.cct_words.proofs.Walks.{words_simple}
@@ -94,6 +94,10 @@ check_parsed : (words : List Text) → list_any is_dashed words ≡ false → Is
 unfolding words_said said_under
 check_parsed = bare_parsed (codes "check") entering_check refl (λ word words. refl)
 
+state_parsed : (words : List Text) → list_any is_dashed words ≡ false → IsParsed (codes "state" ∷ words)
+unfolding words_said said_under
+state_parsed = bare_parsed (codes "state") entering_state refl (λ word words. refl)
+
 load_parsed : (words : List Text) → list_any is_dashed words ≡ false → IsParsed (codes "load" ∷ words)
 unfolding words_said said_under load_words
 load_parsed [] plain =
@@ -130,13 +134,14 @@ module _ (verb : Text) (words : List Text) (plain : is_dashed verb ≡ false)
     (plain_rest : list_any is_dashed words ≡ false) where
   by_load : (b : Bool) → bytes_eq (codes "run") verb ≡ false → bytes_eq (codes "report") verb ≡ false
       → bytes_eq (codes "upgrade") verb ≡ false → bytes_eq (codes "audit") verb ≡ false
-      → bytes_eq (codes "check") verb ≡ false
+      → bytes_eq (codes "check") verb ≡ false → bytes_eq (codes "state") verb ≡ false
       → bytes_eq (codes "load") verb ≡ b → IsParsed (verb ∷ words)
   unfolding words_said
-  by_load true not_run not_report not_upgrade not_audit not_check is = subst (λ (v : Text). IsParsed (v ∷ words))
+  by_load true not_run not_report not_upgrade not_audit not_check not_state is = subst (λ (v : Text). IsParsed (v ∷ words))
       ((bytes_decides (codes "load") verb).0 is) (load_parsed words plain_rest)
-  by_load false not_run not_report not_upgrade not_audit not_check not_load =
-      parsed_as (verb ∷ words) _ _ (other_given verb words plain not_run not_report not_upgrade not_audit not_check not_load) refl
+  by_load false not_run not_report not_upgrade not_audit not_check not_state not_load =
+      parsed_as (verb ∷ words) _ _ (other_given verb words plain not_run not_report not_upgrade not_audit not_check not_state
+      not_load) refl
       (refusal _ _ _ _
       (rw (
         not_so (codes "run") verb not_run,
@@ -144,8 +149,17 @@ module _ (verb : Text) (words : List Text) (plain : is_dashed verb ≡ false)
         not_so (codes "upgrade") verb not_upgrade,
         not_so (codes "audit") verb not_audit,
         not_so (codes "check") verb not_check,
+        not_so (codes "state") verb not_state,
         not_so (codes "load") verb not_load,
       ) refl))
+
+  by_state : (b : Bool) → bytes_eq (codes "run") verb ≡ false → bytes_eq (codes "report") verb ≡ false
+      → bytes_eq (codes "upgrade") verb ≡ false → bytes_eq (codes "audit") verb ≡ false
+      → bytes_eq (codes "check") verb ≡ false → bytes_eq (codes "state") verb ≡ b → IsParsed (verb ∷ words)
+  by_state true not_run not_report not_upgrade not_audit not_check is = subst (λ (v : Text). IsParsed (v ∷ words))
+      ((bytes_decides (codes "state") verb).0 is) (state_parsed words plain_rest)
+  by_state false not_run not_report not_upgrade not_audit not_check not_state =
+      by_load (bytes_eq (codes "load") verb) not_run not_report not_upgrade not_audit not_check not_state refl
 
   by_check : (b : Bool) → bytes_eq (codes "run") verb ≡ false → bytes_eq (codes "report") verb ≡ false
       → bytes_eq (codes "upgrade") verb ≡ false → bytes_eq (codes "audit") verb ≡ false
@@ -153,7 +167,7 @@ module _ (verb : Text) (words : List Text) (plain : is_dashed verb ≡ false)
   by_check true not_run not_report not_upgrade not_audit is = subst (λ (v : Text). IsParsed (v ∷ words))
       ((bytes_decides (codes "check") verb).0 is) (check_parsed words plain_rest)
   by_check false not_run not_report not_upgrade not_audit not_check =
-      by_load (bytes_eq (codes "load") verb) not_run not_report not_upgrade not_audit not_check refl
+      by_state (bytes_eq (codes "state") verb) not_run not_report not_upgrade not_audit not_check refl
 
   by_audit : (b : Bool) → bytes_eq (codes "run") verb ≡ false → bytes_eq (codes "report") verb ≡ false
       → bytes_eq (codes "upgrade") verb ≡ false → bytes_eq (codes "audit") verb ≡ b → IsParsed (verb ∷ words)
@@ -225,17 +239,18 @@ no_load (seed ∷ rounds ∷ []) dashed = by_seed (is_dashed seed) refl
 no_load (seed ∷ rounds ∷ word ∷ words) dashed = refl
 
 -- a form by its name says nothing where what is after the name doesn't
-no_form : (is_run is_report is_upgrade is_audit is_check is_load : Bool) (said : Option Words) → said ≡ None
+no_form : (is_run is_report is_upgrade is_audit is_check is_state is_load : Bool) (said : Option Words) → said ≡ None
     → (if is_run then None else if is_report then None else if is_upgrade then None else if is_audit then None
-    else if is_check then None else if is_load then said else None)
+    else if is_check then None else if is_state then None else if is_load then said else None)
     ≡ None
-no_form true is_report is_upgrade is_audit is_check is_load said none = refl
-no_form false true is_upgrade is_audit is_check is_load said none = refl
-no_form false false true is_audit is_check is_load said none = refl
-no_form false false false true is_check is_load said none = refl
-no_form false false false false true is_load said none = refl
-no_form false false false false false true said none = none
-no_form false false false false false false said none = refl
+no_form true is_report is_upgrade is_audit is_check is_state is_load said none = refl
+no_form false true is_upgrade is_audit is_check is_state is_load said none = refl
+no_form false false true is_audit is_check is_state is_load said none = refl
+no_form false false false true is_check is_state is_load said none = refl
+no_form false false false false true is_state is_load said none = refl
+no_form false false false false false true is_load said none = refl
+no_form false false false false false false true said none = none
+no_form false false false false false false false said none = refl
 
 -- words of which one begins with a hyphen say nothing
 pub dashed_none : (words : List Text) → list_any is_dashed words ≡ true → words_said words ≡ None
@@ -256,7 +271,7 @@ dashed_none (verb ∷ words) dashed = by_verb (is_dashed verb) refl
     behind (word ∷ rest) e =
         no_form (bytes_eq verb (codes "run")) (bytes_eq verb (codes "report")) (bytes_eq verb (codes "upgrade"))
         (bytes_eq verb (codes "audit")) (bytes_eq verb (codes "check"))
-        (bytes_eq verb (codes "load")) (load_words (word ∷ rest)) (no_load (word ∷ rest) e)
+        (bytes_eq verb (codes "state")) (bytes_eq verb (codes "load")) (load_words (word ∷ rest)) (no_load (word ∷ rest) e)
 
     by_verb : (b : Bool) → is_dashed verb ≡ b → words_said (verb ∷ words) ≡ None
     by_verb true is = hyphen verb is

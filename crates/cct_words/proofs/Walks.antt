@@ -47,7 +47,7 @@ load = built_sub (codes "load") (built_word (codes "seed") 1 ∷ built_word (cod
 abbrev app : App
 app = record {
   top = record (bare_app.top) { is_leaf = false; is_built = true };
-  subs = built_sub (codes "run") [] ∷ built_sub (codes "report") [] ∷ built_sub (codes "upgrade") [] ∷ built_sub (codes "audit") [] ∷ built_sub (codes "check") [] ∷ load ∷ [];
+  subs = built_sub (codes "run") [] ∷ built_sub (codes "report") [] ∷ built_sub (codes "upgrade") [] ∷ built_sub (codes "audit") [] ∷ built_sub (codes "check") [] ∷ built_sub (codes "state") [] ∷ load ∷ [];
 }
 
 -- The names of its subcommands.
@@ -181,6 +181,10 @@ pub entering_check : EntersBare (codes "check")
 unfolding walked
 entering_check = λ words. entering (codes "check") words (built_sub (codes "check") []) refl refl refl
 
+pub entering_state : EntersBare (codes "state")
+unfolding walked
+entering_state = λ words. entering (codes "state") words (built_sub (codes "state") []) refl refl refl
+
 pub entering_load : (words : List Text) → Parses (codes "load" ∷ words)
     (level_fault load [] nothing_held words false []) (Some (rows_at load words))
 unfolding walked
@@ -194,11 +198,12 @@ none_given = refl
 -- a first word that names no subcommand
 pub other_given : (verb : Text) (words : List Text) → is_dashed verb ≡ false → bytes_eq (codes "run") verb ≡ false
     → bytes_eq (codes "report") verb ≡ false → bytes_eq (codes "upgrade") verb ≡ false
-    → bytes_eq (codes "audit") verb ≡ false → bytes_eq (codes "check") verb ≡ false → bytes_eq (codes "load") verb ≡ false
+    → bytes_eq (codes "audit") verb ≡ false → bytes_eq (codes "check") verb ≡ false → bytes_eq (codes "state") verb ≡ false
+    → bytes_eq (codes "load") verb ≡ false
     → fault_of words_app (verb ∷ words) ≡ UnknownArgument ∷ InvalidSubcommand ∷ []
 unfolding walk_fault
-other_given verb words plain not_run not_report not_upgrade not_audit not_check not_load =
-    let no_name : subcommand_met names idle verb ≡ None = rw (not_run, not_report, not_upgrade, not_audit, not_check, not_load) refl in
+other_given verb words plain not_run not_report not_upgrade not_audit not_check not_state not_load =
+    let no_name : subcommand_met names idle verb ≡ None = rw (not_run, not_report, not_upgrade, not_audit, not_check, not_state, not_load) refl in
     faults_are (verb ∷ words) ∙ ap (λ (kinds : Kinds). faults_at (walk [] names nothing_held (verb ∷ words))
     (or_else kinds (walk_fault app.top names (walked [] names (at nothing_held 1) verb) words)))
     (turn_plain verb plain app.top names nothing_held 1 no_name)

@@ -24,11 +24,13 @@ bare_app = record {
   subs = [];
 }
 
--- The program with its six subcommands.
+-- The program with its seven subcommands.
 unfoldable pub words_app : App
 words_app = with_subcommand
     (with_subcommand
     (with_subcommand
     (with_subcommand
+    (with_subcommand
     (with_subcommand (with_subcommand bare_app (new_shape (codes "run"))) (new_shape (codes "report")))
-    (new_shape (codes "upgrade"))) (new_shape (codes "audit"))) (new_shape (codes "check"))) load_app.top
+    (new_shape (codes "upgrade"))) (new_shape (codes "audit"))) (new_shape (codes "check")))
+    (new_shape (codes "state"))) load_app.top

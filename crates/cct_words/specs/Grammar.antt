@@ -1,4 +1,4 @@
--- The words of the command line: `run`, `report`, `upgrade`, `audit`, `check`, or `load SEED N`.
+-- The words of the command line: `run`, `report`, `upgrade`, `audit`, `check`, `state`, or `load SEED N`.
 use Rattle.std.specs.Prelude.{ℕ, List, [], ◌∷◌, if◌then◌else◌, Option, Some, None, codes, bytes_eq}
 use Rattle.cct_lines.specs.Grammar.{◌>>=◌, alone, ranged}
 use Rattle.cct_words.specs.declared.words.Words.{Words}
@@ -21,5 +21,6 @@ words_said (verb ∷ rest) =
     else if bytes_eq verb (codes "upgrade") then alone words.Upgrade rest
     else if bytes_eq verb (codes "audit") then alone words.Audit rest
     else if bytes_eq verb (codes "check") then alone words.Check rest
+    else if bytes_eq verb (codes "state") then alone words.State rest
     else if bytes_eq verb (codes "load") then load_words rest
     else None

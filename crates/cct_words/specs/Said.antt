@@ -27,6 +27,7 @@ said_by name rows =
     else if bytes_eq name (codes "upgrade") then Some words.Upgrade
     else if bytes_eq name (codes "audit") then Some words.Audit
     else if bytes_eq name (codes "check") then Some words.Check
+    else if bytes_eq name (codes "state") then Some words.State
     else if bytes_eq name (codes "load") then load_in rows
     else None
 

@@ -7,7 +7,7 @@ ghost use Rattle.cct_words.specs.Command.{bare_app, load_app, one_word, words_ap
 use clap::{Arg, ArgAction, Command};
 use std::alloc::{AllocError, Global};
 
-/// The command: six subcommands, of which one has two words after it.
+/// The command: seven subcommands, of which one has two words after it.
 pub(crate) fn words_command<'w>(alloc: Global) -> Result<Command<'w>, AllocError>
     ensures { IfOk result (λ command. app_of command ≡ words_app) }
 {
@@ -17,6 +17,7 @@ pub(crate) fn words_command<'w>(alloc: Global) -> Result<Command<'w>, AllocError
         .subcommand(Command::new(alloc, "upgrade"))?
         .subcommand(Command::new(alloc, "audit"))?
         .subcommand(Command::new(alloc, "check"))?
+        .subcommand(Command::new(alloc, "state"))?
         .subcommand(load_command(alloc)?)
 }
 

@@ -1,4 +1,4 @@
-//! The words of the command line, read as a command with six subcommands.
+//! The words of the command line, read as a command with seven subcommands.
 #![tactic(auto)]
 
 mod command;

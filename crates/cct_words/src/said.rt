@@ -29,6 +29,7 @@ fn said_by(name: &str, found: &ArgMatches<'_>) -> Option<Words>
         "upgrade" => Some(Words::Upgrade),
         "audit" => Some(Words::Audit),
         "check" => Some(Words::Check),
+        "state" => Some(Words::State),
         "load" => load_in(found),
         _ => None,
     }

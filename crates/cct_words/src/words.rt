@@ -25,6 +25,8 @@ pub enum Words {
     Audit,
     /// Read the script on standard input to its end, and tell each line of it that is refused.
     Check,
+    /// Tell what the journal knows now, and its money by the setup on standard input, where one is given.
+    State,
     /// Play a load that a number makes, of so many rounds: 1 to 10,000.
     Load { seed: u64, rounds: u32 },
 }
@@ -41,7 +43,7 @@ pub enum WordsNo {
 }
 
 /// Reads the words of the command line, without the program's name: `run`, `report`, `upgrade`, `audit`, `check`,
-/// or `load SEED N`, with SEED a number below 2^64 and N one from 1 to 10,000, both in decimal, without sign and without
+/// `state`, or `load SEED N`, with SEED a number below 2^64 and N one from 1 to 10,000, both in decimal, without sign and without
 /// leading zeros.
 ///
 /// # Errors

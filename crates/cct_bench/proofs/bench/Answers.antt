@@ -23,6 +23,11 @@ use Rattle.cct_bench.proofs.ReportEnds.{report_other}
 use Rattle.cct_bench.proofs.CommandLine.{load_said, words_most}
 use Rattle.cct_bench.proofs.UpgradeEnds.{goes_forward, no_memory_upgraded, some_bytes, untouched_moments, upgrade_completes}
 use Rattle.cct_text.proofs.Writing.{wrote_none}
+use Rattle.cct_audit.specs.Writing.{BrokeLines, WritesLines, WroteLines}
+use Rattle.cct_state.specs.Known.{any_disk, of_image}
+use Rattle.cct_bench.specs.State.{told_disk}
+use Rattle.cct_bench.proofs.StateEnds.{state_no_memory}
+use Rattle.cct_audit.proofs.Puts.{wrote_none as wrote_no_line}
 use Rattle.cct_audit.specs.Capture.{capture}
 use Rattle.cct_bench.specs.Audit.{AuditRan}
 use Rattle.cct_bench.proofs.AuditEnds.{audit_completes, audit_no_memory}
@@ -237,9 +242,9 @@ returns-in-Ok-Audit-clause-audit_complete g c is_audit =
     let s = c.run_audit.result in
     let Read = Rose (source.faults script0) (source.faults script1) in
     let Write = Rose (sink.faults out0) (sink.faults out1) in
-    let W = Wrote sink.written sink.puts out0 out1 in
-    let B = Broke sink.written sink.puts out0 out1 in
-    bytes_weaker (λ bytes. AuditRan bytes s (source.left script1) Read W B)
+    let W = WroteLines sink.written sink.puts out0 out1 in
+    let B = BrokeLines sink.written sink.puts out0 out1 in
+    bytes_weaker (λ bytes. AuditRan bytes s None (source.left script1) Read W B)
     (λ bytes. (capture bytes).refused ≡ None → (Read → ⊥) → (Write → ⊥) → IsOrMemory status.Done s) (source.left script0)
     (λ bytes ran none no_read no_write.
     audit_completes bytes s (source.left script1) Read Write W B ran none c.run_audit.ensures.sink.rose no_read no_write)
@@ -251,7 +256,7 @@ returns-in-Err-Memory-clause-audited g c is_audit =
     let out = c.args.out.now in
     audit_no_memory (g.S.Source.left c.args.script.now)
     (Rose (g.S.Source.faults c.args.script.now) (g.S.Source.faults c.args.script.now))
-    (Wrote sink.written sink.puts out out) (Broke sink.written sink.puts out out) (wrote_none sink.written sink.puts out)
+    (WroteLines sink.written sink.puts out out) (BrokeLines sink.written sink.puts out out) (wrote_no_line sink.written sink.puts out)
 
 pub returns-in-Err-Memory-clause-audit_complete : goal.returns-in-Err-Memory-clause-audit_complete
 returns-in-Err-Memory-clause-audit_complete g c is_audit =
@@ -264,3 +269,26 @@ returns-in-Err-Memory-clause-checked g c is_check =
     check_no_memory (g.S.Source.left c.args.script.now)
     (Rose (g.S.Source.faults c.args.script.now) (g.S.Source.faults c.args.script.now))
     (λ lines answer. Writes sink.written sink.puts out lines answer out) (wrote_none sink.written sink.puts out)
+
+pub returns-in-Err-Memory-clause-stated : goal.returns-in-Err-Memory-clause-stated
+returns-in-Err-Memory-clause-stated g c is_state image seen =
+    let sink = g.K.Sink in
+    let disk = g.D.Disk in
+    let out = c.args.out.now in
+    state_no_memory
+    (told_disk (disk.size c.args.disk) (of_image image) (Rose (disk.faults c.args.disk) (disk.faults c.args.disk)))
+    (Rose (g.S.Source.faults c.args.script.now) (g.S.Source.faults c.args.script.now)) (g.S.Source.left c.args.script.now)
+    (λ lines answer. WritesLines sink.written sink.puts out lines answer out) (wrote_no_line sink.written sink.puts out)
+
+pub returns-in-Err-Memory-clause-state_lines : goal.returns-in-Err-Memory-clause-state_lines
+returns-in-Err-Memory-clause-state_lines g c is_state =
+    let sink = g.K.Sink in
+    let disk = g.D.Disk in
+    let out = c.args.out.now in
+    state_no_memory
+    (told_disk (disk.size c.args.disk) any_disk (Rose (disk.faults c.args.disk) (disk.faults c.args.disk)))
+    (Rose (g.S.Source.faults c.args.script.now) (g.S.Source.faults c.args.script.now)) (g.S.Source.left c.args.script.now)
+    (λ lines answer. WritesLines sink.written sink.puts out lines answer out) (wrote_no_line sink.written sink.puts out)
+
+pub returns-in-Ok-State-clause-upgrade_cause : goal.returns-in-Ok-State-clause-upgrade_cause
+returns-in-Ok-State-clause-upgrade_cause g c is = absurd (c.run_state.ensures.own.upgrade is)
