@@ -1,9 +1,9 @@
 //! The elements of a picture.
 
-use crate::layout::{HEARD_LINE, HOST_LANE, REQUEST_LINE, ROW_MIDDLE};
-use crate::pen::Pen;
+use crate::layout::{HEARD_LINE, HOST_LANE, REQUEST_LINE, ROW_HEIGHT, ROW_MIDDLE};
 use crate::shape::{Arrow, CROSS, Caption, Shape};
 use cct_edge::Sink;
+use cct_pen::Pen;
 use itoa::Integer;
 
 /// Draws a sign at a lane.
@@ -19,13 +19,13 @@ pub(crate) fn draw_arrow<K: Sink>(pen: &mut Pen<'_, K>, arrow: Arrow, from: u32,
     pen.push(b"/>\n");
 }
 
-/// Draws a line on which stands, where a pointer rests on it, what bytes it was.
+/// Draws a line on which stands, where a pointer rests on it, what bytes it was, if they are to be shown.
 pub(crate) fn draw_bytes<K: Sink>(
     pen: &mut Pen<'_, K>,
     arrow: Arrow,
     from: u32,
     to: u32,
-    bytes: &[u8],
+    bytes: Option<&[u8]>,
 ) {
     begin_arrow(pen, arrow, from, to);
     end_bytes(pen, bytes);
@@ -38,7 +38,7 @@ pub(crate) fn draw_cross<K: Sink>(pen: &mut Pen<'_, K>, place: u32) {
 }
 
 /// Draws a cross at the host, where it heard these bytes in place of its echo.
-pub(crate) fn draw_lost_echo<K: Sink>(pen: &mut Pen<'_, K>, bytes: &[u8]) {
+pub(crate) fn draw_lost_echo<K: Sink>(pen: &mut Pen<'_, K>, bytes: Option<&[u8]>) {
     begin_cross(pen, HOST_LANE, HEARD_LINE);
     end_bytes(pen, bytes);
 }
@@ -64,15 +64,25 @@ pub(crate) fn begin_path<K: Sink>(pen: &mut Pen<'_, K>, class: &[u8], left: u32,
     push_pair(pen, b"\" d=\"M", left, b" ", top, b"");
 }
 
-/// Ends an element with the bytes that it stands for.
-fn end_bytes<K: Sink>(pen: &mut Pen<'_, K>, bytes: &[u8]) {
+/// Ends an element with the bytes that it stands for, if they are to be shown.
+fn end_bytes<K: Sink>(pen: &mut Pen<'_, K>, bytes: Option<&[u8]>) {
+    let Some(bytes) = bytes else {
+        pen.push(b"/>\n");
+        return;
+    };
     match bytes.len() {
         0 => pen.push(b"><title>no byte"),
         1 => pen.push(b"><title>1 byte:"),
         count => push_numbered(pen, b"><title>", count, b" bytes:"),
     }
-    pen.push_hex(bytes);
+    pen.push_hex(b" ", bytes);
     pen.push(b"</title></path>\n");
+}
+
+/// Draws a bar in a lane, from the top of its row to its end.
+pub(crate) fn draw_bar<K: Sink>(pen: &mut Pen<'_, K>, class: &[u8], lane: u32) {
+    begin_path(pen, class, lane, 1);
+    push_numbered(pen, b"V", ROW_HEIGHT, b"\"/>\n");
 }
 
 /// Begins a text at a lane.

@@ -119,6 +119,12 @@ impl Lanes {
     }
 }
 
+/// The top of a row of a page, by its index.
+pub(crate) fn row_top(index: usize) -> u32 {
+    let index = index.min(PAGE_ROWS);
+    HEAD_HEIGHT + (index + index / NAMES_EVERY) as u32 * ROW_HEIGHT
+}
+
 /// The height of so many rows of a page, with the names between them.
 pub(crate) fn rows_height(count: usize) -> u32 {
     let rows = count.min(PAGE_ROWS);

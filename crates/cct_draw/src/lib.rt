@@ -2,17 +2,19 @@
 #![tactic(auto)]
 
 mod element;
-mod label;
 mod layout;
 mod mark;
 mod page;
-mod pen;
 mod picture;
+mod place;
 mod record;
 mod row;
 mod shape;
+mod span;
 mod words;
+mod worth;
 
-pub use label::{Label, MOST_LABEL};
-pub use mark::{Ask, FaultAt, Happening, Heard, LaneKind, Mark, Reach, Reply};
+pub use cct_pen::{Label, MOST_LABEL};
+pub use mark::{Ask, FaultAt, Happening, Heard, LaneKind, Mark, Reach, Reply, Verdict};
 pub use picture::{MOST_ROWS, Picture};
+pub use place::Place;

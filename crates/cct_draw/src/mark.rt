@@ -10,12 +10,12 @@ pub enum LaneKind {
     /// An acceptor of coins, or one of which it isn't known whether it takes coins or bills.
     Acceptor,
     Hopper,
-    BillValidator,
+    BillAcceptor,
     Changer,
 }
 
 /// How far what the host sent came.
-#[derive(Clone, Copy)]
+#[derive(Clone, Copy, PartialEq, Eq)]
 pub enum Reach {
     /// It was heard whole, as far as is known.
     Device,
@@ -24,7 +24,7 @@ pub enum Reach {
 }
 
 /// What the host heard in an exchange, after what it sent.
-#[derive(Clone, Copy)]
+#[derive(Clone, Copy, PartialEq, Eq)]
 pub enum Heard {
     /// Its echo, and a reply that is none of the next three.
     Answered,
@@ -34,6 +34,8 @@ pub enum Heard {
     Busy,
     /// Its echo, and a message that isn't the wanted reply.
     Other,
+    /// Nothing, before the next request: no echo is expected.
+    NoReply,
     /// Its echo, and no byte after it.
     Silence,
     /// Its echo, and after it bytes that are no message.
@@ -63,6 +65,25 @@ pub enum Happening {
     NoJam,
     /// The device started again.
     Reset,
+    /// A bill acceptor stacked the bill that it held.
+    Stacked,
+    /// A bill acceptor gave the bill back that it held.
+    Returned,
+    /// The operator counted so many coins in a hopper.
+    Stock { count: u32 },
+}
+
+/// What a monitor says of a device between two taps.
+#[derive(Clone, Copy)]
+pub enum Verdict {
+    /// It surely took these coins.
+    Sure,
+    /// It did so if it was reset only where the capture shows it.
+    Quiet,
+    /// Which coins it took isn't sure.
+    Doubt,
+    /// So many coins fell out of it.
+    Fell,
 }
 
 /// Where the wire has a fault in the next exchange.
@@ -122,6 +143,18 @@ pub enum Mark {
     Put(Record),
     /// A record was kept of a put that a power cut broke off.
     Kept(Record),
+    /// A session of change began, as `change ok 7 130`.
+    Began(Label),
+    /// A session of change waits for its payment, as `serve wait 3`.
+    Waits(Label),
+    /// What a monitor says of a device between two taps, as `taps 1 to 3: 5/1`.
+    Told {
+        addr: u8,
+        verdict: Verdict,
+        first: u32,
+        last: u32,
+        words: Label,
+    },
     /// A job or a session of change ended well, as `posted 2` or `served 70`.
     Ended(Label),
     /// A job or a session of change ended so that somebody is to look, as `broke 2` or `short 10 60` (`docs/OPERATING.md`).
@@ -143,6 +176,7 @@ impl Mark {
             Mark::Exchange { addr: 0, .. } | Mark::Happened { addr: 0, .. } => None,
             Mark::Exchange { addr, kind, .. } => Some((*addr, *kind)),
             Mark::Happened { addr, what } => Some((*addr, what.kind())),
+            Mark::Told { addr, verdict, .. } => Some((*addr, verdict.kind())),
             _ => None,
         }
     }
@@ -155,11 +189,80 @@ impl Happening {
             Happening::Accepted { .. } | Happening::Inhibited { .. } | Happening::Alien => {
                 LaneKind::Acceptor
             }
-            Happening::Held { .. } => LaneKind::BillValidator,
+            Happening::Held { .. } => LaneKind::BillAcceptor,
+            Happening::Stacked | Happening::Returned => LaneKind::BillAcceptor,
             Happening::Fell | Happening::NoFall | Happening::Jammed | Happening::NoJam => {
                 LaneKind::Hopper
             }
+            Happening::Stock { .. } => LaneKind::Hopper,
             Happening::Reset => LaneKind::Unknown,
         }
+    }
+}
+
+impl Verdict {
+    /// The kind of device of which this is said.
+    fn kind(self) -> LaneKind {
+        match self {
+            Verdict::Sure | Verdict::Quiet | Verdict::Doubt => LaneKind::Acceptor,
+            Verdict::Fell => LaneKind::Hopper,
+        }
+    }
+}
+
+impl LaneKind {
+    /// The name of a device of this kind, before its address.
+    pub fn name(self) -> &'static [u8] {
+        match self {
+            LaneKind::Unknown => b"device ",
+            LaneKind::Acceptor => b"acceptor ",
+            LaneKind::Hopper => b"hopper ",
+            LaneKind::BillAcceptor => b"bill acceptor ",
+            LaneKind::Changer => b"changer ",
+        }
+    }
+
+    /// What a device of this kind is once it is known to be of another kind too. A bill acceptor is an acceptor, so it stays
+    /// one.
+    pub fn learn(&mut self, kind: LaneKind) {
+        match (*self, kind) {
+            (_, LaneKind::Unknown) | (LaneKind::BillAcceptor, LaneKind::Acceptor) => {}
+            _ => *self = kind,
+        }
+    }
+}
+
+impl Mark {
+    /// Whether a mark is of an exchange, and this one of one with the same bytes.
+    pub(crate) fn is_same_exchange(&self, other: &Mark) -> bool {
+        match (self, other) {
+            (
+                Mark::Exchange { ask, reply, .. },
+                Mark::Exchange {
+                    ask: other_ask,
+                    reply: other_reply,
+                    ..
+                },
+            ) => is_same_ask(ask, other_ask) && is_same_reply(reply, other_reply),
+            _ => false,
+        }
+    }
+}
+
+/// Whether the same was sent, and it came as far.
+fn is_same_ask(ask: &Option<Ask>, other: &Option<Ask>) -> bool {
+    match (ask, other) {
+        (None, None) => true,
+        (Some(ask), Some(other)) => ask.reach == other.reach && ask.bytes == other.bytes,
+        _ => false,
+    }
+}
+
+/// Whether the same was heard.
+fn is_same_reply(reply: &Option<Reply>, other: &Option<Reply>) -> bool {
+    match (reply, other) {
+        (None, None) => true,
+        (Some(reply), Some(other)) => reply.heard == other.heard && reply.bytes == other.bytes,
+        _ => false,
     }
 }

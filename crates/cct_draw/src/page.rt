@@ -5,11 +5,11 @@ use crate::layout::{
     HEAD_HEIGHT, HOST_LANE, LANE_TOP, Lanes, NAMES_EVERY, NAMES_TOP, ROW_HEIGHT, TITLE_START,
     rows_height,
 };
-use crate::pen::Pen;
-use crate::row::{Row, draw_row};
+use crate::row::{Row, Scene, draw_row};
 use crate::shape::Caption;
-use crate::words::kind_name;
+use crate::span::draw_spans;
 use cct_edge::Sink;
+use cct_pen::Pen;
 
 /// What each class looks like. Nothing is told by a colour alone.
 const STYLE: &[u8] = b"<style>\
@@ -41,6 +41,12 @@ path.job{fill:#000}\
 path.alarm{fill:#fd6;stroke:#c00;stroke-width:1.6}\
 path.put{fill:#cdf;stroke:#036}\
 path.kept{fill:#fff;stroke:#036;stroke-dasharray:2 1}\
+path.sign{stroke:#036}\
+path.sure,path.quiet,path.doubt,path.fallen{stroke-width:12}\
+path.sure{stroke:#7c9}\
+path.quiet{stroke:#7c9;stroke-dasharray:8 2}\
+path.doubt{stroke:#fd6;stroke-dasharray:3 2}\
+path.fallen{stroke:#fb7}\
 </style>\n";
 
 /// Which page of a picture, by its index and how many there are.
@@ -66,13 +72,15 @@ pub(crate) fn begin_picture<K: Sink>(pen: &mut Pen<'_, K>, width: u32, height: u
     pen.flush();
 }
 
-/// Draws a page: its title, its lanes, and its rows.
+/// Draws a page: its title, its lanes, and its rows, of all rows of the picture.
 pub(crate) fn draw_page<K: Sink>(
     pen: &mut Pen<'_, K>,
-    lanes: &Lanes,
+    scene: &Scene<'_>,
     page: PageNumber,
     rows: &[Row],
+    all: &[Row],
 ) {
+    let lanes = scene.lanes;
     begin_group(pen, page.index.saturating_mul(lanes.page_width()), 0);
     draw_title(pen, page, rows);
     draw_lanes(
@@ -81,8 +89,9 @@ pub(crate) fn draw_page<K: Sink>(
         HEAD_HEIGHT.saturating_add(rows_height(rows.len())),
     );
     draw_names(pen, lanes, NAMES_TOP);
+    draw_spans(pen, scene, rows, all);
     pen.flush();
-    draw_rows(pen, lanes, rows);
+    draw_rows(pen, scene, rows);
     end_group(pen);
 }
 
@@ -118,13 +127,12 @@ fn write_lines<K: Sink>(pen: &mut Pen<'_, K>, rows: &[Row]) {
     if let [first, ..] = rows
         && let [.., last] = rows
     {
-        let end = last.line.saturating_add(last.times.saturating_sub(1));
         push_pair(
             pen,
             b", lines ",
-            first.line,
+            first.place.line,
             b" to ",
-            end,
+            last.last,
             b", time downwards",
         );
     }
@@ -163,20 +171,20 @@ fn draw_names<K: Sink>(pen: &mut Pen<'_, K>, lanes: &Lanes, top: u32) {
 /// Draws the name of a device's lane.
 fn draw_name<K: Sink>(pen: &mut Pen<'_, K>, lanes: &Lanes, addr: u8) {
     begin_text(pen, Caption::Name, lanes.place(addr));
-    push_numbered(pen, kind_name(lanes.kind(addr)), addr, b"");
+    push_numbered(pen, lanes.kind(addr).name(), addr, b"");
     end_text(pen);
 }
 
 /// Draws the rows of a page, and the names of its lanes between them.
-fn draw_rows<K: Sink>(pen: &mut Pen<'_, K>, lanes: &Lanes, rows: &[Row]) {
+fn draw_rows<K: Sink>(pen: &mut Pen<'_, K>, scene: &Scene<'_>, rows: &[Row]) {
     let mut top = HEAD_HEIGHT;
     for (index, row) in rows.iter().enumerate() {
         if index > 0 && index % NAMES_EVERY == 0 {
-            draw_names(pen, lanes, top);
+            draw_names(pen, scene.lanes, top);
             top = top.saturating_add(ROW_HEIGHT);
         }
         begin_group(pen, 0, top);
-        draw_row(pen, lanes, row);
+        draw_row(pen, scene, row);
         end_group(pen);
         top = top.saturating_add(ROW_HEIGHT);
     }

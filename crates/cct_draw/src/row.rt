@@ -1,54 +1,93 @@
 //! The rows of a picture: what is drawn for each mark.
 
 use crate::element::{
-    begin_text, draw_arrow, draw_bytes, draw_cross, draw_lost_echo, draw_shape, end_text,
+    begin_text, draw_arrow, draw_bar, draw_bytes, draw_cross, draw_lost_echo, draw_shape, end_text,
     end_times, push_numbered,
 };
 use crate::layout::{BAR_START, HOST_LANE, LOST_GAP, Lanes, NUMBERS_END, TIMES_START};
-use crate::pen::Pen;
 use crate::record::write_record;
-use crate::shape::{Arrow, Caption, Shape};
-use crate::words::{write_fault, write_happening, write_heard};
-use crate::{Ask, FaultAt, Happening, Heard, Label, Mark, Reach, Reply};
+use crate::shape::{Arrow, Caption, Shape, bar_class};
+use crate::words::{verdict_name, write_fault, write_happening, write_heard};
+use crate::worth::Worths;
+use crate::{Ask, FaultAt, Happening, Heard, Label, Mark, Place, Reach, Reply, Verdict};
 use cct_edge::Sink;
 use cct_lines::Record;
+use cct_pen::Pen;
 
-/// A mark, by the number of its line, the time that stands in it, and how many equal lines it stands for.
+/// A mark, by the place of its first line, its last line, and how many equal lines or exchanges it stands for.
 #[derive(Drop)]
 pub(crate) struct Row {
     pub(crate) mark: Mark,
-    pub(crate) line: u64,
+    pub(crate) place: Place,
+    pub(crate) last: u64,
     pub(crate) times: u64,
-    pub(crate) time: Label,
+}
+
+/// What all rows of a picture share: the lanes, what the places are worth, whether the input is a capture, so that rows are
+/// numbered by tap, and whether the bytes of an exchange stand where a pointer rests.
+#[derive(Clone, Copy)]
+pub(crate) struct Scene<'s> {
+    pub(crate) lanes: &'s Lanes,
+    pub(crate) worths: &'s Worths,
+    pub(crate) has_taps: bool,
+    pub(crate) has_bytes: bool,
+}
+
+impl Scene<'_> {
+    /// The bytes that are to be shown.
+    fn shown<'b>(&self, bytes: &'b [u8]) -> Option<&'b [u8]> {
+        if self.has_bytes { Some(bytes) } else { None }
+    }
 }
 
 /// Draws a row, in its group.
-pub(crate) fn draw_row<K: Sink>(pen: &mut Pen<'_, K>, lanes: &Lanes, row: &Row) {
-    begin_text(pen, Caption::Number, NUMBERS_END);
-    pen.push_number(row.line);
-    end_text(pen);
-    if !row.time.as_slice().is_empty() {
+pub(crate) fn draw_row<K: Sink>(pen: &mut Pen<'_, K>, scene: &Scene<'_>, row: &Row) {
+    draw_number(pen, scene.has_taps, &row.place);
+    if !row.place.time.as_slice().is_empty() {
         begin_text(pen, Caption::Time, TIMES_START);
-        pen.push_label(&row.time);
+        pen.push_label(&row.place.time);
         end_text(pen);
     }
-    draw_mark(pen, lanes, &row.mark, row.times);
+    draw_mark(pen, scene, &row.mark, row.times);
+}
+
+/// Draws the number of a row: of its line, or in a capture of its tap, where it is one.
+fn draw_number<K: Sink>(pen: &mut Pen<'_, K>, has_taps: bool, place: &Place) {
+    let number = if has_taps {
+        place.tap
+    } else {
+        Some(place.line)
+    };
+    if let Some(number) = number {
+        begin_text(pen, Caption::Number, NUMBERS_END);
+        pen.push_number(number);
+        end_text(pen);
+    }
 }
 
 /// Draws what a mark shows that stands for so many lines.
-fn draw_mark<K: Sink>(pen: &mut Pen<'_, K>, lanes: &Lanes, mark: &Mark, times: u64) {
+fn draw_mark<K: Sink>(pen: &mut Pen<'_, K>, scene: &Scene<'_>, mark: &Mark, times: u64) {
+    let lanes = scene.lanes;
     match mark {
         Mark::Exchange {
             addr,
             ask,
             reply,
             ..
-        } => draw_exchange(pen, lanes.place(*addr), ask, reply, times),
+        } => draw_exchange(pen, scene, lanes.place(*addr), ask, reply, times),
         Mark::Happened { addr, what } => {
-            draw_happening(pen, lanes.place(*addr), *what, times);
+            draw_happening(pen, scene, *addr, *what, times);
         }
+        Mark::Told {
+            addr,
+            verdict,
+            words,
+            ..
+        } => draw_verdict(pen, lanes.place(*addr), *verdict, words, times),
         Mark::Fault { at, bytes } => draw_fault(pen, lanes.end(), *at, bytes, times),
         Mark::Crash { records } => draw_crash(pen, lanes.end(), *records, times),
+        Mark::Put(record) => draw_record(pen, scene, Shape::Put, b"put: ", record, times),
+        Mark::Kept(record) => draw_record(pen, scene, Shape::Kept, b"kept: ", record, times),
         _ => draw_of_host(pen, mark, times),
     }
 }
@@ -67,8 +106,8 @@ fn draw_of_host<K: Sink>(pen: &mut Pen<'_, K>, mark: &Mark, times: u64) {
             times,
         ),
         Mark::Forged(words) => draw_words(pen, Shape::Alarm, b"to be looked at: ", words, times),
-        Mark::Put(record) => draw_record(pen, Shape::Put, b"put: ", record, times),
-        Mark::Kept(record) => draw_record(pen, Shape::Kept, b"kept: ", record, times),
+        Mark::Began(words) => draw_words(pen, Shape::Taken, b"", words, times),
+        Mark::Waits(words) => draw_words(pen, Shape::Waits, b"", words, times),
         Mark::Note(words) => draw_note(pen, words, times),
         _ => {}
     }
@@ -78,6 +117,7 @@ fn draw_of_host<K: Sink>(pen: &mut Pen<'_, K>, mark: &Mark, times: u64) {
 /// half.
 fn draw_exchange<K: Sink>(
     pen: &mut Pen<'_, K>,
+    scene: &Scene<'_>,
     lane: u32,
     ask: &Option<Ask>,
     reply: &Option<Reply>,
@@ -85,21 +125,22 @@ fn draw_exchange<K: Sink>(
 ) {
     let mut reply_times = times;
     if let Some(ask) = ask {
-        draw_ask(pen, lane, ask, times);
+        draw_ask(pen, scene, lane, ask, times);
         reply_times = 1;
     }
     if let Some(reply) = reply {
-        draw_reply(pen, lane, reply, reply_times);
+        draw_reply(pen, scene, lane, reply, reply_times);
     }
 }
 
 /// Draws what the host sent: to the device's lane, or where it wasn't heard whole up to a cross before it.
-fn draw_ask<K: Sink>(pen: &mut Pen<'_, K>, lane: u32, ask: &Ask, times: u64) {
+fn draw_ask<K: Sink>(pen: &mut Pen<'_, K>, scene: &Scene<'_>, lane: u32, ask: &Ask, times: u64) {
     let end = lane.saturating_sub(LOST_GAP);
+    let bytes = scene.shown(ask.bytes.as_slice());
     match ask.reach {
-        Reach::Device => draw_bytes(pen, Arrow::Request, HOST_LANE, lane, ask.bytes.as_slice()),
+        Reach::Device => draw_bytes(pen, Arrow::Request, HOST_LANE, lane, bytes),
         Reach::Lost => {
-            draw_bytes(pen, Arrow::Lost, HOST_LANE, end, ask.bytes.as_slice());
+            draw_bytes(pen, Arrow::Lost, HOST_LANE, end, bytes);
             draw_cross(pen, end);
         }
     }
@@ -109,10 +150,17 @@ fn draw_ask<K: Sink>(pen: &mut Pen<'_, K>, lane: u32, ask: &Ask, times: u64) {
 }
 
 /// Draws what the host heard: from the device's lane, but for a lost echo, which no device sent.
-fn draw_reply<K: Sink>(pen: &mut Pen<'_, K>, lane: u32, reply: &Reply, times: u64) {
+fn draw_reply<K: Sink>(
+    pen: &mut Pen<'_, K>,
+    scene: &Scene<'_>,
+    lane: u32,
+    reply: &Reply,
+    times: u64,
+) {
+    let bytes = scene.shown(reply.bytes.as_slice());
     match arrow_of(reply.heard) {
-        Some(arrow) => draw_bytes(pen, arrow, lane, HOST_LANE, reply.bytes.as_slice()),
-        None => draw_lost_echo(pen, reply.bytes.as_slice()),
+        Some(arrow) => draw_bytes(pen, arrow, lane, HOST_LANE, bytes),
+        None => draw_lost_echo(pen, bytes),
     }
     begin_text(pen, Caption::Heard, HOST_LANE);
     write_heard(pen, reply.heard, &reply.words);
@@ -125,17 +173,39 @@ fn arrow_of(heard: Heard) -> Option<Arrow> {
         Heard::Answered => Some(Arrow::Answer),
         Heard::Nak | Heard::Busy => Some(Arrow::Refusal),
         Heard::Other => Some(Arrow::Other),
-        Heard::Silence => Some(Arrow::Silence),
+        Heard::Silence | Heard::NoReply => Some(Arrow::Silence),
         Heard::Damaged => Some(Arrow::Damage),
         Heard::DamagedEcho => None,
     }
 }
 
 /// Draws what happened in a device.
-fn draw_happening<K: Sink>(pen: &mut Pen<'_, K>, lane: u32, what: Happening, times: u64) {
+fn draw_happening<K: Sink>(
+    pen: &mut Pen<'_, K>,
+    scene: &Scene<'_>,
+    addr: u8,
+    what: Happening,
+    times: u64,
+) {
+    let lane = scene.lanes.place(addr);
     draw_shape(pen, shape_of(what), lane);
     begin_text(pen, Caption::Device, lane);
-    write_happening(pen, what);
+    write_happening(pen, scene.worths, addr, what);
+    end_times(pen, times);
+}
+
+/// Draws what a monitor says of a device, as a bar in its lane.
+fn draw_verdict<K: Sink>(
+    pen: &mut Pen<'_, K>,
+    lane: u32,
+    verdict: Verdict,
+    words: &Label,
+    times: u64,
+) {
+    draw_bar(pen, bar_class(verdict), lane);
+    begin_text(pen, Caption::Device, lane);
+    pen.push(verdict_name(verdict));
+    pen.push_label(words);
     end_times(pen, times);
 }
 
@@ -151,6 +221,9 @@ fn shape_of(what: Happening) -> Shape {
         Happening::Jammed => Shape::Jammed,
         Happening::NoJam => Shape::NoJam,
         Happening::Reset => Shape::Reset,
+        Happening::Stacked => Shape::Stacked,
+        Happening::Returned => Shape::Returned,
+        Happening::Stock { .. } => Shape::Counted,
     }
 }
 
@@ -184,6 +257,7 @@ fn draw_words<K: Sink>(
 /// Draws a sign at the host's lane, and a record beside it.
 fn draw_record<K: Sink>(
     pen: &mut Pen<'_, K>,
+    scene: &Scene<'_>,
     shape: Shape,
     before: &[u8],
     record: &Record,
@@ -192,7 +266,7 @@ fn draw_record<K: Sink>(
     draw_shape(pen, shape, HOST_LANE);
     begin_text(pen, Caption::Host, HOST_LANE);
     pen.push(before);
-    write_record(pen, record);
+    write_record(pen, scene.worths, record);
     end_times(pen, times);
 }
 

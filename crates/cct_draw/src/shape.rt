@@ -1,5 +1,6 @@
 //! What is drawn at and between lanes, as paths and texts of SVG in a row of 32 pixels.
 
+use crate::Verdict;
 use crate::layout::{HEARD_LINE, REQUEST_LINE, ROW_MIDDLE};
 
 /// The cross where a request or its echo got lost, from its middle on.
@@ -17,6 +18,10 @@ pub(crate) enum Shape {
     Jammed,
     NoJam,
     Reset,
+    Stacked,
+    Returned,
+    Counted,
+    Waits,
     Taken,
     Refused,
     Put,
@@ -30,13 +35,14 @@ impl Shape {
     pub(crate) fn class(self) -> &'static [u8] {
         match self {
             Shape::Accepted => b"in",
-            Shape::Held => b"held",
-            Shape::Inhibited | Shape::Alien => b"back",
+            Shape::Held | Shape::Stacked => b"held",
+            Shape::Inhibited | Shape::Alien | Shape::Returned => b"back",
             Shape::Fell => b"out",
             Shape::NoFall | Shape::NoJam => b"none",
             Shape::Jammed | Shape::Refused => b"bad",
             Shape::Reset => b"reset",
             Shape::Taken | Shape::Ended => b"job",
+            Shape::Counted | Shape::Waits => b"sign",
             Shape::Put => b"put",
             Shape::Kept => b"kept",
             Shape::Alarm => b"alarm",
@@ -65,11 +71,15 @@ impl Shape {
             Shape::Jammed => b"m-5-5l10 10m0-10l-10 10",
             Shape::NoJam => b"m-3-3l6 6m0-6l-6 6",
             Shape::Reset => b"m-4-4a6 6 0 1 1 0 8m0 5v-5h5",
+            Shape::Counted => b"m-7-6v12m4-12v12m4-12v12m4-12v12m-14-1l16-10",
+            Shape::Waits => b"m-5-8h10l-10 16h10z",
             Shape::Taken => b"m-5-6l11 6l-11 6z",
             Shape::Refused => b"m-6 0a6 6 0 1 0 12 0a6 6 0 1 0-12 0zm2 4l8-8",
             Shape::Put | Shape::Kept => b"m-5-7h10v14h-10zm2 4h6m-6 3h6m-6 3h6",
             Shape::Ended => b"m-5-5h10v10h-10z",
             Shape::Alarm => b"m0-9l10 17h-20zm0 6v5m0 2v2",
+            Shape::Stacked => b"m-8-8h16v4h-16zm0 6h16v4h-16zm0 6h16v4h-16z",
+            Shape::Returned => b"m-8-4h16v9h-16zm8-2v-7m-3 3l3-3l3 3",
         }
     }
 }
@@ -158,6 +168,16 @@ pub(crate) enum Caption {
     Title,
     /// How many lines are left out, at the top of the first page.
     LeftOut,
+}
+
+/// The class of the bar of what a monitor says.
+pub(crate) fn bar_class(verdict: Verdict) -> &'static [u8] {
+    match verdict {
+        Verdict::Sure => b"sure",
+        Verdict::Quiet => b"quiet",
+        Verdict::Doubt => b"doubt",
+        Verdict::Fell => b"fallen",
+    }
 }
 
 impl Caption {

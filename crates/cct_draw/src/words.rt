@@ -1,20 +1,10 @@
 //! What is written beside the signs of a picture.
 
-use crate::element::{push_numbered, push_pair};
-use crate::pen::Pen;
-use crate::{FaultAt, Happening, Heard, Label, LaneKind};
+use crate::element::push_numbered;
+use crate::worth::Worths;
+use crate::{FaultAt, Happening, Heard, Label, Verdict};
 use cct_edge::Sink;
-
-/// The name of a device, before its address.
-pub(crate) fn kind_name(kind: LaneKind) -> &'static [u8] {
-    match kind {
-        LaneKind::Unknown => b"device ",
-        LaneKind::Acceptor => b"acceptor ",
-        LaneKind::Hopper => b"hopper ",
-        LaneKind::BillValidator => b"bill validator ",
-        LaneKind::Changer => b"changer ",
-    }
-}
+use cct_pen::Pen;
 
 /// What happened in a device, in some words.
 fn happening_name(what: Happening) -> &'static [u8] {
@@ -28,20 +18,42 @@ fn happening_name(what: Happening) -> &'static [u8] {
         Happening::Jammed => b"jammed",
         Happening::NoJam => b"no coin left to jam",
         Happening::Reset => b"reset",
+        Happening::Stacked => b"bill stacked",
+        Happening::Returned => b"bill returned",
+        Happening::Stock { .. } => b"counted by the operator: ",
     }
 }
 
-/// Writes what happened in a device, and the place and the path of a coin or a bill.
-pub(crate) fn write_happening<K: Sink>(pen: &mut Pen<'_, K>, what: Happening) {
+/// Writes what happened in the device at an address, and the place, the worth and the path of a coin or a bill.
+pub(crate) fn write_happening<K: Sink>(
+    pen: &mut Pen<'_, K>,
+    worths: &Worths,
+    addr: u8,
+    what: Happening,
+) {
     pen.push(happening_name(what));
     match what {
         Happening::Accepted { place, path } => {
-            push_pair(pen, b": place ", place, b", path ", path, b"");
+            push_numbered(pen, b": place ", place, b"");
+            worths.write(pen, addr, place);
+            push_numbered(pen, b", path ", path, b"");
         }
         Happening::Held { place } | Happening::Inhibited { place } => {
             push_numbered(pen, b": place ", place, b"");
+            worths.write(pen, addr, place);
         }
+        Happening::Stock { count } => pen.push_number(count),
         _ => {}
+    }
+}
+
+/// What a monitor says, in a word.
+pub(crate) fn verdict_name(verdict: Verdict) -> &'static [u8] {
+    match verdict {
+        Verdict::Sure => b"sure, ",
+        Verdict::Quiet => b"quiet, ",
+        Verdict::Doubt => b"doubt, ",
+        Verdict::Fell => b"fell, ",
     }
 }
 
@@ -55,6 +67,7 @@ pub(crate) fn heard_name(heard: Heard) -> &'static [u8] {
         Heard::Silence => b"silence",
         Heard::Damaged => b"damaged",
         Heard::DamagedEcho => b"damaged echo",
+        Heard::NoReply => b"no reply",
     }
 }
 

@@ -1,13 +1,13 @@
-//! Short texts of a picture.
+//! Short texts of a document.
 ghost use Rattle.std.specs.Prelude.{◌≤◌, length};
-ghost use Rattle.cct_draw.specs.declared.label.TheConstants.{MOST_LABEL};
+ghost use Rattle.cct_pen.specs.declared.label.TheConstants.{MOST_LABEL};
 
 use std::fmt;
 
 /// The most bytes of a label.
 pub const MOST_LABEL: usize = 60;
 
-/// A short text of a picture: printable ASCII, `MOST_LABEL` bytes at most. Text can be written to it. A byte outside
+/// A short text of a document: printable ASCII, `MOST_LABEL` bytes at most. Text can be written to it. A byte outside
 /// printable ASCII becomes a question mark. Of a longer text the front is kept, and ends in two dots.
 #[derive(Clone, Copy)]
 pub struct Label {

@@ -1,0 +1,17 @@
+//! A run or a bus log as a page for a browser (`docs/SHOW.md`): one HTML document without a script. It has a row for
+//! each exchange and each other line, a fold for each job, and sums on top.
+#![tactic(auto)]
+
+mod device;
+mod entry;
+mod frame;
+mod job;
+mod known;
+mod page;
+mod row;
+mod rows;
+mod style;
+mod sums;
+mod words;
+
+pub use page::Page;
