@@ -1,22 +1,25 @@
 //! The form `capture`: the exchanges of a log or a transcript, as an audit takes them.
 
 use crate::lines::{LineSink, read_lines};
-use crate::log::{Echoes, copy, is_message};
-use crate::put_buffer::PutBuffer;
+use crate::log::{Echoes, MOST_SAID, copy};
 use crate::status::{Status, Stop};
-use crate::watch::Watches;
+use crate::taps::Taps;
+use cct_captured::{Guessed, Tally, Unread, Watches};
 use cct_edge::{Sink, Source};
 use cct_lines::{Entry, HOST, MOST_HEARD, MOST_LINE, MOST_SENT};
-use cct_log::{LogBytes, Said, read_log_line};
+use cct_log::{LogReader, Said};
+use cct_log_line::{Guess, LogBytes, is_message};
 use cct_tell::read_line;
+use std::alloc::Global;
 use std::fmt;
-use std::fmt::Write;
 
 /// The bytes of the line of an exchange that aren't digits: its word, and two spaces.
 const AROUND: usize = 5;
 
-/// The words of a capture's other lines.
-const OTHER_WORDS: &[&[u8]] = &[b"watch", b"begin", b"end"];
+/// What becomes of bytes that are no message.
+const LEFT_OUT: &str = "left out";
+
+const AS_HEARD: &str = "kept as heard";
 
 /// An exchange, to which more lines of the log may add what was heard.
 #[derive(Drop)]
@@ -46,56 +49,93 @@ enum LeftOut {
 #[derive(Drop)]
 struct Capture<'k, 'r, K, R> {
     rt: &'r R,
-    out: PutBuffer<'k, K>,
-    /// How many lines of the log there were.
-    lines: u64,
+    out: Taps<'k, K>,
+    log: LogReader,
+    /// The lines so far, and those that weren't understood.
+    lines: Unread,
     /// How many exchanges there were, before the last one.
     exchanges: u64,
     last: Option<Exchange>,
     echoes: Echoes,
-    /// How many lines said nothing known, and the number of the first of them.
-    unknown: u64,
-    first_unknown: u64,
+    /// Whether it is said already that a message for the host is logged as sent.
+    has_told_way: bool,
+    tally: Tally,
 }
 
 /// Writes the capture of all exchanges of a source, with these devices to be watched. On standard error it says which
 /// exchanges and how many other lines are left out.
 pub(crate) fn write_capture<S: Source, K: Sink, R: Eprint>(
     rt: &R,
-    watches: &Watches,
+    alloc: Global,
+    watches: Watches,
     source: &mut S,
     out: &mut K,
 ) -> Status {
     let mut capture = Capture {
         rt,
-        out: PutBuffer::new(out),
-        lines: 0,
+        out: Taps::new(alloc, watches, out),
+        log: LogReader::new(),
+        lines: Unread::new(),
         exchanges: 0,
         last: None,
         echoes: Echoes::Unknown,
-        unknown: 0,
-        first_unknown: 0,
+        has_told_way: false,
+        tally: Tally::new(),
     };
-    Status::of(capture.write(watches, source))
+    match capture.write(source) {
+        Ok(()) if capture.lines.is_much() => Status::NotUnderstood,
+        written => Status::of(written),
+    }
 }
 
 impl<K: Sink, R: Eprint> Capture<'_, '_, K, R> {
-    /// Writes the whole capture.
-    fn write<S: Source>(&mut self, watches: &Watches, source: &mut S) -> Result<(), Stop> {
-        for watch in watches.as_slice() {
-            write!(self.out, "{watch}\n")?;
+    /// Writes the whole capture; where reading fails, what was read before.
+    fn write<S: Source>(&mut self, source: &mut S) -> Result<(), Stop> {
+        match self.read(source) {
+            Err(Stop::Read) => {
+                self.out.begin()?;
+                return Err(Stop::Read);
+            }
+            read => read?,
         }
-        self.out.add(b"begin\n")?;
-        self.out.write_out()?;
-        read_lines(source, self)?;
-        self.close()?;
-        self.out.add(b"end\n")?;
-        self.out.write_out()?;
-        self.tell_unknown();
+        self.out.begin()?;
+        self.out.end()?;
+        self.tell_end();
         Ok(())
     }
 
-    /// Takes what a line of a log says.
+    /// Takes all lines of a log, and what stays without an end.
+    fn read<S: Source>(&mut self, source: &mut S) -> Result<(), Stop> {
+        read_lines(source, self)?;
+        self.log.end();
+        self.take_said()?;
+        self.close()
+    }
+
+    /// Says which lines weren't understood, which acceptors are watched as `quiet`, and how many taps there are.
+    fn tell_end(&self) {
+        self.lines.tell(self.rt);
+        for watch in self.out.watches() {
+            if let Some(quiet) = watch.quiet() {
+                let _ = eprintln!(self.rt; "cct_show: {quiet}");
+            }
+        }
+        let tally = self.tally;
+        let _ = eprintln!(self.rt; "cct_show: {tally}");
+    }
+
+    /// Takes all that the last line of a log says.
+    fn take_said(&mut self) -> Result<(), Stop> {
+        for _ in 0..MOST_SAID {
+            let Some(said) = self.log.next_said() else {
+                break;
+            };
+            self.logged(&said)?;
+        }
+        Ok(())
+    }
+
+    /// Takes a thing that a line of a log says.
     fn logged(&mut self, said: &Said) -> Result<(), Stop> {
         match said {
             Said::Exchange { sent, heard } => {
@@ -103,9 +143,24 @@ impl<K: Sink, R: Eprint> Capture<'_, '_, K, R> {
                 self.hear(heard.as_slice());
             }
             Said::Tap { sent, heard } => self.whole(sent.as_slice(), heard.as_slice())?,
-            Said::Sent(bytes) => self.open(bytes.as_slice())?,
+            Said::Sent(bytes) => {
+                self.doubt_way(bytes.as_slice());
+                self.open(bytes.as_slice())?;
+            }
             Said::Heard(bytes) => self.hear(bytes.as_slice()),
+            Said::Late(bytes) => {
+                self.hear(bytes.as_slice());
+                self.tell_bytes(bytes.len(), AS_HEARD);
+            }
             Said::Either(bytes) => self.either(bytes.as_slice())?,
+            Said::Part { .. } => {}
+            Said::Stray(count) => self.tell_bytes(*count, LEFT_OUT),
+            Said::Cut(count) => {
+                // What is heard next is no reply to what was sent before.
+                self.close()?;
+                self.tell_bytes(*count, LEFT_OUT);
+            }
+            Said::Guessed(guess) => self.tell_guess(*guess),
         }
         Ok(())
     }
@@ -118,11 +173,22 @@ impl<K: Sink, R: Eprint> Capture<'_, '_, K, R> {
         self.close()
     }
 
+    /// Says once that a message for the host is logged as sent: the log's ways may be others than they are taken for.
+    fn doubt_way(&mut self, sent: &[u8]) {
+        if !self.has_told_way && sent.first() == Some(&HOST) && is_message(sent) {
+            self.has_told_way = true;
+            let line = self.lines.line;
+            let _ = eprintln!(self.rt;
+                "cct_show: line {line}: a message for the host is logged as sent; look whether the ways are read right"
+            );
+        }
+    }
+
     /// Begins an exchange.
     fn open(&mut self, sent: &[u8]) -> Result<(), Stop> {
         self.close()?;
         let mut exchange = Exchange {
-            line: self.lines,
+            line: self.lines.line,
             sent: LogBytes::new(),
             heard: LogBytes::new(),
             is_overfull: false,
@@ -134,7 +200,7 @@ impl<K: Sink, R: Eprint> Capture<'_, '_, K, R> {
 
     /// Adds bytes that were heard. Where nothing was sent before, they are of an exchange without that.
     fn hear(&mut self, bytes: &[u8]) {
-        let line = self.lines;
+        let line = self.lines.line;
         let exchange = self.last.get_or_insert(Exchange {
             line,
             sent: LogBytes::new(),
@@ -201,25 +267,8 @@ impl<K: Sink, R: Eprint> Capture<'_, '_, K, R> {
         let sent = exchange.sent.as_slice();
         let heard = exchange.heard.as_slice();
         let echo = if has_echo { b"".as_slice() } else { sent };
-        self.out.add(b"tap ")?;
-        self.write_bytes(sent)?;
-        self.out.add(b" ")?;
-        self.write_bytes(echo)?;
-        self.write_bytes(heard)?;
-        if echo.is_empty() && heard.is_empty() {
-            self.out.add(b"-")?;
-        }
-        self.out.add(b"\n")?;
-        self.out.write_out()?;
-        Ok(())
-    }
-
-    /// Writes bytes in hexadecimal.
-    fn write_bytes(&mut self, bytes: &[u8]) -> Result<(), Stop> {
-        for byte in bytes {
-            write!(self.out, "{byte:02x}")?;
-        }
-        Ok(())
+        self.tally.count(sent);
+        self.out.tap(sent, echo, heard)
     }
 
     /// Says that the last exchange has no line.
@@ -230,49 +279,44 @@ impl<K: Sink, R: Eprint> Capture<'_, '_, K, R> {
         );
     }
 
-    /// Says how many lines said nothing known.
-    fn tell_unknown(&self) {
-        let first = self.first_unknown;
-        let _ = match self.unknown {
-            0 => Ok(()),
-            1 => eprintln!(self.rt; "cct_show: line {first} is no line of a log, and is left out"),
-            count => eprintln!(self.rt;
-                "cct_show: {count} lines are no lines of a log, and are left out; the first is line {first}"
-            ),
-        };
+    /// Says what becomes of bytes up to the last line that are no message.
+    fn tell_bytes(&self, count: usize, outcome: &str) {
+        let line = self.lines.line;
+        let bytes = if count == 1 { "byte" } else { "bytes" };
+        let _ = eprintln!(self.rt;
+            "cct_show: {count} {bytes} up to line {line}, of no whole message: {outcome}"
+        );
     }
 
-    /// Counts one more line.
-    fn count_line(&mut self) {
-        self.lines = self.lines.saturating_add(1);
-    }
-
-    /// Counts the last line as one that says nothing known.
-    fn pass_over(&mut self) {
-        if self.unknown == 0 {
-            self.first_unknown = self.lines;
-        }
-        self.unknown = self.unknown.saturating_add(1);
+    /// Says what was taken for granted to read the last line.
+    fn tell_guess(&self, guess: Guess) {
+        let line = self.lines.line;
+        let guess = Guessed(guess);
+        let _ = eprintln!(self.rt; "cct_show: line {line}: {guess}");
     }
 }
 
 impl<K: Sink, R: Eprint> LineSink for Capture<'_, '_, K, R> {
     fn line(&mut self, line: &[u8]) -> Result<(), Stop> {
-        self.count_line();
+        self.lines.next_line();
         let line = line.strip_suffix(b"\r").unwrap_or(line);
         match read_line(line) {
             Some(Entry::Wire { sent, heard, .. }) => {
+                self.lines.take();
                 return self.whole(sent.as_slice(), heard.as_slice());
             }
-            Some(_) => return Ok(()),
+            Some(_) => {
+                self.lines.take();
+                return Ok(());
+            }
             None => {}
         }
-        match read_log_line(line) {
-            Some(logged) => return self.logged(&logged.said),
-            None if is_other_line(line) => {}
-            None => self.pass_over(),
+        match self.log.read(line) {
+            None => self.lines.pass_over(line),
+            Some(logged) if logged.has_bytes => self.lines.take(),
+            Some(_) => {}
         }
-        Ok(())
+        self.take_said()
     }
 
     fn part(&mut self, _bytes: &[u8]) -> Result<(), Stop> {
@@ -280,17 +324,10 @@ impl<K: Sink, R: Eprint> LineSink for Capture<'_, '_, K, R> {
     }
 
     fn end(&mut self) -> Result<(), Stop> {
-        self.count_line();
-        self.pass_over();
+        self.lines.next_line();
+        self.lines
+            .pass_over(b"a line that is longer than any of a log");
         Ok(())
-    }
-}
-
-/// Whether a line is one of a capture's without an exchange, or has no byte.
-fn is_other_line(line: &[u8]) -> bool {
-    match line.split(|byte| *byte == b' ').next() {
-        Some(word) => word.is_empty() || OTHER_WORDS.contains(&word),
-        None => true,
     }
 }
 

@@ -3,21 +3,24 @@
 #![tactic(auto)]
 
 mod capture;
-mod exchange;
 mod lines;
 mod log;
-mod mark;
 mod picture;
 mod put_buffer;
+mod refused;
+mod rows;
 mod status;
+mod taps;
 mod text;
-mod watch;
+mod words;
 
 use crate::capture::write_capture;
-use crate::picture::{Part, show_picture};
-use crate::status::Status;
+use crate::picture::{Part, show_page, show_picture};
+use crate::refused::Refused;
+use crate::rows::{RowForm, show_rows};
+use crate::status::{Status, USAGE};
 use crate::text::show_text;
-use crate::watch::{Watches, watches_in};
+use cct_captured::{Watches, watches_in};
 use cct_edge::{StdSink, StdSource};
 use std::io::ErrorKind;
 use std::process::ExitCode;
@@ -29,16 +32,28 @@ use std::{env, io};
 enum Form {
     /// `text`: each line, and below it what it says.
     Text,
+    /// `csv` or `json`: each line as a row of named columns.
+    Rows(RowForm),
     /// `svg`, or `svg FROM TO`: a sequence picture of all lines, or of those from one number to another.
     Picture(Part),
+    /// `html`: a page for a browser.
+    Page,
+    /// `--help`: which words there are.
+    Help,
     /// `capture A CHECK KIND ..`: all exchanges, as an audit of these devices takes them.
     Capture(Watches),
 }
 
 fn main(rt: HostRuntime) -> ExitCode {
-    let status = match form_wanted(&rt) {
-        Ok(Some(form)) => show(form, &rt),
-        Ok(None) => Status::WordsRefused,
+    let status = match words_of(&rt) {
+        Ok(words) => match form_wanted(words.as_slice()) {
+            Some(form) => show(form, &rt),
+            None => {
+                let why = Refused(words.as_slice());
+                let _ = rt.eprintln(why);
+                Status::WordsRefused
+            }
+        },
         Err(_) => Status::OutOfMemory,
     };
     if let Some(message) = status.message() {
@@ -47,38 +62,52 @@ fn main(rt: HostRuntime) -> ExitCode {
     ExitCode::from(status.code())
 }
 
+/// The words of the command line, without the program's name; none where one isn't UTF-8.
+fn words_of(rt: &(impl Env + AllocGlobal)) -> io::Result<Vec<String>> {
+    match env::args(rt) {
+        Ok(words) => Ok(words.skip(1).collect(rt.alloc())?),
+        Err(error) if error.kind() == ErrorKind::InvalidData => Ok(Vec::new(rt.alloc())),
+        Err(error) => Err(error),
+    }
+}
+
 /// Shows what is on standard input in a form.
 fn show(form: Form, rt: &(impl Input + Print + Eprint + AllocGlobal)) -> Status {
     let mut source = StdSource::new(rt.reader());
     let mut out = StdSink::new(io::writer(rt));
     match form {
-        Form::Text => show_text(&mut source, &mut out),
+        Form::Help => match rt.println(USAGE) {
+            Ok(()) => Status::Done,
+            Err(_) => Status::WriteFault,
+        },
+        Form::Text => show_text(rt, &mut source, &mut out),
+        Form::Rows(form) => show_rows(form, &mut source, &mut out),
+        Form::Page => show_page(rt.alloc(), &mut source, &mut out),
         Form::Picture(part) => show_picture(rt.alloc(), part, &mut source, &mut out),
-        Form::Capture(watches) => write_capture(rt, &watches, &mut source, &mut out),
+        Form::Capture(watches) => { write_capture(rt, rt.alloc(), watches, &mut source, &mut out) },
     }
 }
 
-/// The form that the words of the command line name. A word that isn't UTF-8 names none.
-fn form_wanted(rt: &(impl Env + AllocGlobal)) -> io::Result<Option<Form>> {
-    let words: Vec<String> = match env::args(rt) {
-        Ok(words) => words.skip(1).collect(rt.alloc())?,
-        Err(error) if error.kind() == ErrorKind::InvalidData => return Ok(None),
-        Err(error) => return Err(error),
-    };
-    Ok(match words.as_slice() {
+/// The form that the words of the command line name.
+fn form_wanted(words: &[String]) -> Option<Form> {
+    match words {
         [form] => whole_form(form.as_str()),
         [form, devices @ ..] if form.as_str() == "capture" => {
-            watches_in(devices).map(Form::Capture)
+            watches_in(devices).ok().map(Form::Capture)
         }
         [form, from, to] => part_form(form.as_str(), from.as_str(), to.as_str()),
         _ => None,
-    })
+    }
 }
 
 /// The form of all lines that a word names.
 fn whole_form(word: &str) -> Option<Form> {
     match word {
         "text" => Some(Form::Text),
+        "csv" => Some(Form::Rows(RowForm::Csv)),
+        "json" => Some(Form::Rows(RowForm::Json)),
+        "html" => Some(Form::Page),
+        "--help" | "-h" | "help" => Some(Form::Help),
         "svg" => Some(Form::Picture(Part {
             from: 1,
             to: u64::MAX,

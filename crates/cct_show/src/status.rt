@@ -4,6 +4,16 @@ use cct_edge::Failed;
 use std::alloc::AllocError;
 use std::fmt;
 
+/// What is said where words are refused, and by the word `--help`.
+pub(crate) const USAGE: &str = "\
+usage: cct_show FORM < LINES (docs/SHOW.md), where FORM is
+text                     each line, and below it what it says
+csv, json                a row for each line
+svg, svg FROM TO         a picture of all lines, or of those from one number to another
+html                     a page for a browser
+capture A CHECK KIND ..  the capture of a log, for an audit of these devices: A 2 to 255, CHECK simple or crc,
+                         KIND acceptor, hopper or bills";
+
 /// Why a form stops before its end. A sink's failure and a formatter's, which is a sink's too, are writing.
 #[derive(Clone, Copy)]
 pub(crate) enum Stop {
@@ -44,6 +54,8 @@ pub(crate) enum Status {
     ReadFault,
     /// 4: writing failed.
     WriteFault,
+    /// 5: a tenth of the lines of a log, or more, wasn't understood.
+    NotUnderstood,
     /// 8: there was no memory.
     OutOfMemory,
 }
@@ -66,6 +78,7 @@ impl Status {
             Status::WordsRefused => 2,
             Status::ReadFault => 3,
             Status::WriteFault => 4,
+            Status::NotUnderstood => 5,
             Status::OutOfMemory => 8,
         }
     }
@@ -74,11 +87,14 @@ impl Status {
     pub(crate) fn message(self) -> Option<&'static str> {
         match self {
             Status::Done => None,
-            Status::WordsRefused => Some(
-                "usage: cct_show text < TRANSCRIPT, cct_show svg < TRANSCRIPT, cct_show svg FROM TO < TRANSCRIPT, cct_show capture A CHECK KIND .. < LOG, with A 2 to 255, CHECK simple or crc, KIND acceptor or hopper",
-            ),
+            Status::WordsRefused => Some(USAGE),
             Status::ReadFault => Some("cct_show: reading failed"),
             Status::WriteFault => Some("cct_show: writing failed"),
+            Status::NotUnderstood => {
+                Some(
+                    "cct_show: a tenth of the lines, or more, wasn't understood (docs/SHOW.md, \"Bus logs\")",
+                )
+            }
             Status::OutOfMemory => Some("cct_show: there was no memory"),
         }
     }

@@ -318,6 +318,9 @@ fn write_bad_echo<W: fmt::Write>(
     heard: Option<u8>,
     f: &mut fmt::Formatter<W>,
 ) -> fmt::Result {
+    if at == 0 && heard.is_none() && sent.is_some() {
+        return f.write_str("nothing was heard, not even the echo");
+    }
     let place = at.saturating_add(1);
     write!(f, "the echo is damaged at byte {place}: ")?;
     match (sent, heard) {
