@@ -33,6 +33,22 @@ def files(programs: dict[str, Path], short: bool) -> None:
     line.close()
 
 
+def mistaken(programs: dict[str, Path], short: bool) -> None:
+    """A setup that isn't there, or that has a refused line: standard error says what was meant, and what is wrong."""
+    line = Line(programs["cct_live"], [Acceptor(2)])
+    Path(line.folder, "wrong").write_text("acceptor 2 simple 1 0\nvalue 2 5 100 EU10\n")
+    for setup, code, wanted in (
+        ("setpu", 3, "the setup setpu can't be opened; did you mean the word setup?"),
+        ("adotp", 3, "did you mean the word adopt?"),
+        ("none.txt", 3, "the setup none.txt can't be opened\n"),
+        ("wrong", 1, 'setup line 2: value A PLACE VALUE ID; ID is exactly six printing characters (bytes 21 to 7e), not "EU10"\n'),
+    ):
+        done = subprocess.run([line.program, setup, "/dev/null"], cwd=line.folder, stdin=subprocess.DEVNULL, capture_output=True,
+                              text=True, timeout=MOST_SECONDS)
+        want(f"the setup {setup}", (done.returncode, done.stderr.startswith("cct_live: ") and wanted in done.stderr), (code, True))
+    line.close()
+
+
 def cooked(end: End) -> None:
     """Sets a port as a terminal that is new: whole lines, and an echo."""
     mode = termios.tcgetattr(end.theirs)

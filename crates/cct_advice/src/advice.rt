@@ -3,7 +3,7 @@
 use crate::ending::{Meaning, meaning_of};
 use crate::fields::first_field;
 use crate::forms::Part;
-use crate::refusal::Refusal;
+use crate::refusal::{Refusal, addr_in};
 use crate::window::Window;
 use cct_lines::LineKind;
 use cct_script::ranged;
@@ -49,7 +49,21 @@ pub fn advise_line(number: u32, kind: LineKind, line: &[u8]) -> Advice<'_> {
         kind: kind_word(kind),
         part: Part::Live,
         line,
+        is_given: false,
     }))
+}
+
+/// What is wrong with the line of this number of a setup, which is among the last bytes that were taken of it.
+pub(crate) fn setup_advice(setup: &Window, number: u32, kind: LineKind) -> Option<Advice<'_>> {
+    let number = u64::from(number);
+    let line = setup.line(number)?;
+    Some(Advice(Said::Refusal(Refusal {
+        number,
+        kind: kind_word(kind),
+        part: Part::Setup,
+        line,
+        is_given: setup.is_given(addr_in(line), number),
+    })))
 }
 
 /// The word of a line, which may have its line feed, and what stands after it.
@@ -80,11 +94,13 @@ fn kind_word(kind: LineKind) -> &'static [u8] {
 fn refusal_of<'a>(rest: &'a [u8], script: &'a Window) -> Option<Refusal<'a>> {
     let (number, kind) = first_field(rest);
     let number = ranged(0, u64::MAX, number)?;
+    let line = script.line(number)?;
     Some(Refusal {
         number,
         kind: kind?,
         part: script.part(number),
-        line: script.line(number)?,
+        line,
+        is_given: script.is_given(addr_in(line), number),
     })
 }
 

@@ -2,9 +2,9 @@
 
 use crate::fields::first_field;
 
-/// What is said where words are refused, and by the word `--help`.
-pub const USAGE: &str =
-    "usage: cct_main run < SCRIPT, cct_main check < SCRIPT, cct_main report [--journal FILE], cct_main upgrade < SCRIPT, cct_main audit < CAPTURE, cct_main load SEED N, with SEED 0 to 18446744073709551615 and N 1 to 10000 (docs/OPERATING.md, \"Exit statuses\")";
+/// What is said where words are refused, and where somebody asks.
+pub(crate) const USAGE: &str =
+    "usage: cct_main run < SCRIPT, cct_main check < SCRIPT, cct_main report [--journal FILE], cct_main state [--journal FILE] < SETUP, cct_main upgrade < SCRIPT, cct_main audit < CAPTURE, cct_main load SEED N, with SEED 0 to 18446744073709551615 and N 1 to 10000 (docs/OPERATING.md, \"Exit statuses\")";
 
 /// What is said where there was no memory.
 pub const MEMORY: &str =

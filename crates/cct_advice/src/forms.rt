@@ -32,6 +32,17 @@ impl Part {
             Part::Live => Text::Input,
         }
     }
+
+    /// The other part of its text, or itself where there is one alone.
+    pub(crate) fn other(self) -> Part {
+        match self {
+            Part::Setup => Part::Steps,
+            Part::Steps => Part::Setup,
+            Part::Watches => Part::Taps,
+            Part::Taps => Part::Watches,
+            Part::Live => Part::Live,
+        }
+    }
 }
 
 /// What is read on standard input.
@@ -200,6 +211,12 @@ const WHOLE_PIECE: Field = Field("PIECE", Rule::Piece(MOST_HEARD));
 
 const KIND: Field = Field("KIND", Rule::Kind);
 
+const QUIET_KIND: Field = Field("KIND", Rule::QuietKind);
+
+const QUIET: Field = Field("quiet", Rule::Only("quiet"));
+
+const PREMISES: Field = Field("premises", Rule::Only("premises"));
+
 const SENT: Field = Field("SENT", Rule::Bytes(MOST_SENT));
 
 const HEARD: Field = Field("HEARD", Rule::Piece(MOST_HEARD));
@@ -248,6 +265,12 @@ pub(crate) const FORMS: &[Form] = &[
     Form(Part::Steps, "serve", &[]),
     Form(Part::Steps, "end", &[]),
     Form(Part::Watches, "watch", &[DEVICE, CHECK, KIND]),
+    Form(Part::Watches, "watch", &[DEVICE, CHECK, QUIET_KIND, QUIET]),
+    Form(
+        Part::Watches,
+        "watch",
+        &[DEVICE, CHECK, QUIET_KIND, PREMISES],
+    ),
     Form(Part::Watches, "begin", &[]),
     Form(Part::Taps, "tap", &[SENT, HEARD]),
     Form(Part::Taps, "end", &[]),

@@ -24,6 +24,8 @@ pub(crate) struct Miss<'l> {
     form: Form,
     /// How many fields are right before it.
     place: usize,
+    /// How many are right in all.
+    right: usize,
     /// Whether the line has as many fields as the form.
     is_full: bool,
     wrong: Wrong<'l>,
@@ -46,6 +48,7 @@ pub(crate) fn miss_in<'l>(part: Part, line: &'l [u8]) -> Option<Miss<'l>> {
 /// Where what stands after a word misses a form, if it does.
 fn miss_of<'l>(form: &Form, rest: Option<&'l [u8]>) -> Option<Miss<'l>> {
     let is_full = fields_behind(rest) == form.fields().len();
+    let right = right_in(form, rest);
     let mut rest = rest;
     let mut before = form.word();
     for (place, field) in form.fields().iter().enumerate() {
@@ -57,6 +60,7 @@ fn miss_of<'l>(form: &Form, rest: Option<&'l [u8]>) -> Option<Miss<'l>> {
             return Some(Miss {
                 form: *form,
                 place,
+                right,
                 is_full,
                 wrong,
             });
@@ -67,9 +71,27 @@ fn miss_of<'l>(form: &Form, rest: Option<&'l [u8]>) -> Option<Miss<'l>> {
     Some(Miss {
         form: *form,
         place: form.fields().len(),
+        right,
         is_full,
         wrong: Wrong::Surplus(before, rest?),
     })
+}
+
+/// How many of the fields after a word are right in a form.
+fn right_in(form: &Form, rest: Option<&[u8]>) -> usize {
+    let mut rest = rest;
+    let mut right: usize = 0;
+    for field in form.fields() {
+        let Some(text) = rest else {
+            return right;
+        };
+        let (first, after) = first_field(text);
+        if field.rule().fits(first) {
+            right = right.saturating_add(1);
+        }
+        rest = after;
+    }
+    right
 }
 
 /// What is wrong with a field, if anything is.
@@ -80,12 +102,30 @@ fn unfit_in<'l>(field: &Field, text: &'l [u8]) -> Option<Wrong<'l>> {
     Some(Wrong::Unfit(*field, text))
 }
 
-/// The one of two misses after which more is right; the earlier one where both are alike.
+/// The one of two misses after which more is right; the earlier one where both are alike. A line that is too long for one form,
+/// and has as many fields as the other, misses the other.
 fn nearer<'l>(earlier: Option<Miss<'l>>, later: Miss<'l>) -> Miss<'l> {
     match earlier {
+        Some(miss) if miss.is_too_long() && later.is_full => later,
         Some(miss) if later.place < miss.place => miss,
-        Some(miss) if later.place == miss.place && (miss.is_full || !later.is_full) => miss,
+        Some(miss) if later.place == miss.place && later.is_no_nearer(&miss) => miss,
         _ => later,
+    }
+}
+
+impl Miss<'_> {
+    /// Whether a later miss after as many fields is no nearer than an earlier one.
+    fn is_no_nearer(&self, earlier: &Miss<'_>) -> bool {
+        if self.is_full == earlier.is_full {
+            self.right <= earlier.right
+        } else {
+            earlier.is_full
+        }
+    }
+
+    /// Whether the line has more fields than the form, all of which are right.
+    fn is_too_long(&self) -> bool {
+        matches!(self.wrong, Wrong::Surplus(_, _))
     }
 }
 

@@ -16,6 +16,14 @@ pub(crate) struct Refusal<'l> {
     pub kind: &'l [u8],
     pub part: Part,
     pub line: &'l [u8],
+    /// Whether a line before gave its address to a device.
+    pub is_given: bool,
+}
+
+/// What stands in a line where an address does: after its word.
+pub(crate) fn addr_in(line: &[u8]) -> &[u8] {
+    let (_, rest) = first_field(line);
+    first_field(rest.unwrap_or(b"")).0
 }
 
 impl fmt::Display for Refusal<'_> {
@@ -68,12 +76,14 @@ impl Refusal<'_> {
     /// Writes which device isn't there, or is there already.
     fn write_stranger<W: fmt::Write>(&self, f: &mut fmt::Formatter<W>) -> fmt::Result {
         self.write_forms(f)?;
-        let (word, rest) = first_field(self.line);
-        let addr = Shown(first_field(rest.unwrap_or(b"")).0);
-        match word {
+        let addr = Shown(addr_in(self.line));
+        match first_field(self.line).0 {
+            b"acceptor" | b"hopper" | b"bills" | b"watch" if self.is_given => {
+                write!(f, "address {addr} was given to a device before")
+            }
             b"acceptor" | b"hopper" | b"bills" | b"watch" => write!(
                 f,
-                "address {addr} is an earlier device's, or {DEVICES} devices were given before"
+                "{DEVICES} devices were given before, which is as many as there may be"
             ),
             b"value" => write!(
                 f,

@@ -12,6 +12,8 @@ const ACCEPTOR: &[u8] = b"acceptor";
 
 const HOPPER: &[u8] = b"hopper";
 
+const BILLS: &[u8] = b"bills";
+
 /// The mask that has no coin place.
 const NO_PLACE: &[u8] = b"0000";
 
@@ -36,6 +38,8 @@ pub(crate) enum Rule {
     Bytes(usize),
     /// What a watched device is.
     Kind,
+    /// What a device is that is watched as quiet.
+    QuietKind,
     /// This word.
     Only(&'static str),
 }
@@ -52,6 +56,7 @@ impl Rule {
             Rule::Piece(most) => field == NO_BYTE || is_piece(most, field),
             Rule::Bytes(most) => is_piece(most, field),
             Rule::Kind => field == ACCEPTOR || field == HOPPER,
+            Rule::QuietKind => field == ACCEPTOR || field == BILLS,
             Rule::Only(word) => field == word.as_bytes(),
         }
     }
@@ -90,6 +95,7 @@ impl fmt::Display for Rule {
                 "two hexadecimal digits for each byte, 1 to {most} bytes"
             ),
             Rule::Kind => f.write_str("acceptor or hopper"),
+            Rule::QuietKind => f.write_str("acceptor or bills"),
             Rule::Only(word) => write!(f, "{word}"),
         }
     }

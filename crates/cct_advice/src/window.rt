@@ -3,6 +3,7 @@ ghost use Rattle.std.specs.Prelude.{◌≡◌, ◌≤◌, length};
 ghost use Rattle.cct_advice.specs.declared.window.TheConstants.{LONGEST, ROOM};
 
 use crate::forms::{Part, Text};
+use crate::given::Given;
 use cct_lines::MOST_LINE;
 
 /// The most bytes that the reader of lines holds: a line, and one byte.
@@ -30,6 +31,8 @@ pub struct Window {
     spelt: Option<usize>,
     /// The number of the line `begin`.
     begun: Option<u64>,
+    /// The devices that the lines before `begin` gave.
+    given: Given,
     ghost short: { len ≤ ROOM },
 }
 
@@ -48,6 +51,7 @@ impl Window {
             feeds: 0,
             spelt: Some(0),
             begun: None,
+            given: Given::new(),
         }
     }
 
@@ -68,9 +72,11 @@ impl Window {
     fn count(&mut self, byte: u8) {
         if byte != b'\n' {
             self.spelt = self.spelt.and_then(|len| spelt_on(len, byte));
+            self.given.add(byte);
             return;
         }
         self.feeds = self.feeds.saturating_add(1);
+        self.given.end_line(self.feeds);
         if self.begun.is_none() && self.spelt == Some(BEGIN.len()) {
             self.begun = Some(self.feeds);
         }
@@ -103,6 +109,11 @@ impl Window {
             left = left.saturating_sub(1);
         }
         None
+    }
+
+    /// Whether a line before the one of this number gave an address to a device.
+    pub(crate) fn is_given(&self, addr: &[u8], number: u64) -> bool {
+        self.given.has(addr, number)
     }
 
     /// The part in which the line of this number stands.

@@ -4,6 +4,7 @@ use crate::fields::first_field;
 use crate::forms::{FORMS, Form, Part, Text, WordsOf};
 use crate::gaps::is_remark;
 use crate::shown::Shown;
+use cct_near::is_near;
 use std::fmt;
 
 /// A line whose word its part of the script or of the capture doesn't have.
@@ -23,11 +24,74 @@ impl fmt::Display for BadWord<'_> {
             return write!(f, "a {text} has no comments; leave the line out");
         }
         let (word, _) = first_field(self.line);
-        match form_named(self.part.text(), word) {
-            Some(form) => write_known(self.part, form, word, f),
+        if let Some(form) = form_named(self.part.text(), word) {
+            return write_known(self.part, form, word, f);
+        }
+        match self.part.text() {
+            Text::Script if form_named(Text::Input, word).is_some() => {
+                return write_stranger(word, "cct_live", "a script", f);
+            }
+            Text::Input if form_named(Text::Script, word).is_some() => {
+                return write_stranger(word, "a script", "cct_live", f);
+            }
+            Text::Script if form_named(Text::Capture, word).is_some() => {
+                return write_stranger(word, "a capture, which cct_main audit reads", "a script", f);
+            }
+            Text::Capture if form_named(Text::Script, word).is_some() => {
+                return write_stranger(word, "a script, which cct_main run plays", "a capture", f);
+            }
+            _ => {}
+        }
+        match meant_word(self.part, word) {
+            Some(form) => write_meant(self.part, form, word, f),
             None => write_unknown(self.part, word, f),
         }
     }
+}
+
+/// The first form of a part, or else of its text, whose word is spelt nearly as this one: by one letter, or else by two.
+fn meant_word(part: Part, word: &[u8]) -> Option<&'static Form> {
+    for (part, are_two) in [
+        (part, false),
+        (part, true),
+        (part.other(), false),
+        (part.other(), true),
+    ] {
+        let meant = FORMS.iter().find(|form| form.part() == part
+            && is_near(word, form.word().as_bytes(), are_two));
+        if meant.is_some() {
+            return meant;
+        }
+    }
+    None
+}
+
+/// Writes which word was meant, and where it may stand, if not here.
+fn write_meant<W: fmt::Write>(
+    part: Part,
+    form: &Form,
+    word: &[u8],
+    f: &mut fmt::Formatter<W>,
+) -> fmt::Result {
+    let shown = Shown(word);
+    let meant = form.word();
+    write!(f, "\"{shown}\" is no word; did you mean {meant}?")?;
+    if form.part() == part {
+        return Ok(());
+    }
+    f.write_str(" ")?;
+    write_known(part, form, meant.as_bytes(), f)
+}
+
+/// Writes that a word belongs elsewhere.
+fn write_stranger<W: fmt::Write>(
+    word: &[u8],
+    owner: &str,
+    here: &str,
+    f: &mut fmt::Formatter<W>,
+) -> fmt::Result {
+    let shown = Shown(word);
+    write!(f, "{shown} is a word of {owner}, and not of {here}")
 }
 
 /// The first form of a text with this word, in letters of either case.

@@ -13,10 +13,9 @@ use crate::answer::answer;
 use crate::events::Events;
 use crate::machine::Machine;
 use crate::status::{Refused, Status, Stop, Text};
-use cct_advice::words_of;
+use cct_advice::{read_advised_setup, words_of};
 use cct_edge::StdSource;
 use cct_port::StdLine;
-use cct_script::read_setup;
 use std::fs::{File, Files, OpenOptions};
 use std::process::ExitCode;
 
@@ -69,8 +68,7 @@ fn obey(rt: &HostRuntime, wanted: Wanted<'_>) -> Status {
 
 /// Puts the devices on the line until it is silent for long.
 fn play(rt: &HostRuntime, places: Places<'_>) -> Result<(), Stop> {
-    let mut text = source(rt, places.setup)?;
-    let setup = read_setup(&mut text)?;
+    let setup = read_advised_setup(rt, "cct_devices", source(rt, places.setup)?)?;
     let mut events = Events::new(source(rt, places.events)?);
     let mut machine = Machine::new(rt.alloc(), &setup)?;
     let mut line = StdLine::new(open_port(rt, places.port)?);
@@ -78,33 +76,36 @@ fn play(rt: &HostRuntime, places: Places<'_>) -> Result<(), Stop> {
 }
 
 /// The bytes of a file.
-fn source<R: Files>(rt: &R, path: &str) -> Result<StdSource<R::File>, Stop> {
+fn source<R: Files + Eprint>(rt: &R, path: &str) -> Result<StdSource<R::File>, Stop> {
     match File::open(rt, path) {
         Ok(file) => Ok(StdSource::new(file)),
-        Err(_) => Err(Stop::Read),
+        Err(_) => Err(unopened(rt, path)),
     }
 }
 
 /// The terminal of the line.
-fn open_port<R: Files>(rt: &R, path: &str) -> Result<R::File, Stop> {
+fn open_port<R: Files + Eprint>(rt: &R, path: &str) -> Result<R::File, Stop> {
     match OpenOptions::new().read(true).write(true).open(rt, path) {
         Ok(file) => Ok(file),
-        Err(_) => Err(Stop::Read),
+        Err(_) => Err(unopened(rt, path)),
     }
 }
 
-/// Says on standard error why the devices stopped, if there is something to say.
+/// Says on standard error that a file or the port can't be opened.
+fn unopened(rt: &impl Eprint, path: &str) -> Stop {
+    let _ = eprintln!(rt; "cct_devices: {path} can't be opened");
+    Stop::Unopened
+}
+
+/// Says on standard error why the devices stopped, if there is something to say, and that isn't said yet.
 fn tell(rt: &HostRuntime, played: Result<(), Stop>) -> Status {
     let _ = match &played {
-        Ok(()) => Ok(()),
-        Err(Stop::Line(Text::Setup, Refused { number, kind })) => {
-            eprintln!(rt; "cct_devices: setup line {number}: {kind}")
-        }
+        Ok(()) | Err(Stop::Line(Text::Setup, _) | Stop::Unopened) => Ok(()),
         Err(Stop::Line(Text::Events, Refused { number, kind })) => {
             eprintln!(rt; "cct_devices: events line {number}: {kind}")
         }
         Err(Stop::Words) => rt.eprintln(HELP),
-        Err(Stop::Read) => rt.eprintln("cct_devices: a file or the port can't be opened or read"),
+        Err(Stop::Read) => rt.eprintln("cct_devices: a file or the port can't be read"),
         Err(Stop::Write) => rt.eprintln("cct_devices: the port can't be written"),
         Err(Stop::Memory) => rt.eprintln("cct_devices: there was no memory"),
     };

@@ -27,6 +27,8 @@ pub(crate) enum Stop {
     Line(Text, Refused),
     /// The words of the command line ask for nothing.
     Words,
+    /// A file or the port couldn't be opened.
+    Unopened,
     /// Reading failed.
     Read,
     /// Writing failed.
@@ -74,7 +76,7 @@ impl Status {
             Ok(()) => Status::Done,
             Err(Stop::Line(..)) => Status::LineRefused,
             Err(Stop::Words) => Status::WordsRefused,
-            Err(Stop::Read) => Status::ReadFault,
+            Err(Stop::Unopened | Stop::Read) => Status::ReadFault,
             Err(Stop::Write) => Status::WriteFault,
             Err(Stop::Memory) => Status::OutOfMemory,
         }

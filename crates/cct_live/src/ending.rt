@@ -2,6 +2,7 @@
 
 use cct_edge::Failed;
 use cct_lines::LineKind;
+use cct_near::near_word;
 use cct_script::SetupNo;
 use cct_service::Served;
 use cct_setup_copy::What;
@@ -38,6 +39,9 @@ const OTHER_SETUP: u8 = 13;
 
 const NOTHING_HEARD: u8 = 14;
 
+/// The words that stand in place of a setup file.
+const SUBCOMMANDS: &[&str] = &["setup", "adopt"];
+
 /// The command that sets a terminal up for the program.
 #[derive(Drop)]
 pub(crate) struct Setting<'w>(pub(crate) &'w str);
@@ -57,7 +61,9 @@ impl fmt::Display for Setting<'_> {
 pub(crate) enum Stop {
     /// A line of the setup is refused.
     Setup { number: u32, kind: LineKind },
-    /// The setup couldn't be opened or read.
+    /// The setup couldn't be opened.
+    NoSetup,
+    /// The setup couldn't be read.
     SetupUnread,
     /// The port couldn't be opened.
     NoPort,
@@ -90,7 +96,7 @@ impl Stop {
     pub(crate) fn code(&self) -> u8 {
         match self {
             Stop::Setup { .. } => LINE_REFUSED,
-            Stop::SetupUnread | Stop::NoPort => READ_FAULT,
+            Stop::NoSetup | Stop::SetupUnread | Stop::NoPort => READ_FAULT,
             Stop::JournalInUse | Stop::PortInUse => IN_USE,
             Stop::NoTerminal | Stop::Unset => PORT_UNFIT,
             Stop::OtherSetup { .. } | Stop::CopyTorn { .. } => OTHER_SETUP,
@@ -116,10 +122,11 @@ impl Stop {
     }
 }
 
-/// What is said on standard error of why the program stops: over this port and this journal.
+/// What is said on standard error of why the program stops: with this setup, over this port and this journal.
 #[derive(Drop)]
 pub(crate) struct Cause<'w> {
     pub(crate) stop: Stop,
+    pub(crate) setup: &'w str,
     pub(crate) port: &'w str,
     pub(crate) journal: &'w str,
 }
@@ -130,7 +137,8 @@ impl fmt::Display for Cause<'_> {
         let journal = self.journal;
         match self.stop {
             Stop::Setup { number, kind } => write!(f, "setup line {number}: {kind}"),
-            Stop::SetupUnread => f.write_str("the setup can't be opened or read"),
+            Stop::NoSetup => write_missing(self.setup, f),
+            Stop::SetupUnread => f.write_str("the setup can't be read"),
             Stop::NoPort => write!(f, "the port {port} can't be opened"),
             Stop::JournalInUse => write!(f, "another process has the journal {journal}"),
             Stop::PortInUse => write!(f, "another process has the port {port}"),
@@ -159,6 +167,18 @@ impl fmt::Display for Cause<'_> {
             Stop::OutOfMemory => f.write_str("there was no memory"),
             Stop::Unwritten => f.write_str("standard output couldn't be written"),
         }
+    }
+}
+
+/// Writes that a setup can't be opened, and which word was meant where its name is nearly one.
+fn write_missing<W: fmt::Write>(setup: &str, f: &mut fmt::Formatter<W>) -> fmt::Result {
+    write!(f, "the setup {setup} can't be opened")?;
+    match near_word(setup.as_bytes(), SUBCOMMANDS) {
+        Some(meant) if !setup.as_bytes().contains(&b'/') => write!(
+            f,
+            "; did you mean the word {meant}?"
+        ),
+        _ => Ok(()),
     }
 }
 

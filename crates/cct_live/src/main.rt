@@ -30,14 +30,13 @@ use crate::outside::Around;
 use crate::quiet::QuietSink;
 use crate::rolling::call_first;
 use crate::words::{Echo, HostWords, LineWords, Words, read_words};
-use cct_advice::{KeptSink, MEMORY, UNWRITTEN, advise_end, words_of};
+use cct_advice::{KeptSink, MEMORY, UNWRITTEN, advise_end, read_advised_setup, words_of};
 use cct_change::Desk;
 use cct_disk::{FileDisk, InUse};
 use cct_draft::{Drafted, draft};
 use cct_edge::{Sink, StdSink, StdSource};
 use cct_lines::{Entry, Setup};
 use cct_port::Port;
-use cct_script::read_setup;
 use cct_service::{AtEnd, Page, Served, serve};
 use cct_setup_copy::CopyNames;
 use cct_survey::{Roll, crc_twins};
@@ -78,27 +77,34 @@ fn obey(rt: &HostRuntime, words: &[String]) -> u8 {
 /// Does what was asked for, and answers with the exit status.
 fn act(rt: &HostRuntime, words: Words<'_>) -> u8 {
     match words {
-        Words::Host(words) => told(rt, host(rt, words), words.line.port, words.journal),
-        Words::Draft { line } => told(rt, draft_setup(rt, line), line.port, ""),
+        Words::Host(words) => {
+            let done = host(rt, words);
+            told(rt, done, words.setup, words.line.port, words.journal)
+        }
+        Words::Draft { line } => told(rt, draft_setup(rt, line), "", line.port, ""),
         Words::Adopt { setup, journal } => {
-            told(rt, adopt_setup(rt, setup, journal), "", journal)
+            told(rt, adopt_setup(rt, setup, journal), setup, "", journal)
         }
     }
 }
 
-/// The exit status of what was done. Where it wasn't, the last line is written, and standard error says why.
-fn told(rt: &HostRuntime, done: Result<u8, Stop>, port: &str, journal: &str) -> u8 {
+/// The exit status of what was done. Where it wasn't, the last line is written, and standard error says why, if it didn't
+/// say yet what is wrong with a line.
+fn told(rt: &HostRuntime, done: Result<u8, Stop>, setup: &str, port: &str, journal: &str) -> u8 {
     let stop = match done {
         Ok(code) => return code,
         Err(stop) => stop,
     };
     let is_printed = stop.print(rt).is_ok();
-    let cause = Cause {
-        stop,
-        port,
-        journal,
-    };
-    let _ = eprintln!(rt; "cct_live: {cause}");
+    if !matches!(stop, Stop::Setup { .. }) {
+        let cause = Cause {
+            stop,
+            setup,
+            port,
+            journal,
+        };
+        let _ = eprintln!(rt; "cct_live: {cause}");
+    }
     if is_printed { stop.code() } else { WRITE_FAULT }
 }
 
@@ -157,12 +163,12 @@ fn advise_on(rt: &HostRuntime, served: &Served, last: &[u8], journal: &str) {
 }
 
 /// The setup that a file says.
-fn setup_of<R: Files>(rt: &R, path: &str) -> Result<Setup, Stop>
+fn setup_of<R: Files + Eprint>(rt: &R, path: &str) -> Result<Setup, Stop>
     ensures sound { IfOk result IsSoundSetup }
 {
     match File::open(rt, path) {
-        Ok(file) => Ok(read_setup(&mut StdSource::new(file))?),
-        Err(_) => Err(Stop::SetupUnread),
+        Ok(file) => Ok(read_advised_setup(rt, "cct_live", StdSource::new(file))?),
+        Err(_) => Err(Stop::NoSetup),
     }
 }
 

@@ -1,5 +1,6 @@
 //! What a call of the program wants.
 
+use cct_advice::Help;
 use cct_words::{Words, read_words};
 use std::alloc::Global;
 
@@ -22,7 +23,7 @@ impl<'w> Call<'w> {
     /// The call that the words of the command line make.
     pub(crate) fn of(alloc: Global, words: &'w [String]) -> Call<'w> {
         let (words, file) = match words {
-            [word, option, file] if is_report_of(word, option) => (&words[..1], file.as_str()),
+            [word, option, file] if names_file(word, option) => (&words[..1], file.as_str()),
             _ => (words, JOURNAL),
         };
         Call {
@@ -41,9 +42,13 @@ impl<'w> Call<'w> {
         }
     }
 
-    /// Whether it asks how the program is called.
-    pub(crate) fn is_help(&self) -> bool {
-        matches!(self.words, [word] if word.as_str() == "--help")
+    /// What it asks to be told, if it asks for help.
+    pub(crate) fn help(&self) -> Option<Help> {
+        match self.words {
+            [word] if is_help(word) => Some(Help::Usage),
+            [word, text] if is_help(word) => Help::named(text.as_str()),
+            _ => None,
+        }
     }
 
     /// Whether it is an audit, which reads a capture.
@@ -63,10 +68,13 @@ impl<'w> Call<'w> {
 
     /// Whether it wants a journal that is there: none is made for it.
     pub(crate) fn wants_journal(&self) -> bool {
-        matches!(self.wants, Some(Words::Report | Words::Upgrade))
+        matches!(
+            self.wants,
+            Some(Words::Report | Words::State | Words::Upgrade)
+        )
     }
 
-    /// Whether it may write into the journal, so that no other process may use it meanwhile. A report only reads.
+    /// Whether it may write into the journal, so that no other process may use it meanwhile. A report and a state only read.
     pub(crate) fn locks(&self) -> bool {
         matches!(
             self.wants,
@@ -75,7 +83,12 @@ impl<'w> Call<'w> {
     }
 }
 
-/// Whether these are the first two words of a report of a journal in another file.
-fn is_report_of(word: &String, option: &String) -> bool {
-    word.as_str() == "report" && option.as_str() == "--journal"
+/// Whether a word asks for help.
+fn is_help(word: &String) -> bool {
+    word.as_str() == "--help"
+}
+
+/// Whether these are the first two words of a report or a state of a journal in another file.
+fn names_file(word: &String, option: &String) -> bool {
+    matches!(word.as_str(), "report" | "state") && option.as_str() == "--journal"
 }

@@ -4,22 +4,30 @@
 #![tactic(auto)]
 
 mod call;
+mod heard;
 
 use call::Call;
 use cct_advice::{
-    AdvisedSink, KeptSink, KeptSource, MEMORY, SharedSource, UNCHECKED, UNTOLD, UNWRITTEN, USAGE,
+    AdvisedSink, Help, KeptSink, KeptSource, MEMORY, SharedSource, UNCHECKED, UNTOLD, UNWRITTEN,
     Window, advise, words_of,
 };
-use cct_bench::{Status, bench};
+use cct_bench::{Status, audit_capture, bench};
 use cct_disk::{FileDisk, InUse};
 use cct_edge::{Failed, Sink, StdSink, StdSource};
 use cct_lines::Entry;
+use cct_near::near_word;
 use cct_text::put_entry;
+use heard::tell_heard;
 use std::cell::RefCell;
 use std::fs::Files;
 use std::io::ErrorKind;
 use std::process::ExitCode;
 use std::{fs, io};
+
+/// The words that name a command.
+const WORDS: &[&str] = &[
+    "run", "check", "report", "state", "upgrade", "audit", "load",
+];
 
 /// How the program ended.
 #[derive(Clone, Copy)]
@@ -53,26 +61,22 @@ fn main(rt: HostRuntime) -> ExitCode {
 
 /// Does what a call wants.
 fn answer(rt: &HostRuntime, call: &Call<'_>) -> End {
-    if call.is_help() {
-        End::Of(help(rt))
+    if let Some(help) = call.help() {
+        End::Of(write_help(rt, help))
     } else if call.wants_journal() && is_missing(rt, call.journal()) {
         End::Of(tell_missing(rt, call.journal()))
     } else if call.is_check() {
         End::Of(check(rt, call))
+    } else if call.is_audit() {
+        End::Of(audit(rt))
     } else {
         play(rt, call)
     }
 }
 
-/// Does what a call wants that reads a script, a capture or a journal, and tells on standard error what there is to say of
-/// the end.
+/// Does what a call wants that reads a script or a journal, and tells on standard error what there is to say of the end.
 fn play(rt: &HostRuntime, call: &Call<'_>) -> End {
-    let source = StdSource::new(rt.reader());
-    let mut script = if call.is_audit() {
-        KeptSource::of_capture(source)
-    } else {
-        KeptSource::new(source)
-    };
+    let mut script = KeptSource::new(StdSource::new(rt.reader()));
     let mut out = KeptSink::new(StdSink::new(io::writer(rt)));
     let is_new = call.is_run() && is_missing(rt, call.journal());
     let end = match open(rt, call) {
@@ -90,14 +94,45 @@ fn play(rt: &HostRuntime, call: &Call<'_>) -> End {
     let _ = match end {
         End::Of(Status::Done) => Ok(()),
         End::Of(Status::OutOfMemory) => rt.eprintln(MEMORY),
-        End::Of(Status::WriteFault) if call.is_audit() => rt.eprintln(UNTOLD),
         End::Of(Status::WriteFault) => rt.eprintln(UNWRITTEN),
         _ => match advise(out.last(), script.window(), call.journal()) {
             Some(advice) => rt.eprintln(advice),
             None => Ok(()),
         },
     };
+    if let End::Of(Status::WordsRefused) = end {
+        tell_meant(rt, call);
+    }
     end
+}
+
+/// Says which word was meant, where the first one is nearly one that there is.
+fn tell_meant(rt: &impl Eprint, call: &Call<'_>) {
+    if let Some(word) = call.words.first()
+        && let Some(meant) = near_word(word.as_bytes(), WORDS)
+        && word.as_str() != meant
+    {
+        let _ = eprintln!(rt; "did you mean {meant}?");
+    }
+}
+
+/// Audits the capture, and says on standard error how many of its exchanges were for each watched device.
+fn audit(rt: &HostRuntime) -> Status {
+    let mut script = KeptSource::of_capture(StdSource::new(rt.reader()));
+    let mut out = KeptSink::new(StdSink::new(io::writer(rt)));
+    let (status, monitor) = audit_capture(&mut script, &mut out);
+    match status {
+        Status::Done => tell_heard(rt, &monitor),
+        Status::WriteFault => {
+            let _ = rt.eprintln(UNTOLD);
+        }
+        _ => {
+            if let Some(advice) = advise(out.last(), script.window(), "") {
+                let _ = rt.eprintln(advice);
+            }
+        }
+    }
+    status
 }
 
 /// Tells each line of the script that is refused, and says on standard error what is wrong with it.
@@ -158,9 +193,9 @@ fn tell_missing(rt: &HostRuntime, journal: &str) -> Status {
     }
 }
 
-/// Writes how the program is called.
-fn help(rt: &impl Print) -> Status {
-    match rt.println(USAGE) {
+/// Writes the help that was asked for.
+fn write_help(rt: &impl Print, help: Help) -> Status {
+    match rt.println(help) {
         Ok(()) => Status::Done,
         Err(_) => Status::WriteFault,
     }

@@ -9,11 +9,10 @@ mod words;
 use crate::ending::{Cause, DONE, OUT_OF_MEMORY, Setting, WORDS_REFUSED, WRITE_FAULT, code_after};
 use crate::watch::Watch;
 use crate::words::{Words, read_words};
-use cct_advice::{MEMORY, words_of};
+use cct_advice::{MEMORY, read_advised_setup, words_of};
 use cct_edge::{Sink, StdSink, StdSource};
 use cct_lines::Setup;
 use cct_port::{Options, Port};
-use cct_script::read_setup;
 use cct_terminal::Terminal;
 use cct_trial_run::{Bench, Ended, Leave, Person, Plan, leave, run};
 use cct_trials::TRIALS;
@@ -52,14 +51,17 @@ fn obey(rt: &HostRuntime, words: &[String]) -> u8 {
     }
 }
 
-/// The exit status of what was done. Where it wasn't, the last line is written, and standard error says why.
+/// The exit status of what was done. Where it wasn't, the last line is written, and standard error says why, if it didn't
+/// say yet what is wrong with a line.
 fn told(rt: &HostRuntime, done: Result<u8, Cause>) -> u8 {
     let cause = match done {
         Ok(code) => return code,
         Err(cause) => cause,
     };
     let is_printed = cause.print(rt).is_ok();
-    let _ = eprintln!(rt; "cct_probe: {cause}");
+    if !matches!(cause, Cause::Setup { .. }) {
+        let _ = eprintln!(rt; "cct_probe: {cause}");
+    }
     if is_printed {
         cause.code()
     } else {
@@ -98,9 +100,9 @@ fn code_told(rt: &HostRuntime, ended: Ended) -> u8 {
 }
 
 /// The setup that a file says.
-fn setup_of<R: Files>(rt: &R, path: &str) -> Result<Setup, Cause> {
+fn setup_of<R: Files + Eprint>(rt: &R, path: &str) -> Result<Setup, Cause> {
     match File::open(rt, path) {
-        Ok(file) => Ok(read_setup(&mut StdSource::new(file))?),
+        Ok(file) => Ok(read_advised_setup(rt, "cct_probe", StdSource::new(file))?),
         Err(_) => Err(Cause::SetupUnread),
     }
 }
