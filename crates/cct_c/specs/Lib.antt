@@ -1,0 +1,6 @@
+pub mod Asking
+pub mod Codes
+pub mod Fed
+pub mod Frames
+pub mod Held
+pub mod Told

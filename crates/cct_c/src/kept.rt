@@ -1,0 +1,14 @@
+//! What a handle keeps: a device core or its settings, a machine, or a host. A host borrows its machine for as long as it is
+//! there.
+
+use crate::held::Held;
+use crate::hosted::Hosted;
+use crate::machine::Machine;
+
+/// Settings or a device core, the devices of a machine, or a host.
+#[derive(Drop)]
+pub enum Kept {
+    Device(Held),
+    Machine(Machine),
+    Host(Hosted),
+}

@@ -1,0 +1,276 @@
+//! The host, step by step.
+ghost use Rattle.std.specs.Prelude.{◌≡◌, ◌≤◌, ◌+◌, ℕ, [], false, true, length, IfOk, IsTrue, ◌↔◌, OnOk, List, Some, None};
+ghost use Rattle.cct_host.specs.Host.{StandsFor, disk_of, has_failed, setup_of};
+ghost use Rattle.cct_journal.specs.Journal as journals;
+ghost use Rattle.cct_model.specs.Setup.{IsSoundSetup};
+ghost use Rattle.cct_model.specs.lines.entry.Entry.{Entry};
+ghost use Rattle.cct_model.specs.terms.wire.TheConstants.{MOST_HEARD};
+ghost use Rattle.cct_poll.specs.Steps.{Steps, Says, Tells};
+
+use crate::advance::advance;
+use crate::refusal::{NotNow, PollNo};
+use arrayvec::ArrayVec;
+use cct_host::{Host, StartNo};
+use cct_journal::{CreateNo, Journal, OpenNo};
+use cct_model::{Command, Entry, MOST_SENT, Setup, Totals};
+use cct_msg::encode_request;
+use cct_queue::{Call, QueueDisk};
+
+/// What the caller is to do next.
+#[derive(Clone, Copy, Debug, PartialEq, Eq)]
+pub enum Ask {
+    /// To make [`Poll::call`] on his part, and to say [`Poll::done`] or [`Poll::lost`].
+    Make,
+    /// To take [`Poll::entry`], and to say [`Poll::taken`].
+    Take,
+    /// To send [`Poll::piece`], once, and to say by [`Poll::heard`] what he heard.
+    Send,
+    /// To say what he heard after the piece that he sent, no bytes where nothing came.
+    Hear,
+    /// To say [`Poll::put`]: a record is due.
+    Put,
+    /// Nothing, at this address.
+    Idle,
+    /// Nothing any more: a call was lost. A new host is to be started over what the part has.
+    Over,
+}
+
+/// A host whose caller has the wire, and the part that keeps its journal. It calls nothing. Nothing is sent and no entry is
+/// told while a call on the part is noted: so what is told as put stands on the part, where the caller makes the calls in
+/// their order.
+#[derive(Drop)]
+pub struct Poll<'s> {
+    host: Host<'s, QueueDisk>,
+    /// The entries of the last step, of which the first `told` were taken.
+    report: ArrayVec<Entry, 8>,
+    told: usize,
+    /// So many of the noted calls were made.
+    made: usize,
+    /// The address at which the piece is sent of which it isn't told yet what was heard.
+    asked: Option<u8>,
+    piece: ArrayVec<u8, MOST_SENT>,
+    over: bool,
+    ghost whole: { over ≡ false → has_failed host ≡ false },
+}
+
+impl<'s> Poll<'s> {
+    /// A host over what a part holds: the journal that is there, or a new one where each byte is 0. The calls that make a new
+    /// one are the first that are to be made.
+    pub fn start(setup: &'s Setup, part: Vec<u8>) -> Result<Poll<'s>, PollNo>
+        requires sound { IsSoundSetup setup.now }
+        ensures setup { IfOk result (λ poll. setup_of poll.host ≡ setup.now) }
+        ensures begins { IfOk result (λ poll. (poll.over ≡ false) × (poll.asked ≡ None) × (poll.report.items ≡ [])) }
+    {
+        let journal = journal_on(part)?;
+        match Host::start(setup, journal) {
+            Ok(host) => Ok(Poll {
+                host,
+                report: ArrayVec::new(),
+                told: 0,
+                made: 0,
+                asked: None,
+                piece: ArrayVec::new(),
+                over: false,
+            }),
+            Err((_, StartNo::BadRecord { index })) => Err(PollNo::BadRecord { index }),
+            Err((_, StartNo::Disk)) => Err(PollNo::Disk),
+        }
+    }
+
+    /// What the caller is to do next, at an address.
+    pub fn ask(&mut self, addr: u8) -> Ask
+        // Nothing is sent, told or put while a call is noted.
+        ensures settled { Tells result → (disk_of self.new.host).calls ≡ [] }
+        ensures sends { result ≡ Ask.Send → self.new.asked ≡ Some addr }
+        // A piece is sent once: then it is to be said what was heard.
+        ensures once { result ≡ Ask.Send → self.old.asked ≡ None }
+        ensures host { self.new.host ≡ self.old.host }
+        ensures over { self.new.over ≡ self.old.over }
+    {
+        if self.over {
+            return Ask::Over;
+        }
+        if !self.is_settled() {
+            return Ask::Make;
+        }
+        if self.told < self.report.len() {
+            return Ask::Take;
+        }
+        if self.asked.is_some() {
+            return Ask::Hear;
+        }
+        match self.host.sending(addr) {
+            Some(sending) => {
+                encode_request(sending.kind, sending.to, &sending.request, &mut self.piece);
+                self.asked = Some(addr);
+                Ask::Send
+            }
+            None => match self.host.due(addr) {
+                Some(_) => Ask::Put,
+                None => Ask::Idle,
+            },
+        }
+    }
+
+    /// The call that is to be made on the part, where [`Poll::ask`] says so.
+    pub fn call(&self) -> Option<Call<'_>> {
+        self.host.disk().call(self.made)
+    }
+
+    /// The entry that is to be taken, where [`Poll::ask`] says so.
+    pub fn entry(&self) -> Option<&Entry> {
+        self.report.get(self.told)
+    }
+
+    /// The piece that is to be sent, where [`Poll::ask`] says so.
+    pub fn piece(&self) -> &[u8]
+        ensures { result.now ≡ self.now.piece.items }
+    {
+        self.piece.as_slice()
+    }
+
+    /// A command of the operator, of which one entry is to be taken: it is taken, or refused for the first reason that holds.
+    pub fn command(&mut self, command: &Command) -> Result<(), NotNow>
+        ensures settled { OnOk result ((disk_of self.old.host).calls ≡ []) }
+        ensures setup { setup_of self.new.host ≡ setup_of self.old.host }
+        ensures said { OnOk result ((past : List Entry) → StandsFor self.old.host past
+            → Says command.now past self.old.host self.new.host self.new.report.items) }
+    {
+        if !self.is_quiet() {
+            return Err(NotNow);
+        }
+        let said = match self.host.command(command) {
+            Ok(()) => Entry::Taken(*command),
+            Err(why) => Entry::No {
+                command: *command,
+                why,
+            },
+        };
+        self.report.clear();
+        self.told = 0;
+        self.report.push(said);
+        Ok(())
+    }
+
+    /// This was heard after the piece was sent, its echo first where the line gives one; no bytes where nothing came.
+    pub fn heard(&mut self, bytes: &[u8]) -> Result<(), NotNow>
+        requires few { length bytes.now ≤ MOST_HEARD }
+        ensures settled { OnOk result ((disk_of self.old.host).calls ≡ []) }
+        ensures setup { setup_of self.new.host ≡ setup_of self.old.host }
+        // A reply is heard once, after a piece that was sent.
+        ensures once { OnOk result (self.new.asked ≡ None) }
+        // One attempt of the host at the address, which sent that piece and heard these bytes, whatever happened before.
+        ensures steps { OnOk result ((addr : ℕ) × (self.old.asked ≡ Some addr) × (self.new.over ≡ false
+            → Steps self.old.piece.items bytes.now addr self.old.host self.new.host self.new.report.items)) }
+    {
+        let Some(addr) = self.asked else {
+            return Err(NotNow);
+        };
+        if self.over || !self.is_settled() || self.told < self.report.len() {
+            return Err(NotNow);
+        }
+        self.asked = None;
+        self.report.clear();
+        self.told = 0;
+        self.over = !advance(
+            &mut self.host,
+            addr,
+            self.piece.as_slice(),
+            bytes,
+            &mut self.report,
+        );
+        Ok(())
+    }
+
+    /// The record that is due at an address is put: its calls are then to be made.
+    pub fn put(&mut self, addr: u8) -> Result<(), NotNow>
+        ensures settled { OnOk result ((disk_of self.old.host).calls ≡ []) }
+        ensures setup { setup_of self.new.host ≡ setup_of self.old.host }
+        // One attempt of the host at the address, which sent nothing.
+        ensures steps { OnOk result (self.new.over ≡ false
+            → Steps [] [] addr self.old.host self.new.host self.new.report.items) }
+    {
+        if !self.is_quiet() {
+            return Err(NotNow);
+        }
+        self.report.clear();
+        self.told = 0;
+        self.over = !advance(&mut self.host, addr, &[], &[], &mut self.report);
+        Ok(())
+    }
+
+    /// The caller made the call, and it was done.
+    pub fn done(&mut self) -> Result<(), NotNow>
+        ensures setup { setup_of self.new.host ≡ setup_of self.old.host }
+        ensures stands { (past : List Entry) → StandsFor self.old.host past → StandsFor self.new.host past }
+        ensures over { self.new.over ≡ self.old.over }
+    {
+        let many = self.host.disk().count();
+        if self.over || self.made >= many {
+            return Err(NotNow);
+        }
+        self.made += 1;
+        if self.made == many {
+            self.host.settle();
+            self.made = 0;
+        }
+        Ok(())
+    }
+
+    /// A call failed, or the caller can't tell whether it was done: the host is over.
+    pub fn lost(&mut self)
+        ensures { self.new.over ≡ true }
+    {
+        self.over = true;
+    }
+
+    /// The caller took the entry.
+    pub fn taken(&mut self) -> Result<(), NotNow>
+        ensures settled { OnOk result ((disk_of self.old.host).calls ≡ []) }
+        ensures next { OnOk result (self.new.told ≡ self.old.told + 1) }
+        ensures host { self.new.host ≡ self.old.host }
+    {
+        if self.over || !self.is_settled() || self.told >= self.report.len() {
+            return Err(NotNow);
+        }
+        self.told += 1;
+        Ok(())
+    }
+
+    /// What is available, reserved, paid and sold, in units of value.
+    pub fn totals(&self) -> Totals {
+        self.host.totals()
+    }
+
+    /// Whether nothing is to be made, taken or heard, and no call was lost.
+    fn is_quiet(&self) -> bool
+        ensures settled { IsTrue result → (disk_of self.now.host).calls ≡ [] }
+        ensures running { IsTrue result → self.now.over ≡ false }
+    {
+        self.is_settled() && !self.over && self.told >= self.report.len() && self.asked.is_none()
+    }
+
+    /// Whether no call is noted.
+    fn is_settled(&self) -> bool
+        ensures { IsTrue result ↔ ((disk_of self.now.host).calls ≡ []) }
+    {
+        self.host.disk().count() == 0
+    }
+}
+
+/// The journal on a part, or a new one where each byte is 0.
+fn journal_on(part: Vec<u8>) -> Result<Journal<QueueDisk>, PollNo>
+    ensures whole { IfOk result (λ journal. journals.has_failed journal ≡ false) }
+{
+    match Journal::reopen(QueueDisk::new(part)) {
+        Ok((journal, _)) => Ok(journal),
+        Err((disk, OpenNo::Alien)) => match Journal::create(disk) {
+            Ok(journal) => Ok(journal),
+            Err((_, CreateNo::Small { .. })) => Err(PollNo::Small),
+            Err((_, CreateNo::NotBlank { .. })) => Err(PollNo::Alien),
+            Err((_, CreateNo::Disk)) => Err(PollNo::Disk),
+        },
+        Err((_, OpenNo::BadRecord { index })) => Err(PollNo::BadRecord { index }),
+        Err((_, OpenNo::Disk)) => Err(PollNo::Disk),
+    }
+}
