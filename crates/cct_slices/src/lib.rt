@@ -1,0 +1,8 @@
+//! A source and a sink over slices, which tell their bytes: for a program that hands its memory over, and takes none.
+#![tactic(auto)]
+
+mod given;
+mod page;
+
+pub use given::Given;
+pub use page::Page;

@@ -1,0 +1,135 @@
+-- What an audit leaves on a page.
+use Rattle.std.proofs.Common.{◌≡◌, ◌∙◌, arith, inl, inr, ap, List, [], ◌∷◌, ◌++◌, ℕ, Option, None, Result, Ok, Err}
+use Rattle.cct_edge.specs.declared.fault.Failed.{Failed}
+use Rattle.cct_edge.specs.Faults.{Rose}
+use Rattle.cct_text.specs.Writing.{Puts}
+use Rattle.cct_monitor.specs.declared.monitor.Monitor.{Monitor}
+use Rattle.cct_monitor.specs.Watches.{Came}
+use Rattle.cct_model.specs.lines.entry.Entry.{Entry}
+use Rattle.cct_audit.specs.Audit.{BreaksOff, at_end, at_tap}
+use Rattle.cct_audit.specs.Writing.{BrokeLines, WroteLines, bytes_of}
+use Rattle.cct_bench.specs.declared.outcome.Status.{Status}
+use Rattle.cct_bench.specs.declared.outcome.Status.TheVariants as status
+use Rattle.cct_bench.specs.Audit.{AuditCloses, AuditEnds, AuditRan}
+use Rattle.cct_slices.specs.declared.page.Page.{Page}
+use Rattle.cct_slices.specs.Slices.{page_name, page_puts, page_written, written_on}
+use Rattle.cct_web.specs.Audits.{AreFront, AreLines}
+
+-- a source that counts no fault didn't fail
+pub never_rose : Rose 0 0 → ⊥
+never_rose rose = omega (arith, rose)
+
+-- what was written, as lines of a page that was empty
+pub wrote : (before now : Page) → written_on before ≡ [] → (lines : List (List ℕ))
+    → WroteLines page_written page_puts before now lines → AreLines (written_on now) lines
+wrote before now empty lines w = w.told ∙ ap (λ x. x ++ bytes_of lines) empty
+
+pub broke : (before now : Page) → written_on before ≡ [] → (whole cut : List (List ℕ))
+    → BrokeLines page_written page_puts before now whole cut → AreFront (written_on now) whole cut
+broke before now empty whole cut b =
+    let told = b.3.told in
+    (told.0, told.1, told.3 ∙ ap (λ x. x ++ told.0) (wrote before b.0 empty whole b.2), told.2)
+
+-- a page stays where it is over puts
+pub puts_stay : (before now : Page) (lines : List (List ℕ)) (answer : Result (Unit {0}) Failed)
+    → Puts page_puts before lines answer now → page_name now ≡ page_name before
+puts_stay before now [] answer p = ap page_name p.1
+puts_stay before now (piece ∷ pieces) answer (inl p) = puts_stay p.0 now pieces answer p.2 ∙ p.1.0
+puts_stay before now (piece ∷ pieces) answer (inr p) = p.2.0
+
+pub wrote_stays : (before now : Page) (lines : List (List ℕ)) → WroteLines page_written page_puts before now lines
+    → page_name now ≡ page_name before
+wrote_stays before now lines w = puts_stay before now lines (Ok tt) w.put
+
+pub broke_stays : (before now : Page) (whole cut : List (List ℕ)) → BrokeLines page_written page_puts before now whole cut
+    → page_name now ≡ page_name before
+broke_stays before now whole cut b = puts_stay b.0 now cut (Err b.1) b.3.put ∙ wrote_stays before b.0 whole b.2
+
+-- what is so of all that may have been written, is so of what was
+module _ (bytes : List ℕ) (F F1 : Type 0) (W W1 : List (List ℕ) → Type 0) (B B1 : List (List ℕ) → List (List ℕ) → Type 0)
+    (f : F → F1) (w : (lines : List (List ℕ)) → W lines → W1 lines)
+    (b : (whole cut : List (List ℕ)) → B whole cut → B1 whole cut) where
+  breaks : (past : List Came) → BreaksOff bytes B past → BreaksOff bytes B1 past
+  breaks past (at_tap c before rest came broken) = at_tap c before rest came (b _ _ broken)
+  breaks past (at_end whole came broken) = at_end whole came (b _ _ broken)
+
+  closes : (taken : List ℕ) (past : List Came) (s : Status) (line : Entry) → AuditCloses bytes taken past F s line
+      → AuditCloses bytes taken past F1 s line
+  closes taken past status.ScriptRefused line c = c
+  closes taken past status.ReadFault line c = (c.0, f c.1, c.2)
+  closes taken past status.Done line c = absurd c
+  closes taken past status.OutOfMemory line c = absurd c
+  closes taken past status.WriteFault line c = absurd c
+  closes taken past status.WordsRefused line c = absurd c
+  closes taken past status.DiskFault line c = absurd c
+  closes taken past status.NotBlank line c = absurd c
+  closes taken past status.DiskSize line c = absurd c
+  closes taken past status.JournalLost line c = absurd c
+  closes taken past status.NotUpgraded line c = absurd c
+
+  ends : (taken : List ℕ) (past : List Came) (s : Status) → AuditEnds bytes taken past F s W B
+      → AuditEnds bytes taken past F1 s W1 B1
+  ends taken past status.Done e = (e.0, w _ e.1)
+  ends taken past status.OutOfMemory e = (e.0, w _ e.1)
+  ends taken past status.WriteFault (inl broken) = inl (breaks past broken)
+  ends taken past status.WriteFault (inr e) = inr (e.0, e.1, closes taken past e.0 e.1 e.2, b _ _ e.3)
+  ends taken past status.ScriptRefused e = (e.0, closes taken past status.ScriptRefused e.0 e.1, w _ e.2)
+  ends taken past status.ReadFault e = (e.0, closes taken past status.ReadFault e.0 e.1, w _ e.2)
+  ends taken past status.WordsRefused e = absurd e.1
+  ends taken past status.DiskFault e = absurd e.1
+  ends taken past status.NotBlank e = absurd e.1
+  ends taken past status.DiskSize e = absurd e.1
+  ends taken past status.JournalLost e = absurd e.1
+  ends taken past status.NotUpgraded e = absurd e.1
+
+  pub mapped : (s : Status) (monitor : Option Monitor) (left : Option (List ℕ)) → AuditRan bytes s monitor left F W B
+      → AuditRan bytes s None left F1 W1 B1
+  mapped s monitor left ran = record {
+    taken = ran.taken;
+    past = ran.past;
+    took = ran.took;
+    ends = ends ran.taken ran.past s ran.ends;
+    right = ran.right;
+    stands = tt;
+  }
+
+-- what is so of anything that may have been written
+holds_broken : (bytes : List ℕ) (P : Type 0) (past : List Came) → BreaksOff bytes (λ whole cut. P) past → P
+holds_broken bytes P past (at_tap c before rest came p) = p
+holds_broken bytes P past (at_end whole came p) = p
+
+pub holds : (bytes taken : List ℕ) (past : List Came) (F P : Type 0) (s : Status)
+    → AuditEnds bytes taken past F s (λ lines. P) (λ whole cut. P) → P
+holds bytes taken past F P status.Done e = e.1
+holds bytes taken past F P status.OutOfMemory e = e.1
+holds bytes taken past F P status.WriteFault (inl broken) = holds_broken bytes P past broken
+holds bytes taken past F P status.WriteFault (inr e) = e.3
+holds bytes taken past F P status.ScriptRefused e = e.2
+holds bytes taken past F P status.ReadFault e = e.2
+holds bytes taken past F P status.WordsRefused e = e.2
+holds bytes taken past F P status.DiskFault e = e.2
+holds bytes taken past F P status.NotBlank e = e.2
+holds bytes taken past F P status.DiskSize e = e.2
+holds bytes taken past F P status.JournalLost e = e.2
+holds bytes taken past F P status.NotUpgraded e = e.2
+
+-- the page stays where it is over an audit
+pub audit_stays : (bytes : List ℕ) (s : Status) (monitor : Option Monitor) (left : Option (List ℕ)) (F : Type 0)
+    (before now : Page) → AuditRan bytes s monitor left F (WroteLines page_written page_puts before now)
+    (BrokeLines page_written page_puts before now) → page_name now ≡ page_name before
+audit_stays bytes s monitor left F before now ran =
+    let stays : Type 0 = page_name now ≡ page_name before in
+    let one = mapped bytes F F (WroteLines page_written page_puts before now) (λ lines. stays)
+    (BrokeLines page_written page_puts before now) (λ whole cut. stays) (λ x. x) (wrote_stays before now)
+    (broke_stays before now) s monitor left ran in
+    holds bytes one.taken one.past F stays s one.ends
+
+-- an audit onto an empty page
+pub audited_page : (bytes : List ℕ) (s : Status) (monitor : Option Monitor) (left : Option (List ℕ)) (before now : Page)
+    → written_on before ≡ [] → AuditRan bytes s monitor left (Rose 0 0) (WroteLines page_written page_puts before now)
+    (BrokeLines page_written page_puts before now)
+    → AuditRan bytes s None left ⊥ (AreLines (written_on now)) (AreFront (written_on now))
+audited_page bytes s monitor left before now empty =
+    mapped bytes (Rose 0 0) ⊥ (WroteLines page_written page_puts before now) (AreLines (written_on now))
+    (BrokeLines page_written page_puts before now) (AreFront (written_on now)) never_rose (wrote before now empty)
+    (broke before now empty) s monitor left

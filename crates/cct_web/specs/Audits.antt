@@ -1,0 +1,23 @@
+-- What an audit onto a page answers and writes.
+use Rattle.std.specs.Prelude.{◌≡◌, ℕ, List, ◌++◌, Option, None}
+use Rattle.cct_audit.specs.Writing.{bytes_of}
+use Rattle.cct_bench.specs.declared.outcome.Status.{Status}
+use Rattle.cct_bench.specs.Audit.{AuditRan}
+use Rattle.cct_bench.specs.Status.{code_of}
+
+-- These bytes are those of these lines.
+abbrev pub AreLines : List ℕ → List (List ℕ) → Type 0
+AreLines page lines = page ≡ bytes_of lines
+
+-- These bytes are those of the first of these lines, and of the others a front, since no more found room.
+abbrev pub AreFront : List ℕ → List (List ℕ) → List (List ℕ) → Type 0
+AreFront page whole cut =
+    (front : List ℕ) × (rest : List ℕ) × (page ≡ bytes_of whole ++ front) × (bytes_of cut ≡ front ++ rest)
+
+-- An audit of this capture answered this code and wrote these bytes: what an audit by the bench says of it, which is right, since
+-- reading it can't fail.
+pub record Audits (capture : List ℕ) (code : ℕ) (page : List ℕ) : Type 0 where
+  pub status : Status
+  pub coded : code ≡ code_of status
+  pub left : Option (List ℕ)
+  pub ran : AuditRan capture status None left ⊥ (AreLines page) (AreFront page)
