@@ -15,16 +15,16 @@ pub(crate) const ONE_COIN: &str = "tap 020001e518 020001e518010b0200010501000000
 pub(crate) const ALL_PLACES: &str = "tap 020001e617 020001e61701020200fffffd\n";
 
 /// It lets none in.
-const NO_PLACE: &str = "tap 020001e617 020001e617010202000000fb\n";
+pub(crate) const NO_PLACE: &str = "tap 020001e617 020001e617010202000000fb\n";
 
 /// A second event: an object that was no coin.
-const NO_COIN: &str = "tap 020001e518 020001e518010b02000200010501000000000000e9\n";
+pub(crate) const NO_COIN: &str = "tap 020001e518 020001e518010b02000200010501000000000000e9\n";
 
 /// Five events more: 2/1, 1/8, 3/1, an error, and 16/2.
-const FIVE_MORE: &str = "tap 020001e518 020001e518010b0200071002000e030101080201bb\n";
+pub(crate) const FIVE_MORE: &str = "tap 020001e518 020001e518010b0200071002000e030101080201bb\n";
 
 /// Six events more.
-const SIX_MORE: &str = "tap 020001e518 020001e518010b02000809011002000e03010108b3\n";
+pub(crate) const SIX_MORE: &str = "tap 020001e518 020001e518010b02000809011002000e03010108b3\n";
 
 /// The event counter is 254, and after three coins more it is 2.
 const NEAR_LAST: &str = "tap 020001e518 020001e518010b0200fe09010901090109010901c2\n";
@@ -39,7 +39,7 @@ const BAD_ECHO: &str = "tap 020001e518 020001e519010b02000000000000000000000000f
 const NOT_FOR_US: &str = "tap 020003e516 020003e516030b02000000000000000000000000f0\n";
 
 /// The inhibit mask is set: and is answered, is not, by another host, in a wrong form, and at acceptor 9.
-const SET: &str = "tap 020201e7ffff16 020201e7ffff1601000200fd\n";
+pub(crate) const SET: &str = "tap 020201e7ffff16 020201e7ffff1601000200fd\n";
 
 const SET_UNSURE: &str = "tap 020201e7ffff16 -\n";
 
@@ -50,7 +50,7 @@ const SET_SHORT: &str = "tap 020101e7ff16 020101e7ff16\n";
 const SET_NINE: &str = "tap 090201e7ffff0f 090201e7ffff0f01000900f6\n";
 
 /// The acceptor is reset.
-const RESET: &str = "tap 02000101fc 02000101fc01000200fd\n";
+pub(crate) const RESET: &str = "tap 02000101fc 02000101fc01000200fd\n";
 
 /// Audits the taps of acceptor 2, and compares what is said.
 fn say(rt: &impl Abort, alloc: Global, taps: &[&str], text: &str) -> Result<(), Fail> {

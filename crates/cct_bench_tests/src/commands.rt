@@ -7,9 +7,10 @@ use std::alloc::Global;
 use std::test::Fail;
 
 /// Lists of words that say what to do.
-const TAKEN: [(&[&str], Words); 10] = [
+const TAKEN: [(&[&str], Words); 11] = [
     (&["run"], Words::Run),
     (&["report"], Words::Report),
+    (&["state"], Words::State),
     (&["upgrade"], Words::Upgrade),
     (&["check"], Words::Check),
     (&["load", "0", "1"], Words::Load { seed: 0, rounds: 1 }),

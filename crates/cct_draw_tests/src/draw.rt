@@ -1,6 +1,7 @@
 //! A picture is a well-formed document, whatever its texts hold; it says what its marks are, and ends where a put fails.
 use cct_draw::{
-    Ask, FaultAt, Happening, Heard, Label, LaneKind, MOST_LABEL, Mark, Picture, Reach, Reply,
+    Ask, FaultAt, Happening, Heard, Label, LaneKind, MOST_LABEL, Mark, Picture, Place, Reach,
+    Reply, Verdict,
 };
 use cct_edge::{Failed, MemSink};
 use cct_lines::{Coin, Coins, Record};
@@ -33,6 +34,15 @@ fn reply(
     }))
 }
 
+/// The place of a line, in which this time stands.
+fn place(line: u64, time: Label) -> Place {
+    Place {
+        line,
+        tap: None,
+        time,
+    }
+}
+
 /// Adds marks with this text in every place that a text has, for this device.
 fn add_texts(
     alloc: Global,
@@ -42,8 +52,8 @@ fn add_texts(
 ) -> Result<(), AllocError> {
     let words = Label::new(text);
     picture.add(
+        place(1, words),
         1,
-        words,
         Mark::Exchange {
             addr,
             kind: LaneKind::Unknown,
@@ -52,19 +62,19 @@ fn add_texts(
         },
     )?;
     picture.add(
+        place(2, words),
         2,
-        words,
         Mark::Fault {
             at: FaultAt::Host,
             bytes: words,
         },
     )?;
-    picture.add(3, words, Mark::Taken(words))?;
-    picture.add(4, words, Mark::Refused(words))?;
-    picture.add(5, words, Mark::Ended(words))?;
-    picture.add(6, words, Mark::Alarm(words))?;
-    picture.add(7, words, Mark::Forged(words))?;
-    picture.add(8, words, Mark::Note(words))
+    picture.add(place(3, words), 3, Mark::Taken(words))?;
+    picture.add(place(4, words), 4, Mark::Refused(words))?;
+    picture.add(place(5, words), 5, Mark::Ended(words))?;
+    picture.add(place(6, words), 6, Mark::Alarm(words))?;
+    picture.add(place(7, words), 7, Mark::Forged(words))?;
+    picture.add(place(8, words), 8, Mark::Note(words))
 }
 
 /// A picture with a lane for each address, in whose texts each byte follows each other one.
@@ -132,21 +142,21 @@ fn picture_of_coins_and_bills(alloc: Global) -> Result<Picture, AllocError> {
     ];
     let mut picture = Picture::new(alloc);
     for mark in marks {
-        picture.add(9, Label::empty(), mark)?;
+        picture.add(Place::of_line(9), 9, mark)?;
     }
-    picture.add_equal();
+    picture.add_equal(10);
     Ok(picture)
 }
 
-/// A picture of one exchange with a bill validator at address 40: a request that went astray or not, and what was heard.
+/// A picture of one exchange with a bill acceptor at address 40: a request that went astray or not, and what was heard.
 fn picture_of_exchange(alloc: Global, reach: Reach, heard: Heard) -> Result<Picture, AllocError> {
     let mut picture = Picture::new(alloc);
     picture.add(
+        place(1, Label::new(b"12:00")),
         1,
-        Label::new(b"12:00"),
         Mark::Exchange {
             addr: 40,
-            kind: LaneKind::BillValidator,
+            kind: LaneKind::BillAcceptor,
             ask: ask(alloc, Label::new(b"159"), reach, &[40, 0, 1, 159, 56])?,
             reply: reply(alloc, heard, Label::empty(), &[255])?,
         },
@@ -244,7 +254,7 @@ fn a_picture_says_what_its_marks_are(rt: HostRuntime) -> Result<(), Fail> {
         b">fault: the devices will hear nothing<",
         b">acceptor 2<",
         b">hopper 40<",
-        b">bill validator 41<",
+        b">bill acceptor 41<",
     ];
     assert!(rt; has_texts(alloc, &picture_of_coins_and_bills(alloc)?, &wanted)?);
     Ok(())
@@ -258,7 +268,7 @@ fn a_lost_request_ends_before_its_lane_and_a_lost_echo_comes_from_none(
     // the host's lane is at 500, and that of the first device at 890
     let whole = picture_of_exchange(alloc, Reach::Device, Heard::Other)?;
     let wanted: [&[u8]; 6] = [
-        b">bill validator 40<",
+        b">bill acceptor 40<",
         b"d=\"M500 13H890m",
         b"<title>5 bytes: 28 00 01 9f 38</title>",
         b"<path class=\"other\" d=\"M890 27H500m",
@@ -292,7 +302,7 @@ fn the_lanes_have_their_names_again_after_40_rows(rt: HostRuntime) -> Result<(),
                 .count()
                 == 1
         );
-        picture.add(line, Label::empty(), Mark::Note(Label::new(b"note")))?;
+        picture.add(Place::of_line(line), line, Mark::Note(Label::new(b"note")))?;
     }
     let (_, sink) = write(alloc, &picture, 0)?;
     assert!(rt;
@@ -328,5 +338,124 @@ fn a_failed_put_ends_a_picture(rt: HostRuntime) -> Result<(), Fail> {
     }
     let (answer, _) = write(alloc, &picture, 14)?;
     assert!(rt; answer.is_ok());
+    Ok(())
+}
+
+/// A request to the device at address 2, and ACK as its reply.
+fn poll(alloc: Global, heard: Heard) -> Result<Mark, AllocError> {
+    Ok(Mark::Exchange {
+        addr: 2,
+        kind: LaneKind::Unknown,
+        ask: ask(
+            alloc,
+            Label::new(b"254"),
+            Reach::Device,
+            &[2, 0, 1, 254, 255],
+        )?,
+        reply: reply(alloc, heard, Label::empty(), &[1, 0, 2, 0, 253])?,
+    })
+}
+
+#[test]
+fn exchanges_with_the_same_bytes_are_one_row(rt: HostRuntime) -> Result<(), Fail> {
+    let alloc = rt.alloc();
+    let mut picture = Picture::new(alloc);
+    picture.add(Place::of_line(1), 2, poll(alloc, Heard::Answered)?)?;
+    picture.add(Place::of_line(3), 4, poll(alloc, Heard::Answered)?)?;
+    assert!(rt; picture.row_count() == 1);
+    picture.add(Place::of_line(5), 5, poll(alloc, Heard::NoReply)?)?;
+    assert!(rt; picture.row_count() == 2);
+    let wanted: [&[u8]; 4] = [
+        b">254, 2 times<",
+        b"lines 1 to 5,",
+        b">no reply<",
+        b"<path class=\"silence\"",
+    ];
+    assert!(rt; has_texts(alloc, &picture, &wanted)?);
+    Ok(())
+}
+
+#[test]
+fn a_capture_has_the_numbers_of_its_taps_and_bars_for_what_is_said(
+    rt: HostRuntime,
+) -> Result<(), Fail> {
+    let alloc = rt.alloc();
+    let mut picture = Picture::new(alloc);
+    picture.add(Place::of_line(1), 1, Mark::Note(Label::new(b"begin")))?;
+    let tap = Place {
+        line: 2,
+        tap: Some(1),
+        time: Label::empty(),
+    };
+    picture.add(tap, 2, poll(alloc, Heard::Answered)?)?;
+    for (verdict, words) in [
+        (Verdict::Sure, b"taps 1 to 3: 5/1".as_slice()),
+        (Verdict::Quiet, b"taps 3 to 5: -"),
+        (Verdict::Doubt, b"taps 5 to 7"),
+        (Verdict::Fell, b"taps 1 to 7: 4"),
+    ] {
+        let words = Label::new(words);
+        let mark = Mark::Told {
+            addr: 2,
+            verdict,
+            first: 1,
+            last: 1,
+            words,
+        };
+        picture.add(Place::of_line(3), 3, mark)?;
+    }
+    // the lane is at 890, and the tap is in the second row
+    let wanted: [&[u8]; 8] = [
+        b"x=\"50\">1<",
+        b"<path class=\"sure\" d=\"M898 88V120\"/>",
+        b"class=\"sure\"",
+        b"class=\"quiet\"",
+        b"class=\"doubt\"",
+        b"class=\"fallen\"",
+        b">sure, taps 1 to 3: 5/1<",
+        b">doubt, taps 5 to 7<",
+    ];
+    assert!(rt; has_texts(alloc, &picture, &wanted)?);
+    let (_, sink) = write(alloc, &picture, 0)?;
+    assert!(rt; !has_text(sink.bytes(), b"x=\"50\">2<"));
+    Ok(())
+}
+
+#[test]
+fn places_have_their_worth_and_hoppers_their_count(rt: HostRuntime) -> Result<(), Fail> {
+    let alloc = rt.alloc();
+    let mut picture = picture_of_coins_and_bills(alloc)?;
+    picture.learn_worth(2, 5, 100)?;
+    picture.learn_worth(41, 1, 500)?;
+    let marks = [
+        Mark::Happened {
+            addr: 41,
+            what: Happening::Stacked,
+        },
+        Mark::Happened {
+            addr: 41,
+            what: Happening::Returned,
+        },
+        Mark::Happened {
+            addr: 40,
+            what: Happening::Stock { count: 12 },
+        },
+        Mark::Began(Label::new(b"change ok 7 130")),
+        Mark::Waits(Label::new(b"serve wait 40")),
+    ];
+    for mark in marks {
+        picture.add(Place::of_line(9), 9, mark)?;
+    }
+    let wanted: [&[u8]; 8] = [
+        b">coin in: place 5 (100), path 1<",
+        b">put: posted of 2: 5/1 (100), 6 lost<",
+        b">bill held: place 1 (500)<",
+        b">bill stacked<",
+        b">bill returned<",
+        b">counted by the operator: 12<",
+        b">change ok 7 130<",
+        b">serve wait 40<",
+    ];
+    assert!(rt; has_texts(alloc, &picture, &wanted)?);
     Ok(())
 }

@@ -1,5 +1,5 @@
 //! A line with the devices of a setup, some of which fall silent, and what a service writes over it.
-ghost use Rattle.std.specs.Prelude.{◌≡◌, ◌≤◌, [], false, length, IfOk};
+ghost use Rattle.std.specs.Prelude.{◌≡◌, ◌≤◌, [], false, length};
 ghost use Rattle.cct_model.specs.Setup.{IsSoundSetup};
 ghost use Rattle.cct_port.specs.Answer.{answered};
 ghost use Rattle.cct_terms.specs.declared.wire.TheConstants.{MOST_HEARD};
@@ -11,7 +11,6 @@ use cct_disk::{MADE_LEN, MemDisk};
 use cct_edge::{MemSink, MemSource};
 use cct_model::{Happening, LineKind, MOST_HEARD, Setup};
 use cct_port::{CountedLink, is_answered};
-use cct_script::read_setup;
 use cct_service::{AtEnd, OrderTold, Outside, Page, Served, serve};
 use cct_survey::Roll;
 use cct_wire::Link;
@@ -145,17 +144,6 @@ impl Outside for Around {
         } else {
             OrderTold::Unknown
         }
-    }
-}
-
-/// The setup that a text says.
-pub(crate) fn setup_of(alloc: Global, text: &[u8]) -> Result<Setup, Fail>
-    ensures { IfOk result IsSoundSetup }
-{
-    let mut source = MemSource::new(text.to_vec(alloc)?, 100, Vec::new(alloc));
-    match read_setup(&mut source) {
-        Ok(setup) => Ok(setup),
-        Err(_) => Err(Fail::from("the setup is refused")),
     }
 }
 

@@ -1,6 +1,7 @@
 //! Polls beside devices that don't answer.
 
-use crate::line::{QUIET, Trouble, setup_of, written};
+use crate::line::{QUIET, Trouble, written};
+use crate::setups::setup_of;
 use cct_service::AtEnd;
 use std::alloc::{AllocError, Global};
 use std::test::Fail;

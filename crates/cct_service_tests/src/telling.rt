@@ -1,6 +1,7 @@
 //! What a service tells beside the entries of its transcript.
 
-use crate::line::{QUIET, Trouble, setup_of, written, written_by};
+use crate::line::{QUIET, Trouble, written, written_by};
+use crate::setups::setup_of;
 use cct_service::AtEnd;
 use cct_survey::Roll;
 use std::alloc::{AllocError, Global};

@@ -1,6 +1,6 @@
 //! A power cut before any line of a session of change, and after any call of the disk in any of its puts. The operator settles
 //! what is open, and the session goes on.
-use crate::counted::Counted;
+use crate::change_counts::Counted;
 use crate::runs::{FUNDED, STOCKED, joined, played};
 use std::alloc::Global;
 use std::process::Abort;

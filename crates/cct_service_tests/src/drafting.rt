@@ -1,7 +1,8 @@
 //! The setup that is drafted of a line.
 
-use crate::line::{Empty, read_of, setup_of};
-use crate::telling::Telling;
+use crate::lossy::Empty;
+use crate::setups::{read_of, setup_of};
+use crate::worths::Telling;
 use cct_bus::Bus;
 use cct_draft::{Drafted, draft};
 use cct_edge::MemSink;

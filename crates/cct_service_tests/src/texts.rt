@@ -2,7 +2,7 @@
 
 use cct_edge::{MemSink, MemSource};
 use cct_lines::Setup;
-use cct_script::{SetupNo, read_setup};
+use cct_script::SetupNo;
 use cct_setup_copy::{read_copy, write_setup};
 use std::alloc::{AllocError, Global};
 use std::test::Fail;
@@ -17,15 +17,6 @@ pub(crate) static SETUPS: [&str; 7] = [
     "hopper 8 crc 9 0 1\ntexts 8 M PRODUCT SOFTWARE 123456789012345678901234\nbegin\n",
     "acceptor 7 simple 1 0\nhopper 3 crc 2 0 10\nbills 5 crc 3 0\nvalue 5 2 500 EU0005\nvalue 7 9 20 EU020A\ntexts 7 A B C D\ntexts 5 E F G H\nbegin\n",
 ];
-
-/// The setup that a text says.
-pub(crate) fn setup_of(alloc: Global, text: &str) -> Result<Setup, Fail> {
-    let mut source = source_of(alloc, text.as_bytes())?;
-    match read_setup(&mut source) {
-        Ok(setup) => Ok(setup),
-        Err(_) => Err(Fail::from("the setup is refused")),
-    }
-}
 
 /// A source of bytes, a few at a time.
 fn source_of(alloc: Global, bytes: &[u8]) -> Result<MemSource, AllocError> {

@@ -1,15 +1,8 @@
 //! A line with the devices of a setup, on which exchanges get lost.
-ghost use Rattle.std.specs.Prelude.{IfOk};
-ghost use Rattle.cct_model.specs.Setup.{IsSoundSetup};
-
 use arrayvec::ArrayVec;
 use cct_bus::Bus;
-use cct_edge::MemSource;
-use cct_model::{MOST_HEARD, Setup};
-use cct_script::{SetupNo, read_setup};
+use cct_model::MOST_HEARD;
 use cct_wire::Link;
-use std::alloc::{AllocError, Global};
-use std::test::Fail;
 
 /// A bus on which nothing is heard in some exchanges.
 #[derive(Drop)]
@@ -49,25 +42,5 @@ impl Link for Empty {
         if self.echoes {
             let _ = heard.try_extend_from_slice(sent);
         }
-    }
-}
-
-/// What a text says of a setup.
-pub(crate) fn read_of(alloc: Global, text: &[u8]) -> Result<Result<Setup, SetupNo>, AllocError>
-    ensures { IfOk result (λ read. IfOk read IsSoundSetup) }
-{
-    let mut bytes = Vec::new(alloc);
-    bytes.extend_from_slice(text)?;
-    let mut source = MemSource::new(bytes, 100, Vec::new(alloc));
-    Ok(read_setup(&mut source))
-}
-
-/// The setup that a text says.
-pub(crate) fn setup_of(alloc: Global, text: &[u8]) -> Result<Setup, Fail>
-    ensures { IfOk result IsSoundSetup }
-{
-    match read_of(alloc, text)? {
-        Ok(setup) => Ok(setup),
-        Err(_) => Err(Fail::from("the setup is refused")),
     }
 }

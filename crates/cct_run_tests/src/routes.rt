@@ -1,5 +1,5 @@
 //! What a route of a held bill does, and what the host tells of it.
-use crate::runs::{STARTED, joined, played};
+use crate::runs::{STARTED, joined, played_and_summed};
 use std::alloc::Global;
 use std::test::Fail;
 
@@ -33,7 +33,7 @@ fn a_stacked_bill_is_posted(rt: HostRuntime) -> Result<(), Fail> {
         alloc,
         &[STACKED_TEXT, routed, READ_TEXT, "balance 500 0 0 0\n"],
     )?;
-    let (transcript, total) = played(&rt, alloc, script)?;
+    let (transcript, total) = played_and_summed(&rt, alloc, script)?;
     assert_eq!(rt; transcript.as_bytes(), text.as_slice());
     assert_eq!(rt; total.as_str(), "total 1 0 0 0 0");
     Ok(())
@@ -47,7 +47,7 @@ fn a_route_is_asked_once_and_its_bill_posted_once(rt: HostRuntime) -> Result<(),
     let unsure = "fault host -\nwire 4 0401019a015f 0401019a015f\nrouteunsure 4\n";
     let none_held = "ok route 4 1\nwire 4 0401019a015f 0401019a015f01000405f6\nrouteunsure 4\n";
     let text = joined(alloc, &[STACKED_TEXT, unsure, READ_TEXT, none_held])?;
-    let (transcript, total) = played(&rt, alloc, script)?;
+    let (transcript, total) = played_and_summed(&rt, alloc, script)?;
     assert_eq!(rt; transcript.as_bytes(), text.as_slice());
     assert_eq!(rt; total.as_str(), "total 1 0 0 0 0");
     Ok(())
@@ -133,7 +133,7 @@ fn a_held_bill_is_routed_as_it_is_told(rt: HostRuntime) -> Result<(), Fail> {
         let after =
             "route 4 1\nnext 4\nround 4\nnext 4\nnext 4\nnext 4\nnext 4\nnext 4\nbalance\nend\n";
         let script = joined(alloc, &[STARTED, "bill 4 2\n", steps, after])?;
-        let (transcript, total) = played(&rt, alloc, script)?;
+        let (transcript, total) = played_and_summed(&rt, alloc, script)?;
         let told = told_after_held(alloc, transcript.as_str())?;
         assert_eq!(rt; told.as_str(), text, "{steps}");
         assert_eq!(rt; total.as_str(), sums, "{steps}");

@@ -1,6 +1,6 @@
 //! What differs between two setups is told, at the first address in rising order.
 
-use crate::texts::setup_of;
+use crate::setups::setup_of;
 use cct_setup_copy::{What, first_difference};
 use std::test::Fail;
 
@@ -78,8 +78,8 @@ static CASES: [Case; 14] = [
 fn the_first_that_differs_is_told(rt: HostRuntime) -> Result<(), Fail> {
     let alloc = rt.alloc();
     for (kept, given, wanted) in CASES {
-        let kept = setup_of(alloc, kept)?;
-        let given = setup_of(alloc, given)?;
+        let kept = setup_of(alloc, kept.as_bytes())?;
+        let given = setup_of(alloc, given.as_bytes())?;
         assert_eq!(rt; first_difference(&kept, &given), wanted);
     }
     Ok(())

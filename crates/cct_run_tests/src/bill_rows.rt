@@ -1,7 +1,7 @@
 //! A bill is held, and a reset, a power cut or a lost message comes before any row of a start, a round, a stop or a route. At the
 //! end of a run all bills that were stacked are posted or reported lost, and no other one.
-use crate::counted::{Bills, number};
-use crate::runs::{STARTED, joined, played};
+use crate::bill_counts::Bills;
+use crate::runs::{STARTED, joined, number, played_and_summed};
 use std::alloc::Global;
 use std::process::Abort;
 use std::test::Fail;
@@ -45,7 +45,7 @@ fn sums_of(
         rows.get(..row.saturating_sub(1)).unwrap_or(&[]),
     )?.as_slice())?;
     script.extend_from_slice(joined(alloc, &[event, AFTER])?.as_slice())?;
-    let (transcript, total) = played(rt, alloc, script)?;
+    let (transcript, total) = played_and_summed(rt, alloc, script)?;
     let bills = Bills::of(alloc, transcript.as_str())?;
     assert!(rt; bills.are_posted_once(), "{event}{job}row {row}: {bills:?}");
     // The last round is completed.

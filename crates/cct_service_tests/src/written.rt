@@ -1,6 +1,7 @@
 //! What is written is read back, whole or not at all.
 
-use crate::texts::{SETUPS, read_back, setup_of, written};
+use crate::setups::setup_of;
+use crate::texts::{SETUPS, read_back, written};
 use cct_edge::MemSink;
 use cct_lines::LineKind;
 use cct_script::SetupNo;
@@ -12,7 +13,7 @@ use std::test::Fail;
 fn each_setup_is_read_back_as_it_was(rt: HostRuntime) -> Result<(), Fail> {
     let alloc = rt.alloc();
     for text in SETUPS {
-        let setup = setup_of(alloc, text)?;
+        let setup = setup_of(alloc, text.as_bytes())?;
         let bytes = written(alloc, &setup)?;
         let back = read_back(alloc, bytes.as_slice())?.ok().flatten();
         assert_eq!(rt; back.as_ref(), Some(&setup), "of {text}");
@@ -34,7 +35,7 @@ fn thirty_two_devices_are_read_back(rt: HostRuntime) -> Result<(), Fail> {
         text.push_str(format!(in alloc; "{addr}")?.as_str())?;
         text.push_str(" crc 1 0\n")?;
     }
-    let setup = setup_of(alloc, text.as_str())?;
+    let setup = setup_of(alloc, text.as_bytes())?;
     assert_eq!(rt; setup.devices.as_slice().len(), 32);
     let bytes = written(alloc, &setup)?;
     let back = read_back(alloc, bytes.as_slice())?.ok().flatten();
@@ -84,7 +85,7 @@ fn what_follows_begin_or_is_no_line_is_refused(rt: HostRuntime) -> Result<(), Fa
 #[test]
 fn a_put_that_fails_is_told(rt: HostRuntime) -> Result<(), Fail> {
     let alloc = rt.alloc();
-    let setup = setup_of(alloc, SETUPS[6])?;
+    let setup = setup_of(alloc, SETUPS[6].as_bytes())?;
     let mut sink = MemSink::new(alloc, 30_000, [2].to_vec(alloc)?)?;
     assert!(rt; write_setup(&setup, &mut sink).is_err());
     assert_eq!(rt; sink.bytes(), b"acceptor 7 simple 1 0\n".as_slice());

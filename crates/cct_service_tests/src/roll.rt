@@ -1,6 +1,7 @@
 //! The roll of a setup: what is asked, what is found, and what is withheld for it.
 
-use crate::line::{Lossy, setup_of};
+use crate::lossy::Lossy;
+use crate::setups::setup_of;
 use cct_bus::Bus;
 use cct_edge::MemSink;
 use cct_lines::Command;

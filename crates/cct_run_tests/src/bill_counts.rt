@@ -1,5 +1,6 @@
 //! What the lines of a transcript tell of the bills of the acceptor at address 4: counted by the lines of what comes to it and
 //! of what it hears, and by the records, with no balance of the program's own.
+use crate::runs::number;
 use std::alloc::{AllocError, Global};
 
 /// The host sends: stack the bill that is held (154 with 1), give it back (154 with 0), reset (1).
@@ -19,14 +20,6 @@ pub(crate) struct Bills {
     lost: u64,
     /// The acceptor doesn't hear the next message.
     is_deaf: bool,
-}
-
-/// The number in a field of a line.
-pub(crate) fn number(line: &str, index: usize) -> u64 {
-    line.split(' ')
-        .nth(index)
-        .and_then(|field| field.parse().ok())
-        .unwrap_or(0)
 }
 
 /// What a bill of a place is worth.
