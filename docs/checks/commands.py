@@ -5,6 +5,9 @@ played from the first line to the last in a copy of what a clone has: the exampl
 run` leaves them and by their bare names. `rt try` is played with the built program of its crate. Each command has to
 end well. In a block with lines that begin with `$ ` the others are what the command above them writes. A line that
 can't be played stands in WITHOUT, with the reason.
+
+So is a command in back quotes that calls a program and has a pipe or a redirection: it is played after the blocks of its
+page, and after what PREPARED lays there.
 """
 
 import os
@@ -33,11 +36,29 @@ WITHOUT = [
     ("docs/LIVE.md", r"stty -F /dev/ttyUSB0 .*", "there is no such port; bench/check_live sets its own so"),
     ("docs/LIVE.md", r"cct_(?:live|devices) (?:setup|adopt)?[A-Z ]* (?:SETUP|PORT|EVENTS|\[).*|\[--quiet\].*",
      "these are forms of words; the programs name the same ones"),
+    ("docs/SHOW.md", r"cct_show json .*\| jq .*", "jq may be missing; bench/check_show plays it where it is there"),
     ("docs/PROBE.md", r"stty -F /dev/ttyUSB0 .*|cct_probe machine /dev/ttyUSB0 .*",
      "there is no such port; bench/check_probe plays it over another one"),
     ("docs/CALLERS.md", r"stty -F /dev/ttyS0 .*|cct_devices setup events /dev/ttyS0",
      "there is no such port; bench/check_devices plays it over another one"),
+    ("docs/PROBE.md", r"cct_live setup /dev/ttyUSB0 > machine", "there is no such port; bench/check_live plays it over another one"),
+    ("docs/OPERATING.md", r"cct_main upgrade < SETUP", "it wants a journal of an older program; examples/older_journal.play plays it"),
+    ("docs/EMBED.md", r"\(cd crates/cct_c && rt lib\)|gcc -I.*|\./one_coin|\./read_coins .*",
+     "the library isn't one of the programs; bench/check_c builds and plays it"),
+    ("docs/WEB.md", r"web/build|bench/check_web", "they take the kit and Chromium"),
+    *((f"docs/{page}.md", r"cct_live \.\. \| ts(?: '[^']*')?", "it is a form of words, and `ts` need not be there")
+      for page in ("SHOW", "LIVE", "OPERATING")),
 ]
+
+# By a command in back quotes, what makes its files.
+PREPARED = {
+    "{ cat FILE; echo; } | cct_main run": r"printf 'begin\nend' > FILE",
+    r"tr -d '\r' <FILE | cct_main run": r"printf 'begin\r\nend\r\n' > FILE",
+    "grep . FILE | cct_main run": r"printf 'begin\n\nend\n' > FILE",
+    "grep -v '^#' FILE | cct_main run": r"printf '# a machine\nbegin\nend\n' > FILE",
+    "cct_main check < SCRIPT": "cp examples/one_coin.script SCRIPT",
+    "cct_main state < SETUP": "cct_main run < examples/one_coin.script > /dev/null; { sed '/^begin$/q' examples/one_coin.script; echo end; } > SETUP",
+}
 
 # How a line begins that is a command.
 COMMAND = re.compile(r"\(?(?:cd|rt|stty|printf|mkdir|\$|\.?\.?/?(?:crates|bench|docs|examples)/\S+|cct_\w+ [a-z].*<) ")
@@ -86,6 +107,16 @@ def blocks_of(path: Path, page: str) -> list[Block]:
             else:
                 found.append(Block(page, number, [line[4:]], []))
         before = line
+    return found
+
+
+def inline_of(path: Path, page: str) -> list[Block]:
+    """The commands in back quotes of a page that have a pipe or a redirection, each as a block."""
+    found = []
+    for number, line in enumerate(path.read_text().splitlines(), 1):
+        for text in re.findall(r"`([^`]+)`", line.replace("\\|", "|")):
+            if re.search(r"\bcct_\w+ \S", text) and re.search(r"[|<>] ?\S", text) and not line.startswith("    "):
+                found.append(Block(page, number, [text], []))
     return found
 
 
@@ -157,7 +188,8 @@ def block_faults(clone: Clone, block: Block, programs: dict[str, Path]) -> list[
         return [f"{block.place()}: no program {', '.join(missing)} was given"]
     if not lines:
         return []
-    status, out, errors = clone.play(block.page, "\n".join(lines))
+    front = ["rm -f cctalk.jnl", PREPARED[lines[0]]] if lines[0] in PREPARED else []
+    status, out, errors = clone.play(block.page, "\n".join(front + lines))
     if status != 0:
         return [f"{block.place()}: status {status}: {errors.strip()[-300:]}"]
     if block.page in SHOWING and block.shown and out.splitlines()[:len(block.shown)] != block.shown:
@@ -180,7 +212,8 @@ def page_faults(root: Path, blocks: list[Block], programs: dict[str, Path]) -> l
 
 def commands(root: Path, programs: dict[str, Path]):
     """Each command line that a page shows is played, or has the reason why it isn't."""
-    pages = [blocks_of(path, str(path.relative_to(root))) for path in markdown.pages(root)]
+    pages = [blocks_of(path, page) + inline_of(path, page)
+             for path, page in ((path, str(path.relative_to(root))) for path in markdown.pages(root))]
     pages = [blocks for blocks in pages if blocks]
     lines = [(block.page, line) for blocks in pages for block in blocks for line in block.lines]
     used = {reason(page, line) for page, line in lines}

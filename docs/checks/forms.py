@@ -15,7 +15,7 @@ import played
 
 # What stands for a field that has no range.
 SAMPLES = {"`simple` or `crc`": "simple", "exactly six": "ABCDEF", "1 to 24 printing": "TEXT", "four hexadecimal": "0001",
-           "`-` or two": "-", "two hexadecimal": "00", "`acceptor` or `hopper`": "acceptor"}
+           "`-` or two": "-", "two hexadecimal": "00", "`acceptor` or `hopper`": "acceptor", "`acceptor` or `bills`": "acceptor"}
 BAD = "\x01"
 
 
@@ -129,10 +129,21 @@ def field_faults(program: Path, part: Part, place: str, form: str, fields: list[
     return faults
 
 
+def help_faults(program: Path, parts: list[Part]) -> list[str]:
+    """The forms that the program writes for whoever asks are those of the tables, in their order."""
+    faults = []
+    for text, names in (("script", ("setup lines", "step lines")), ("capture", ("watch lines", "tap lines"))):
+        written = played.call(program, ["--help", text], b"").stdout.decode().splitlines()[1:]
+        wanted = [form for part in parts if part.name in names for _, form in part.forms]
+        if [line for line in written if not line.startswith(" ")] != wanted:
+            faults.append(f"cct_main --help {text} writes other forms")
+    return faults
+
+
 def forms(root: Path, program: Path):
     """The words, the forms and the fields of docs/SCRIPT.md and docs/AUDIT.md are those of the program."""
     parts, fields = tables(root)
-    count, faults = 0, []
+    count, faults = 0, help_faults(program, parts)
     for part in parts:
         faults += word_faults(program, part)
         for place, form in part.forms:

@@ -10,7 +10,7 @@ import markdown
 def stands_on(root: Path) -> dict[str, list[str]]:
     """By each crate of crates.txt, the libraries that its line names."""
     lines = (root / "crates.txt").read_text().splitlines()
-    return {line.split(":")[0]: line.split(":")[1].split() for line in lines if ":" in line and not line.startswith("#")}
+    return {line.split(":")[0].split()[0]: line.split(":")[1].split() for line in lines if ":" in line and not line.startswith("#")}
 
 
 def below(root: Path) -> dict[str, list[str]]:
@@ -33,10 +33,10 @@ def difference(left: str, lefts: set[str], right: str, rights: set[str]) -> list
 
 
 def crates(root: Path):
-    """The crates of docs/ARCHITECTURE.md are those of crates.txt."""
-    told = {row.cells[0].strip("`") for table in markdown.read(root / "docs/ARCHITECTURE.md")[0]
+    """The crates of crates/README.md are those of crates.txt."""
+    told = {row.cells[0].strip("`") for table in markdown.read(root / "crates/README.md")[0]
             if table.header[:2] == ["Crate", "What it has"] for row in table.rows}
-    return len(told), difference("crates.txt", set(stands_on(root)), "docs/ARCHITECTURE.md", told)
+    return len(told), difference("crates.txt", set(stands_on(root)), "crates/README.md", told)
 
 
 def edits(root: Path):
@@ -53,6 +53,22 @@ def edits(root: Path):
                 named.update(f"{crate} {edit}" for edit in markdown.quoted(row.cells[column])
                              if not edit.startswith("cct_"))
     return len(named), difference("crates/*/must-fail", there, "docs/PROOFS.md", named)
+
+
+def statuses(root: Path):
+    """The exit statuses of docs/OPERATING.md, each with the first word of its last line, are those that `Status` of cct_bench
+    tells."""
+    code = (root / "crates/cct_bench/src/outcome.rt").read_text()
+    there = {f"{number} {''.join(re.findall('`([a-z]+)', told)[:1])}".strip()
+             for number, told in re.findall(r"^    /// (\d+): (.*(?:\n    ///.*)*)", code, re.MULTILINE)}
+    most = max(int(each.split()[0]) for each in there)
+    told = set()
+    for table in markdown.read(root / "docs/OPERATING.md")[0]:
+        for row in table.rows if table.header[0] == "Status" else []:
+            found = re.fullmatch(r"(\d+)(?:, `(\w+).*`)?", row.cells[0])
+            if found and int(found[1]) <= most:
+                told.add(f"{found[1]} {found[2] or ''}".strip())
+    return len(told), difference("crates/cct_bench/src/outcome.rt", there, "docs/OPERATING.md", told)
 
 
 def examples(root: Path):
@@ -89,11 +105,45 @@ def paths(root: Path):
     return count, faults
 
 
+def definitions(root: Path) -> dict[tuple[str, str], str]:
+    """By its file and its name the sentence of each definition of specs/, as docs/index prints it."""
+    listed = subprocess.run([root / "docs/index"], capture_output=True, text=True).stdout.splitlines()
+    found, place = {}, ""
+    for line in listed:
+        name, colon, sentence = line.strip().partition(": ")
+        if line.startswith("crates/"):
+            place = line
+        elif colon:
+            found[place, name] = sentence
+    return found
+
+
 def sentences(root: Path):
     """Each definition of specs/ has its sentence (docs/index)."""
-    listed = subprocess.run([root / "docs/index"], capture_output=True, text=True).stdout.splitlines()
-    told = [line for line in listed if line.startswith("  ")]
-    return len(told), [line.strip() for line in told if ": NO SENTENCE" in line]
+    listed = definitions(root)
+    return len(listed), [f"{place}: {name}" for (place, name), sentence in listed.items()
+                         if sentence.startswith("NO SENTENCE")]
+
+
+def promises(root: Path) -> list[tuple[str, list[tuple[str, str]]]]:
+    """The definitions on which the promises rest, in an order in which they can be read: of each subject, the file and the
+    name of each."""
+    found: list[tuple[str, list[tuple[str, str]]]] = []
+    for line in (root / "docs/checks/promises.txt").read_text().splitlines():
+        if line.startswith("# "):
+            found.append((line[2:], []))
+        else:
+            place, names = line.split(": ")
+            crate, file = place.split(" ")
+            found[-1][1].extend((f"crates/{crate}/specs/{file}.antt", name) for name in names.split(" "))
+    return found
+
+
+def rested_on(root: Path):
+    """Each definition of docs/checks/promises.txt is there."""
+    known = definitions(root)
+    named = [each for _, group in promises(root) for each in group]
+    return len(named), [f"docs/checks/promises.txt: no {name} in {place}" for place, name in named if (place, name) not in known]
 
 
 def first_page(text: str, anchor: str) -> str:
@@ -126,7 +176,7 @@ def names(root: Path):
     it may also be that of an edit, an example, a measure or a crate."""
     known = {path.stem for pattern in ("crates/*/must-fail/*.*", "crates/*", "examples/*", "bench/*", "docs/*")
              for path in root.glob(pattern)}
-    for pattern in ("src/**/*.rt", "specs/**/*.antt", "proofs/**/*.antt"):
+    for pattern in ("src/**/*.rt", "specs/**/*.antt", "proofs/**/*.antt", "*.h"):
         for path in root.glob(f"crates/*/{pattern}"):
             known.update(re.findall(r"\w+", path.read_text()))
     count, faults = 0, []

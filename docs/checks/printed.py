@@ -9,20 +9,21 @@ from pathlib import Path
 
 import lists
 import markdown
+import source
 
-# The families of crates, in the order of docs/ARCHITECTURE.md, and their crates without `cct_`. One that isn't named is of the
-# laws or the tests by its name.
+# The families of crates, in the order of their layers, and their crates without `cct_`. One that isn't named is of the laws
+# or the tests by its name.
 FAMILIES = {
     "Definitions": "terms lines model vectors",
     "The wire": "check frame wire msg",
     "Devices": "device ident ring sorter intake acceptor bill life hopper bus",
-    "Disk and journal": "disk record journal",
-    "The host": "epoch order jobs carry ledger host",
-    "The bench": "edge script text plan change world gen load report proofread monitor audit words bench advice main",
+    "Disk and journal": "disk queue record journal",
+    "The host": "epoch order jobs carry ledger host poll",
+    "The bench": "edge slices script text plan change world gen load report state proofread taps monitor audit words bench near advice main",
     "Laws": "laws change_laws lives answered wild",
     "On a line": "port prompt honest_line line_laws terminal survey worth draft setup_copy service live devices trials trial_run probe",
-    "Shown to people": "tell log draw show",
-    "Callers and measures": "callers speed plan_speed",
+    "Shown to people": "tell log_line log captured columns pen draw marks page show",
+    "Callers and measures": "callers c web web_bench speed plan_speed",
     "Tests alone": "",
 }
 
@@ -39,6 +40,15 @@ FIELDS = {
     "addr": "address", "accepts": "accept counter", "counter": "event counter", "lost": "how many coins were lost",
     "mask_seen": "the mask that was seen", "life": "life count", "life_before": "life count before",
     "life_after": "life count after", "count": "number of coins", "paid": "coins paid", "unpaid": "coins unpaid",
+    "c.last_id": "the greatest id", "c.value": "the value of all coins posted", "c.paid_value": "of all coins paid",
+    "c.odd_value": "of the orders closed as `odd`", "c.posted": "coins posted", "c.lost": "coins lost",
+    "c.sold": "the sum of all prices",
+}
+
+# By its definition in cct_record, what a body of a carry is.
+CARRY_BODIES = {
+    "first_sums": "first sums", "second_sums": "second sums", "third_sums": "third sums", "epoch_body": "an epoch that runs",
+    "order_body": "an open order",
 }
 
 # A sentence of more letters is a long one, and one of fewer says too little.
@@ -100,11 +110,13 @@ def families(names: list[str]) -> dict[str, list[str]]:
 
 
 def crates(root: Path) -> list[str]:
-    """Each crate by its family, with its first sentence. What a change of one proves again is printed by docs/above."""
+    """Each crate by its family, with its first sentence, and how many crates a change of it proves again (docs/above)."""
+    below = lists.below(root)
     lines = []
     for family, names in families(list(lists.stands_on(root))).items():
-        rows = [[f"`{name}`", first_sentence(crate_head(root / f"crates/{name}"))] for name in names]
-        lines += [f"### {family}", "", *table(["Crate", "What it has"], rows), ""]
+        rows = [[f"`{name}`", first_sentence(crate_head(root / f"crates/{name}")),
+                 str(1 + sum(name in those for those in below.values()))] for name in names]
+        lines += [f"## {family}", "", *table(["Crate", "What it has", "Proved again"], rows), ""]
     return lines[:-1]
 
 
@@ -122,6 +134,12 @@ def scripts(root: Path) -> list[str]:
     paths = [root / "examples/check", *(path for path in sorted(root.glob("bench/*")) if path.is_file() and not path.suffix)]
     rows = [[f"`{path.relative_to(root)}`", first_sentence(script_head(path))] for path in paths]
     return table(["Script", "What it does"], rows)
+
+
+def results(root: Path) -> list[str]:
+    """The first table that bench/measure printed, with the sentence before it."""
+    sentence, table, *_ = (root / "bench/results/measure.md").read_text().strip().split("\n\n")
+    return [sentence, "", *table.split("\n")]
 
 
 def constants(root: Path) -> dict[str, int]:
@@ -246,26 +264,87 @@ def room_of(job: str) -> int:
     return puts + ("new_order" in job and "settling" in job)
 
 
-def bodies(root: Path) -> list[str]:
-    """Of each record the bytes of its body."""
-    text = (root / "crates/cct_record/specs/Body.antt").read_text()
+def bytes_of(body: str) -> tuple[str, str]:
+    """The kind of a body, and its bytes by their places, where the definition spells it so."""
+    for front, width in (("to_le_bytes w16", 2), ("three_bytes", 3), ("to_le_bytes w32", 4), ("to_le_bytes w64", 8)):
+        body = re.sub(rf"{front} ([\w.]+)", rf"\1:{width}", body)
+    kind, *parts = [part for part in re.findall(r"coins_fields|[\w:.]+", body) if part not in ("posted", "filled")]
+    at, told = 1, []
+    for part in parts:
+        name, _, width = part.partition(":")
+        if name == "coins_fields":
+            told.append(f"{at}: number of coins, 0 to 5; from {at + 1} on: place and path of each, oldest first")
+            continue
+        last = at + int(width or 1) - 1
+        bare = name.rpartition(".")[2]
+        told.append(f"{at}{f' to {last}' if last > at else ''}: {FIELDS.get(name, FIELDS.get(bare, bare))}")
+        at = last + 1
+    return kind, "; ".join(told)
+
+
+def bodies(root: Path, file: str, name: str) -> list[str]:
+    """Of each record that this definition of cct_record has a case of, the bytes of its body."""
+    text = (root / f"crates/cct_record/specs/{file}.antt").read_text()
     rows = []
-    for case, body in definition(text, "fields_of").items():
-        body = re.sub(r"to_le_bytes w16 (\w+)", r"\1:2", body)
-        body = re.sub(r"three_bytes (\w+)", r"\1:3", body)
-        body = re.sub(r"to_le_bytes w32 (\w+)", r"\1:4", body)
-        kind, *parts = [part for part in re.findall(r"coins_fields|[\w:]+", body) if part != "posted"]
-        at, told = 1, []
-        for part in parts:
-            name, _, width = part.partition(":")
-            if name == "coins_fields":
-                told.append(f"{at}: number of coins, 0 to 5; from {at + 1} on: place and path of each, oldest first")
-                continue
-            last = at + int(width or 1) - 1
-            told.append(f"{at}{f' to {last}' if last > at else ''}: {FIELDS.get(name, name)}")
-            at = last + 1
-        rows.append([kind, f"`{case.lower()}`", "; ".join(told)])
+    for case, body in definition(text, name).items():
+        kind, told = bytes_of(body)
+        rows.append([kind, f"`{case.lower()}`", told])
     return table(["Kind", "Record", "Bytes of the body"], rows)
+
+
+def carry_bodies(root: Path) -> list[str]:
+    """The bodies of a carry, in their order."""
+    text = (root / "crates/cct_record/specs/CarryBody.antt").read_text()
+    rows = []
+    for name, what in CARRY_BODIES.items():
+        body = re.search(rf"^{name} \w+ =((?:.*)(?:\n +.*)*)", text, re.MULTILINE)[1]
+        kind, told = bytes_of(body)
+        rows.append([kind, what, told])
+    return table(["Kind", "Body", "Bytes of the body"], rows)
+
+
+def promises(root: Path) -> list[str]:
+    """The definitions on which the promises rest, each with its sentence."""
+    sentences = lists.definitions(root)
+    lines, last = [], ""
+    for subject, named in lists.promises(root):
+        lines += ["", f"{subject[0].upper()}{subject[1:]}:"]
+        for place, name in named:
+            lines += ["", f"  {place}"] if place != last else []
+            last = place
+            lines.append(f"    {name}: {sentences[place, name]}")
+        last = ""
+    return lines[1:]
+
+
+def is_law(function: source.Function) -> bool:
+    """Whether a function is a law: it takes nothing, is of no type, and has clauses."""
+    head = function.path.read_text().splitlines()[function.line]
+    return bool(function.is_public and function.clauses and not function.owners and re.search(r"fn \w+(?:<.*>)?\(\)", head))
+
+
+def laws_by_crate(root: Path) -> dict[str, list[source.Function]]:
+    """By each crate that has some, its laws."""
+    found = {name: [each for each in source.functions_of(root / f"crates/{name}") if is_law(each)]
+             for name in lists.stands_on(root)}
+    return {name: laws for name, laws in found.items() if laws}
+
+
+def told_laws(root: Path):
+    """Each law has its sentence."""
+    found = [each for laws in laws_by_crate(root).values() for each in laws]
+    return len(found), [f"{each.path.relative_to(root)}: {each.name} has no sentence" for each in found if not each.comment]
+
+
+def laws(root: Path) -> list[str]:
+    """Each law by its crate, with what it says and the names of its clauses, if it has several."""
+    lines = []
+    for crate, found in laws_by_crate(root).items():
+        lines.append(crate)
+        for each in found:
+            names = ", ".join(clause.name for clause in each.clauses if clause.name)
+            lines.append(f"  {each.name}{f' ({names})' if names else ''}: {first_sentence(each.comment)}")
+    return lines
 
 
 # By its name, what is printed.
@@ -273,13 +352,18 @@ PRINTED = {
     "crates": crates,
     "edits": edits,
     "scripts": scripts,
+    "results": results,
     "setup lines": lambda root: lines_of(root, "Setup"),
     "step lines": lambda root: lines_of(root, "Steps"),
     "capture lines": lambda root: lines_of(root, "Watches Taps"),
     "live lines": lambda root: lines_of(root, "Live"),
     "fields": fields,
     "reasons": reasons,
-    "bodies": bodies,
+    "bodies": lambda root: bodies(root, "Body", "fields_of"),
+    "carry bodies": carry_bodies,
+    "old bodies": lambda root: bodies(root, "OldBody", "old_fields_of"),
+    "promises": promises,
+    "laws": laws,
 }
 
 BLOCK = re.compile(r"^<!-- printed: (.*?) -->\n(.*?)^<!-- end -->$", re.MULTILINE | re.DOTALL)

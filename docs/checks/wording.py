@@ -1,4 +1,4 @@
-"""How the pages are written: the words that aren't used in them, and how many words they have.
+"""How the pages are written: for whom, the words that aren't used in them, and how many words they have.
 
 What stands in back quotes, in a block, in a heading's link or in a printed table isn't looked at: names and output are as
 they are. A word is what has a letter or a digit, between two spaces; the words of printed tables aren't counted.
@@ -51,6 +51,13 @@ def words(root: Path):
                 faults += [f"{path.relative_to(root)}:{number}: {found}; better: {instead}"
                            for found in re.findall(rf"\b(?:{pattern})\b", line, re.IGNORECASE)]
     return count, faults
+
+
+def readers(root: Path):
+    """Each page but README says first for whom it is."""
+    firsts = {path.relative_to(root): path.read_text().split("\n\n")[1] for path in markdown.pages(root)
+              if path.name != "README.md" or path.parent != root}
+    return len(firsts), [f"{name} doesn't begin with whom it is for" for name, text in firsts.items() if not text.startswith("For ")]
 
 
 def many(text: str) -> int:
