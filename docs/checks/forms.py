@@ -15,7 +15,8 @@ import played
 
 # What stands for a field that has no range.
 SAMPLES = {"`simple` or `crc`": "simple", "exactly six": "ABCDEF", "1 to 24 printing": "TEXT", "four hexadecimal": "0001",
-           "`-` or two": "-", "two hexadecimal": "00", "`acceptor` or `hopper`": "acceptor", "`acceptor` or `bills`": "acceptor"}
+           "`-` or two": "-", "two hexadecimal": "00", "`acceptor` or `hopper`": "acceptor", "`acceptor` or `bills`": "acceptor",
+           "`acceptor`, `bills` or": "acceptor"}
 BAD = "\x01"
 
 

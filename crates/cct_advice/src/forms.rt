@@ -213,6 +213,8 @@ const KIND: Field = Field("KIND", Rule::Kind);
 
 const QUIET_KIND: Field = Field("KIND", Rule::QuietKind);
 
+const PREMISE_KIND: Field = Field("KIND", Rule::PremiseKind);
+
 const QUIET: Field = Field("quiet", Rule::Only("quiet"));
 
 const PREMISES: Field = Field("premises", Rule::Only("premises"));
@@ -269,7 +271,7 @@ pub(crate) const FORMS: &[Form] = &[
     Form(
         Part::Watches,
         "watch",
-        &[DEVICE, CHECK, QUIET_KIND, PREMISES],
+        &[DEVICE, CHECK, PREMISE_KIND, PREMISES],
     ),
     Form(Part::Watches, "begin", &[]),
     Form(Part::Taps, "tap", &[SENT, HEARD]),

@@ -40,6 +40,8 @@ pub(crate) enum Rule {
     Kind,
     /// What a device is that is watched as quiet.
     QuietKind,
+    /// What a device is that is watched for premises.
+    PremiseKind,
     /// This word.
     Only(&'static str),
 }
@@ -57,6 +59,7 @@ impl Rule {
             Rule::Bytes(most) => is_piece(most, field),
             Rule::Kind => field == ACCEPTOR || field == HOPPER,
             Rule::QuietKind => field == ACCEPTOR || field == BILLS,
+            Rule::PremiseKind => field == ACCEPTOR || field == BILLS || field == HOPPER,
             Rule::Only(word) => field == word.as_bytes(),
         }
     }
@@ -96,6 +99,7 @@ impl fmt::Display for Rule {
             ),
             Rule::Kind => f.write_str("acceptor or hopper"),
             Rule::QuietKind => f.write_str("acceptor or bills"),
+            Rule::PremiseKind => f.write_str("acceptor, bills or hopper"),
             Rule::Only(word) => write!(f, "{word}"),
         }
     }

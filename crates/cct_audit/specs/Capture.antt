@@ -64,10 +64,16 @@ abbrev pub family_in : Manner → Money → Family
 family_in manner.Quiet money = family.QuietAcceptor money
 family_in manner.Premises money = family.Premises money
 
--- `watch A CHECK acceptor`, where a word for a manner follows.
+-- `watch A CHECK hopper`, where a word for a manner follows: a hopper is watched for premises alone.
+abbrev pub hopper_form : Manner → ℕ → CheckKind → Result WatchLine LineKind
+hopper_form manner.Quiet addr check = Err kind.Form
+hopper_form manner.Premises addr check = Ok (opens_by.Watch addr check family.HopperPremises)
+
+-- The same or `watch A CHECK acceptor`, where such a word follows.
 abbrev pub mannered_form : Manner → Result CaptureLine LineKind → Result WatchLine LineKind
 mannered_form m (Err why) = Err why
 mannered_form m (Ok (says.Watch addr check true)) = Ok (opens_by.Watch addr check (family_in m Coins))
+mannered_form m (Ok (says.Watch addr check false)) = hopper_form m addr check
 mannered_form m (Ok line) = Err kind.Form
 
 -- `watch A CHECK bills`, where such a word follows, by `watch A` and the check.

@@ -21,6 +21,9 @@ abbrev pub premise_word : Premise → List ℕ
 premise_word premise.Buffer = codes "buffer"
 premise_word premise.Mask = codes "mask"
 premise_word premise.Reset = codes "reset"
+premise_word premise.Serial = codes "serial"
+premise_word premise.Enable = codes "enable"
+premise_word premise.Life = codes "life"
 
 -- The line of a premise that is broken: `broken A PREMISE FIRST LAST`.
 unfoldable pub broken_line : ℕ → Premise → ℕ → ℕ → List ℕ

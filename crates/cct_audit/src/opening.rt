@@ -1,6 +1,6 @@
 //! The lines of a capture before its taps.
 ghost use Rattle.std.specs.Prelude.{◌≡◌};
-ghost use Rattle.cct_audit.specs.Capture.{bills_at, bills_line, bills_under, family_in, mannered_form, mannered_watch, plain_line, watch_line};
+ghost use Rattle.cct_audit.specs.Capture.{bills_at, bills_line, bills_under, family_in, hopper_form, mannered_form, mannered_watch, plain_line, watch_line};
 
 use cct_model::{CheckKind, LineKind};
 use cct_monitor::{Family, Money};
@@ -9,7 +9,7 @@ use cct_script::{CaptureLine, ranged, read_capture_line};
 /// The last word of a line that watches an acceptor for resets alone, after the space before it.
 const QUIET: &[u8] = b" quiet";
 
-/// That of a line that watches an acceptor for premises that are broken.
+/// That of a line that watches a device for premises that are broken.
 const PREMISES: &[u8] = b" premises";
 
 /// The word before it of a bill acceptor.
@@ -23,7 +23,7 @@ const CRC: &[u8] = b" crc";
 /// The first word of such a line, with the space behind it.
 const WATCH: &[u8] = b"watch ";
 
-/// How an acceptor is watched that isn't watched plainly.
+/// How a device is watched that isn't watched plainly.
 #[derive(Clone, Copy)]
 pub(crate) enum Manner {
     /// For resets alone.
@@ -148,7 +148,8 @@ fn bills_at(manner: Manner, kind: CheckKind, named: &[u8]) -> Option<WatchLine>
     })
 }
 
-/// What a line says that watches no bill acceptor, by what stands before its last word: an acceptor of coins is so watched.
+/// What a line says that watches no bill acceptor, by what stands before its last word: an acceptor of coins or a hopper is so
+/// watched.
 fn mannered_form(manner: Manner, read: Result<CaptureLine, LineKind>) -> Result<WatchLine, LineKind>
     ensures { result ≡ mannered_form manner read }
 {
@@ -164,7 +165,28 @@ fn mannered_form(manner: Manner, read: Result<CaptureLine, LineKind>) -> Result<
             kind,
             family: family_in(manner, Money::Coins),
         }),
+        Ok(
+            CaptureLine::Watch {
+                addr,
+                kind,
+                acceptor: false,
+            },
+        ) => hopper_form(manner, addr, kind),
         Ok(_) => Err(LineKind::Form),
         Err(why) => Err(why),
+    }
+}
+
+/// A hopper, which is watched for premises alone.
+fn hopper_form(manner: Manner, addr: u8, kind: CheckKind) -> Result<WatchLine, LineKind>
+    ensures { result ≡ hopper_form manner addr kind }
+{
+    match manner {
+        Manner::Quiet => Err(LineKind::Form),
+        Manner::Premises => Ok(WatchLine::Watch {
+            addr,
+            kind,
+            family: Family::HopperPremises,
+        }),
     }
 }

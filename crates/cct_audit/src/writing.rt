@@ -137,6 +137,9 @@ fn write_premise(line: &mut TextLine, premise: Premise)
         Premise::Buffer => line.push(b" buffer"),
         Premise::Mask => line.push(b" mask"),
         Premise::Reset => line.push(b" reset"),
+        Premise::Serial => line.push(b" serial"),
+        Premise::Enable => line.push(b" enable"),
+        Premise::Life => line.push(b" life"),
     }
 }
 

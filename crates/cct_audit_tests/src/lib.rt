@@ -9,6 +9,8 @@ mod bills;
 #[cfg(test)]
 mod cut;
 #[cfg(test)]
+mod hopper_premises;
+#[cfg(test)]
 mod premises;
 #[cfg(test)]
 mod quiet;

@@ -68,14 +68,14 @@ fn what_is_broken_is_told(rt: HostRuntime) -> Result<(), Fail> {
 }
 
 #[test]
-fn acceptors_alone_are_watched_so(rt: HostRuntime) -> Result<(), Fail> {
+fn each_kind_is_watched_so(rt: HostRuntime) -> Result<(), Fail> {
     let alloc = rt.alloc();
     tell(
         &rt,
         alloc,
         Status::ScriptRefused,
         &[
-            (&["watch 3 simple hopper premises\n"], "refused 1 form\n"),
+            (&["watch 3 simple hopper quiet\n"], "refused 1 form\n"),
             (
                 &["watch 2 simple acceptor quiet premises\n"],
                 "refused 1 form\n",
@@ -87,6 +87,9 @@ fn acceptors_alone_are_watched_so(rt: HostRuntime) -> Result<(), Fail> {
         &rt,
         alloc,
         Status::Done,
-        &[(&["watch 40 crc bills premises\nbegin\nend\n"], "")],
+        &[
+            (&["watch 40 crc bills premises\nbegin\nend\n"], ""),
+            (&["watch 3 crc hopper premises\nbegin\nend\n"], ""),
+        ],
     )
 }

@@ -34,6 +34,9 @@ broke {address}|
 broken {address} buffer {first_tap} {last_tap}|acceptor {address} had events in its buffer with event counter 0, by taps {first_tap} and {last_tap}
 broken {address} mask {first_tap} {last_tap}|acceptor {address} had another inhibit mask than the one it was given, by taps {first_tap} and {last_tap}
 broken {address} reset {first_tap} {last_tap}|acceptor {address} let money in after a reset, before it was given a mask, by taps {first_tap} and {last_tap}
+broken {address} serial {first_tap} {last_tap}|hopper {address} showed another serial number than before, or took a dispense request under another, by taps {first_tap} and {last_tap}
+broken {address} enable {first_tap} {last_tap}|hopper {address} took a dispense request after a reset or when disabled, before it was enabled, by taps {first_tap} and {last_tap}
+broken {address} life {first_tap} {last_tap}|the life count of hopper {address} rose by more than could fall or by less than was paid, by taps {first_tap} and {last_tap}
 broken {address} {premise} {trial}|the premise {premise} is broken at {address}, in trial {trial}: the next line shows it
 change no {reason}|
 change ok {first_order} {amount}|

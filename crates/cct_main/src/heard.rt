@@ -38,7 +38,7 @@ fn tell_readings(rt: &HostRuntime, taps: u32, heard: &Heard) {
         Family::Hopper if readings == 0 => eprintln!(rt;
             "{device} {addr}: {messages} of {taps} exchanges, no reply to 168. Is it a hopper, and are its replies in the log?"
         ),
-        Family::Hopper => eprintln!(rt;
+        Family::Hopper | Family::HopperPremises => eprintln!(rt;
             "{device} {addr}: {messages} of {taps} exchanges, {readings} replies to 168"
         ),
         Family::QuietAcceptor(Money::Bills) if readings == 0 => eprintln!(rt;
@@ -71,7 +71,7 @@ fn name_of(family: Family) -> &'static str {
         Family::Acceptor | Family::QuietAcceptor(Money::Coins) | Family::Premises(Money::Coins) =>
             "acceptor",
         Family::QuietAcceptor(Money::Bills) | Family::Premises(Money::Bills) => "bill acceptor",
-        Family::Hopper => "hopper",
+        Family::Hopper | Family::HopperPremises => "hopper",
     }
 }
 

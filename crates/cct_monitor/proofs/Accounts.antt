@@ -3,12 +3,13 @@ use Rattle.std.proofs.Common.{◌≡◌, ℕ, suc, ◌+◌, Bool, true, false, c
 use Rattle.std.specs.Prelude.{⊤}
 use Rattle.std.proofs.lemmas.List.{length-map, length-replicate}
 use Rattle.cct_monitor.specs.declared.watched.Kept.{Kept}
-use Rattle.cct_monitor.specs.declared.watched.Kept.TheVariants.{Acceptor, QuietAcceptor, Premises, Hopper}
+use Rattle.cct_monitor.specs.declared.watched.Kept.TheVariants.{Acceptor, QuietAcceptor, Premises, Hopper, HopperPremises}
 use Rattle.cct_taps.specs.declared.money.Money.{Money}
 use Rattle.cct_monitor.specs.declared.watched.Family.{Family}
 use Rattle.cct_monitor.specs.declared.watched.Family.TheVariants as family
 use Rattle.cct_monitor.specs.declared.watched.Heard.{Heard}
 use Rattle.cct_taps.specs.Signs.{broken_at, broken_by, known_after, known_on, sign}
+use Rattle.cct_taps.specs.Deeds.{deed, hopper_after, hopper_broken_at, hopper_broken_by, hopper_on}
 use Rattle.cct_taps.specs.Taps.{Tap, shown, quiet_shown, life_shown}
 use Rattle.cct_monitor.specs.Spans.{said_at, said_last, quiet_at}
 use Rattle.cct_monitor.specs.Lives.{fell_at, fell_by, last_life}
@@ -16,7 +17,7 @@ use Rattle.cct_monitor.specs.Machine.{acceptor_after, acceptor_on, acceptor_says
 use Rattle.cct_monitor.specs.Places.{put_watched}
 use Rattle.cct_monitor.specs.Monitor.{heard_of, kept_by, watched_as}
 use Rattle.cct_monitor.specs.Tallies.{tally_by, tally_of}
-use Rattle.cct_monitor.specs.Watches.{Account, Came, accounts, finally_by, finally_of, lives_of, looks_of, made_tap, made_watch, put_by_address, quiet_looks_of, signs_of, said_by, said_of, taps_in, with_tap}
+use Rattle.cct_monitor.specs.Watches.{Account, Came, accounts, deeds_of, finally_by, finally_of, lives_of, looks_of, made_tap, made_watch, put_by_address, quiet_looks_of, signs_of, said_by, said_of, taps_in, with_tap}
 use Rattle.cct_monitor.proofs.Machine.{ends_is, life_is, quiet_is, says_is}
 
 -- of each device xs many taps came xs of all
@@ -60,12 +61,16 @@ signs_counted money a = simp (length-append, length-map, length-replicate)
 lives_counted : (a : Account) → length (lives_of a) ≡ length a.taps + a.before
 lives_counted a = simp (length-append, length-map, length-replicate)
 
+deeds_counted : (a : Account) → length (deeds_of a) ≡ length a.taps + a.before
+deeds_counted a = simp (length-append, length-map, length-replicate)
+
 -- one device
 family_kept : (fam : Family) (a : Account) → family_of (kept_by fam a) ≡ fam
 family_kept family.Acceptor a = refl
 family_kept (family.QuietAcceptor money) a = refl
 family_kept (family.Premises money) a = refl
 family_kept family.Hopper a = refl
+family_kept family.HopperPremises a = refl
 
 one_on : (t : Tap) (n : ℕ) (a : Account) → length a.taps + a.before ≡ n →
     watched_on t (suc n) (watched_as a) ≡ watched_as (with_tap t a)
@@ -100,11 +105,17 @@ one_on t n a own =
         (sym (lives_counted a ∙ own))
         ∙ life_is (life_shown a.watch.kind a.watch.addr t) (lives_of a)
 
+    done : hopper_on (suc n) (deed a.watch.kind a.watch.addr t) (hopper_after (deeds_of a))
+        ≡ hopper_after (deeds_of (with_tap t a))
+    done = ap (λ m. hopper_on (suc m) (deed a.watch.kind a.watch.addr t) (hopper_after (deeds_of a)))
+        (sym (deeds_counted a ∙ own))
+
     by_family : (fam : Family) → kept_on a.watch.kind a.watch.addr t (suc n) (kept_by fam a) ≡ kept_by fam (with_tap t a)
     by_family family.Acceptor = ap Acceptor look
     by_family (family.QuietAcceptor money) = ap (QuietAcceptor money) (quiet money)
     by_family (family.Premises money) = ap (Premises money) (known money)
     by_family family.Hopper = ap Hopper live
+    by_family family.HopperPremises = ap HopperPremises done
 
 one_says : (t : Tap) (n : ℕ) (a : Account) → length a.taps + a.before ≡ n →
     says_on t (suc n) (watched_as a) ≡ said_of t a
@@ -136,11 +147,17 @@ one_says t n a own = by_family a.watch.family
     live = ap (λ m. fell_by a.watch.addr (suc m) (life_shown a.watch.kind a.watch.addr t) (last_life (lives_of a)))
         (sym (lives_counted a ∙ own))
 
+    wrong : hopper_broken_by a.watch.addr (suc n) (deed a.watch.kind a.watch.addr t) (hopper_after (deeds_of a))
+        ≡ hopper_broken_at a.watch.addr (deed a.watch.kind a.watch.addr t) (deeds_of a)
+    wrong = ap (λ m. hopper_broken_by a.watch.addr (suc m) (deed a.watch.kind a.watch.addr t) (hopper_after (deeds_of a)))
+        (sym (deeds_counted a ∙ own))
+
     by_family : (fam : Family) → says_by a.watch.kind a.watch.addr t (suc n) (kept_by fam a) ≡ said_by fam t a
     by_family family.Acceptor = look
     by_family (family.QuietAcceptor money) = quiet money
     by_family (family.Premises money) = broken money
     by_family family.Hopper = live
+    by_family family.HopperPremises = wrong
 
 one_ends : (a : Account) → ends_on (watched_as a) ≡ finally_of a
 one_ends a = by_family a.watch.family
@@ -150,6 +167,7 @@ one_ends a = by_family a.watch.family
     by_family (family.QuietAcceptor money) = refl
     by_family (family.Premises money) = refl
     by_family family.Hopper = refl
+    by_family family.HopperPremises = refl
 
 -- what is told of one
 one_heard : (a : Account) → heard_as (watched_as a) ≡ heard_of a

@@ -1,6 +1,6 @@
 -- Each span of each watched acceptor is said once, among all that is said of the watched devices; and what is said at the end
 -- are spans in doubt.
-use Rattle.std.proofs.Common.{◌≡◌, ◌⊎◌, inl, inr, ℕ, suc, ◌==◌, ◌&&◌, ◌||◌, nat_le, Bool, true, false, cond, List, [], ◌∷◌, ◌++◌, map, filter, flat_map, length, reverse, refl, ap, ap₂, sym, ◌∙◌, subst, append-nil, All, Option, Some, None, arith}
+use Rattle.std.proofs.Common.{◌≡◌, ◌⊎◌, inl, inr, ℕ, suc, ◌^◌, ◌==◌, ◌&&◌, ◌||◌, nat_le, Bool, true, false, cond, List, [], ◌∷◌, ◌++◌, map, filter, flat_map, length, reverse, refl, ap, ap₂, sym, ◌∙◌, subst, append-nil, All, Option, Some, None, arith}
 use Rattle.std.specs.Prelude.{⊤}
 use Rattle.std.specs.List.{list_any}
 use Rattle.std.proofs.lemmas.Bool.Decides.{nat_tests}
@@ -21,8 +21,15 @@ use Rattle.cct_taps.specs.declared.signs.KnownMask.{KnownMask}
 use Rattle.cct_taps.specs.declared.signs.Sign.{Sign}
 use Rattle.cct_taps.specs.declared.signs.Sign.TheVariants as signs
 use Rattle.cct_taps.specs.Signs.{broken_buffer, broken_by, broken_reset, is_credit, is_event, known_after, sign}
+use Rattle.cct_taps.specs.declared.deeds.Deed.{Deed}
+use Rattle.cct_taps.specs.declared.deeds.Deed.TheVariants as deeds
+use Rattle.cct_taps.specs.declared.hoppers.KnownHopper.{KnownHopper}
+use Rattle.cct_taps.specs.declared.hoppers.KnownLife.{KnownLife}
+use Rattle.cct_taps.specs.declared.hoppers.KnownSerial.{KnownSerial}
+use Rattle.cct_taps.specs.Deeds.{broken_enable, broken_life, broken_serial, deed, hopper_after, hopper_broken_by, rise_fits}
+use Rattle.cct_model.specs.Order.{life_between}
 use Rattle.cct_taps.specs.Taps.{Tap, life_shown, quiet_shown, shown}
-use Rattle.cct_monitor.specs.Watches.{Account, Came, Watch, accounts, all_told, by_address, finally_by, finally_of, finally_of_all, from_begin, lives_of, looks_of, made_tap, made_watch, put_watch, quiet_looks_of, signs_of, said_by, said_of, said_of_all}
+use Rattle.cct_monitor.specs.Watches.{Account, Came, Watch, accounts, all_told, by_address, deeds_of, finally_by, finally_of, finally_of_all, from_begin, lives_of, looks_of, made_tap, made_watch, put_watch, quiet_looks_of, signs_of, said_by, said_of, said_of_all}
 use Rattle.cct_monitor.proofs.Captures.{from_the_begin}
 use Rattle.cct_monitor.proofs.Once.{quietly_once, said_once}
 
@@ -119,6 +126,38 @@ broken_names addr number signs.MaskLost known = no_names addr
 broken_names addr number signs.ResetTaken known = no_names addr
 broken_names addr number signs.Nothing known = no_names addr
 
+serial_names : (addr number serial : ℕ) (known : Option KnownSerial) → NamesAll addr (broken_serial addr number serial known)
+unfolding addr_of
+serial_names addr number serial None = no_names addr
+serial_names addr number serial (Some k) = none_or_one addr (serial == k.serial) _ refl
+
+enable_names : (addr number : ℕ) (shut : Option ℕ) → NamesAll addr (broken_enable addr number shut)
+unfolding addr_of
+enable_names addr number None = no_names addr
+enable_names addr number (Some first) = one_names addr _ refl
+
+none_or : (addr : ℕ) (test : Bool) (xs : List Said) → NamesAll addr xs → NamesAll addr (cond test [] xs)
+none_or addr true xs names = no_names addr
+none_or addr false xs names = names
+
+life_names : (addr number count : ℕ) (known : Option KnownLife) → NamesAll addr (broken_life addr number count known)
+unfolding addr_of
+life_names addr number count None = no_names addr
+life_names addr number count (Some k) =
+    none_or addr (nat_le (2 ^ 24) k.most) _ (none_or_one addr (rise_fits (life_between k.count count) k) _ refl)
+
+hopper_names : (addr number : ℕ) (s : Deed) (known : KnownHopper) → NamesAll addr (hopper_broken_by addr number s known)
+hopper_names addr number (deeds.Serial serial) known = serial_names addr number serial known.serial
+hopper_names addr number (deeds.Dispensed serial count) known =
+    both_name addr (broken_serial addr number serial known.serial) (broken_enable addr number known.shut)
+    (serial_names addr number serial known.serial) (enable_names addr number known.shut)
+hopper_names addr number (deeds.Life count) known = life_names addr number count known.life
+hopper_names addr number deeds.Enabled known = no_names addr
+hopper_names addr number deeds.Shut known = no_names addr
+hopper_names addr number (deeds.Asked count) known = no_names addr
+hopper_names addr number (deeds.Status left paid) known = no_names addr
+hopper_names addr number deeds.Nothing known = no_names addr
+
 said_names : (t : Tap) (a : Account) → NamesAll a.watch.addr (said_of t a)
 said_names t a = by_family a.watch.family
   where
@@ -136,6 +175,7 @@ said_names t a = by_family a.watch.family
     by_family (family.Premises money) =
         broken_names a.watch.addr _ (sign money a.watch.kind a.watch.addr t) (known_after (signs_of money a))
     by_family family.Hopper = fell_names a.watch.addr _ (life_shown a.watch.kind a.watch.addr t) (last_life (lives_of a))
+    by_family family.HopperPremises = hopper_names a.watch.addr _ (deed a.watch.kind a.watch.addr t) (hopper_after (deeds_of a))
 
 last_names : (a : Account) → NamesAll a.watch.addr (finally_of a)
 last_names a = by_family a.watch.family
@@ -145,6 +185,7 @@ last_names a = by_family a.watch.family
     by_family (family.QuietAcceptor money) = no_names a.watch.addr
     by_family (family.Premises money) = no_names a.watch.addr
     by_family family.Hopper = no_names a.watch.addr
+    by_family family.HopperPremises = no_names a.watch.addr
 
 same_number : (n : ℕ) → (n == n) ≡ true
 same_number n = by_test (n == n) refl
@@ -361,6 +402,7 @@ last_doubts P doubts a = by_family a.watch.family
     by_family (family.QuietAcceptor money) = All-nil P
     by_family (family.Premises money) = All-nil P
     by_family family.Hopper = All-nil P
+    by_family family.HopperPremises = All-nil P
 
 each_last : (P : Said → Type 0) → ((addr f l : ℕ) → P (Doubt addr f l)) → (all : List Account) → All P (flat_map finally_of all)
 each_last P doubts [] = All-nil P

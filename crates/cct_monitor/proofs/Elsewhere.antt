@@ -13,7 +13,7 @@ use Rattle.cct_model.specs.Request.{request_of}
 use Rattle.cct_taps.specs.declared.shown.Shown.{Shown}
 use Rattle.cct_taps.specs.declared.shown.Shown.TheVariants.{Nothing}
 use Rattle.cct_monitor.specs.declared.watched.Kept.{Kept}
-use Rattle.cct_monitor.specs.declared.watched.Kept.TheVariants.{Acceptor, QuietAcceptor, Premises, Hopper}
+use Rattle.cct_monitor.specs.declared.watched.Kept.TheVariants.{Acceptor, QuietAcceptor, Premises, Hopper, HopperPremises}
 use Rattle.cct_monitor.specs.declared.tally.Tally.{Tally}
 use Rattle.cct_taps.specs.declared.money.Money.{Money}
 use Rattle.cct_taps.specs.declared.money.Money.TheVariants.{Coins, Bills}
@@ -22,8 +22,10 @@ use Rattle.cct_monitor.specs.declared.watched.Family.TheVariants as family
 use Rattle.cct_monitor.specs.declared.watched.Watched.{Watched}
 use Rattle.cct_taps.specs.declared.signs.Sign.TheVariants as signs
 use Rattle.cct_taps.specs.Signs.{broken_by, known_on, sign, sign_by}
+use Rattle.cct_taps.specs.declared.deeds.Deed.TheVariants as deeds
+use Rattle.cct_taps.specs.Deeds.{deed, deed_by, hopper_broken_by, hopper_on}
 use Rattle.cct_taps.specs.Taps.{Tap, asks_at, bills_by, but_masks, is_message, is_to, life_by, life_shown, quiet_shown, shown, shown_by, tap_of}
-use Rattle.cct_monitor.specs.Tallies.{is_events, is_life, is_mask, is_masked, is_reading, tally_by, tally_more}
+use Rattle.cct_monitor.specs.Tallies.{is_counted, is_events, is_life, is_mask, is_masked, is_reading, tally_by, tally_more}
 use Rattle.cct_monitor.specs.Lives.{fell_by}
 use Rattle.cct_monitor.specs.Machine.{acceptor_on, acceptor_says, family_of, kept_on, last_on, life_on, quiet_says, says_by, says_on, watched_on}
 
@@ -33,12 +35,25 @@ pub record IsIdle (asked : Option Request) : Type 0 where
   pub bills : (replied : ReplyForm → Option Reply) → bills_by asked replied ≡ Nothing
   pub premises : (money : Money) (replied : ReplyForm → Option Reply) → sign_by money asked replied ≡ signs.Nothing
   pub lives : (replied : ReplyForm → Option Reply) → life_by asked replied ≡ None
+  pub hoppers : (replied : ReplyForm → Option Reply) → deed_by asked replied ≡ deeds.Nothing
 
 no_request : IsIdle None
-no_request = record { looks = λ replied. refl; bills = λ replied. refl; premises = λ money replied. refl; lives = λ replied. refl }
+no_request = record {
+  looks = λ replied. refl;
+  bills = λ replied. refl;
+  premises = λ money replied. refl;
+  lives = λ replied. refl;
+  hoppers = λ replied. refl;
+}
 
 asked_all : (asked : Option Request) → IsIdle (to_all asked)
-asked_all (Some AddressPoll) = record { looks = λ replied. refl; bills = λ replied. refl; premises = λ money replied. refl; lives = λ replied. refl }
+asked_all (Some AddressPoll) = record {
+  looks = λ replied. refl;
+  bills = λ replied. refl;
+  premises = λ money replied. refl;
+  lives = λ replied. refl;
+  hoppers = λ replied. refl;
+}
 asked_all asked = no_request
 
 asked_other : (addr : ℕ) (m : Message) → (m.to == addr) ≡ false → IsIdle (asked_of addr m)
@@ -125,6 +140,9 @@ sign_is money kind addr t idle = idle.premises money (λ form. got kind addr for
 live_is : (kind : CheckKind) (addr : ℕ) (t : Tap) → IsIdle (asks_at kind addr t.sent) → life_shown kind addr t ≡ None
 live_is kind addr t idle = idle.lives (λ form. got kind addr form t.sent t.heard)
 
+deed_is : (kind : CheckKind) (addr : ℕ) (t : Tap) → IsIdle (asks_at kind addr t.sent) → deed kind addr t ≡ deeds.Nothing
+deed_is kind addr t idle = idle.hoppers (λ form. got kind addr form t.sent t.heard)
+
 tally_same : (fam : Family) (kind : CheckKind) (addr : ℕ) (t : Tap) (tally : Tally) → is_message kind addr t.sent ≡ false →
     IsIdle (asks_at kind addr t.sent) → tally_by fam kind addr t tally ≡ tally
 tally_same family.Acceptor kind addr t tally none idle =
@@ -135,6 +153,8 @@ tally_same (family.Premises money) kind addr t tally none idle =
     ap₂ (λ to_it s. tally_more to_it (is_events s) (is_mask s) tally) none (sign_is money kind addr t idle)
 tally_same family.Hopper kind addr t tally none idle =
     ap₂ (λ to_it s. tally_more to_it (is_life s) false tally) none (live_is kind addr t idle)
+tally_same family.HopperPremises kind addr t tally none idle =
+    ap₂ (λ to_it s. tally_more to_it (is_counted s) false tally) none (deed_is kind addr t idle)
 
 keeps : (kind : CheckKind) (addr : ℕ) (t : Tap) (number : ℕ) (kept : Kept) → IsIdle (asks_at kind addr t.sent) →
     kept_on kind addr t number kept ≡ kept
@@ -144,6 +164,8 @@ keeps kind addr t number (QuietAcceptor money last) idle =
 keeps kind addr t number (Premises money known) idle =
     ap (λ s. Premises money (known_on number s known)) (sign_is money kind addr t idle)
 keeps kind addr t number (Hopper life) idle = ap (λ s. Hopper (life_on s number life)) (live_is kind addr t idle)
+keeps kind addr t number (HopperPremises known) idle =
+    ap (λ s. HopperPremises (hopper_on number s known)) (deed_is kind addr t idle)
 
 is_silent : (kind : CheckKind) (addr : ℕ) (t : Tap) (number : ℕ) (kept : Kept) → IsIdle (asks_at kind addr t.sent) →
     says_by kind addr t number kept ≡ []
@@ -153,6 +175,8 @@ is_silent kind addr t number (QuietAcceptor money last) idle =
 is_silent kind addr t number (Premises money known) idle =
     ap (λ s. broken_by addr number s known) (sign_is money kind addr t idle)
 is_silent kind addr t number (Hopper life) idle = ap (λ s. fell_by addr number s life) (live_is kind addr t idle)
+is_silent kind addr t number (HopperPremises known) idle =
+    ap (λ s. hopper_broken_by addr number s known) (deed_is kind addr t idle)
 
 -- a tap passes a device by
 pub record PassesBy (t : Tap) (number : ℕ) (w : Watched) : Type 0 where

@@ -6,13 +6,15 @@ use Rattle.cct_monitor.specs.declared.monitor.Monitor.{Monitor}
 use Rattle.cct_taps.specs.declared.said.Said.{Said}
 use Rattle.cct_taps.specs.declared.shown.Shown.TheVariants.{Nothing}
 use Rattle.cct_monitor.specs.declared.watched.Kept.{Kept}
-use Rattle.cct_monitor.specs.declared.watched.Kept.TheVariants.{Acceptor, QuietAcceptor, Premises, Hopper}
+use Rattle.cct_monitor.specs.declared.watched.Kept.TheVariants.{Acceptor, QuietAcceptor, Premises, Hopper, HopperPremises}
 use Rattle.cct_monitor.specs.declared.watched.Family.{Family}
 use Rattle.cct_monitor.specs.declared.watched.Family.TheVariants as family
 use Rattle.cct_monitor.specs.declared.watched.Heard.{Heard}
 use Rattle.cct_monitor.specs.declared.watched.Watched.{Watched}
 use Rattle.cct_taps.specs.declared.signs.Sign.TheVariants as signs
 use Rattle.cct_taps.specs.Signs.{known_after}
+use Rattle.cct_taps.specs.declared.deeds.Deed.TheVariants as deeds
+use Rattle.cct_taps.specs.Deeds.{hopper_after, no_hopper}
 use Rattle.cct_taps.specs.Taps.{Tap}
 use Rattle.cct_monitor.specs.Lives.{last_life}
 use Rattle.cct_monitor.specs.Machine.{acceptor_after, ends_on, heard_as, kept_first, new_watched, no_tap, quiet_after, says_on, watched_on}
@@ -43,6 +45,10 @@ no_sign : (n : ℕ) → known_after (replicate n signs.Nothing) ≡ None
 no_sign zero = refl
 no_sign (suc n) = no_sign n
 
+no_deed : (n : ℕ) → hopper_after (replicate n deeds.Nothing) ≡ no_hopper
+no_deed zero = refl
+no_deed (suc n) = no_deed n
+
 new_is : (w : Watch) (n : ℕ) → new_watched w.addr w.kind w.family ≡ watched_as (unseen w n)
 new_is w n = ap (λ (kept : Kept). record { addr = w.addr; kind = w.kind; tally = no_tally; kept = kept }) (by_family w.family)
   where
@@ -51,6 +57,7 @@ new_is w n = ap (λ (kept : Kept). record { addr = w.addr; kind = w.kind; tally 
     by_family (family.QuietAcceptor money) = ap (QuietAcceptor money) (sym (no_quiet n))
     by_family (family.Premises money) = ap (Premises money) (sym (no_sign n))
     by_family family.Hopper = ap Hopper (sym (no_life n))
+    by_family family.HopperPremises = ap HopperPremises (sym (no_deed n))
 
 pub watch_stands : (w : Watch) (past : List Came) (old new : Monitor) → StandsFor old past →
     tap_count new ≡ tap_count old →

@@ -12,12 +12,13 @@ use Rattle.cct_monitor.specs.declared.acceptor.WaitingSpan.{WaitingSpan}
 use Rattle.cct_monitor.specs.declared.acceptor.AcceptorWatch.{AcceptorWatch}
 use Rattle.cct_monitor.specs.declared.hopper.LastLife.{LastLife}
 use Rattle.cct_monitor.specs.declared.watched.Kept.{Kept}
-use Rattle.cct_monitor.specs.declared.watched.Kept.TheVariants.{Acceptor, QuietAcceptor, Premises, Hopper}
+use Rattle.cct_monitor.specs.declared.watched.Kept.TheVariants.{Acceptor, QuietAcceptor, Premises, Hopper, HopperPremises}
 use Rattle.cct_monitor.specs.declared.watched.Watched.{Watched}
 use Rattle.cct_monitor.specs.declared.watched.Family.{Family}
 use Rattle.cct_monitor.specs.declared.watched.Heard.{Heard}
 use Rattle.cct_monitor.specs.declared.watched.Family.TheVariants as family
 use Rattle.cct_taps.specs.Signs.{broken_by, known_on, sign}
+use Rattle.cct_taps.specs.Deeds.{deed, hopper_broken_by, hopper_on, no_hopper}
 use Rattle.cct_taps.specs.Taps.{Tap, shown, quiet_shown, life_shown}
 use Rattle.cct_monitor.specs.Tallies.{no_tally, tally_by}
 use Rattle.cct_monitor.specs.Spans.{are_near}
@@ -117,6 +118,7 @@ kept_on kind addr tap number (QuietAcceptor money last) =
     QuietAcceptor money (last_on (quiet_shown money kind addr tap) number last)
 kept_on kind addr tap number (Premises money known) = Premises money (known_on number (sign money kind addr tap) known)
 kept_on kind addr tap number (Hopper life) = Hopper (life_on (life_shown kind addr tap) number life)
+kept_on kind addr tap number (HopperPremises known) = HopperPremises (hopper_on number (deed kind addr tap) known)
 
 -- What the tap makes said of it.
 abbrev pub says_by : CheckKind → ℕ → Tap → ℕ → Kept → List Said
@@ -124,6 +126,7 @@ says_by kind addr tap number (Acceptor kept) = acceptor_says addr (shown kind ad
 says_by kind addr tap number (QuietAcceptor money last) = quiet_says addr (quiet_shown money kind addr tap) number last
 says_by kind addr tap number (Premises money known) = broken_by addr number (sign money kind addr tap) known
 says_by kind addr tap number (Hopper life) = fell_by addr number (life_shown kind addr tap) life
+says_by kind addr tap number (HopperPremises known) = hopper_broken_by addr number (deed kind addr tap) known
 
 -- What is kept of a device of a family before any tap.
 abbrev pub kept_first : Family → Kept
@@ -131,6 +134,7 @@ kept_first family.Acceptor = Acceptor no_tap
 kept_first (family.QuietAcceptor money) = QuietAcceptor money None
 kept_first (family.Premises money) = Premises money None
 kept_first family.Hopper = Hopper None
+kept_first family.HopperPremises = HopperPremises no_hopper
 
 -- The family of a device of which this is kept.
 abbrev pub family_of : Kept → Family
@@ -138,6 +142,7 @@ family_of (Acceptor kept) = family.Acceptor
 family_of (QuietAcceptor money last) = family.QuietAcceptor money
 family_of (Premises money known) = family.Premises money
 family_of (Hopper life) = family.Hopper
+family_of (HopperPremises known) = family.HopperPremises
 
 -- What is told of a watched device.
 abbrev pub heard_as : Watched → Heard
@@ -166,6 +171,7 @@ ends_by addr (Acceptor kept) = doubt_waiting addr kept.waiting
 ends_by addr (QuietAcceptor money last) = []
 ends_by addr (Premises money known) = []
 ends_by addr (Hopper life) = []
+ends_by addr (HopperPremises known) = []
 
 -- What is said of a watched device at the end of the taps.
 abbrev pub ends_on : Watched → List Said

@@ -2,18 +2,19 @@
 use Rattle.std.specs.Prelude.{◌≡◌, ℕ, Bool, List, map, length}
 use Rattle.std.specs.List.{list_any}
 use Rattle.cct_monitor.specs.declared.watched.Kept.{Kept}
-use Rattle.cct_monitor.specs.declared.watched.Kept.TheVariants.{Acceptor, QuietAcceptor, Premises, Hopper}
+use Rattle.cct_monitor.specs.declared.watched.Kept.TheVariants.{Acceptor, QuietAcceptor, Premises, Hopper, HopperPremises}
 use Rattle.cct_monitor.specs.declared.watched.Family.{Family}
 use Rattle.cct_monitor.specs.declared.watched.Heard.{Heard}
 use Rattle.cct_monitor.specs.declared.watched.Family.TheVariants as family
 use Rattle.cct_monitor.specs.declared.watched.Watched.{Watched}
 use Rattle.cct_monitor.specs.declared.monitor.Monitor.{Monitor}
 use Rattle.cct_taps.specs.Signs.{known_after}
+use Rattle.cct_taps.specs.Deeds.{hopper_after}
 use Rattle.cct_monitor.specs.Lives.{last_life}
 use Rattle.cct_monitor.specs.Machine.{acceptor_after, quiet_after}
 use Rattle.cct_monitor.specs.Tallies.{tally_of}
 use Rattle.cct_monitor.specs.Places.{has_addr}
-use Rattle.cct_monitor.specs.Watches.{Account, Came, accounts, lives_of, looks_of, quiet_looks_of, signs_of, taps_in}
+use Rattle.cct_monitor.specs.Watches.{Account, Came, accounts, deeds_of, lives_of, looks_of, quiet_looks_of, signs_of, taps_in}
 
 -- How many taps came to a monitor.
 abbrev pub tap_count : Monitor → ℕ
@@ -33,6 +34,7 @@ kept_by family.Acceptor a = Acceptor (acceptor_after (looks_of a))
 kept_by (family.QuietAcceptor money) a = QuietAcceptor money (quiet_after (quiet_looks_of money a))
 kept_by (family.Premises money) a = Premises money (known_after (signs_of money a))
 kept_by family.Hopper a = Hopper (last_life (lives_of a))
+kept_by family.HopperPremises a = HopperPremises (hopper_after (deeds_of a))
 
 -- A watched device with what is kept of it.
 abbrev pub watched_as : Account → Watched

@@ -9,6 +9,9 @@ use Rattle.cct_monitor.specs.declared.watched.Family.TheVariants as family
 use Rattle.cct_taps.specs.declared.signs.Sign.{Sign}
 use Rattle.cct_taps.specs.declared.signs.Sign.TheVariants.{Events, Mask}
 use Rattle.cct_taps.specs.Signs.{sign}
+use Rattle.cct_taps.specs.declared.deeds.Deed.{Deed}
+use Rattle.cct_taps.specs.declared.deeds.Deed.TheVariants.{Life}
+use Rattle.cct_taps.specs.Deeds.{deed}
 use Rattle.cct_taps.specs.Taps.{Tap, is_message, life_shown, quiet_shown, shown}
 
 -- A tap shows a reading.
@@ -40,6 +43,11 @@ abbrev pub is_life : Option ℕ → Bool
 is_life None = false
 is_life (Some count) = true
 
+-- A tap shows the life count of a hopper of which premises are tried.
+abbrev pub is_counted : Deed → Bool
+is_counted (Life count) = true
+is_counted s = false
+
 -- A count with one more, where there is one. At its greatest it stands still.
 abbrev pub one_more : Bool → ℕ → ℕ
 one_more more count = if more then min (count + 1) 4294967295 else count
@@ -63,6 +71,8 @@ tally_by (family.Premises money) kind addr tap t =
     tally_more (is_message kind addr tap.sent) (is_events (sign money kind addr tap)) (is_mask (sign money kind addr tap)) t
 tally_by family.Hopper kind addr tap t =
     tally_more (is_message kind addr tap.sent) (is_life (life_shown kind addr tap)) false t
+tally_by family.HopperPremises kind addr tap t =
+    tally_more (is_message kind addr tap.sent) (is_counted (deed kind addr tap)) false t
 
 -- The tally before any tap.
 abbrev pub no_tally : Tally

@@ -7,10 +7,13 @@ use Rattle.cct_taps.specs.declared.shown.Shown.TheVariants.{Nothing}
 use Rattle.cct_taps.specs.declared.said.Said.{Said}
 use Rattle.cct_taps.specs.declared.money.Money.{Money}
 use Rattle.cct_monitor.specs.declared.watched.Family.{Family}
-use Rattle.cct_monitor.specs.declared.watched.Family.TheVariants.{Acceptor, QuietAcceptor, Premises, Hopper}
+use Rattle.cct_monitor.specs.declared.watched.Family.TheVariants.{Acceptor, QuietAcceptor, Premises, Hopper, HopperPremises}
 use Rattle.cct_taps.specs.declared.signs.Sign.{Sign}
 use Rattle.cct_taps.specs.declared.signs.Sign.TheVariants as signs
 use Rattle.cct_taps.specs.Signs.{broken_at, sign}
+use Rattle.cct_taps.specs.declared.deeds.Deed.{Deed}
+use Rattle.cct_taps.specs.declared.deeds.Deed.TheVariants as deeds
+use Rattle.cct_taps.specs.Deeds.{deed, hopper_broken_at}
 use Rattle.cct_taps.specs.Taps.{Tap, shown, quiet_shown, life_shown}
 use Rattle.cct_monitor.specs.Spans.{said_at, said_last, quiet_at}
 use Rattle.cct_monitor.specs.Lives.{fell_at}
@@ -58,6 +61,10 @@ signs_of money a = map (sign money a.watch.kind a.watch.addr) a.taps ++ replicat
 abbrev pub lives_of : Account → List (Option ℕ)
 lives_of a = map (life_shown a.watch.kind a.watch.addr) a.taps ++ replicate a.before None
 
+-- What all taps show of a watched hopper of which premises are tried, newest first.
+abbrev pub deeds_of : Account → List Deed
+deeds_of a = map (deed a.watch.kind a.watch.addr) a.taps ++ replicate a.before deeds.Nothing
+
 -- A watched device put among others in rising order of address.
 abbrev pub put_by_address : Account → List Account → List Account
 put_by_address a [] = a ∷ []
@@ -76,6 +83,7 @@ said_by (QuietAcceptor money) t a =
     quiet_at a.watch.addr (quiet_shown money a.watch.kind a.watch.addr t) (quiet_looks_of money a)
 said_by (Premises money) t a = broken_at a.watch.addr (sign money a.watch.kind a.watch.addr t) (signs_of money a)
 said_by Hopper t a = fell_at a.watch.addr (life_shown a.watch.kind a.watch.addr t) (lives_of a)
+said_by HopperPremises t a = hopper_broken_at a.watch.addr (deed a.watch.kind a.watch.addr t) (deeds_of a)
 
 -- What a tap makes said of a watched device.
 abbrev pub said_of : Tap → Account → List Said
@@ -97,6 +105,7 @@ finally_by Acceptor a = said_last a.watch.addr (looks_of a)
 finally_by (QuietAcceptor money) a = []
 finally_by (Premises money) a = []
 finally_by Hopper a = []
+finally_by HopperPremises a = []
 
 -- What is said of a watched device at the end.
 abbrev pub finally_of : Account → List Said

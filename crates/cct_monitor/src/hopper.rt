@@ -1,13 +1,9 @@
 //! What is kept of a watched hopper: its last life count (ccTalk Generic Specification 4, part 3, header 168).
 ghost use Rattle.std.specs.Prelude.{◌≡◌, []};
-ghost use Rattle.cct_model.specs.Order.{life_between};
 ghost use Rattle.cct_monitor.specs.Lives.{fell_by};
 
 use arrayvec::ArrayVec;
-use cct_taps::Said;
-
-/// How many values the life count has, which is three bytes long.
-const COUNTS: u64 = 1 << 24;
+use cct_taps::{Said, fallen_between};
 
 /// The last life count of a hopper.
 #[derive(Clone, Copy, Debug, PartialEq, Eq)]
@@ -37,12 +33,4 @@ pub(crate) fn fell(
             count: fallen_between(life.count, now),
         });
     }
-}
-
-/// How many coins fell between two life counts, which go from 2^24 - 1 to 0.
-#[tactic(auto, unfolding(cct_model::specs::Order::life_between))]
-fn fallen_between(before: u32, now: u32) -> u32
-    ensures { result ≡ life_between before now }
-{
-    ((u64::from(now) + COUNTS).saturating_sub(u64::from(before)) % COUNTS) as u32
 }

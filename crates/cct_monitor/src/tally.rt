@@ -1,8 +1,8 @@
 //! How many taps were for a watched device, and what they showed.
 ghost use Rattle.std.specs.Prelude.{◌≡◌, false};
-ghost use Rattle.cct_monitor.specs.Tallies.{is_events, is_life, is_mask, is_masked, is_reading, no_tally, one_more, tally_more};
+ghost use Rattle.cct_monitor.specs.Tallies.{is_counted, is_events, is_life, is_mask, is_masked, is_reading, no_tally, one_more, tally_more};
 
-use cct_taps::{Shown, Sign};
+use cct_taps::{Deed, Shown, Sign};
 
 /// How many taps were for a watched device, and what they showed. Each number stands still at its type's end.
 #[derive(Clone, Copy, Debug, PartialEq, Eq)]
@@ -46,6 +46,13 @@ impl Tally {
         ensures { result ≡ tally_more is_message (is_life count) false self }
     {
         self.more(is_message, count.is_some(), false)
+    }
+
+    /// The tally of a hopper of which premises are tried after a tap.
+    pub(crate) fn after_deed(self, is_message: bool, deed: &Deed) -> Tally
+        ensures { result ≡ tally_more is_message (is_counted deed.now) false self }
+    {
+        self.more(is_message, is_counted(deed), false)
     }
 
     /// The tally with one tap more.
@@ -116,5 +123,21 @@ fn is_mask(sign: &Sign) -> bool
         Sign::MaskLost => false,
         Sign::ResetTaken => false,
         Sign::Nothing => false,
+    }
+}
+
+/// Whether it shows a life count.
+fn is_counted(deed: &Deed) -> bool
+    ensures { result ≡ is_counted deed.now }
+{
+    match deed {
+        Deed::Life { .. } => true,
+        Deed::Serial { .. } => false,
+        Deed::Enabled => false,
+        Deed::Shut => false,
+        Deed::Dispensed { .. } => false,
+        Deed::Asked { .. } => false,
+        Deed::Status { .. } => false,
+        Deed::Nothing => false,
     }
 }

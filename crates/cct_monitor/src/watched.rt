@@ -10,8 +10,8 @@ use crate::tally::Tally;
 use arrayvec::ArrayVec;
 use cct_model::CheckKind;
 use cct_taps::{
-    KnownMask, Money, Said, is_message, known_on, life_at, quiet_shown_at, shown_at, sign_at,
-    tell_broken,
+    KnownHopper, KnownMask, Money, Said, deed_at, hopper_on, is_message, known_on, life_at,
+    no_hopper, quiet_shown_at, shown_at, sign_at, tell_broken, tell_hopper,
 };
 
 /// What a watched device is, and what is taken for granted of it.
@@ -26,6 +26,8 @@ pub enum Family {
     Premises(Money),
     /// A hopper.
     Hopper,
+    /// A hopper of which it is told what it isn't as it is taken to be.
+    HopperPremises,
 }
 
 /// What is kept of a watched device, by its family.
@@ -35,6 +37,7 @@ pub(crate) enum Kept {
     QuietAcceptor(Money, Option<LastReading>),
     Premises(Money, Option<KnownMask>),
     Hopper(Option<LastLife>),
+    HopperPremises(KnownHopper),
 }
 
 /// A watched device.
@@ -83,6 +86,7 @@ impl Kept {
             Family::QuietAcceptor(money) => Kept::QuietAcceptor(money, None),
             Family::Premises(money) => Kept::Premises(money, None),
             Family::Hopper => Kept::Hopper(None),
+            Family::HopperPremises => Kept::HopperPremises(no_hopper()),
         }
     }
 
@@ -95,6 +99,7 @@ impl Kept {
             Kept::QuietAcceptor(money, _) => Family::QuietAcceptor(*money),
             Kept::Premises(money, _) => Family::Premises(*money),
             Kept::Hopper(_) => Family::Hopper,
+            Kept::HopperPremises(_) => Family::HopperPremises,
         }
     }
 }
@@ -184,6 +189,16 @@ impl Watched {
                     kept: Kept::Hopper(life_on(count, number, last)),
                 }
             }
+            Kept::HopperPremises(known) => {
+                let deed = deed_at(kind, addr, sent, heard);
+                tell_hopper(addr, number, deed, &known, report);
+                Watched {
+                    addr,
+                    kind,
+                    tally: tally.after_deed(to_it, &deed),
+                    kept: Kept::HopperPremises(hopper_on(number, deed, known)),
+                }
+            }
         }
     }
 
@@ -198,6 +213,7 @@ impl Watched {
             Kept::QuietAcceptor(_, _) => {}
             Kept::Premises(_, _) => {}
             Kept::Hopper(_) => {}
+            Kept::HopperPremises(_) => {}
         }
     }
 }

@@ -2,12 +2,18 @@
 #![tactic(auto)]
 
 mod asking;
+mod deeds;
+mod hoppers;
 mod money;
 mod said;
 mod shown;
 mod signs;
 
 pub use asking::is_message;
+pub use deeds::{Deed, deed_at};
+pub use hoppers::{
+    KnownHopper, KnownLife, KnownSerial, fallen_between, hopper_on, no_hopper, tell_hopper,
+};
 pub use money::Money;
 pub use said::{Premise, Said};
 pub use shown::{Shown, life_at, quiet_shown_at, shown_at};

@@ -3,7 +3,7 @@ ghost use Rattle.std.specs.Prelude.{◌≡◌};
 
 use cct_model::Coins;
 
-/// What is taken for granted of an acceptor, and taps can show broken.
+/// What is taken for granted of an acceptor or of a hopper, and taps can show broken.
 #[derive(Clone, Copy, Debug, PartialEq, Eq)]
 pub enum Premise {
     /// With event counter 0 its buffer is empty.
@@ -12,6 +12,12 @@ pub enum Premise {
     Mask,
     /// A reset clears its events, and lets nothing in.
     Reset,
+    /// A hopper has one serial number, and takes no dispense request under another.
+    Serial,
+    /// After a reset, or disabled, it takes none before it is enabled.
+    Enable,
+    /// Its life count rises by one with each coin that falls, and else stays.
+    Life,
 }
 
 /// What a monitor says of the watched device at `addr`: `first` and `last` are the numbers of two taps, from 1. All but
@@ -48,7 +54,7 @@ pub enum Said {
         last: u32,
         count: u32,
     },
-    /// The exchanges of its two taps, or of the one tap that both are, show that the acceptor isn't as it is taken to be.
+    /// The exchanges of its two taps, or of the one tap that both are, show that the device isn't as it is taken to be.
     Broken {
         addr: u8,
         premise: Premise,

@@ -62,7 +62,7 @@ last_in at start (None ∷ past) now runs =
     (last_in at start past (at (suc (length past))) runs.2)
 
 -- the counts of two moments tell how many fell between them
-since_exact : (start first last before now : ℕ) → before ≡ (start + first) % 2 ^ 24 →
+pub since_exact : (start first last before now : ℕ) → before ≡ (start + first) % 2 ^ 24 →
     now ≡ (start + last) % 2 ^ 24 → first ≤ last → last < first + 2 ^ 24 → last ≡ life_between before now + first
 unfolding life_between
 since_exact start first last before now was is more near = omega (arith, was, is, more, near)

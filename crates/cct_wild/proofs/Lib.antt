@@ -10,6 +10,7 @@ pub mod QuietRuns
 pub mod True
 pub mod Wire
 pub mod Premises
+pub mod Deeds
 pub mod Worked
 pub mod Complete
 pub mod QuietTold

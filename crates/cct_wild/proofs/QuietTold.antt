@@ -1,5 +1,5 @@
 -- A span of an acceptor that is watched for resets alone is told whole where no reset came and few pieces did.
-use Rattle.std.proofs.Common.{◌≡◌, ℕ, ◌+◌, ◌≤◌, ◌&&◌, not, Bool, true, false, cond, List, [], ◌∷◌, ◌++◌, map, length, refl, sym, ap, ◌∙◌, subst, subst₂, arith, All, Contains}
+use Rattle.std.proofs.Common.{◌≡◌, ℕ, ◌≤◌, not, true, cond, List, [], ◌++◌, map, length, sym, ap, ◌∙◌, subst, subst₂, arith, All, Contains}
 use Rattle.std.specs.List.{list_any}
 use Rattle.std.proofs.lemmas.List.Elements.{All-weaker}
 use Rattle.cct_model.specs.terms.device.DeviceSetup.{DeviceSetup}
@@ -21,7 +21,7 @@ use Rattle.cct_wild.specs.Wild.{WildStep, WildFrom, before_tap, taps}
 use Rattle.cct_wild.specs.Claims.{IsOfFamily, IsQuietSpan, IsToldQuiet, IsWatchOf, Takes, quiet_looks}
 use Rattle.cct_wild.proofs.Complete.{both_true, counters_are, near_where_few}
 use Rattle.cct_wild.proofs.Moments.{Behind}
-use Rattle.cct_wild.proofs.Resets.{Moment, Stretch, all_stretches, stretch_told}
+use Rattle.cct_wild.proofs.Resets.{Stretch, all_stretches, stretch_told}
 use Rattle.cct_wild.proofs.QuietRuns.{moment_of, quiet_runs}
 
 -- such a span is whole

@@ -1,6 +1,6 @@
 -- An acceptor that is watched for resets alone: what is said of a span is so if no reset came between its readings. Without
 -- entries or bytes.
-use Rattle.std.proofs.Common.{◌≡◌, ◌≢◌, ℕ, suc, ◌+◌, ◌≤◌, ◌==◌, ◌||◌, not, nat_le, Bool, true, false, cond, List, [], ◌∷◌, ◌++◌, map, length, refl, sym, ap, ◌∙◌, subst, arith, Option, Some, None, All, length-append, append_assoc}
+use Rattle.std.proofs.Common.{◌≡◌, ℕ, suc, ◌≤◌, ◌==◌, ◌||◌, not, nat_le, Bool, true, false, cond, List, [], ◌∷◌, ◌++◌, map, length, refl, sym, ap, ◌∙◌, subst, arith, Option, Some, None, All, length-append, append_assoc}
 use Rattle.std.specs.Prelude.{⊤}
 use Rattle.std.specs.List.{list_any}
 use Rattle.std.proofs.lemmas.Bool.{and_parts}
@@ -9,14 +9,12 @@ use Rattle.std.proofs.lemmas.List.Elements.{All-append, All-cons, All-map, All-n
 use Rattle.cct_model.specs.Acceptor.{credits_in}
 use Rattle.cct_model.specs.Reading.{coins_among, distance}
 use Rattle.cct_laws.proofs.acceptor.Newest.{coins_among-append}
-use Rattle.cct_model.specs.terms.coin.Coin.{Coin}
-use Rattle.cct_model.specs.terms.coin.Credits.{Credits}
 use Rattle.cct_taps.specs.declared.said.Said.{Said}
 use Rattle.cct_taps.specs.declared.said.Said.TheVariants.{Sure, Quiet, Doubt, Fell, Broken}
 use Rattle.cct_taps.specs.declared.shown.Shown.{Shown}
 use Rattle.cct_taps.specs.declared.shown.Shown.TheVariants.{Read, Masked, Set, Nothing}
 use Rattle.cct_monitor.specs.Once.{all_quietly}
-use Rattle.cct_monitor.specs.Spans.{Reading, Span, after_it, are_near, coins_of, doubted, goes_on, is_set, is_whole, last_reading, new_reading, quiet_at, quietly, spans, spans_by, with_after}
+use Rattle.cct_monitor.specs.Spans.{Reading, Span, after_it, are_near, coins_of, doubted, goes_on, is_set, is_whole, last_reading, new_reading, quiet_at, quietly, spans, spans_by}
 use Rattle.cct_wild.proofs.Moments.{Behind, World}
 use Rattle.cct_wild.proofs.Sure.{AreTold, behind_told}
 

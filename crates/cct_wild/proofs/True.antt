@@ -35,6 +35,8 @@ use Rattle.cct_wild.proofs.Hoppers.{hopper_runs}
 use Rattle.cct_wild.proofs.Fallen.{HoldsFell, fell_true}
 use Rattle.cct_wild.proofs.Sure.{Holds, said_true}
 use Rattle.cct_wild.proofs.Resets.{HoldsQuiet, quietly_true}
+use Rattle.cct_taps.specs.Deeds.{deed, hopper_broken_at}
+use Rattle.cct_wild.proofs.Deeds.{all_wrong, none_wrong}
 use Rattle.cct_wild.proofs.Premises.{all_broken, none_broken}
 use Rattle.cct_wild.proofs.QuietRuns.{moment_of, quiet_runs}
 
@@ -151,6 +153,18 @@ premise_taps Q money kind addr (t ∷ ts) all =
       premise_taps Q money kind addr ts (first_all Q (all_broken addr before) now all),
     )
 
+deed_taps : (Q : Said → Type 0) (kind : CheckKind) (addr : ℕ) (ts : List Tap) →
+    All Q (all_wrong addr (map (deed kind addr) ts)) →
+    EachTap (λ t before. All Q (hopper_broken_at addr (deed kind addr t) (map (deed kind addr) before ++ []))) ts
+deed_taps Q kind addr [] all = tt
+deed_taps Q kind addr (t ∷ ts) all =
+    let before = map (deed kind addr) ts in
+    let now = hopper_broken_at addr (deed kind addr t) before in (
+      subst (λ xs. All Q (hopper_broken_at addr (deed kind addr t) xs)) (sym (append-nil before))
+          (last_all Q (all_wrong addr before) now all),
+      deed_taps Q kind addr ts (first_all Q (all_wrong addr before) now all),
+    )
+
 hopper_taps : (Q : Said → Type 0) (kind : CheckKind) (addr : ℕ) (ts : List Tap) →
     All Q (all_fell addr (map (life_shown kind addr) ts)) →
     EachTap (λ t before. All Q (fell_at addr (life_shown kind addr t) (map (life_shown kind addr) before ++ []))) ts
@@ -191,6 +205,12 @@ watch_true setup steps past w sound (d, own, is) goes honest = by_family w.famil
         hopper_taps (IsTrue setup past) w.kind w.addr (taps past)
         (subst₂ (λ kind addr. All (IsTrue setup past) (all_fell addr (map (life_shown kind addr) (taps past))))
         (sym is.kind_is) (sym is.addr_is) (hopper_true setup steps past d sound own paying goes honest))
+    by_family watched_as.HopperPremises paying =
+        deed_taps (IsTrue setup past) w.kind w.addr (taps past)
+        (subst₂ (λ kind addr. All (IsTrue setup past) (all_wrong addr (map (deed kind addr) (taps past))))
+        (sym is.kind_is) (sym is.addr_is)
+        (subst (All (IsTrue setup past)) (sym (none_wrong setup steps past d sound own paying goes honest))
+        (All-nil (IsTrue setup past))))
 
 -- of all, in rising order of address
 all_put : (P : Watch → Type 0) (w : Watch) (ws : List Watch) → P w → All P ws → All P (put_watch w ws)

@@ -11,7 +11,7 @@ use Rattle.cct_model.specs.terms.device.DeviceBody.TheVariants.{Acceptor, Bill, 
 use Rattle.cct_model.specs.terms.device.DeviceSetup.{DeviceSetup}
 use Rattle.cct_model.specs.terms.device.Setup.{Setup}
 use Rattle.cct_model.specs.terms.request.Request.{Request}
-use Rattle.cct_model.specs.terms.request.Request.TheVariants.{AddressPoll, ReadBills, ReadCredits, GetMask, GetLife, SetMask, ResetDevice}
+use Rattle.cct_model.specs.terms.request.Request.TheVariants.{AddressPoll, ReadBills, ReadCredits, GetMask, GetLife, GetStatus, SetMask, ResetDevice, SerialNumber, Enable, Dispense}
 use Rattle.cct_model.specs.terms.request.ReplyForm.{ReplyForm}
 use Rattle.cct_model.specs.terms.request.ReplyForm.TheVariants as form
 use Rattle.cct_model.specs.lines.command.WireFault.{WireFault}
@@ -22,9 +22,9 @@ use Rattle.cct_model.specs.Request.{request_of}
 use Rattle.cct_model.specs.Reply.{Reply, IsSayable, pair_bytes, reply_data, reply_header, reply_in}
 use Rattle.cct_model.specs.Reply as reply
 use Rattle.cct_model.specs.History.{Met}
-use Rattle.cct_model.specs.Acceptor.{acceptor_reply, credits_in, credits_of, events, last_five, mask_of, no_event}
+use Rattle.cct_model.specs.Acceptor.{acceptor_reply, counter, credits_in, credits_of, events, last_five, mask_of, no_event}
 use Rattle.cct_model.specs.Bill.{bill_events, bill_reply, bills_of}
-use Rattle.cct_model.specs.Hopper.{life_count}
+use Rattle.cct_model.specs.Hopper.{dispense_reply, hopper_reply, last_paid, last_unpaid, life_count, payouts, remaining, status_of, taken_of}
 use Rattle.cct_model.specs.Device.{IsSound, IsAcceptor, IsBill, IsHopper, IsTaker, common_reply, reply_of}
 use Rattle.cct_model.specs.Job.{credits_request}
 use Rattle.cct_model.specs.Setup.{AreDistinct, IsSoundSetup}
@@ -42,7 +42,7 @@ use Rattle.cct_laws.proofs.Echoes.{echo_known, echo_off}
 use Rattle.cct_laws.proofs.Exchanges.{heard_is, heard_under}
 use Rattle.cct_laws.proofs.HeardBytes.{ask_to, asks_nothing, damaged_asks, none_under}
 use Rattle.cct_laws.proofs.Honesty.{honest_means}
-use Rattle.cct_laws.proofs.Replies.{acceptor_is, bill_is, replied_credits, replied_life, replied_mask, start_of, taker_is}
+use Rattle.cct_laws.proofs.Replies.{acceptor_is, bill_is, hopper_is, replied_credits, replied_life, replied_mask, replied_status, start_of, taker_is}
 use Rattle.cct_laws.proofs.Setups.{found_in, same_some}
 use Rattle.cct_taps.specs.declared.shown.Shown.TheVariants.{Read, Masked}
 use Rattle.cct_monitor.specs.Spans.{is_set}
@@ -200,18 +200,19 @@ answer_is : (d : DeviceSetup) (past : List Met) (sent : List ℕ) (q : Request) 
     reply_of d past q ≡ Some y → answer d past sent ≡ Some (spelling d.kind (replying (asker d.kind sent) d.addr y))
 answer_is d past sent q y asks replied = rw (asks, replied) refl
 
-answers_are : (setup : Setup) (d : DeviceSetup) (past : List Entry) (sent : List ℕ) (q : Request) (y : Reply)
-    (wanted : ReplyForm) → Replies setup d past sent q y wanted →
+answers_are : (setup : Setup) (d : DeviceSetup) (past : List Entry) (sent : List ℕ) (q : Request) (y : Reply) →
+    IsSoundSetup setup → IsOf setup d → (q ≡ AddressPoll → ⊥) → asks_of d sent ≡ Some q →
+    reply_of d (met d past) q ≡ Some y →
     answers setup past sent ≡ spelling d.kind (replying (asker d.kind sent) d.addr y)
-answers_are setup d past sent q y wanted is =
-    let to_it : slice_index sent 0 ≡ d.addr = first_is d sent q is.no_poll is.asks in
-    let low = (found_in IsSound setup.devices d.addr d is.sound.devices is.own).0.low in
+answers_are setup d past sent q y sound own no_poll asks replied =
+    let to_it : slice_index sent 0 ≡ d.addr = first_is d sent q no_poll asks in
+    let low = (found_in IsSound setup.devices d.addr d sound.devices own).0.low in
     let some : d.addr ≢ 0 = omega (arith, low) in
     let silent : (e : DeviceSetup) → e.addr ≢ d.addr → unwrap_or (answer e (met e past) sent) [] ≡ [] =
     λ e other. silent_to e (met e past) sent
     (asks_nothing e sent (λ same. other (sym same ∙ to_it)) (λ zero. some (sym to_it ∙ zero))) in
-    one_gives (λ e. unwrap_or (answer e (met e past) sent) []) d.addr d setup.devices silent is.sound.distinct is.own
-    ∙ ap (λ found. unwrap_or found []) (answer_is d (met d past) sent q y is.asks is.replied)
+    one_gives (λ e. unwrap_or (answer e (met e past) sent) []) d.addr d setup.devices silent sound.distinct own
+    ∙ ap (λ found. unwrap_or found []) (answer_is d (met d past) sent q y asks replied)
 
 -- the reply in a form that bytes from an address are
 abbrev read_from : CheckKind → ℕ → ReplyForm → List ℕ → Option Reply
@@ -270,35 +271,76 @@ not_got : (kind : CheckKind) (addr : ℕ) (wanted : ReplyForm) (sent heard : Lis
 unfolding got
 not_got kind addr wanted sent heard z none is = nothing_after kind addr wanted (after_echo sent heard) z none is
 
-no_address_poll : (setup : Setup) (d : DeviceSetup) (past : List Entry) (sent : List ℕ) (q : Request) (y : Reply)
-    (wanted : ReplyForm) → Replies setup d past sent q y wanted → IsAddressPoll sent → ⊥
-no_address_poll setup d past sent q y wanted is poll =
-    let low = (found_in IsSound setup.devices d.addr d is.sound.devices is.own).0.low in
+no_address_poll : (setup : Setup) (d : DeviceSetup) (sent : List ℕ) (q : Request) → IsSoundSetup setup → IsOf setup d →
+    (q ≡ AddressPoll → ⊥) → asks_of d sent ≡ Some q → IsAddressPoll sent → ⊥
+no_address_poll setup d sent q sound own no_poll asks poll =
+    let low = (found_in IsSound setup.devices d.addr d sound.devices own).0.low in
     let zero : d.addr ≡ 0 =
-    sym (first_is d sent q is.no_poll is.asks) ∙ ap (λ piece. slice_index piece 0) poll.1 ∙ ask_to poll.0 0 AddressPoll in
+    sym (first_is d sent q no_poll asks) ∙ ap (λ piece. slice_index piece 0) poll.1 ∙ ask_to poll.0 0 AddressPoll in
     omega (arith, low, zero)
 
--- what is got of the device is its reply
-got_under : (setup : Setup) (d : DeviceSetup) (past : List Entry) (sent : List ℕ) (q : Request) (y z : Reply)
-    (wanted : ReplyForm) (f : WireFault) → Replies setup d past sent q y wanted → DamagesHonestly f sent →
-    got d.kind d.addr wanted sent (heard_under setup past f sent) ≡ Some z → z ≡ y
-got_under setup d past sent q y z wanted fault.Clear is damage found =
-    read_to d.kind wanted (asker d.kind sent) d.addr y z is.fits is.whole is.sayable is.short
-    (ap (read_from d.kind d.addr wanted) (sym (answers_are setup d past sent q y wanted is))
-    ∙ sym (got_after d.kind d.addr wanted sent (answers setup past sent)) ∙ found)
-got_under setup d past sent q y z wanted (fault.DevicesHear piece) is damage found =
+-- what is got of the device is what it answers
+got_clear : (setup : Setup) (d : DeviceSetup) (past : List Entry) (sent : List ℕ) (z : Reply) (wanted : ReplyForm)
+    (f : WireFault) → (IsAddressPoll sent → ⊥) → DamagesHonestly f sent →
+    got d.kind d.addr wanted sent (heard_under setup past f sent) ≡ Some z →
+    read_from d.kind d.addr wanted (answers setup past sent) ≡ Some z
+got_clear setup d past sent z wanted fault.Clear no_poll damage found =
+    sym (got_after d.kind d.addr wanted sent (answers setup past sent)) ∙ found
+got_clear setup d past sent z wanted (fault.DevicesHear piece) no_poll damage found =
     absurd (none_some z (sym (none_read d.kind d.addr wanted [] (empty_message d.kind))
     ∙ ap (read_from d.kind d.addr wanted) (sym (damaged_answers setup past piece damage))
     ∙ sym (got_after d.kind d.addr wanted sent (answers setup past piece)) ∙ found))
-got_under setup d past sent q y z wanted (fault.HostHears piece) is damage found =
-    let none = none_under d.kind piece (damage (no_address_poll setup d past sent q y wanted is)) in
+got_clear setup d past sent z wanted (fault.HostHears piece) no_poll damage found =
+    let none = none_under d.kind piece (damage no_poll) in
     absurd (none_some z (sym (none_read d.kind d.addr wanted piece none)
     ∙ sym (got_after d.kind d.addr wanted sent piece) ∙ found))
-got_under setup d past sent q y z wanted (fault.WholeHeard piece) is damage found =
+got_clear setup d past sent z wanted (fault.WholeHeard piece) no_poll damage found =
     absurd (not_got d.kind d.addr wanted sent piece z
-    (λ rest after. none_under d.kind rest
-    ((damage (no_address_poll setup d past sent q y wanted is)).1 rest (echo_known sent piece rest after)))
+    (λ rest after. none_under d.kind rest ((damage no_poll).1 rest (echo_known sent piece rest after)))
     found)
+
+-- it is its reply
+got_under : (setup : Setup) (d : DeviceSetup) (past : List Entry) (sent : List ℕ) (q : Request) (y z : Reply)
+    (wanted : ReplyForm) (f : WireFault) → Replies setup d past sent q y wanted → DamagesHonestly f sent →
+    got d.kind d.addr wanted sent (heard_under setup past f sent) ≡ Some z → z ≡ y
+got_under setup d past sent q y z wanted f is damage found =
+    read_to d.kind wanted (asker d.kind sent) d.addr y z is.fits is.whole is.sayable is.short
+    (ap (read_from d.kind d.addr wanted)
+    (sym (answers_are setup d past sent q y is.sound is.own is.no_poll is.asks is.replied))
+    ∙ got_clear setup d past sent z wanted f (no_address_poll setup d sent q is.sound is.own is.no_poll is.asks) damage found)
+
+-- a refusal is no other reply
+and_false : (b : Bool) → (b && false) ≡ false
+and_false true = refl
+and_false false = refl
+
+refusal_by : (kind : CheckKind) (wanted : ReplyForm) (to addr : ℕ) →
+    reply_from wanted addr (carried kind (replying to addr reply.nak)) ≡ None
+refusal_by Simple wanted to addr =
+    ap (λ b. cond b (reply_in wanted (reply_data reply.nak)) None) (and_false ((to == HOST) && (addr == addr)))
+refusal_by Crc wanted to addr =
+    ap (λ b. cond b (reply_in wanted (reply_data reply.nak)) None) (and_false ((to == HOST) && true))
+
+nak_short : length (reply_data reply.nak) ≤ 255
+unfolding reply_data
+nak_short = omega arith
+
+pub refused : (setup : Setup) (d : DeviceSetup) (past : List Entry) (sent : List ℕ) (q : Request) (z : Reply)
+    (wanted : ReplyForm) → IsSoundSetup setup → IsOf setup d → IsHonestFault (pending past) sent → (q ≡ AddressPoll → ⊥) →
+    asks_at d.kind d.addr sent ≡ Some q → reply_of d (met d past) q ≡ Some reply.nak →
+    got d.kind d.addr wanted sent (heard_after setup past sent) ≡ Some z → ⊥
+unfolding asks_of
+refused setup d past sent q z wanted sound own honest no_poll asks replied found =
+    let read : read_from d.kind d.addr wanted (answers setup past sent) ≡ Some z =
+    got_clear setup d past sent z wanted (pending past) (no_address_poll setup d sent q sound own no_poll asks)
+    (honest_means (pending past) sent honest)
+    (ap (got d.kind d.addr wanted sent) (sym (heard_is setup past sent)) ∙ found) in
+    let none : read_from d.kind d.addr wanted (answers setup past sent) ≡ None =
+    ap (read_from d.kind d.addr wanted) (answers_are setup d past sent q reply.nak sound own no_poll asks replied)
+    ∙ ap (option_and_then (reply_from wanted d.addr))
+    (written_back d.kind (replying (asker d.kind sent) d.addr reply.nak) nak_short refl)
+    ∙ refusal_by d.kind wanted (asker d.kind sent) d.addr in
+    none_some z (sym none ∙ read)
 
 got_any : (setup : Setup) (d : DeviceSetup) (past : List Entry) (sent : List ℕ) (q : Request) (y z : Reply)
     (wanted : ReplyForm) → Replies setup d past sent q y wanted → IsHonestFault (pending past) sent →
@@ -654,3 +696,78 @@ pub asked_or_none : (d : DeviceSetup) (past : List Entry) (sent : List ℕ) → 
 unfolding asks_of
 asked_or_none d past sent honest P none is =
     asked_under d (pending past) sent (honest_means (pending past) sent honest) P none is
+
+-- what a hopper replies, and what a tap of it shows
+
+pub enable_replied : (d : DeviceSetup) (past : List Met) (code : ℕ) → IsHopper d.body →
+    reply_of d past (Enable code) ≡ Some reply.ack
+unfolding reply_of common_reply hopper_reply
+enable_replied d past code paying = hopper_is d.serial d.body past (Enable code) paying
+
+pub dispense_replied : (d : DeviceSetup) (past : List Met) (serial count : ℕ) → IsHopper d.body →
+    reply_of d past (Dispense serial count)
+    ≡ Some (dispense_reply (taken_of d.serial past (Some (Dispense serial count))))
+unfolding reply_of common_reply hopper_reply
+dispense_replied d past serial count paying = hopper_is d.serial d.body past (Dispense serial count) paying
+
+serial_replied : (d : DeviceSetup) (past : List Met) → reply_of d past SerialNumber ≡ Some (reply.serial d.serial)
+unfolding reply_of common_reply
+serial_replied d past = refl
+
+serial_short : (serial : ℕ) → length (reply_data (reply.serial serial)) ≤ 255
+unfolding reply_data
+serial_short serial = omega arith
+
+same_serial : (serial own : ℕ) → reply.serial serial ≡ reply.serial own → serial ≡ own
+same_serial serial own e = cc
+
+pub told_serial : (setup : Setup) (d : DeviceSetup) (past : List Entry) (sent : List ℕ) (serial : ℕ) →
+    IsSoundSetup setup → IsOf setup d → IsHonestFault (pending past) sent →
+    asks_at d.kind d.addr sent ≡ Some SerialNumber →
+    got d.kind d.addr form.Serial sent (heard_after setup past sent) ≡ Some (reply.serial serial) → serial ≡ d.serial
+unfolding asks_of
+told_serial setup d past sent serial sound own honest asks found =
+    let replies : Replies setup d past sent SerialNumber (reply.serial d.serial) form.Serial = record {
+      sound = sound;
+      own = own;
+      no_poll = λ e. cc;
+      asks = asks;
+      replied = serial_replied d (met d past);
+      fits = refl;
+      whole = tt;
+      sayable = (found_in IsSound setup.devices d.addr d sound.devices own).0.serial;
+      short = serial_short d.serial;
+    } in
+    same_serial serial d.serial
+    (got_any setup d past sent SerialNumber (reply.serial d.serial) (reply.serial serial) form.Serial replies honest found)
+
+status_short : (events remaining paid unpaid : ℕ) → length (reply_data (reply.status events remaining paid unpaid)) ≤ 255
+unfolding reply_data
+status_short events remaining paid unpaid = omega arith
+
+same_status : (e r p u events rest paid unpaid : ℕ) → reply.status e r p u ≡ reply.status events rest paid unpaid →
+    (r ≡ rest) × (p ≡ paid)
+same_status e r p u events rest paid unpaid is = (cc, cc)
+
+pub told_status : (setup : Setup) (d : DeviceSetup) (past : List Entry) (sent : List ℕ) (e r p u : ℕ) →
+    IsSoundSetup setup → IsOf setup d → IsHopper d.body → IsHonestFault (pending past) sent →
+    asks_at d.kind d.addr sent ≡ Some GetStatus →
+    got d.kind d.addr form.Status sent (heard_after setup past sent) ≡ Some (reply.status e r p u) →
+    (r ≡ remaining d.serial (met d past)) × (p ≡ last_paid d.serial (met d past))
+unfolding asks_of
+told_status setup d past sent e r p u sound own paying honest asks found =
+    let ms : List Met = met d past in
+    let told : Reply = status_of d.serial ms in
+    let replies : Replies setup d past sent GetStatus told form.Status = record {
+      sound = sound;
+      own = own;
+      no_poll = λ e. cc;
+      asks = asks;
+      replied = replied_status d ms paying;
+      fits = refl;
+      whole = tt;
+      sayable = tt;
+      short = status_short (counter (payouts d.serial ms)) (remaining d.serial ms) (last_paid d.serial ms) (last_unpaid d.serial ms);
+    } in
+    same_status e r p u (counter (payouts d.serial ms)) (remaining d.serial ms) (last_paid d.serial ms) (last_unpaid d.serial ms)
+    (got_any setup d past sent GetStatus told (reply.status e r p u) form.Status replies honest found)

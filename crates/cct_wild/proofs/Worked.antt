@@ -1,5 +1,5 @@
 -- A worked wild run: a host that keeps no journal sets a mask, reads the credits before and after a coin, and reads the mask.
-use Rattle.std.proofs.Common.{◌≡◌, ℕ, List, [], ◌∷◌, ◌++◌, map, replicate, refl, true, false, arith}
+use Rattle.std.proofs.Common.{◌≡◌, ℕ, List, [], ◌∷◌, ◌++◌, map, replicate, refl, false, arith}
 use Rattle.std.specs.Prelude.{codes}
 use Rattle.cct_model.specs.terms.coin.Coin.{Coin}
 use Rattle.cct_model.specs.terms.wire.CheckKind.TheVariants.{Simple}

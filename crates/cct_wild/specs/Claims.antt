@@ -30,7 +30,7 @@ use Rattle.cct_taps.specs.declared.shown.Shown.TheVariants.{Masked}
 use Rattle.cct_taps.specs.declared.money.Money.{Money}
 use Rattle.cct_taps.specs.declared.money.Money.TheVariants.{Coins, Bills}
 use Rattle.cct_monitor.specs.declared.watched.Family.{Family}
-use Rattle.cct_monitor.specs.declared.watched.Family.TheVariants.{Acceptor, QuietAcceptor, Premises, Hopper}
+use Rattle.cct_monitor.specs.declared.watched.Family.TheVariants.{Acceptor, QuietAcceptor, Premises, Hopper, HopperPremises}
 use Rattle.cct_taps.specs.Taps.{shown, quiet_shown, life_shown}
 use Rattle.cct_monitor.specs.Spans.{Reading, Span, is_set}
 use Rattle.cct_monitor.specs.Confirmed.{has_mask, is_confirmed, window}
@@ -153,6 +153,7 @@ IsOfFamily Acceptor body = IsAcceptor body
 IsOfFamily (QuietAcceptor money) body = Takes money body
 IsOfFamily (Premises money) body = Takes money body
 IsOfFamily Hopper body = IsHopper body
+IsOfFamily HopperPremises body = IsHopper body
 
 -- A device is watched as what it is: at its address, under its check, as an acceptor of coins or of bills, or as a hopper.
 pub record IsWatchOf (w : Watch) (d : DeviceSetup) : Type 0 where
