@@ -6,33 +6,11 @@
    Bytes and room end at a page that may not be touched, so a byte too many ends the program. The exit status is 1 if something
    differs. */
 #define _DEFAULT_SOURCE
-#include "litchihull.h"
+#include "chance.h"
 
-#include <stdio.h>
-#include <stdlib.h>
 #include <string.h>
-#include <sys/mman.h>
 
-enum { PAGE = 4096, MOST_BYTES = 600 };
-
-static uint64_t state;
-static unsigned long faults;
-
-static uint32_t draw(uint32_t below) {
-    state ^= state << 13;
-    state ^= state >> 7;
-    state ^= state << 17;
-    return (uint32_t)(state >> 32) % below;
-}
-
-#define WANT(what) ((what) ? (void)0 : (void)(faults++, printf("FAILED: line %d: %s\n", __LINE__, #what)))
-
-/* A page before one that may not be touched. */
-static uint8_t *fence(void) {
-    uint8_t *pages = (uint8_t *)mmap(NULL, 2 * PAGE, PROT_READ | PROT_WRITE, MAP_PRIVATE | MAP_ANONYMOUS, -1, 0);
-    if (pages == MAP_FAILED || mprotect(pages + PAGE, PAGE, PROT_NONE) != 0) exit(2);
-    return pages;
-}
+enum { MOST_BYTES = 600 };
 
 static uint8_t *in_page, *other_page, *out_page;
 
@@ -61,10 +39,6 @@ static void fill(uint8_t *bytes, size_t count) {
     if (lh_frame_write((uint8_t)draw(2), (uint8_t)draw(4), (uint8_t)draw(4), headers[draw(sizeof headers)], data, count - 5,
                        piece, sizeof piece, &written) == LH_OK) memcpy(bytes, piece, count);
     if (draw(8) == 0) bytes[draw((uint32_t)count)] ^= (uint8_t)(1u << draw(8));
-}
-
-static void want_code(uint32_t code) {
-    WANT(code <= LH_BAD_HANDLE);
 }
 
 static void try_frames(void) {
@@ -161,7 +135,7 @@ int main(int words, char **word) {
     unsigned long left;
     size_t i;
     if (words != 3) return 2;
-    state = strtoull(word[1], NULL, 10) * 2654435761u + 88172645463325252u;
+    sow(word[1]);
     left = strtoul(word[2], NULL, 10);
     in_page = fence();
     other_page = fence();
