@@ -1,10 +1,12 @@
 //! The host, step by step.
-ghost use Rattle.std.specs.Prelude.{◌≡◌, ◌≤◌, ◌+◌, ℕ, [], false, true, length, IfOk, IsTrue, ◌↔◌, OnOk, List, Some, None};
+ghost use Rattle.std.specs.Prelude.{◌≡◌, ◌<◌, ◌≤◌, ◌+◌, ℕ, [], false, true, length, IfOk, IsTrue, ◌↔◌, ◌⊎◌, OnOk, List, Some, None, reverse, slice_get};
+ghost use Rattle.std.specs.Option.{option_map};
 ghost use Rattle.cct_host.specs.Host.{StandsFor, disk_of, has_failed, setup_of};
 ghost use Rattle.cct_journal.specs.Journal as journals;
 ghost use Rattle.cct_model.specs.Setup.{IsSoundSetup};
 ghost use Rattle.cct_model.specs.lines.entry.Entry.{Entry};
 ghost use Rattle.cct_model.specs.terms.wire.TheConstants.{MOST_HEARD};
+ghost use Rattle.cct_queue.specs.Calls.{act_of};
 ghost use Rattle.cct_poll.specs.Steps.{Steps, Says, Tells};
 
 use crate::advance::advance;
@@ -113,12 +115,18 @@ impl<'s> Poll<'s> {
     }
 
     /// The call that is to be made on the part, where [`Poll::ask`] says so.
-    pub fn call(&self) -> Option<Call<'_>> {
+    pub fn call(&self) -> Option<Call<'_>>
+        // The first that is noted, and that isn't done yet.
+        ensures { option_map act_of result ≡ slice_get (reverse (disk_of self.now.host).calls) self.now.made }
+    {
         self.host.disk().call(self.made)
     }
 
     /// The entry that is to be taken, where [`Poll::ask`] says so.
-    pub fn entry(&self) -> Option<&Entry> {
+    pub fn entry(&self) -> Option<&Entry>
+        // The first of the last step that wasn't taken yet.
+        ensures { option_map (λ e. e.now) result ≡ slice_get self.now.report.items self.now.told }
+    {
         self.report.get(self.told)
     }
 
@@ -204,6 +212,11 @@ impl<'s> Poll<'s> {
         ensures setup { setup_of self.new.host ≡ setup_of self.old.host }
         ensures stands { (past : List Entry) → StandsFor self.old.host past → StandsFor self.new.host past }
         ensures over { self.new.over ≡ self.old.over }
+        // The next one is due; after the last one none is noted any more.
+        ensures next { OnOk result (((self.old.made + 1 < length (disk_of self.old.host).calls)
+            × (self.new.made ≡ self.old.made + 1) × (self.new.host ≡ self.old.host))
+            ⊎ ((self.old.made + 1 ≡ length (disk_of self.old.host).calls)
+            × (self.new.made ≡ 0) × ((disk_of self.new.host).calls ≡ []))) }
     {
         let many = self.host.disk().count();
         if self.over || self.made >= many {
