@@ -51,6 +51,9 @@ CARRY_BODIES = {
     "order_body": "an open order",
 }
 
+# How many crates stand in the table of the gate's time.
+DEAREST = 12
+
 # A sentence of more letters is a long one, and one of fewer says too little.
 LONG = 140
 SHORT = 16
@@ -140,6 +143,21 @@ def results(root: Path) -> list[str]:
     """The first table that bench/measure printed, with the sentence before it."""
     sentence, table, *_ = (root / "bench/results/measure.md").read_text().strip().split("\n\n")
     return [sentence, "", *table.split("\n")]
+
+
+def gate(root: Path) -> list[str]:
+    """What `bench/gate_times` wrote of the gate: the DEAREST crates, and the sums."""
+    path = root / "bench/results/gate.md"
+    if not path.exists():
+        return ["The gate wasn't timed since the newest crates came."]
+    head, line, *rows = path.read_text().split("\n\n")[0].strip().split("\n")
+    crates = [row for row in rows if row.startswith("| `")]
+
+    def seconds(row: str) -> int:
+        return sum(int(cell.replace(",", "")) for cell in markdown.cells(row)[1:3] if cell)
+
+    crates.sort(key=seconds, reverse=True)
+    return [head, line, *crates[:DEAREST], *(row for row in rows if not row.startswith("| `"))]
 
 
 def constants(root: Path) -> dict[str, int]:
@@ -353,6 +371,7 @@ PRINTED = {
     "edits": edits,
     "scripts": scripts,
     "results": results,
+    "gate": gate,
     "setup lines": lambda root: lines_of(root, "Setup"),
     "step lines": lambda root: lines_of(root, "Steps"),
     "capture lines": lambda root: lines_of(root, "Watches Taps"),
