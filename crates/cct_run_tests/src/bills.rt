@@ -1,5 +1,6 @@
 //! A bill acceptor that is watched as `bills quiet`: a bill counts when it is stacked, and each span is said at its last reading.
-use crate::audits::{joined, says, tell};
+use crate::audits::{says, tell};
+use crate::runs::joined;
 use crate::spans::RESET as RESET_TWO;
 use cct_bench::{Monitor, Status, Tally, audit_capture};
 use cct_edge::{MemSink, MemSource};

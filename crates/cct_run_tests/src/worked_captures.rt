@@ -1,5 +1,6 @@
 //! Captures worked out by hand.
-use crate::audits::{call, joined, says, tell};
+use crate::audits::{call, says, tell};
+use crate::runs::joined;
 use crate::spans::{ALL_PLACES, NO_EVENT, ONE_COIN};
 use cct_bench::Status;
 use std::alloc::Global;

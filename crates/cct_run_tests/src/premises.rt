@@ -1,5 +1,6 @@
 //! An acceptor that is watched for premises: which of them its taps show broken.
-use crate::audits::{joined, says, tell};
+use crate::audits::{says, tell};
+use crate::runs::joined;
 use crate::spans::{ALL_PLACES, FIVE_MORE, NO_COIN, NO_EVENT, NO_PLACE, ONE_COIN, RESET, SET};
 use cct_bench::Status;
 use std::alloc::Global;

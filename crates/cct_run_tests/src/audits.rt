@@ -1,4 +1,5 @@
 //! Audits of a capture in memory.
+use crate::runs::joined;
 use cct_bench::{Status, bench};
 use cct_disk::MemDisk;
 use cct_edge::{MemSink, MemSource};
@@ -28,15 +29,6 @@ pub(crate) fn call(
     let mut sink = MemSink::new(alloc, room, puts.to_vec(alloc)?)?;
     let (status, _) = bench(alloc, said.as_slice(), &mut source, &mut sink, disk);
     Ok((status, String::from_utf8(sink.bytes().to_vec(alloc)?)?))
-}
-
-/// Parts of a text, one after the other.
-pub(crate) fn joined(alloc: Global, parts: &[&str]) -> Result<Vec<u8>, Fail> {
-    let mut text = Vec::new(alloc);
-    for part in parts {
-        text.extend_from_slice(part.as_bytes())?;
-    }
-    Ok(text)
 }
 
 /// Audits a capture, and compares how that ends and what is written.

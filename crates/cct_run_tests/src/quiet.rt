@@ -1,6 +1,7 @@
 //! An acceptor that is watched as `quiet`: each span is said at its last reading, and no inhibit mask is wanted. And how many taps
 //! were for a device.
-use crate::audits::{joined, says, tell};
+use crate::audits::{says, tell};
+use crate::runs::joined;
 use crate::spans::{ALL_PLACES, FIVE_MORE, NO_COIN, NO_EVENT, ONE_COIN, RESET, SET, SIX_MORE};
 use cct_bench::{Monitor, Status, Tally, audit_capture};
 use cct_edge::{MemSink, MemSource};

@@ -1,5 +1,6 @@
 //! Spans of acceptor 2: whether its coins are sure, and when that is said.
-use crate::audits::{joined, says};
+use crate::audits::says;
+use crate::runs::joined;
 use cct_bench::Status;
 use std::alloc::Global;
 use std::process::Abort;

@@ -1,5 +1,0 @@
-//! Tests of pictures by themselves.
-#![tactic(auto)]
-
-#[cfg(test)]
-mod draw;
