@@ -12,7 +12,8 @@ function moduleOf(name) {
 }
 
 // Calls an export of a module in a new instance. Bytes, and rooms for what it writes, are passed by their address and length; COUNT
-// by the address of a number that it writes: how many bytes of the next room it filled. Gives its answer, and what it wrote.
+// by the address of a number that it writes: of how many bytes of the first room it filled, then of the second. Gives its answer,
+// and what it wrote.
 async function call(name, what, ...given) {
   const { exports } = await WebAssembly.instantiate(await moduleOf(name), {});
   const { memory } = exports;
@@ -36,7 +37,7 @@ async function call(name, what, ...given) {
   }
   const status = exports[what](...words);
   const filled = counts.map(at => Number(new DataView(memory.buffer).getBigUint64(at, true)));
-  return { status, wrote: rooms.map((at, i) => textOf(new Uint8Array(memory.buffer, at, filled[i]))) };
+  return { status, wrote: filled.map((count, i) => textOf(new Uint8Array(memory.buffer, rooms[i], count))) };
 }
 
 // Calls with more and more room, until what is written fits.
@@ -47,22 +48,20 @@ async function fitting(bytes, asked) {
   }
 }
 
-// Whether a module has an export.
-const has = async (name, what) => WebAssembly.Module.exports(await moduleOf(name)).some(it => it.name === what);
-
 const audit = bytes => fitting(bytes, room => call('audit', 'cct_audit', bytes, { room }, COUNT));
-const captured = bytes => fitting(bytes, room => call('audit', 'cct_capture', bytes, { room }, { room }, COUNT, COUNT));
-const inWords = bytes => fitting(bytes, room => call('audit', 'cct_words', bytes, { room }, { room }, COUNT, COUNT));
+const captured = (bytes, devices) => fitting(bytes, room =>
+  call('show', 'cct_capture', bytes, devices, { room }, { room }, { room }, COUNT, COUNT));
+const inWords = bytes => fitting(bytes, room => call('show', 'cct_words', bytes, { room }, COUNT));
 const played = bytes => fitting(bytes, room => call('bench', 'cct_play', bytes, { room }, COUNT));
-const drawn = bytes => fitting(bytes, room => call('bench', 'cct_picture', bytes, { room }, COUNT));
+const drawn = bytes => fitting(bytes, room => call('draw', 'cct_picture', bytes, { room }, COUNT));
+const paged = bytes => fitting(bytes, room => call('draw', 'cct_html', bytes, { room }, COUNT));
 
-// What the module says of the last line; of a refused line it wants the text up to that line.
-async function advice(text, isCapture, last) {
-  if (!await has('audit', 'cct_advise')) return last;
+// What the last line of an audit or a transcript means; of a refused line it wants the text up to that line.
+async function advice(text, isAudit, last) {
   const refused = /^refused (\d+) /.exec(last);
-  const front = refused ? text.split('\n').slice(0, Number(refused[1])).join('\n') : '';
-  const answer = await call('audit', 'cct_advise', bytesOf(front), isCapture ? 1 : 0, bytesOf(last), { room: PAGE }, COUNT);
-  return answer.wrote[0].trim();
+  const front = refused ? text.split('\n').slice(0, Number(refused[1])).join('\n') + '\n' : '';
+  const answer = await call('show', 'cct_advise', isAudit ? 1 : 0, bytesOf(front), bytesOf(last), { room: PAGE }, COUNT);
+  return answer.wrote[0].trim() || last.trim();
 }
 
 const lastLine = text => text.slice(text.lastIndexOf('\n', text.length - 2) + 1);
@@ -140,13 +139,14 @@ function work(said, done) {
     .finally(() => { document.body.dataset.state = 'done'; });
 }
 
+// Why no capture was made of a log.
+const MADE_ENDS = { 2: 'The devices are refused.', 4: 'It says more than this page keeps.' };
 const ENDS = { 0: 'Read to its end.', 1: 'A line is refused.', 4: 'It says more than this page keeps.', 8: 'There was no memory.' };
 
 // The audit.
 const log = new Editor(byId('log'));
 let audited = '';
-let isForLogs = false;
-const isCapture = text => !isForLogs || /^(watch |begin$)/m.test(text.slice(0, 200));
+const isCapture = text => /^(?:[ \t]*(?:#.*)?\r?\n)*(?:watch |begin\r?\n)/.test(text);
 const isTold = line => !/^(sure|quiet) .* -$|^fell .* 0$/.test(line);
 
 function addWatch(addr, check, kind) {
@@ -154,16 +154,15 @@ function addWatch(addr, check, kind) {
   row.className = 'watch';
   row.innerHTML = `<label>address <input type="number" min="2" max="255" aria-label="address"></label>
 <select aria-label="check"><option value="simple">simple checksum</option><option value="crc">CRC</option></select>
-<select aria-label="kind"><option value="acceptor">acceptor</option><option value="acceptor quiet">acceptor, quiet</option>
-<option value="hopper">hopper</option></select> <button class="link" type="button">remove</button>`;
+<select aria-label="kind"><option value="acceptor">acceptor</option><option value="hopper">hopper</option>
+<option value="bills">bill acceptor</option></select> <button class="link" type="button">remove</button>`;
   const [number, first, second] = row.querySelectorAll('input, select');
   [number.value, first.value, second.value] = [addr, check, kind];
   row.querySelector('button').onclick = () => row.remove();
   byId('watches').append(row);
 }
 
-const watchLines = () => [...byId('watches').children].map(row =>
-  'watch ' + [...row.querySelectorAll('input, select')].map(it => it.value).join(' ') + '\n').join('');
+const devices = () => [...byId('watches').querySelectorAll('input, select')].map(it => it.value || '-').join(' ');
 
 async function showAudit() {
   const lines = audited.split(/(?<=\n)/);
@@ -171,23 +170,27 @@ async function showAudit() {
   show(byId('audit-out'), byId('audit-words').checked ? (await inWords(bytesOf(kept))).wrote[0] : kept);
 }
 
+// What was given as a capture: with notes on it, where it is a log.
+async function captureOf(given) {
+  if (isCapture(given)) return { status: 0, capture: given, notes: '' };
+  const { status, wrote: [capture, notes] } = await captured(bytesOf(given), bytesOf(devices()));
+  return { status, capture, notes: notes.replace(/^cct_show: /gm, '') };
+}
+
 async function goAudit() {
-  const said = byId('audit-said'), given = log.text, isWhole = isCapture(given);
-  let capture = given, notes = 'What was given is a capture.';
-  if (!isWhole) {
-    const made = await captured(bytesOf(given));
-    capture = watchLines() + made.wrote[0];
-    notes = made.wrote[1] + (made.status === 5 ? 'A tenth of its lines, or more, is no log.\n' : '');
-  }
-  const answer = await audit(bytesOf(capture));
+  const given = log.text, made = await captureOf(given), isLog = made.capture !== given;
+  byId('made').hidden = !isLog;
+  byId('made').open = made.status !== 0;
+  byId('made-notes').textContent = made.notes;
+  byId('made-out').textContent = made.capture;
+  const answer = MADE_ENDS[made.status] ? { status: made.status, wrote: [''] } : await audit(bytesOf(made.capture));
   audited = answer.wrote[0];
-  const number = refusedIn(audited);
-  say(said, answer.status ? 'bad' : 'good', ENDS[answer.status] ?? `It ended with status ${answer.status}.`,
-    isWhole ? '' : 'It was read as a log.', answer.status === 1 ? await advice(capture, true, lastLine(audited)) : '');
-  log.mark(isWhole ? number : 0);
-  byId('made').hidden = isWhole;
-  byId('made-notes').textContent = notes;
-  byId('made-out').textContent = capture;
+  const kind = answer.status ? 'bad' : made.status ? 'warn' : 'good';
+  say(byId('audit-said'), kind, MADE_ENDS[made.status] ?? ENDS[answer.status] ?? `It ended with status ${answer.status}.`,
+    isLog && !MADE_ENDS[made.status] ? 'It was read as a log: below stands the capture that was made of it.' : '',
+    made.status === 5 ? "A tenth of its lines, or more, wasn't understood." : made.notes.trim().split('\n').pop(),
+    answer.status === 1 ? await advice(made.capture, true, lastLine(audited)) : '');
+  log.mark(isLog ? 0 : refusedIn(audited));
   await showAudit();
 }
 
@@ -201,6 +204,7 @@ async function showPlay() {
   byId('bench-out').hidden = form === 'picture';
   byId('picture').hidden = form !== 'picture';
   byId('bench').classList.toggle('wide', form === 'picture');
+  byId('to-page').hidden = !transcript;
   if (form === 'lines') show(byId('bench-out'), transcript);
   if (form === 'words') show(byId('bench-out'), (await inWords(bytesOf(transcript))).wrote[0]);
   if (form === 'picture') {
@@ -222,6 +226,13 @@ async function goBench() {
     answer.status && answer.status !== 8 ? await advice(given, false, last) : '');
   script.mark(refusedIn(transcript));
   await showPlay();
+}
+
+// Opens the page of the transcript, in a tab of its own.
+async function openPage() {
+  const address = URL.createObjectURL(new Blob([(await paged(bytesOf(transcript))).wrote[0]], { type: 'text/html' }));
+  byId('page').href = address;
+  byId('page').click();
 }
 
 // What can be pressed, chosen and dropped.
@@ -252,22 +263,24 @@ for (const [area, start] of [[log.area, startAudit], [script.area, startBench]])
   area.addEventListener('keydown', event => {
     if (event.key === 'Enter' && (event.ctrlKey || event.metaKey)) start();
   });
+byId('to-page').onclick = () => work(byId('bench-said'), openPage);
 byId('coins-only').onchange = byId('audit-words').onchange = () => work(byId('audit-said'), showAudit);
 for (const form of document.getElementsByName('form')) form.onchange = () => work(byId('bench-said'), showPlay);
 
+// Takes a file into the half that is shown.
 async function take(file) {
   if (!file) return;
-  log.text = await file.text();
-  startAudit();
+  const isScript = byId('audit').hidden, text = await file.text();
+  (isScript ? script : log).text = text;
+  (isScript ? startBench : startAudit)();
 }
 byId('choose').onclick = () => byId('file').click();
 byId('file').onchange = event => take(event.target.files[0]);
-const frame = log.area.parentNode;
 for (const [kind, isOver] of [['dragover', true], ['dragleave', false], ['drop', false]])
   document.addEventListener(kind, event => {
     event.preventDefault();
-    frame.classList.toggle('over', isOver);
-    if (kind === 'drop') { open(tabs[0]); take(event.dataTransfer.files[0]); }
+    for (const { area } of [log, script]) area.parentNode.classList.toggle('over', isOver);
+    if (kind === 'drop') take(event.dataTransfer.files[0]);
   });
 byId('add').onclick = () => addWatch('3', 'simple', 'hopper');
 addWatch('2', 'simple', 'acceptor');
@@ -278,28 +291,17 @@ byId('example').onchange = event => {
   script.text = event.target.value;
   startBench();
 };
-for (const { name, log: bus, capture, watches } of examples.hosts) {
+for (const { name, log: bus, watches } of examples.hosts) {
   const button = document.createElement('button');
   [button.className, button.type, button.textContent] = ['link', 'button', name];
   button.onclick = () => {
     byId('watches').replaceChildren();
     for (const watch of watches) addWatch(...watch);
-    log.text = isForLogs ? bus : capture;
+    log.text = bus;
     startAudit();
   };
   byId('samples').append(byId('samples').childNodes.length ? ', ' : 'Or try ', button);
 }
 if (!byId('module-bench').textContent.trim()) tabs[1].hidden = true;
 script.text = examples.scripts.find(it => it.name === 'one_coin')?.text ?? '';
-
-// What the modules don't have isn't offered.
-work(byId('audit-said'), async () => {
-  const [hasLogs, hasWords, hasPictures] = [await has('audit', 'cct_capture'), await has('audit', 'cct_words'),
-    !tabs[1].hidden && await has('bench', 'cct_picture')];
-  isForLogs = hasLogs;
-  for (const it of document.querySelectorAll('.of-logs')) it.hidden = !hasLogs;
-  for (const it of document.querySelectorAll('.of-words')) it.hidden = !hasWords;
-  for (const it of document.querySelectorAll('.of-pictures')) it.hidden = !hasPictures;
-  for (const it of document.querySelectorAll('.of-captures')) it.hidden = hasLogs;
-  for (const it of document.querySelectorAll('.of-forms')) it.hidden = !hasWords && !hasPictures;
-});
+document.body.dataset.state = 'done';

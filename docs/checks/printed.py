@@ -22,8 +22,8 @@ FAMILIES = {
     "The bench": "edge slices script text plan change world gen load report state proofread taps monitor audit words bench near advice main",
     "Laws": "laws change_laws lives answered wild",
     "On a line": "port prompt honest_line line_laws terminal survey worth draft setup_copy service live devices trials trial_run probe",
-    "Shown to people": "tell log_line log captured columns pen draw marks page show",
-    "Callers and measures": "callers c web web_bench speed plan_speed",
+    "Shown to people": "tell log_line log captured columns pen draw marks page forms show",
+    "Callers and measures": "callers c web web_bench web_show web_draw speed plan_speed",
     "Tests alone": "",
 }
 

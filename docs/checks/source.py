@@ -113,7 +113,7 @@ def functions_in(path: Path) -> list[Function]:
             is_open = line.startswith("pub trait") or len(owners) == 2
         elif line.startswith("}"):
             owners, is_open = [], False
-        named = re.match(r"(\s*)(pub(?:\(\w+\))? )?(?:const |unsafe )*fn (\w+)", line)
+        named = re.match(r'(\s*)(pub(?:\(\w+\))? )?(?:const |unsafe |extern "C" )*fn (\w+)', line)
         if named:
             functions.append(Function(path, number, named[3], owners, named[2] == "pub " or is_open,
                                       comment_above(lines, number, "///"), clauses_from(lines, number, named[1])))

@@ -10,4 +10,4 @@ mod watch;
 pub use note::{Guessed, Note, note_of};
 pub use tally::Tally;
 pub use unread::{Unread, is_other_line};
-pub use watch::{Quiet, Watch, WatchNo, Watches, watches_in};
+pub use watch::{Quiet, Watch, WatchNo, Watches, add_watch, watches_in};

@@ -58,12 +58,12 @@ impl Unread {
         self.count != 0 && self.count.saturating_mul(10) >= lines
     }
 
-    /// Says on standard error which lines weren't understood.
-    pub fn tell(&self, rt: &impl Eprint) {
-        if self.count != 0 {
-            // Nothing more can be done where that can't be written.
-            let _ = eprintln!(rt; "cct_show: {self}");
+    /// Notes which lines weren't understood, if there are any.
+    pub fn tell<W: Write>(&self, notes: &mut W) -> fmt::Result {
+        if self.count == 0 {
+            return Ok(());
         }
+        write!(notes, "cct_show: {self}\n")
     }
 }
 

@@ -113,22 +113,33 @@ pub fn watches_in(words: &[String]) -> Result<Watches, WatchNo<'_>> {
         let [addr, check, kind] = device else {
             return Err(WatchNo::Count);
         };
-        let watch = watch_in(addr.as_str(), check.as_str(), kind.as_str())?;
-        if watches
-            .as_slice()
-            .iter()
-            .any(|other| other.addr == watch.addr)
-        {
-            return Err(WatchNo::Again(watch.addr));
-        }
-        if watches.try_push(watch).is_err() {
-            return Err(WatchNo::Many);
-        }
+        add_watch(&mut watches, addr.as_str(), check.as_str(), kind.as_str())?;
     }
     if watches.is_empty() {
         return Err(WatchNo::Count);
     }
     Ok(watches)
+}
+
+/// Adds the device that three words name.
+pub fn add_watch<'w>(
+    watches: &mut Watches,
+    addr: &'w str,
+    check: &'w str,
+    kind: &'w str,
+) -> Result<(), WatchNo<'w>> {
+    let watch = watch_in(addr, check, kind)?;
+    if watches
+        .as_slice()
+        .iter()
+        .any(|other| other.addr == watch.addr)
+    {
+        return Err(WatchNo::Again(watch.addr));
+    }
+    match watches.try_push(watch) {
+        Ok(()) => Ok(()),
+        Err(_) => Err(WatchNo::Many),
+    }
 }
 
 /// The device that three words name.

@@ -2,26 +2,16 @@
 //! line names the form.
 #![tactic(auto)]
 
-mod capture;
-mod lines;
-mod log;
-mod picture;
-mod put_buffer;
 mod refused;
-mod rows;
 mod status;
-mod taps;
-mod text;
-mod words;
 
-use crate::capture::write_capture;
-use crate::picture::{Part, show_page, show_picture};
 use crate::refused::Refused;
-use crate::rows::{RowForm, show_rows};
-use crate::status::{Status, USAGE};
-use crate::text::show_text;
+use crate::status::{USAGE, WORDS_REFUSED, message_of};
 use cct_captured::{Watches, watches_in};
 use cct_edge::{StdSink, StdSource};
+use cct_forms::{
+    Part, RowForm, Status, show_page, show_picture, show_rows, show_text, write_capture,
+};
 use std::io::ErrorKind;
 use std::process::ExitCode;
 use std::rt::Env;
@@ -51,12 +41,13 @@ fn main(rt: HostRuntime) -> ExitCode {
             None => {
                 let why = Refused(words.as_slice());
                 let _ = rt.eprintln(why);
-                Status::WordsRefused
+                let _ = rt.eprintln(USAGE);
+                return ExitCode::from(WORDS_REFUSED);
             }
         },
         Err(_) => Status::OutOfMemory,
     };
-    if let Some(message) = status.message() {
+    if let Some(message) = message_of(status) {
         let _ = rt.eprintln(message);
     }
     ExitCode::from(status.code())
@@ -72,19 +63,24 @@ fn words_of(rt: &(impl Env + AllocGlobal)) -> io::Result<Vec<String>> {
 }
 
 /// Shows what is on standard input in a form.
-fn show(form: Form, rt: &(impl Input + Print + Eprint + AllocGlobal)) -> Status {
+fn show(form: Form, rt: &HostRuntime) -> Status {
+    let errors = rt.stderr();
     let mut source = StdSource::new(rt.reader());
     let mut out = StdSink::new(io::writer(rt));
+    let mut notes = StdSink::new(io::writer(&errors));
     match form {
         Form::Help => match rt.println(USAGE) {
             Ok(()) => Status::Done,
             Err(_) => Status::WriteFault,
         },
-        Form::Text => show_text(rt, &mut source, &mut out),
+        Form::Text => show_text(&mut source, &mut out, &mut notes),
         Form::Rows(form) => show_rows(form, &mut source, &mut out),
         Form::Page => show_page(rt.alloc(), &mut source, &mut out),
         Form::Picture(part) => show_picture(rt.alloc(), part, &mut source, &mut out),
-        Form::Capture(watches) => { write_capture(rt, rt.alloc(), watches, &mut source, &mut out) },
+        Form::Capture(watches) => {
+            let held = Vec::new(rt.alloc());
+            write_capture(watches, held, &mut source, &mut out, &mut notes)
+        }
     }
 }
 

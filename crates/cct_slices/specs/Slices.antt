@@ -1,5 +1,5 @@
 -- What contracts see of a source and a sink over slices.
-use Rattle.std.specs.Prelude.{◌≡◌, ◌+◌, ◌<◌, ℕ, List, ◌++◌, Option, Some, Result, MatchResult, length, take, drop, min}
+use Rattle.std.specs.Prelude.{◌≡◌, ◌+◌, ◌<◌, ◌≤◌, ℕ, List, ◌++◌, Option, Some, Result, MatchResult, length, take, drop, min}
 use Rattle.std.specs.Borrow.{GName}
 use Rattle.cct_edge.specs.declared.fault.Failed.{Failed}
 use Rattle.cct_slices.specs.declared.given.Given.{Given}
@@ -43,10 +43,20 @@ page_faults page = page.faults
 abbrev pub page_written : Page → Option (List ℕ)
 page_written page = Some (written_on page)
 
--- A put writes the whole piece after what was written; or nothing, where it doesn't fit. The page stays where it is.
+-- all bytes of a page
+abbrev pub page_bytes : Page → List ℕ
+page_bytes page = page.bytes.now
+
+-- A page stays where it is and as long as it is; what is written there grows, within it; and after that it is as before.
+abbrev pub PageStays : Page → Page → Type 0
+PageStays before now = (page_name now ≡ page_name before) × (page_room now ≡ page_room before)
+    × (written_count before ≤ written_count now)
+    × (written_count before ≤ page_room before → written_count now ≤ page_room now)
+    × (drop (written_count now) (page_bytes now) ≡ drop (written_count now) (page_bytes before))
+
+-- A put writes the whole piece after what was written; or nothing, where it doesn't fit.
 abbrev pub page_puts : Page → List ℕ → Result (Unit {0}) Failed → Page → Type 0
 page_puts before piece answer now = MatchResult answer
-    (λ _. (page_name now ≡ page_name before) × (page_room now ≡ page_room before)
-    × (written_on now ≡ written_on before ++ piece))
-    (λ _. (page_name now ≡ page_name before) × (page_room now ≡ page_room before)
-    × (written_on now ≡ written_on before) × (page_room before < written_count before + length piece))
+    (λ _. PageStays before now × (written_on now ≡ written_on before ++ piece))
+    (λ _. PageStays before now × (written_on now ≡ written_on before)
+    × (page_room before < written_count before + length piece))

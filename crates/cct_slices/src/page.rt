@@ -1,8 +1,8 @@
 //! A sink into a slice.
-ghost use Rattle.std.specs.Prelude.{◌≡◌, ◌+◌, ◌≤◌, ◌++◌, [], IsErr, OnOk, OnErr, length, take};
+ghost use Rattle.std.specs.Prelude.{◌≡◌, ◌+◌, ◌≤◌, ◌++◌, [], IsErr, OnOk, OnErr, drop, length, take};
 ghost use Rattle.std.specs.Io.KnownBytes.{Appends};
 ghost use Rattle.cct_edge.specs.Bytes.{AppendsFront, Serves};
-ghost use Rattle.cct_slices.specs.Slices.{page_faults, page_name, page_puts, page_room, page_written, written_count, written_on};
+ghost use Rattle.cct_slices.specs.Slices.{page_bytes, page_faults, page_name, page_puts, page_written, written_count, written_on};
 
 use cct_edge::{Failed, Sink};
 
@@ -19,7 +19,8 @@ impl<'p> Page<'p> {
     pub fn new(bytes: &'p mut [u8]) -> Page<'p>
         ensures same { page_name result ≡ bytes.entry.ghost_name }
         ensures written { written_on result ≡ [] }
-        ensures room { page_room result ≡ length bytes.old }
+        ensures count { written_count result ≡ 0 }
+        ensures all { page_bytes result ≡ bytes.old }
         ensures faults { page_faults result ≡ 0 }
     {
         Page {
@@ -29,11 +30,28 @@ impl<'p> Page<'p> {
         }
     }
 
+    /// What has been written.
+    pub fn written(&self) -> &[u8]
+        ensures { result.now ≡ written_on self.now }
+    {
+        match self.bytes.get(..self.used) {
+            Some(written) => written,
+            None => self.bytes,
+        }
+    }
+
     /// How many bytes have been written.
     pub fn used(&self) -> usize
         ensures { result ≡ written_count self.now }
     {
         self.used
+    }
+
+    /// How often a piece didn't fit.
+    pub fn faults(&self) -> u64
+        ensures { result ≡ page_faults self.now }
+    {
+        self.faults
     }
 }
 
@@ -67,6 +85,7 @@ impl Sink for Page<'_> {
 fn put_at(bytes: &mut [u8], place: usize, piece: &[u8])
     requires { place + length piece.now ≤ length bytes.old }
     ensures written { take (place + length piece.now) bytes.new ≡ take place bytes.old ++ piece.now }
+    ensures rest { drop (place + length piece.now) bytes.new ≡ drop (place + length piece.now) bytes.old }
     ensures room { length bytes.new ≡ length bytes.old }
 {
     bytes[place..place + piece.len()].copy_from_slice(piece);

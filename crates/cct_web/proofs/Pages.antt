@@ -1,5 +1,5 @@
 -- What an audit leaves on a page.
-use Rattle.std.proofs.Common.{◌≡◌, ◌∙◌, arith, inl, inr, ap, List, [], ◌∷◌, ◌++◌, ℕ, Option, None, Result, Ok, Err}
+use Rattle.std.proofs.Common.{◌≡◌, ◌∙◌, arith, inl, inr, ap, subst, sym, List, [], ◌∷◌, ◌++◌, ℕ, Option, None, Result, Ok, Err}
 use Rattle.cct_edge.specs.declared.fault.Failed.{Failed}
 use Rattle.cct_edge.specs.Faults.{Rose}
 use Rattle.cct_text.specs.Writing.{Puts}
@@ -12,7 +12,8 @@ use Rattle.cct_bench.specs.declared.outcome.Status.{Status}
 use Rattle.cct_bench.specs.declared.outcome.Status.TheVariants as status
 use Rattle.cct_bench.specs.Audit.{AuditCloses, AuditEnds, AuditRan}
 use Rattle.cct_slices.specs.declared.page.Page.{Page}
-use Rattle.cct_slices.specs.Slices.{page_name, page_puts, page_written, written_on}
+use Rattle.cct_slices.specs.Slices.{PageStays, page_puts, page_written, written_on}
+use Rattle.cct_slices.proofs.Stays.{stays_refl, stays_trans}
 use Rattle.cct_web.specs.Audits.{AreFront, AreLines}
 
 -- a source that counts no fault didn't fail
@@ -30,20 +31,22 @@ broke before now empty whole cut b =
     let told = b.3.told in
     (told.0, told.1, told.3 ∙ ap (λ x. x ++ told.0) (wrote before b.0 empty whole b.2), told.2)
 
--- a page stays where it is over puts
+-- a page stays over puts
 pub puts_stay : (before now : Page) (lines : List (List ℕ)) (answer : Result (Unit {0}) Failed)
-    → Puts page_puts before lines answer now → page_name now ≡ page_name before
-puts_stay before now [] answer p = ap page_name p.1
-puts_stay before now (piece ∷ pieces) answer (inl p) = puts_stay p.0 now pieces answer p.2 ∙ p.1.0
+    → Puts page_puts before lines answer now → PageStays before now
+puts_stay before now [] answer p = subst (λ page. PageStays before page) (sym p.1) (stays_refl before)
+puts_stay before now (piece ∷ pieces) answer (inl p) =
+    stays_trans before p.0 now p.1.0 (puts_stay p.0 now pieces answer p.2)
 puts_stay before now (piece ∷ pieces) answer (inr p) = p.2.0
 
 pub wrote_stays : (before now : Page) (lines : List (List ℕ)) → WroteLines page_written page_puts before now lines
-    → page_name now ≡ page_name before
+    → PageStays before now
 wrote_stays before now lines w = puts_stay before now lines (Ok tt) w.put
 
 pub broke_stays : (before now : Page) (whole cut : List (List ℕ)) → BrokeLines page_written page_puts before now whole cut
-    → page_name now ≡ page_name before
-broke_stays before now whole cut b = puts_stay b.0 now cut (Err b.1) b.3.put ∙ wrote_stays before b.0 whole b.2
+    → PageStays before now
+broke_stays before now whole cut b =
+    stays_trans before b.0 now (wrote_stays before b.0 whole b.2) (puts_stay b.0 now cut (Err b.1) b.3.put)
 
 -- what is so of all that may have been written, is so of what was
 module _ (bytes : List ℕ) (F F1 : Type 0) (W W1 : List (List ℕ) → Type 0) (B B1 : List (List ℕ) → List (List ℕ) → Type 0)
@@ -113,12 +116,12 @@ holds bytes taken past F P status.DiskSize e = e.2
 holds bytes taken past F P status.JournalLost e = e.2
 holds bytes taken past F P status.NotUpgraded e = e.2
 
--- the page stays where it is over an audit
+-- the page stays over an audit
 pub audit_stays : (bytes : List ℕ) (s : Status) (monitor : Option Monitor) (left : Option (List ℕ)) (F : Type 0)
     (before now : Page) → AuditRan bytes s monitor left F (WroteLines page_written page_puts before now)
-    (BrokeLines page_written page_puts before now) → page_name now ≡ page_name before
+    (BrokeLines page_written page_puts before now) → PageStays before now
 audit_stays bytes s monitor left F before now ran =
-    let stays : Type 0 = page_name now ≡ page_name before in
+    let stays : Type 0 = PageStays before now in
     let one = mapped bytes F F (WroteLines page_written page_puts before now) (λ lines. stays)
     (BrokeLines page_written page_puts before now) (λ whole cut. stays) (λ x. x) (wrote_stays before now)
     (broke_stays before now) s monitor left ran in

@@ -2,16 +2,16 @@
 
 use crate::lines::{LineSink, read_lines};
 use crate::log::{Echoes, MOST_SAID, copy};
+use crate::notes::Notes;
 use crate::status::{Status, Stop};
-use crate::taps::Taps;
+use crate::taps::{Held, Taps};
 use cct_captured::{Guessed, Tally, Unread, Watches};
 use cct_edge::{Sink, Source};
 use cct_lines::{Entry, HOST, MOST_HEARD, MOST_LINE, MOST_SENT};
 use cct_log::{LogReader, Said};
 use cct_log_line::{Guess, LogBytes, is_message};
 use cct_tell::read_line;
-use std::alloc::Global;
-use std::fmt;
+use std::fmt::{self, Write};
 
 /// The bytes of the line of an exchange that aren't digits: its word, and two spaces.
 const AROUND: usize = 5;
@@ -47,9 +47,9 @@ enum LeftOut {
 
 /// A capture on its way to a sink.
 #[derive(Drop)]
-struct Capture<'k, 'r, K, R> {
-    rt: &'r R,
-    out: Taps<'k, K>,
+struct Capture<'k, 'n, K, H, N> {
+    notes: Notes<'n, N>,
+    out: Taps<'k, K, H>,
     log: LogReader,
     /// The lines so far, and those that weren't understood.
     lines: Unread,
@@ -62,18 +62,18 @@ struct Capture<'k, 'r, K, R> {
     tally: Tally,
 }
 
-/// Writes the capture of all exchanges of a source, with these devices to be watched. On standard error it says which
-/// exchanges and how many other lines are left out.
-pub(crate) fn write_capture<S: Source, K: Sink, R: Eprint>(
-    rt: &R,
-    alloc: Global,
+/// Writes the capture of all exchanges of a source, with these devices to be watched; `held`, in which nothing is held, is for
+/// lines that wait. It notes which exchanges and how many other lines are left out.
+pub fn write_capture<S: Source, K: Sink, H: Held, N: Sink>(
     watches: Watches,
+    held: H,
     source: &mut S,
     out: &mut K,
+    notes: &mut N,
 ) -> Status {
     let mut capture = Capture {
-        rt,
-        out: Taps::new(alloc, watches, out),
+        notes: Notes::new(notes),
+        out: Taps::new(watches, held, out),
         log: LogReader::new(),
         lines: Unread::new(),
         exchanges: 0,
@@ -88,7 +88,7 @@ pub(crate) fn write_capture<S: Source, K: Sink, R: Eprint>(
     }
 }
 
-impl<K: Sink, R: Eprint> Capture<'_, '_, K, R> {
+impl<K: Sink, H: Held, N: Sink> Capture<'_, '_, K, H, N> {
     /// Writes the whole capture; where reading fails, what was read before.
     fn write<S: Source>(&mut self, source: &mut S) -> Result<(), Stop> {
         match self.read(source) {
@@ -113,15 +113,16 @@ impl<K: Sink, R: Eprint> Capture<'_, '_, K, R> {
     }
 
     /// Says which lines weren't understood, which acceptors are watched as `quiet`, and how many taps there are.
-    fn tell_end(&self) {
-        self.lines.tell(self.rt);
+    fn tell_end(&mut self) {
+        // Nothing more can be done where a note can't be written, here and below.
+        let _ = self.lines.tell(&mut self.notes);
         for watch in self.out.watches() {
             if let Some(quiet) = watch.quiet() {
-                let _ = eprintln!(self.rt; "cct_show: {quiet}");
+                let _ = write!(self.notes, "cct_show: {quiet}\n");
             }
         }
         let tally = self.tally;
-        let _ = eprintln!(self.rt; "cct_show: {tally}");
+        let _ = write!(self.notes, "cct_show: {tally}\n");
     }
 
     /// Takes all that the last line of a log says.
@@ -178,8 +179,9 @@ impl<K: Sink, R: Eprint> Capture<'_, '_, K, R> {
         if !self.has_told_way && sent.first() == Some(&HOST) && is_message(sent) {
             self.has_told_way = true;
             let line = self.lines.line;
-            let _ = eprintln!(self.rt;
-                "cct_show: line {line}: a message for the host is logged as sent; look whether the ways are read right"
+            let _ = write!(
+                self.notes,
+                "cct_show: line {line}: a message for the host is logged as sent; look whether the ways are read right\n"
             );
         }
     }
@@ -272,31 +274,33 @@ impl<K: Sink, R: Eprint> Capture<'_, '_, K, R> {
     }
 
     /// Says that the last exchange has no line.
-    fn tell_left_out(&self, line: u64, why: LeftOut) {
+    fn tell_left_out(&mut self, line: u64, why: LeftOut) {
         let number = self.exchanges;
-        let _ = eprintln!(self.rt;
-            "cct_show: exchange {number}, from line {line}, is left out: {why}"
+        let _ = write!(
+            self.notes,
+            "cct_show: exchange {number}, from line {line}, is left out: {why}\n"
         );
     }
 
     /// Says what becomes of bytes up to the last line that are no message.
-    fn tell_bytes(&self, count: usize, outcome: &str) {
+    fn tell_bytes(&mut self, count: usize, outcome: &str) {
         let line = self.lines.line;
         let bytes = if count == 1 { "byte" } else { "bytes" };
-        let _ = eprintln!(self.rt;
-            "cct_show: {count} {bytes} up to line {line}, of no whole message: {outcome}"
+        let _ = write!(
+            self.notes,
+            "cct_show: {count} {bytes} up to line {line}, of no whole message: {outcome}\n"
         );
     }
 
     /// Says what was taken for granted to read the last line.
-    fn tell_guess(&self, guess: Guess) {
+    fn tell_guess(&mut self, guess: Guess) {
         let line = self.lines.line;
         let guess = Guessed(guess);
-        let _ = eprintln!(self.rt; "cct_show: line {line}: {guess}");
+        let _ = write!(self.notes, "cct_show: line {line}: {guess}\n");
     }
 }
 
-impl<K: Sink, R: Eprint> LineSink for Capture<'_, '_, K, R> {
+impl<K: Sink, H: Held, N: Sink> LineSink for Capture<'_, '_, K, H, N> {
     fn line(&mut self, line: &[u8]) -> Result<(), Stop> {
         self.lines.next_line();
         let line = line.strip_suffix(b"\r").unwrap_or(line);

@@ -19,7 +19,7 @@ const LONG: &str = "    a line of more than 3000 bytes\n";
 
 /// As what a line is written.
 #[derive(Clone, Copy)]
-pub(crate) enum RowForm {
+pub enum RowForm {
     /// A row, below a heading.
     Csv,
     /// An object.
@@ -37,7 +37,7 @@ struct RowLines<'k, K> {
 }
 
 /// Writes a row for each line of a source, by one put.
-pub(crate) fn show_rows<S: Source, K: Sink>(form: RowForm, source: &mut S, out: &mut K) -> Status {
+pub fn show_rows<S: Source, K: Sink>(form: RowForm, source: &mut S, out: &mut K) -> Status {
     let mut rows = RowLines {
         out: PutBuffer::new(out),
         form,

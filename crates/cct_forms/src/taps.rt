@@ -4,26 +4,57 @@ use crate::put_buffer::PutBuffer;
 use crate::status::Stop;
 use cct_captured::Watches;
 use cct_edge::Sink;
-use std::alloc::Global;
+use cct_slices::Page;
 use std::fmt::Write;
+
+/// Memory in which bytes are held for a while.
+pub trait Held: Drop {
+    /// Holds more bytes.
+    fn hold(&mut self, bytes: &[u8]) -> Result<(), Stop>;
+
+    /// The bytes that are held.
+    fn held(&self) -> &[u8];
+}
+
+impl Held for Vec<u8> {
+    fn hold(&mut self, bytes: &[u8]) -> Result<(), Stop> {
+        self.extend_from_slice(bytes)?;
+        Ok(())
+    }
+
+    fn held(&self) -> &[u8] {
+        self.as_slice()
+    }
+}
+
+impl Held for Page<'_> {
+    fn hold(&mut self, bytes: &[u8]) -> Result<(), Stop> {
+        self.put(bytes)?;
+        Ok(())
+    }
+
+    fn held(&self) -> &[u8] {
+        self.written()
+    }
+}
 
 /// The lines of a capture. The lines `watch` stand first, and how a device is watched hangs on what it is asked later: so the
 /// lines `tap` are held until that is settled for each device, or to the end.
 #[derive(Drop)]
-pub(crate) struct Taps<'k, K> {
+pub(crate) struct Taps<'k, K, H> {
     out: PutBuffer<'k, K>,
     watches: Watches,
     /// The lines `tap` that are held; `None` where the lines `watch` are written.
-    held: Option<Vec<u8>>,
+    held: Option<H>,
 }
 
-impl<'k, K: Sink> Taps<'k, K> {
-    /// No line yet, and these devices.
-    pub(crate) fn new(alloc: Global, watches: Watches, out: &'k mut K) -> Taps<'k, K> {
+impl<'k, K: Sink, H: Held> Taps<'k, K, H> {
+    /// No line yet, and these devices; `held` holds nothing.
+    pub(crate) fn new(watches: Watches, held: H, out: &'k mut K) -> Taps<'k, K, H> {
         Taps {
             out: PutBuffer::new(out),
             watches,
-            held: Some(Vec::new(alloc)),
+            held: Some(held),
         }
     }
 
@@ -62,7 +93,7 @@ impl<'k, K: Sink> Taps<'k, K> {
             write!(self.out, "{watch}\n")?;
         }
         self.out.add(b"begin\n")?;
-        self.out.add(held.as_slice())?;
+        self.out.add(held.held())?;
         self.out.write_out()?;
         Ok(())
     }
@@ -85,7 +116,7 @@ impl<'k, K: Sink> Taps<'k, K> {
     /// Adds bytes of a line `tap`.
     fn add(&mut self, bytes: &[u8]) -> Result<(), Stop> {
         match &mut self.held {
-            Some(held) => held.extend_from_slice(bytes)?,
+            Some(held) => held.hold(bytes)?,
             None => self.out.add(bytes)?,
         }
         Ok(())

@@ -33,9 +33,9 @@ const STACK: u8 = 1;
 
 /// The lines that a picture is of, by the first and the last one, counted from 1.
 #[derive(Clone, Copy)]
-pub(crate) struct Part {
-    pub(crate) from: u64,
-    pub(crate) to: u64,
+pub struct Part {
+    pub from: u64,
+    pub to: u64,
 }
 
 /// A request of a log whose reply may stand in a later line.
@@ -82,7 +82,7 @@ struct Marks {
 }
 
 /// Draws the lines of a part of a source, and writes the picture after the last one.
-pub(crate) fn show_picture<S: Source, K: Sink>(
+pub fn show_picture<S: Source, K: Sink>(
     alloc: Global,
     part: Part,
     source: &mut S,
@@ -93,7 +93,7 @@ pub(crate) fn show_picture<S: Source, K: Sink>(
 }
 
 /// Writes a page of all lines of a source, after the last one.
-pub(crate) fn show_page<S: Source, K: Sink>(alloc: Global, source: &mut S, out: &mut K) -> Status {
+pub fn show_page<S: Source, K: Sink>(alloc: Global, source: &mut S, out: &mut K) -> Status {
     let part = Part {
         from: 1,
         to: u64::MAX,

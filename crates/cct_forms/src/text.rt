@@ -2,6 +2,7 @@
 
 use crate::lines::{LineSink, read_lines};
 use crate::log::{Half, Log, MOST_SAID};
+use crate::notes::Notes;
 use crate::put_buffer::PutBuffer;
 use crate::status::{Status, Stop};
 use crate::words::Words;
@@ -25,12 +26,11 @@ struct Text<'k, K> {
     is_transcript: bool,
 }
 
-/// Shows all lines of a source, each with what it says by one put. Of a log it says on standard error which lines weren't
-/// understood.
-pub(crate) fn show_text<S: Source, K: Sink>(
-    rt: &impl Eprint,
+/// Shows all lines of a source, each with what it says by one put. Of a log it notes which lines weren't understood.
+pub fn show_text<S: Source, K: Sink, N: Sink>(
     source: &mut S,
     out: &mut K,
+    notes: &mut N,
 ) -> Status {
     let mut text = Text {
         out: PutBuffer::new(out),
@@ -43,7 +43,8 @@ pub(crate) fn show_text<S: Source, K: Sink>(
     if text.is_transcript || text.lines.read == 0 || shown.is_err() {
         return Status::of(shown);
     }
-    text.lines.tell(rt);
+    // Nothing more can be done where that can't be written.
+    let _ = text.lines.tell(&mut Notes::new(notes));
     if text.lines.is_much() {
         Status::NotUnderstood
     } else {

@@ -1,0 +1,22 @@
+//! The forms in which the lines of a transcript, a capture or a bus log are shown (`docs/SHOW.md`): from a source to a sink, with
+//! notes on a log to another one.
+#![tactic(auto)]
+
+mod capture;
+mod lines;
+mod log;
+mod notes;
+mod picture;
+mod put_buffer;
+mod rows;
+mod status;
+mod taps;
+mod text;
+mod words;
+
+pub use capture::write_capture;
+pub use picture::{Part, show_page, show_picture};
+pub use rows::{RowForm, show_rows};
+pub use status::{Status, Stop};
+pub use taps::Held;
+pub use text::show_text;
