@@ -167,6 +167,7 @@ const devices = () => [...byId('watches').querySelectorAll('input, select')].map
 async function showAudit() {
   const lines = audited.split(/(?<=\n)/);
   const kept = byId('coins-only').checked ? lines.filter(line => isTold(line.trimEnd())).join('') : audited;
+  byId('audit-out').classList.toggle('words', byId('audit-words').checked);
   show(byId('audit-out'), byId('audit-words').checked ? (await inWords(bytesOf(kept))).wrote[0] : kept);
 }
 
@@ -205,6 +206,7 @@ async function showPlay() {
   byId('picture').hidden = form !== 'picture';
   byId('bench').classList.toggle('wide', form === 'picture');
   byId('to-page').hidden = !transcript;
+  byId('bench-out').classList.toggle('words', form === 'words');
   if (form === 'lines') show(byId('bench-out'), transcript);
   if (form === 'words') show(byId('bench-out'), (await inWords(bytesOf(transcript))).wrote[0]);
   if (form === 'picture') {
