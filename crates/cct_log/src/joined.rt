@@ -64,6 +64,9 @@ pub(crate) struct Joined {
     is_stream: bool,
     /// Whether the bytes of the last line don't follow those before it.
     is_anew: bool,
+    /// Whether a line said that bytes were sent. Before that its word for what was heard tells nothing: a logger that listens
+    /// on the one wire of the bus has that word in each line.
+    has_sent: bool,
     todo: Option<Todo>,
 }
 
@@ -79,6 +82,7 @@ impl Joined {
             is_synced: false,
             is_stream: false,
             is_anew: false,
+            has_sent: false,
             todo: None,
         }
     }
@@ -89,9 +93,18 @@ impl Joined {
         self.todo = match has {
             Has::Tap { sent, heard } => Some(Todo::Whole(Said::Tap { sent, heard })),
             Has::Exchange { sent, heard } => Some(Todo::Whole(Said::Exchange { sent, heard })),
-            Has::Bytes { way, bytes } => Some(Todo::Bytes { way, bytes }),
+            Has::Bytes { way, bytes } => Some(Todo::Bytes {
+                way: self.known_way(way),
+                bytes,
+            }),
             Has::Heading(_) => None,
         };
+    }
+
+    /// The way of the bytes of a line, as far as its word for it tells.
+    fn known_way(&mut self, way: Option<Way>) -> Option<Way> {
+        self.has_sent |= way == Some(Way::Sent);
+        if self.has_sent { way } else { None }
     }
 
     /// Takes the end of the log.

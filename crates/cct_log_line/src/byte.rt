@@ -80,6 +80,8 @@ pub(crate) fn hex_in(word: &[u8]) -> Option<&[u8]> {
         [b'0', b'x' | b'X', digits @ ..] | [b'&', b'H' | b'h', digits @ ..] | [b'$', digits @ ..] =>
             { digits }
         [high, low, b'h' | b'H'] if is_hex(&[*high, *low]) => return word.get(..2),
+        [b'x' | b'X', high, low] if is_hex(&[*high, *low]) => return word.get(1..),
+        [b'1', b'6', b'#', digits @ ..] => digits.strip_suffix(b"#").unwrap_or(digits),
         _ => word,
     };
     if digits.len().is_multiple_of(2) && is_hex(digits) {
