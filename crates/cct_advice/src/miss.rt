@@ -5,6 +5,7 @@ use crate::forms::{FORMS, Field, Form, FormsOf, Part, Text};
 use crate::gaps::is_remark;
 use crate::rule::{Rule, misspelling};
 use crate::shown::Shown;
+use cct_near::is_near;
 use std::fmt;
 
 /// What is wrong after a word.
@@ -123,6 +124,21 @@ impl Miss<'_> {
         }
     }
 
+    /// The word that some form of the line's word has in the place of this field, where it is a letter or two off.
+    fn word_near(&self, text: &[u8]) -> Option<&'static str> {
+        let form = self.form;
+        for other in FORMS {
+            if other.is_of(form.part(), form.word().as_bytes())
+                && let Some(field) = other.fields().get(self.place)
+                && let Rule::Only(word) = field.rule()
+                && is_near(text, word.as_bytes(), word.len() > 5)
+            {
+                return Some(word);
+            }
+        }
+        None
+    }
+
     /// Whether the line has more fields than the form, all of which are right.
     fn is_too_long(&self) -> bool {
         matches!(self.wrong, Wrong::Surplus(_, _))
@@ -142,18 +158,29 @@ impl fmt::Display for Miss<'_> {
             write!(f, "{form}; ")?;
         }
         match self.wrong {
-            Wrong::Missing(field) => write_missing(field, f),
-            Wrong::Unfit(field, text) => write_unfit(field, text, f),
+            Wrong::Missing(field) => write_missing(field, self.place, f),
+            Wrong::Unfit(field, text) => match self.word_near(text) {
+                Some(word) => {
+                    let shown = Shown(text);
+                    write!(f, "no form has \"{shown}\" there; did you mean {word}?")
+                }
+                None => write_unfit(field, text, f),
+            },
             Wrong::Surplus(name, rest) => write_surplus(form.part().text(), name, rest, f),
         }
     }
 }
 
-/// Writes that a field is missing; one that is a word has no name.
-fn write_missing<W: fmt::Write>(field: Field, f: &mut fmt::Formatter<W>) -> fmt::Result {
+/// Writes that the field in a place is missing; where it is the first, forms may differ by their words.
+fn write_missing<W: fmt::Write>(
+    field: Field,
+    place: usize,
+    f: &mut fmt::Formatter<W>,
+) -> fmt::Result {
     let name = field.name();
     match field.rule() {
-        Rule::Only(_) => f.write_str("a field is missing"),
+        Rule::Only(_) if place == 0 => f.write_str("a field is missing"),
+        Rule::Only(word) => write!(f, "{word} is missing"),
         _ => write!(f, "{name} is missing"),
     }
 }

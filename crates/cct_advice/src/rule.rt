@@ -97,7 +97,7 @@ impl fmt::Display for Rule {
                 f,
                 "two hexadecimal digits for each byte, 1 to {most} bytes"
             ),
-            Rule::Kind => f.write_str("acceptor or hopper"),
+            Rule::Kind => f.write_str("acceptor or hopper, or bills with quiet after it"),
             Rule::QuietKind => f.write_str("acceptor or bills"),
             Rule::PremiseKind => f.write_str("acceptor, bills or hopper"),
             Rule::Only(word) => write!(f, "{word}"),
