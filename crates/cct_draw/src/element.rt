@@ -19,13 +19,13 @@ pub(crate) fn draw_arrow<K: Sink>(pen: &mut Pen<'_, K>, arrow: Arrow, from: u32,
     pen.push(b"/>\n");
 }
 
-/// Draws a line on which stands, where a pointer rests on it, what bytes it was, if they are to be shown.
+/// Draws a line on which stands, where a pointer rests on it, what bytes it was.
 pub(crate) fn draw_bytes<K: Sink>(
     pen: &mut Pen<'_, K>,
     arrow: Arrow,
     from: u32,
     to: u32,
-    bytes: Option<&[u8]>,
+    bytes: &[u8],
 ) {
     begin_arrow(pen, arrow, from, to);
     end_bytes(pen, bytes);
@@ -38,7 +38,7 @@ pub(crate) fn draw_cross<K: Sink>(pen: &mut Pen<'_, K>, place: u32) {
 }
 
 /// Draws a cross at the host, where it heard these bytes in place of its echo.
-pub(crate) fn draw_lost_echo<K: Sink>(pen: &mut Pen<'_, K>, bytes: Option<&[u8]>) {
+pub(crate) fn draw_lost_echo<K: Sink>(pen: &mut Pen<'_, K>, bytes: &[u8]) {
     begin_cross(pen, HOST_LANE, HEARD_LINE);
     end_bytes(pen, bytes);
 }
@@ -64,12 +64,8 @@ pub(crate) fn begin_path<K: Sink>(pen: &mut Pen<'_, K>, class: &[u8], left: u32,
     push_pair(pen, b"\" d=\"M", left, b" ", top, b"");
 }
 
-/// Ends an element with the bytes that it stands for, if they are to be shown.
-fn end_bytes<K: Sink>(pen: &mut Pen<'_, K>, bytes: Option<&[u8]>) {
-    let Some(bytes) = bytes else {
-        pen.push(b"/>\n");
-        return;
-    };
+/// Ends an element with the bytes that it stands for.
+fn end_bytes<K: Sink>(pen: &mut Pen<'_, K>, bytes: &[u8]) {
     match bytes.len() {
         0 => pen.push(b"><title>no byte"),
         1 => pen.push(b"><title>1 byte:"),

@@ -75,14 +75,19 @@ pub(crate) struct Lanes {
 impl Lanes {
     /// The lanes of these devices, of these kinds.
     pub(crate) fn new(devices: DeviceSet, kinds: [LaneKind; 256]) -> Lanes {
+        Lanes::at(devices, kinds, HOST_LANE + FIRST_GAP, LANE_GAP)
+    }
+
+    /// The lanes of these devices, of these kinds, with a place for the first, and so far from one to the next.
+    pub(crate) fn at(devices: DeviceSet, kinds: [LaneKind; 256], first: u32, gap: u32) -> Lanes {
         let mut places = [0; 256];
-        let mut next = HOST_LANE + FIRST_GAP;
+        let mut next = first;
         let mut last = next;
         for addr in 1..256u16 {
             if devices.has(addr as u8) {
                 places[usize::from(addr)] = next;
                 last = next;
-                next = next.saturating_add(LANE_GAP);
+                next = next.saturating_add(gap);
             }
         }
         places[0] = last.saturating_add(END_GAP);

@@ -3,13 +3,16 @@
 
 mod element;
 mod layout;
+mod look;
 mod mark;
 mod page;
 mod picture;
 mod place;
 mod record;
 mod row;
+mod said;
 mod shape;
+mod sketch;
 mod span;
 mod words;
 mod worth;

@@ -5,14 +5,15 @@ use crate::layout::{
     HEAD_HEIGHT, HOST_LANE, LANE_TOP, Lanes, NAMES_EVERY, NAMES_TOP, ROW_HEIGHT, TITLE_START,
     rows_height,
 };
+use crate::look::LOOKS;
 use crate::row::{Row, Scene, draw_row};
 use crate::shape::Caption;
 use crate::span::draw_spans;
 use cct_edge::Sink;
 use cct_pen::Pen;
 
-/// What each class looks like. Nothing is told by a colour alone.
-const STYLE: &[u8] = b"<style>\
+/// What texts look like, and paths but for what their classes say.
+const STYLE: &[u8] = b"\
 text{font:10px monospace;fill:#000}\
 path{fill:none;stroke:#000;stroke-width:1.3}\
 .number,.host,.look,.note,.crashed{text-anchor:end}\
@@ -22,32 +23,7 @@ path{fill:none;stroke:#000;stroke-width:1.3}\
 .note{fill:#666}\
 .crashed{fill:#fff;font-weight:bold}\
 .name{text-anchor:middle;font-size:12px;font-weight:bold}\
-.title{font-size:12px}\
-path.lane{stroke:#ccc}\
-path.ask,path.answer{stroke:#047}\
-path.refusal{stroke:#b50}\
-path.other{stroke:#83a;stroke-dasharray:12 3}\
-path.silence,path.cleared{stroke:#666;stroke-dasharray:1 4}\
-path.damage,path.fault,path.lost{stroke:#c00;stroke-dasharray:6 3}\
-path.crash{stroke:#333;stroke-width:20}\
-path.in{fill:#283;stroke:#283}\
-path.held{fill:#cec;stroke:#283}\
-path.out{fill:#d70;stroke:#d70}\
-path.back{stroke:#283;fill:#fff}\
-path.none{stroke:#888;fill:#fff}\
-path.bad{stroke:#c00;stroke-width:2}\
-path.reset{stroke:#80a;stroke-width:2}\
-path.job{fill:#000}\
-path.alarm{fill:#fd6;stroke:#c00;stroke-width:1.6}\
-path.put{fill:#cdf;stroke:#036}\
-path.kept{fill:#fff;stroke:#036;stroke-dasharray:2 1}\
-path.sign{stroke:#036}\
-path.sure,path.quiet,path.doubt,path.fallen{stroke-width:12}\
-path.sure{stroke:#7c9}\
-path.quiet{stroke:#7c9;stroke-dasharray:8 2}\
-path.doubt{stroke:#fd6;stroke-dasharray:3 2}\
-path.fallen{stroke:#fb7}\
-</style>\n";
+.title{font-size:12px}";
 
 /// Which page of a picture, by its index and how many there are.
 #[derive(Clone, Copy)]
@@ -67,9 +43,23 @@ pub(crate) fn begin_picture<K: Sink>(pen: &mut Pen<'_, K>, width: u32, height: u
         b"\"",
     );
     push_pair(pen, b" viewBox=\"0 0 ", width, b" ", height, b"\">\n");
-    pen.push(STYLE);
+    write_style(pen);
     pen.push(b"<rect width=\"100%\" height=\"100%\" fill=\"#fff\"/>\n");
     pen.flush();
+}
+
+/// Writes what everything looks like.
+fn write_style<K: Sink>(pen: &mut Pen<'_, K>) {
+    pen.push(b"<style>");
+    pen.push(STYLE);
+    for look in &LOOKS {
+        pen.push(b"path.");
+        pen.push(look.class);
+        pen.push(b"{");
+        pen.push(look.style);
+        pen.push(b"}");
+    }
+    pen.push(b"</style>\n");
 }
 
 /// Draws a page: its title, its lanes, and its rows, of all rows of the picture.

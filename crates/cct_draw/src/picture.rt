@@ -18,11 +18,11 @@ pub const MOST_ROWS: usize = 1_000_000;
 /// A sequence picture. Its memory grows with its rows.
 #[derive(Drop)]
 pub struct Picture {
-    rows: Vec<Row>,
-    devices: DeviceSet,
-    kinds: [LaneKind; 256],
-    worths: Worths,
-    has_taps: bool,
+    pub(crate) rows: Vec<Row>,
+    pub(crate) devices: DeviceSet,
+    pub(crate) kinds: [LaneKind; 256],
+    pub(crate) worths: Worths,
+    pub(crate) has_taps: bool,
     left_out: u64,
     ghost few: { vec_len rows ≤ MOST_ROWS },
 }
@@ -104,13 +104,12 @@ impl Picture {
     /// Writes the picture as an SVG document, a put for each row. A failed put ends it.
     pub fn write<K: Sink>(&self, out: &mut K) -> Result<(), Failed> {
         let mut pen = Pen::new(out);
-        self.draw(&mut pen, true);
+        self.draw(&mut pen);
         pen.finish()
     }
 
-    /// Draws the picture as an SVG document, which may stand within another one. Where a pointer rests on an exchange its bytes
-    /// stand if `has_bytes`.
-    pub fn draw<K: Sink>(&self, pen: &mut Pen<'_, K>, has_bytes: bool) {
+    /// Draws the picture as an SVG document.
+    fn draw<K: Sink>(&self, pen: &mut Pen<'_, K>) {
         let lanes = Lanes::new(self.devices, self.kinds);
         let count = self.rows.len().div_ceil(PAGE_ROWS).max(1) as u32;
         let height = HEAD_HEIGHT
@@ -121,7 +120,6 @@ impl Picture {
             lanes: &lanes,
             worths: &self.worths,
             has_taps: self.has_taps,
-            has_bytes,
         };
         self.draw_pages(pen, &scene, count);
         if self.left_out > 0 {

@@ -2,10 +2,11 @@
 
 use crate::element::{
     begin_text, draw_arrow, draw_bar, draw_bytes, draw_cross, draw_lost_echo, draw_shape, end_text,
-    end_times, push_numbered,
+    end_times,
 };
 use crate::layout::{BAR_START, HOST_LANE, LOST_GAP, Lanes, NUMBERS_END, TIMES_START};
 use crate::record::write_record;
+use crate::said::{KEPT, PUT, Said, said_of_host, write_crash};
 use crate::shape::{Arrow, Caption, Shape, bar_class};
 use crate::words::{verdict_name, write_fault, write_happening, write_heard};
 use crate::worth::Worths;
@@ -23,21 +24,13 @@ pub(crate) struct Row {
     pub(crate) times: u64,
 }
 
-/// What all rows of a picture share: the lanes, what the places are worth, whether the input is a capture, so that rows are
-/// numbered by tap, and whether the bytes of an exchange stand where a pointer rests.
+/// What all rows of a picture share: the lanes, what the places are worth, and whether the input is a capture, so that rows
+/// are numbered by tap.
 #[derive(Clone, Copy)]
 pub(crate) struct Scene<'s> {
     pub(crate) lanes: &'s Lanes,
     pub(crate) worths: &'s Worths,
     pub(crate) has_taps: bool,
-    pub(crate) has_bytes: bool,
-}
-
-impl Scene<'_> {
-    /// The bytes that are to be shown.
-    fn shown<'b>(&self, bytes: &'b [u8]) -> Option<&'b [u8]> {
-        if self.has_bytes { Some(bytes) } else { None }
-    }
 }
 
 /// Draws a row, in its group.
@@ -74,7 +67,7 @@ fn draw_mark<K: Sink>(pen: &mut Pen<'_, K>, scene: &Scene<'_>, mark: &Mark, time
             ask,
             reply,
             ..
-        } => draw_exchange(pen, scene, lanes.place(*addr), ask, reply, times),
+        } => draw_exchange(pen, lanes.place(*addr), ask, reply, times),
         Mark::Happened { addr, what } => {
             draw_happening(pen, scene, *addr, *what, times);
         }
@@ -86,30 +79,20 @@ fn draw_mark<K: Sink>(pen: &mut Pen<'_, K>, scene: &Scene<'_>, mark: &Mark, time
         } => draw_verdict(pen, lanes.place(*addr), *verdict, words, times),
         Mark::Fault { at, bytes } => draw_fault(pen, lanes.end(), *at, bytes, times),
         Mark::Crash { records } => draw_crash(pen, lanes.end(), *records, times),
-        Mark::Put(record) => draw_record(pen, scene, Shape::Put, b"put: ", record, times),
-        Mark::Kept(record) => draw_record(pen, scene, Shape::Kept, b"kept: ", record, times),
+        Mark::Put(record) => draw_record(pen, scene, Shape::Put, PUT, record, times),
+        Mark::Kept(record) => draw_record(pen, scene, Shape::Kept, KEPT, record, times),
         _ => draw_of_host(pen, mark, times),
     }
 }
 
 /// Draws what a mark shows that stands at the host alone.
 fn draw_of_host<K: Sink>(pen: &mut Pen<'_, K>, mark: &Mark, times: u64) {
-    match mark {
-        Mark::Taken(words) => draw_words(pen, Shape::Taken, b"taken: ", words, times),
-        Mark::Refused(words) => draw_words(pen, Shape::Refused, b"refused: ", words, times),
-        Mark::Ended(words) => draw_words(pen, Shape::Ended, b"ended: ", words, times),
-        Mark::Alarm(words) => draw_words(
-            pen,
-            Shape::Alarm,
-            b"ended, to be looked at: ",
-            words,
-            times,
-        ),
-        Mark::Forged(words) => draw_words(pen, Shape::Alarm, b"to be looked at: ", words, times),
-        Mark::Began(words) => draw_words(pen, Shape::Taken, b"", words, times),
-        Mark::Waits(words) => draw_words(pen, Shape::Waits, b"", words, times),
-        Mark::Note(words) => draw_note(pen, words, times),
-        _ => {}
+    let Some(said) = said_of_host(mark) else {
+        return;
+    };
+    match said.shape {
+        Some(shape) => draw_words(pen, shape, &said, times),
+        None => draw_note(pen, said.words, times),
     }
 }
 
@@ -117,7 +100,6 @@ fn draw_of_host<K: Sink>(pen: &mut Pen<'_, K>, mark: &Mark, times: u64) {
 /// half.
 fn draw_exchange<K: Sink>(
     pen: &mut Pen<'_, K>,
-    scene: &Scene<'_>,
     lane: u32,
     ask: &Option<Ask>,
     reply: &Option<Reply>,
@@ -125,18 +107,18 @@ fn draw_exchange<K: Sink>(
 ) {
     let mut reply_times = times;
     if let Some(ask) = ask {
-        draw_ask(pen, scene, lane, ask, times);
+        draw_ask(pen, lane, ask, times);
         reply_times = 1;
     }
     if let Some(reply) = reply {
-        draw_reply(pen, scene, lane, reply, reply_times);
+        draw_reply(pen, lane, reply, reply_times);
     }
 }
 
 /// Draws what the host sent: to the device's lane, or where it wasn't heard whole up to a cross before it.
-fn draw_ask<K: Sink>(pen: &mut Pen<'_, K>, scene: &Scene<'_>, lane: u32, ask: &Ask, times: u64) {
+fn draw_ask<K: Sink>(pen: &mut Pen<'_, K>, lane: u32, ask: &Ask, times: u64) {
     let end = lane.saturating_sub(LOST_GAP);
-    let bytes = scene.shown(ask.bytes.as_slice());
+    let bytes = ask.bytes.as_slice();
     match ask.reach {
         Reach::Device => draw_bytes(pen, Arrow::Request, HOST_LANE, lane, bytes),
         Reach::Lost => {
@@ -150,14 +132,8 @@ fn draw_ask<K: Sink>(pen: &mut Pen<'_, K>, scene: &Scene<'_>, lane: u32, ask: &A
 }
 
 /// Draws what the host heard: from the device's lane, but for a lost echo, which no device sent.
-fn draw_reply<K: Sink>(
-    pen: &mut Pen<'_, K>,
-    scene: &Scene<'_>,
-    lane: u32,
-    reply: &Reply,
-    times: u64,
-) {
-    let bytes = scene.shown(reply.bytes.as_slice());
+fn draw_reply<K: Sink>(pen: &mut Pen<'_, K>, lane: u32, reply: &Reply, times: u64) {
+    let bytes = reply.bytes.as_slice();
     match arrow_of(reply.heard) {
         Some(arrow) => draw_bytes(pen, arrow, lane, HOST_LANE, bytes),
         None => draw_lost_echo(pen, bytes),
@@ -168,7 +144,7 @@ fn draw_reply<K: Sink>(
 }
 
 /// The line of what the host heard, if it comes from a device.
-fn arrow_of(heard: Heard) -> Option<Arrow> {
+pub(crate) fn arrow_of(heard: Heard) -> Option<Arrow> {
     match heard {
         Heard::Answered => Some(Arrow::Answer),
         Heard::Nak | Heard::Busy => Some(Arrow::Refusal),
@@ -210,7 +186,7 @@ fn draw_verdict<K: Sink>(
 }
 
 /// The sign of what happened in a device.
-fn shape_of(what: Happening) -> Shape {
+pub(crate) fn shape_of(what: Happening) -> Shape {
     match what {
         Happening::Accepted { .. } => Shape::Accepted,
         Happening::Held { .. } => Shape::Held,
@@ -240,17 +216,11 @@ fn draw_fault<K: Sink>(pen: &mut Pen<'_, K>, end: u32, at: FaultAt, bytes: &Labe
 }
 
 /// Draws a sign at the host's lane, and words beside it.
-fn draw_words<K: Sink>(
-    pen: &mut Pen<'_, K>,
-    shape: Shape,
-    before: &[u8],
-    words: &Label,
-    times: u64,
-) {
+fn draw_words<K: Sink>(pen: &mut Pen<'_, K>, shape: Shape, said: &Said<'_>, times: u64) {
     draw_shape(pen, shape, HOST_LANE);
     begin_text(pen, shape.caption(), HOST_LANE);
-    pen.push(before);
-    pen.push_label(words);
+    pen.push(said.before);
+    pen.push_label(said.words);
     end_times(pen, times);
 }
 
@@ -274,12 +244,7 @@ fn draw_record<K: Sink>(
 fn draw_crash<K: Sink>(pen: &mut Pen<'_, K>, end: u32, records: u32, times: u64) {
     draw_arrow(pen, Arrow::Crash, BAR_START, end);
     begin_text(pen, Caption::Crash, HOST_LANE);
-    push_numbered(
-        pen,
-        b"power cut; the host starts again over ",
-        records,
-        b" records",
-    );
+    write_crash(pen, records);
     end_times(pen, times);
 }
 

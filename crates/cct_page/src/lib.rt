@@ -2,6 +2,7 @@
 //! each exchange and each other line, a fold for each job, and sums on top.
 #![tactic(auto)]
 
+mod classes;
 mod device;
 mod entry;
 mod frame;

@@ -34,7 +34,6 @@ pub struct Page {
     /// The number of the last line, and what the lines have.
     pub(crate) lines: u64,
     pub(crate) has_taps: bool,
-    pub(crate) has_times: bool,
     /// Rows for which there was no room.
     pub(crate) left_out: u64,
 }
@@ -53,7 +52,6 @@ impl Page {
             balance: None,
             lines: 0,
             has_taps: false,
-            has_times: false,
             left_out: 0,
         }
     }
@@ -218,7 +216,6 @@ impl Page {
     fn row_of(&self, place: Place, addr: Option<u8>, tone: Tone, body: Body) -> Row {
         Row {
             place,
-            is_first: false,
             last: place.tap.unwrap_or(place.line),
             until: Label::empty(),
             addr,
@@ -231,17 +228,12 @@ impl Page {
     }
 
     /// Adds a row, and tells its job, where it has one.
-    fn push(&mut self, mut row: Row) -> Result<(), AllocError> {
+    fn push(&mut self, row: Row) -> Result<(), AllocError> {
         if self.rows.len() >= MOST_ROWS {
             self.left_out = self.left_out.saturating_add(1);
             return Ok(());
         }
-        row.is_first = match self.rows.last() {
-            Some(before) => before.place.line < row.place.line,
-            None => true,
-        };
         self.has_taps |= row.place.tap.is_some();
-        self.has_times |= !row.place.time.as_slice().is_empty();
         if let Some(index) = row.job {
             let place = self.rows.len();
             if let Some(job) = self.jobs.get_mut(index) {

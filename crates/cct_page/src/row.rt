@@ -45,8 +45,6 @@ pub(crate) enum Body {
 #[derive(Drop)]
 pub(crate) struct Row {
     pub(crate) place: Place,
-    /// Whether it is the first row of its line, so that links to the line lead to it.
-    pub(crate) is_first: bool,
     /// The number of its last line, or of its last tap, and the time there.
     pub(crate) last: u64,
     pub(crate) until: Label,

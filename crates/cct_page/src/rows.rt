@@ -1,6 +1,7 @@
 //! The rows of a page, and the folds of its jobs.
 
 use crate::Page;
+use crate::classes::Classes;
 use crate::job::{Ending, Job};
 use crate::row::{Body, Poll, Row, Talk, Tone};
 use crate::words::without_check;
@@ -11,31 +12,40 @@ use cct_tell::{alarm_of, name_of};
 
 /// Writes all rows; those of a job stand in the fold of its command.
 pub(crate) fn write_rows<K: Sink>(pen: &mut Pen<'_, K>, page: &Page) {
-    for row in &page.rows {
+    for (place, row) in page.rows.iter().enumerate() {
         match row.body {
-            Body::Job(index) => write_fold(pen, page, index),
-            Body::Talk(_) | Body::Line { .. } if row.job.is_none() => write_row(pen, page, row),
+            Body::Job(index) => write_fold(pen, page, place, index),
+            Body::Talk(_) | Body::Line { .. } if row.job.is_none() => {
+                write_row(pen, page, place, row);
+            }
             Body::Talk(_) | Body::Line { .. } => {}
         }
     }
 }
 
-/// Writes the fold of a job; it is open where it didn't end well.
-fn write_fold<K: Sink>(pen: &mut Pen<'_, K>, page: &Page, index: usize) {
+/// Writes the fold of a job, whose command has the row at a place; it is open where it didn't end well.
+fn write_fold<K: Sink>(pen: &mut Pen<'_, K>, page: &Page, place: usize, index: usize) {
     let Some(job) = page.jobs.get(index) else {
         return;
     };
-    pen.push(b"<details id=l");
-    pen.push_number(job.place.line);
-    pen.push(b" class=\"d");
-    pen.push_number(job.addr);
     let is_well = job.is_well();
-    push_classes(pen, job.reds > 0 || !is_well, false, job.is_record);
-    match is_well {
-        true => pen.push(b"\"><summary>"),
-        false => pen.push(b" bad\" open><summary>"),
+    pen.push(b"<details");
+    if !job.has_end() {
+        push_count(pen, b" id=r", place as u64, b"");
     }
-    write_cells(pen, page, &job.place, Some(job.addr));
+    let is_red = job.reds > 0 || !is_well;
+    let mut classes = Classes::new(1 + usize::from(is_red) + usize::from(job.is_record));
+    classes.push_device(pen, job.addr);
+    classes.push_tone(pen, is_red, b"x");
+    classes.push_tone(pen, job.is_record, b"w");
+    classes.finish(pen);
+    match is_well {
+        true => pen.push(b"><summary>"),
+        false => pen.push(b" open><summary>"),
+    }
+    write_cells(pen, page, &job.place);
+    push_address(pen, Some(job.addr));
+    pen.push(b"</b>");
     write_summary(pen, job);
     pen.push(b"</summary>\n");
     write_job_rows(pen, page, job, index);
@@ -44,19 +54,18 @@ fn write_fold<K: Sink>(pen: &mut Pen<'_, K>, page: &Page, index: usize) {
 
 /// Writes the rows of a job.
 fn write_job_rows<K: Sink>(pen: &mut Pen<'_, K>, page: &Page, job: &Job, index: usize) {
-    let rows = page.rows.as_slice();
-    let (rows, _) = rows.split_at(rows.len().min(job.last.saturating_add(1)));
-    let (_, rows) = rows.split_at(rows.len().min(job.first));
-    for row in rows {
+    for (place, row) in page.rows.iter().enumerate().skip(job.first) {
+        if place > job.last {
+            break;
+        }
         if row.job == Some(index) {
-            write_row(pen, page, row);
+            write_row(pen, page, place, row);
         }
     }
 }
 
 /// Writes what became of a job.
 fn write_summary<K: Sink>(pen: &mut Pen<'_, K>, job: &Job) {
-    pen.push(b"<span>");
     pen.push_text(&job.command);
     pen.push(b": ");
     pen.push_label(&job.became());
@@ -74,7 +83,6 @@ fn write_summary<K: Sink>(pen: &mut Pen<'_, K>, job: &Job) {
         push_count(pen, b", ", job.times, b" times, up to line ");
         pen.push_number(job.until);
     }
-    pen.push(b"</span>");
 }
 
 /// Writes how many coins a job posted and lost, and how many fell.
@@ -93,69 +101,71 @@ fn write_coins<K: Sink>(pen: &mut Pen<'_, K>, job: &Job) {
     }
 }
 
-/// Writes a row.
-fn write_row<K: Sink>(pen: &mut Pen<'_, K>, page: &Page, row: &Row) {
-    match row.is_first {
-        true => push_count(pen, b"<p id=l", row.place.line, b" class=\""),
-        false => pen.push(b"<p class=\""),
+/// Writes the row at a place. In a fold it has no device of its own: the fold has it.
+fn write_row<K: Sink>(pen: &mut Pen<'_, K>, page: &Page, place: usize, row: &Row) {
+    pen.push(b"<p");
+    if row.tone == Tone::Red {
+        push_count(pen, b" id=r", place as u64, b"");
     }
-    push_devices(pen, row);
-    push_classes(
-        pen,
-        row.tone == Tone::Red,
-        row.tone == Tone::Odd,
-        row.is_record,
-    );
-    pen.push(b"\">");
+    push_classes(pen, row);
+    pen.push(b">");
     match row.poll_count() {
-        0 | 1 => write_cells(pen, page, &row.place, row.addr),
-        count => write_run(pen, page, row, count),
+        0 | 1 => write_cells(pen, page, &row.place),
+        _ => write_run_cells(pen, page, row),
     }
+    if row.job.is_none() {
+        push_address(pen, row.only_addr());
+    }
+    pen.push(b"</b>");
     match &row.body {
-        Body::Talk(talk) if row.poll_count() < 2 => write_talk(pen, talk),
+        Body::Talk(_) if row.poll_count() > 1 => write_run(pen, row),
+        Body::Talk(talk) => write_talk(pen, talk),
         Body::Line { line, told } => write_line(pen, line, told),
-        Body::Talk(_) | Body::Job(_) => {}
+        Body::Job(_) => {}
     }
-    pen.push(b"</p>\n");
+    pen.push(b"\n");
 }
 
-/// Writes the classes for the devices of a row.
-fn push_devices<K: Sink>(pen: &mut Pen<'_, K>, row: &Row) {
-    if let Some(addr) = row.addr {
-        pen.push(b"d");
-        pen.push_number(addr);
-    }
-    for poll in &row.polls {
-        if row.addr != Some(poll.addr) {
-            push_count(pen, b" d", u64::from(poll.addr), b"");
+/// Writes the classes of a row: its devices, unless it is in a fold, and what it is. One that is red has its id.
+fn push_classes<K: Sink>(pen: &mut Pen<'_, K>, row: &Row) {
+    let is_odd = row.tone == Tone::Odd;
+    let tones = usize::from(is_odd) + usize::from(row.is_record);
+    let mut classes = Classes::new(device_count(row).saturating_add(tones));
+    if row.job.is_none() {
+        if let Some(addr) = row.addr {
+            classes.push_device(pen, addr);
+        }
+        for poll in &row.polls {
+            if row.addr != Some(poll.addr) {
+                classes.push_device(pen, poll.addr);
+            }
         }
     }
+    classes.push_tone(pen, is_odd, b"o");
+    classes.push_tone(pen, row.is_record, b"w");
+    classes.finish(pen);
 }
 
-/// Writes the classes for what a row or a job is.
-fn push_classes<K: Sink>(pen: &mut Pen<'_, K>, is_red: bool, is_odd: bool, is_record: bool) {
-    if is_red {
-        pen.push(b" x");
+/// How many classes for devices a row has.
+fn device_count(row: &Row) -> usize {
+    if row.job.is_some() {
+        return 0;
     }
-    if is_odd {
-        pen.push(b" o");
-    }
-    if is_record {
-        pen.push(b" w");
-    }
+    let others = row.polls.iter().filter(|poll| row.addr != Some(poll.addr));
+    others
+        .count()
+        .saturating_add(usize::from(row.addr.is_some()))
 }
 
-/// Writes the number of a row, its time where any row has one, and its device.
-fn write_cells<K: Sink>(pen: &mut Pen<'_, K>, page: &Page, place: &Place, addr: Option<u8>) {
+/// Begins the cells of a row: its number, and its time where it has one.
+fn write_cells<K: Sink>(pen: &mut Pen<'_, K>, page: &Page, place: &Place) {
     pen.push(b"<b>");
     push_number(pen, page, place);
-    pen.push(b"</b>");
     if !place.time.as_slice().is_empty() {
-        pen.push(b"<i>");
+        pen.push(b" ");
         pen.push_label(&place.time);
-        pen.push(b"</i>");
     }
-    push_address(pen, addr);
+    pen.push(b"\t");
 }
 
 /// Writes the number of a row: of its line, or in a capture of its tap, where it is one.
@@ -174,32 +184,39 @@ fn push_number<K: Sink>(pen: &mut Pen<'_, K>, page: &Page, place: &Place) {
 fn push_address<K: Sink>(pen: &mut Pen<'_, K>, addr: Option<u8>) {
     match addr {
         None => {}
-        Some(0) => pen.push(b"<em>all</em>"),
-        Some(addr) => push_count(pen, b"<em>", u64::from(addr), b"</em>"),
+        Some(0) => pen.push(b"all\t"),
+        Some(addr) => push_count(pen, b"", u64::from(addr), b"\t"),
     }
 }
 
-/// Writes a row that stands for so many polls.
-fn write_run<K: Sink>(pen: &mut Pen<'_, K>, page: &Page, row: &Row, count: u64) {
+/// Begins the cells of a row that stands for several polls: their numbers, and their times.
+fn write_run_cells<K: Sink>(pen: &mut Pen<'_, K>, page: &Page, row: &Row) {
     pen.push(b"<b>");
     push_number(pen, page, &row.place);
-    push_count(pen, b" to ", row.last, b"</b>");
+    push_count(pen, b" to ", row.last, b"");
     if !row.until.as_slice().is_empty() {
-        pen.push(b"<i>");
+        pen.push(b" ");
         pen.push_label(&row.place.time);
-        pen.push(b"<br>to ");
+        pen.push(b" to ");
         pen.push_label(&row.until);
-        pen.push(b"</i>");
     }
-    push_address(pen, row.only_addr());
-    push_count(pen, b"<span>", count, b" polls, each answered as before: ");
+    pen.push(b"\t");
+}
+
+/// Writes which polls a row stands for.
+fn write_run<K: Sink>(pen: &mut Pen<'_, K>, row: &Row) {
+    push_count(
+        pen,
+        b"",
+        row.poll_count(),
+        b" polls, each answered as before: ",
+    );
     let mut before: &[u8] = b"";
     for poll in &row.polls {
         pen.push(before);
         write_poll(pen, poll, row.only_addr().is_none());
         before = b", ";
     }
-    pen.push(b"</span>");
 }
 
 /// Writes a poll, how often it is asked, and where there are several devices which one.
@@ -215,32 +232,29 @@ fn write_poll<K: Sink>(pen: &mut Pen<'_, K>, poll: &Poll, has_addr: bool) {
 
 /// Writes what was sent and heard, and the bytes.
 fn write_talk<K: Sink>(pen: &mut Pen<'_, K>, talk: &Talk) {
-    pen.push(b"<span>");
     if !talk.asked.is_empty() {
         pen.push_text(without_check(&talk.asked));
-        pen.push(b"<br>");
+        pen.push(b"\n");
     }
     pen.push_text(without_check(&talk.answer));
-    pen.push(b"<br><code>");
+    pen.push(b"\n<i>");
     pen.push_hex(b"", &talk.sent);
     if !talk.heard.is_empty() {
         pen.push(b" / ");
         pen.push_hex(b"", &talk.heard);
     }
-    pen.push(b"</code></span>");
+    pen.push(b"</i>");
 }
 
 /// Writes a line, and below it what it means.
 fn write_line<K: Sink>(pen: &mut Pen<'_, K>, line: &[u8], told: &[u8]) {
-    pen.push(b"<span>");
     pen.push_text(line);
     for sentence in told.split(|byte| *byte == b'\n') {
         if !sentence.is_empty() {
-            pen.push(b"<br>");
+            pen.push(b"\n");
             pen.push_text(sentence.strip_prefix(b"    ").unwrap_or(sentence));
         }
     }
-    pen.push(b"</span>");
 }
 
 /// Writes a number between two texts.

@@ -1,40 +1,126 @@
-//! How a page looks: in light and dark, on a phone, and on paper.
+//! How a page looks: in light and dark, on a phone and on paper. Each rule stands there only where a page needs it, since a
+//! short page is to be short.
 
-/// The style of every page. Nothing is told by a colour alone: a red row has a bar at its left, and stands in the list on top.
-pub(crate) const STYLE: &[u8] = b"\
-:root{color-scheme:light dark;--text:#111;--page:#fff;--grey:#666;--line:#ddd;--red:#b00;--odd:#950;--record:#e8eefc}\n\
-@media(prefers-color-scheme:dark){:root{--text:#ddd;--page:#15171b;--grey:#999;--line:#333;--red:#f77;--odd:#fb5;--record:#1e2840}}\n\
-body{margin:0 auto;max-width:80em;padding:.5em;font:14px/1.35 system-ui,sans-serif;color:var(--text);background:var(--page)}\n\
-h1{font-size:1.3em;margin:.3em 0}\n\
-table{border-collapse:collapse;margin:.5em 0}\n\
-td,th{border:1px solid var(--line);padding:.15em .5em;text-align:right}\n\
-td:first-child,th:first-child{text-align:left;white-space:nowrap}\n\
-td.red,li,.red{color:var(--red)}\n\
-a{color:inherit}\n\
-ul{max-height:12em;overflow:auto;margin:.3em 0;padding-left:1.5em}\n\
-label{margin-right:1em}\n\
-main{margin-top:.5em}\n\
-main p,main summary{display:grid;grid-template-columns:6em 3em 1fr;gap:0 .6em;margin:0;padding:.1em .3em;border-bottom:1px solid var(--line);border-left:3px solid transparent}\n\
-main.timed p,main.timed summary{grid-template-columns:6em 13em 3em 1fr}\n\
-main p{content-visibility:auto;contain-intrinsic-size:auto 4em}\n\
-main b{font-weight:400;color:var(--grey);padding-left:1em}\n\
-main i{font-style:normal;color:var(--grey)}\n\
-main em{font-style:normal;text-align:right;grid-column:-3}\n\
-main span{overflow-wrap:anywhere;grid-column-end:-1}\n\
-code{color:var(--grey);font-size:.85em;overflow-wrap:anywhere}\n\
-summary{cursor:pointer;font-weight:600}\n\
-main summary b::before{content:\"\\25b8\";display:inline-block;width:1em;margin-left:-1em}\n\
-details[open]>summary b::before{content:\"\\25be\"}\n\
-main details p{margin-left:1em}\n\
-p.w{background:var(--record)}\n\
-p.o span{color:var(--odd)}\n\
-p.x,details.x>summary{border-left-color:var(--red)}\n\
-p.x span,details.bad>summary span{color:var(--red)}\n\
-#bytes:not(:checked)~main code{display:none}\n\
-#errors:checked~main :is(p,details):not(.x),#records:checked~main :is(p,details):not(.w){display:none}\n\
-#errors:checked~main details::details-content,#records:checked~main details::details-content{content-visibility:visible;block-size:auto}\n\
-.picture,.wide{overflow:auto}\n\
-.picture svg{max-width:none}\n\
-@media(max-width:45em){main p,main summary,main.timed p,main.timed summary{grid-template-columns:auto auto 1fr}\
-main.timed em{grid-column:auto}main.timed span{grid-column:1/-1}main details p{margin-left:.3em}}\n\
-@media print{body{max-width:none;font-size:9pt}input,label{display:none}main p{break-inside:avoid;content-visibility:visible}}\n";
+use crate::Page;
+use crate::row::{Body, Row, Tone};
+use crate::sums::is_red;
+use cct_draw::Picture;
+use cct_edge::Sink;
+use cct_pen::Pen;
+
+/// A page with more rows draws only those that are in sight.
+const MANY_ROWS: usize = 1000;
+
+/// What every page needs. A row is a paragraph: its number and its device, each up to a tab, and its words, in which a line
+/// feed stands for itself.
+const ALWAYS: &[u8] = b"\
+:root{color-scheme:light dark}\
+body{font:14px system-ui;margin:auto;max-width:80em;padding:5px}\
+table{display:block;overflow:auto}\
+td,th{padding:0 .5em;text-align:right}tr>:first-child{text-align:left}\
+p,summary{margin:0;padding-left:6em;text-indent:-6em;white-space:pre-wrap;overflow-wrap:anywhere}\
+b{color:gray;display:inline-block;font:inherit;tab-size:3em;text-indent:0;white-space:pre}\n";
+
+/// The rows of a job, in its fold.
+const FOLDS: &[u8] = b"main details p{padding-left:4em;text-indent:-3em}summary{font-weight:600}\n";
+
+/// The bytes of an exchange.
+const BYTES: &[u8] =
+    b"i{color:gray;font:12px monospace}:has(#bytes:not(:checked))>main i{display:none}\n";
+
+/// What somebody is to look at: rows with an id. Nothing is told by a colour alone: they have a bar at their left, and a link
+/// on top.
+const RED: &[u8] = b"\
+p[id],.x>summary,td.x{box-shadow:-3px 0;color:#d33}\
+:has(#errors:checked)>main :is(p,details):not([id],.x){display:none}\n";
+
+/// What is unusual.
+const ODD: &[u8] = b".o{color:#c60}\n";
+
+/// A record; those in folds are seen too where records are chosen.
+const RECORD: &[u8] = b"\
+p.w{background:#48f3}\
+:has(#records:checked)>main :is(p,details):not(.w){display:none}\n";
+
+/// The folds of a page in which rows are chosen show them.
+const CHOSEN: &[u8] = b"\
+:has(#errors:checked,#records:checked)>main ::details-content{content-visibility:visible}\n";
+
+/// The picture: its words lie over its lines.
+const PICTURE: &[u8] = b"\
+div{background:#fff;color:#000;display:grid;overflow:auto}\
+svg,pre{font:10px/14px monospace;grid-area:1/1;margin:0}\n";
+
+/// The rows of a long page.
+const MANY: &[u8] = b"main p{content-visibility:auto;contain-intrinsic-size:auto 4em}\n";
+
+/// What of a page wants rules and choices of its own.
+#[derive(Clone, Copy)]
+pub(crate) struct Needs {
+    pub(crate) picture: bool,
+    pub(crate) bytes: bool,
+    pub(crate) red: bool,
+    pub(crate) records: bool,
+    odd: bool,
+}
+
+impl Needs {
+    /// What the rows of a page, and a picture of them, need.
+    pub(crate) fn of(page: &Page, picture: &Picture) -> Needs {
+        Needs {
+            picture: picture.has_sketch(),
+            bytes: page.rows.iter().any(has_bytes),
+            red: page.rows.iter().any(|row| is_red(page, row)),
+            records: page.rows.iter().any(|row| row.is_record),
+            odd: page.rows.iter().any(|row| row.tone == Tone::Odd),
+        }
+    }
+
+    /// Whether there are rows to choose.
+    pub(crate) fn has_choice(&self) -> bool {
+        self.red || self.records
+    }
+}
+
+/// Whether a row shows the bytes of an exchange.
+fn has_bytes(row: &Row) -> bool {
+    match row.body {
+        Body::Talk(_) => true,
+        Body::Line { .. } | Body::Job(_) => false,
+    }
+}
+
+/// Writes the style of a page.
+pub(crate) fn write_style<K: Sink>(pen: &mut Pen<'_, K>, page: &Page, needs: &Needs) {
+    let has_folds = !page.jobs.is_empty();
+    pen.push(ALWAYS);
+    push_rule(pen, has_folds, FOLDS);
+    push_rule(pen, needs.bytes, BYTES);
+    push_rule(pen, needs.red, RED);
+    push_rule(pen, needs.odd, ODD);
+    push_rule(pen, needs.records, RECORD);
+    push_rule(pen, has_folds && needs.has_choice(), CHOSEN);
+    push_rule(pen, needs.picture, PICTURE);
+    push_rule(pen, page.rows.len() > MANY_ROWS, MANY);
+    for addr in 1..=u8::MAX {
+        if page.devices.there(addr).is_some() {
+            write_device_rule(pen, addr);
+        }
+    }
+}
+
+/// Writes a rule where it is needed.
+fn push_rule<K: Sink>(pen: &mut Pen<'_, K>, is_needed: bool, rule: &[u8]) {
+    if is_needed {
+        pen.push(rule);
+    }
+}
+
+/// Writes the rule that hides the rows and folds of all other devices, where one is chosen.
+fn write_device_rule<K: Sink>(pen: &mut Pen<'_, K>, addr: u8) {
+    pen.push(b":has(#a");
+    pen.push_number(addr);
+    pen.push(b":checked)>main>:not(.d");
+    pen.push_number(addr);
+    pen.push(b"){display:none}\n");
+}
