@@ -86,9 +86,12 @@ class Host:
         self.out, self.errors = Heard(self.run.stdout, self.kept), Heard(self.run.stderr)
         # How many of its lines were taken.
         self.taken = 0
+        # How many lines were said to it.
+        self.asked = 0
         self.hang = False
 
     def say(self, text: str) -> None:
+        self.asked += text.count("\n") + 1
         try:
             self.run.stdin.write(text + "\n")
             self.run.stdin.flush()
@@ -115,6 +118,14 @@ class Host:
     def told(self, command: str) -> list[str]:
         """The same without the exchanges and the balance."""
         return [line for line in self.ask(command)[:-1] if not line.startswith(("wire ", "unsent "))]
+
+    def state(self) -> list[str]:
+        """What it tells for the line `state`, which ends with a balance of its own."""
+        self.say("state")
+        lines = [self.line()]
+        while not lines[-1].startswith(("balance ", "state unread")):
+            lines.append(self.line())
+        return lines
 
     def first(self) -> str:
         """The first line that tells of the journal. Before it the host tells the version of its lines, and which devices aren't

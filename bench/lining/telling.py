@@ -96,6 +96,59 @@ def orders(programs: dict[str, Path], short: bool) -> None:
     line.close()
 
 
+def of_main(programs: dict[str, Path], line: Line) -> list[str]:
+    """What `cct_main state` tells of the journal that the host goes on with, by its setup."""
+    script = Path(line.folder, "setup").read_text() + "end\n"
+    done = subprocess.run([programs["cct_main"], "state", "--journal", "journal"], cwd=line.folder, input=script,
+                          capture_output=True, text=True, timeout=MOST_SECONDS)
+    want("cct_main state: the exit status", done.returncode, 0)
+    return done.stdout.splitlines()
+
+
+def states(programs: dict[str, Path], short: bool) -> None:
+    """What the journal knows now is told in the lines of `cct_main state`, in the midst of a day: nothing is lost by it, and
+    nothing else is told. It ends with the money; where the journal can't be read it is one line."""
+    line = Line(programs["cct_live"], [Acceptor(2), Hopper(3)])
+
+    def agree(what: str) -> list[str]:
+        told, before = host.state(), Path(line.folder, "journal").read_bytes()
+        want(f"{what}: as cct_main has it", told, of_main(programs, line))
+        want(f"{what}: it only reads", Path(line.folder, "journal").read_bytes(), before)
+        want(f"{what}: the money is the host's", told[-1], "balance " + " ".join(str(part) for part in host.balance()))
+        return told
+
+    host = line.start()
+    host.first()
+    want("a state without records", agree("a state without records"), ["last 0", "total 0 0 0 0 0", "balance 0 0 0 0"])
+    start(host, 2)
+    line.devices[2].take(5)
+    host.work("round 2", 2)
+    want("a state of an epoch", [text.split(" ")[:3] for text in agree("a state of an epoch")][:2],
+         [["epoch", "2", "0010"], ["since", "2", "1"]])
+    host.work("pay 3 7 2", 3)
+    host.work("vend 8 10", 1)
+    lines = host.ask("pay 3 9 3")
+    while not any(text.startswith("put opened 9 ") for text in lines):
+        lines += host.ask("next 3")
+    told = agree("a state of an open order")
+    want("a state of an open order", [text.rpartition(" ")[0] for text in told if text.startswith("order")], ["order 9 open 3 3"])
+    want("a state: what came to the hopper", [text for text in told if text.startswith("since 3")], ["since 3 0 0 2"])
+    want("a state: the last id", [text for text in told if text.startswith("last")], ["last 9"])
+    want("a state: a field too many", host.told("state 2"), [f"refused {host.asked - 1} form"])
+    host.clear()
+    host = line.start()
+    host.first()
+    agree("a state of the next life")
+    host.work("settle 3", 3)
+    want("a state: the order is settled", [text for text in agree("a settled order") if text.startswith("order")], [])
+    Path(line.folder, "journal").rename(Path(line.folder, "away"))
+    want("a state without the file", host.state(), ["state unread"])
+    Path(line.folder, "away").rename(Path(line.folder, "journal"))
+    agree("a state of the file that came back")
+    want("states: the exit status", host.end(), 0)
+    line.close()
+
+
 def refusals(programs: dict[str, Path], short: bool) -> None:
     """Why a line is refused is on standard error at once, and the next line is read."""
     line = Line(programs["cct_live"], [Acceptor(2), Hopper(3)])

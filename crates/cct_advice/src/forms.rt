@@ -295,6 +295,7 @@ pub(crate) const FORMS: &[Form] = &[
     Form(Part::Live, "change", &[FIRST, AMOUNT]),
     Form(Part::Live, "serve", &[]),
     Form(Part::Live, "status", &[]),
+    Form(Part::Live, "state", &[]),
     Form(Part::Live, "order", &[ORDER]),
     Form(Part::Live, "end", &[]),
 ];

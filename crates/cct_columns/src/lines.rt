@@ -132,6 +132,7 @@ short {paid_amount} {owed}|
 since {address} {posted} {lost} {paid}|since the journal last turned, at device {address}: {posted} posted, {lost} lost, {paid} paid
 sold|the sale is over: its record was put
 started {address}|acceptor {address} is started: it acknowledged its mask
+state unread|the journal could not be read
 stock {address} {count}|
 stopped {address}|acceptor {address} is stopped
 sure {address} {first_tap} {last_tap} {coins}|

@@ -10,7 +10,7 @@ use cct_disk::{MADE_LEN, MemDisk};
 use cct_edge::{MemSink, MemSource};
 use cct_model::{LineKind, MOST_HEARD, Setup};
 use cct_port::{CountedLink, is_answered};
-use cct_service::{AtEnd, OrderTold, Outside, Page, Served, serve};
+use cct_service::{AtEnd, Beside, OrderTold, Outside, Page, Served, serve};
 use cct_survey::Roll;
 use cct_wire::Link;
 use std::alloc::Global;
@@ -82,6 +82,12 @@ impl Outside for Nobody {
 
     fn order(&mut self, _: u32) -> OrderTold {
         OrderTold::Unknown
+    }
+}
+
+impl Beside<MemDisk> for Nobody {
+    fn beside(&mut self, _: &MemDisk) -> Option<MemDisk> {
+        None
     }
 }
 

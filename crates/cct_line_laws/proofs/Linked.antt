@@ -11,7 +11,7 @@ use Rattle.cct_service.specs.declared.notice.Notice.{Notice}
 use Rattle.cct_service.specs.declared.notice.Notice.TheVariants as notice_of
 use Rattle.cct_service.specs.Asked.{most_asked}
 use Rattle.cct_service.specs.Linked.{ExchangesSince, UsesLink, asks, goes_on, has_counted, tells}
-use Rattle.cct_service.specs.Told.{Told, answer_news, entry, falls_short, finding, last, news_of, notice, operates, pay_of, pays, refused, refused_for, taken, unsent, withheld_for}
+use Rattle.cct_service.specs.Told.{Told, answer_news, entry, falls_short, finding, knows, last, news_of, notice, operates, pay_of, pays, refused, refused_for, taken, unsent, withheld_for}
 use Rattle.cct_line_laws.proofs.Rolls.{roll_chain}
 
 -- what is told in two parts
@@ -30,6 +30,7 @@ news_both (pays p answer ∷ told) more =
     ap (λ es. es ++ answer_news p answer) (news_both told more)
     ∙ append_assoc (news_of more) (news_of told) (answer_news p answer)
 news_both (falls_short p paid rest ∷ told) more = news_both told more
+news_both (knows all line ∷ told) more = news_both told more
 
 module _ {L : Type 0} (gives : L → List ℕ → List ℕ → L → Type 0) (sent : L → Bool) (failures : L → ℕ) where
   -- an entry that is no exchange, or a notice
@@ -88,6 +89,7 @@ module _ {L : Type 0} (gives : L → List ℕ → List ℕ → L → Type 0) (se
       (exchanges_chain so_far old new told (subst AllAsked (append-nil (news_of told)) asked) exchanges)
   exchanges_chain so_far old new (falls_short p paid rest ∷ told) asked exchanges =
       exchanges_chain so_far old new told asked exchanges
+  exchanges_chain so_far old new (knows all line ∷ told) asked exchanges = exchanges_chain so_far old new told asked exchanges
 
   pub uses_chain : (devices : List DeviceSetup) (roll now : Rolled) (old new : L) (told : List Told) → AllAsked (news_of told) →
       UsesLink gives sent failures devices roll now old new told → Chain gives old (news_of told) new

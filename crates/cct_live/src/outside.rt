@@ -4,7 +4,7 @@ use crate::orders::order_on;
 use cct_advice::advise_line;
 use cct_disk::FileDisk;
 use cct_lines::LineKind;
-use cct_service::{OrderTold, Outside};
+use cct_service::{Beside, OrderTold, Outside};
 use std::fs;
 
 /// The program around a service over the journal of this path.
@@ -19,6 +19,15 @@ impl<'r> Around<'r> {
     pub(crate) fn new(rt: &'r HostRuntime, journal: &'r str) -> Around<'r> {
         Around { rt, journal }
     }
+
+    /// The disk of the journal once more, to be read alone; none where its file is gone.
+    fn open_again(&self) -> Option<FileDisk<HostRuntime>> {
+        // A disk over a file that is gone would make it anew.
+        match fs::metadata(self.rt, self.journal) {
+            Ok(_) => Some(FileDisk::open_file(self.rt, self.journal)),
+            Err(_) => None,
+        }
+    }
 }
 
 impl Outside for Around<'_> {
@@ -27,10 +36,15 @@ impl Outside for Around<'_> {
     }
 
     fn order(&mut self, id: u32) -> OrderTold {
-        // A disk over a file that is gone would make it anew.
-        if fs::metadata(self.rt, self.journal).is_err() {
-            return OrderTold::Unread;
+        match self.open_again() {
+            Some(disk) => order_on(disk, id),
+            None => OrderTold::Unread,
         }
-        order_on(FileDisk::open_file(self.rt, self.journal), id)
+    }
+}
+
+impl<'r> Beside<FileDisk<HostRuntime>> for Around<'r> {
+    fn beside(&mut self, _: &FileDisk<HostRuntime>) -> Option<FileDisk<HostRuntime>> {
+        self.open_again()
     }
 }

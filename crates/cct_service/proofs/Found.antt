@@ -17,7 +17,7 @@ use Rattle.cct_service.specs.declared.attempts.Until.{Until}
 use Rattle.cct_service.specs.declared.notice.Notice.{Notice}
 use Rattle.cct_service.specs.declared.notice.Notice.TheVariants as notice_of
 use Rattle.cct_service.specs.Doing.{Decides, DoesCommand, DoesLine, DoesLines, Finds, FrontOf, IsAsking, IsAttempt, IsFound, IsOfPoll, IsOrder, IsPoll, IsStatus, IsStepOf, IsVisit, MakesAttempts, Tells, TellsOne, Times}
-use Rattle.cct_service.specs.Told.{Told, as_told, attempt_told, entry, falls_short, finding, findings_in, found_told, last, notice, notices_told, operates, pays, refused, told_unsent, unheard, unsent}
+use Rattle.cct_service.specs.Told.{Told, as_told, attempt_told, entry, falls_short, finding, findings_in, found_told, knows, last, notice, notices_told, operates, pays, refused, told_unsent, unheard, unsent}
 use Rattle.cct_service.specs.Said.{Said}
 use Rattle.cct_service.proofs.Doings.{line_then, made_are, many_none, many_one, many_weaker}
 
@@ -33,6 +33,7 @@ found_then (last e ∷ first) then = found_then first then
 found_then (operates s e ∷ first) then = found_then first then
 found_then (pays p answer ∷ first) then = found_then first then
 found_then (falls_short p paid rest ∷ first) then = found_then first then
+found_then (knows all line ∷ first) then = found_then first then
 
 -- entries and notices tell none
 found_as : (entries : List Entry) → findings_in (as_told entries) ≡ []

@@ -2,6 +2,7 @@ pub mod Suiting
 pub mod Telling
 pub mod Since
 pub mod Reporting
+pub mod Knows
 pub mod Parts
 pub mod Desks
 pub mod Linking

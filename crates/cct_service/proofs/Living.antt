@@ -34,7 +34,7 @@ use Rattle.cct_service.specs.AtDesk.{Both, FollowsTo}
 use Rattle.cct_service.specs.Doing.{FrontOf, ServesLines}
 use Rattle.cct_service.specs.Causes.{SuitsDisk}
 use Rattle.cct_service.specs.Parts.{FailedSince, FailedToPut, LivesTo, Part, Plays}
-use Rattle.cct_service.specs.Reported.{AreSo}
+use Rattle.cct_service.specs.Reported.{AreSoWhere}
 use Rattle.cct_service.specs.Since.{Given, MayStand, StandsSince}
 use Rattle.cct_service.specs.Told.{Told, news_of}
 use Rattle.cct_service.proofs.Lawful.{lawful}
@@ -69,7 +69,7 @@ module _ {K : Type 0} (written : K → Option (List ℕ)) (puts : K → List ℕ
     → (image : List ℕ) → StandsSince host (given_as given image begun) found (started found)) where
   part_lived : (a b : K) (answer : Result (Unit {0}) Failed) (After : Given D → List Record → List Entry → Type 0)
       (Linked : List Told → Type 0) (Doing : List LiveStep → List Told → Type 0)
-      (part : Part written puts a b answer (setup_of host) (StandsSince host) After Linked Doing) (found : List Record) →
+      (part : Part written puts g a b answer (setup_of host) (StandsSince host) After Linked Doing) (found : List Record) →
       FoundOn g.honest g.seen g.may_leave given (setup_of last) begun found → (image : List ℕ) →
       IsLife MOST_RECORDS (setup_of last) found part.steps (news_of part.told ++ started found)
       × IsLawful (setup_of last) found (news_of part.told ++ started found)
@@ -84,15 +84,15 @@ module _ {K : Type 0} (written : K → Option (List ℕ)) (puts : K → List ℕ
 
   part_so : (a b : K) (answer : Result (Unit {0}) Failed) (After : Given D → List Record → List Entry → Type 0)
       (Linked : List Told → Type 0) (Doing : List LiveStep → List Told → Type 0)
-      (part : Part written puts a b answer (setup_of host) (StandsSince host) After Linked Doing) (found : List Record) →
+      (part : Part written puts g a b answer (setup_of host) (StandsSince host) After Linked Doing) (found : List Record) →
       FoundOn g.honest g.seen g.may_leave given (setup_of last) begun found →
-      AreSo (setup_of last) (started found) part.told
+      AreSoWhere (IsTrusted g.honest g.seen given) (setup_of last) (started found) part.told
   part_so a b answer After Linked Doing part found on =
       let follow = found_follow g.honest g.seen g.may_leave given (setup_of last) begun found sound began on in
       let begins = life_begins MOST_RECORDS (setup_of last) found follow in
       let goes = part.goes (given_as given [] begun) found [] (started found)
       (subst (λ setup. IsLife MOST_RECORDS setup found [] (started found)) (sym same) begins) (opens found on []) in
-      subst (λ setup. AreSo setup (started found) part.told) same goes.2
+      subst (λ setup. AreSoWhere (IsTrusted g.honest g.seen given) setup (started found) part.told) same goes.2
 
   -- what a power cut may leave
   left_standing : (past : List Entry) → StandsFor last past → IsTrusted g.honest g.seen back →

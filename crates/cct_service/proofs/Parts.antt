@@ -1,7 +1,7 @@
 -- One part of a life after another.
 use Rattle.std.proofs.Common.{◌≡◌, ◌≤◌, ◌⊎◌, ℕ, List, [], ◌∷◌, ◌++◌, Bool, false, length, reverse, Option, Some, Result, OnOk, IsErr}
 use Rattle.std.specs.Prelude.{⊤}
-use Rattle.std.proofs.Common.{Ok, Err, refl, ap, sym, ◌∙◌, subst, append_assoc, arith, inr, ⊎_elim}
+use Rattle.std.proofs.Common.{Ok, Err, refl, ap, sym, ◌∙◌, subst, append_assoc, arith, inl, inr, ⊎_elim}
 use Rattle.std.specs.List.{All}
 use Rattle.std.proofs.lemmas.List.{append-nil}
 use Rattle.cct_edge.specs.Bytes.{Serves}
@@ -20,7 +20,7 @@ use Rattle.cct_model.specs.Records.{records}
 use Rattle.cct_model.specs.Money.{totals}
 use Rattle.cct_model.specs.Script.{IsCommand}
 use Rattle.cct_disk.specs.declared.disk.Disk.{Ghosts}
-use Rattle.cct_disk.specs.Disk.{GoesOn, LeavesOnly}
+use Rattle.cct_disk.specs.Disk.{GoesOn, IsTrusted, LeavesOnly}
 use Rattle.cct_journal.specs.Journal as journals
 use Rattle.cct_journal.specs.declared.format.TheConstants.{MOST_RECORDS}
 use Rattle.cct_host.specs.declared.host.Host.{Host}
@@ -35,27 +35,30 @@ use Rattle.cct_lives.specs.LiveStep.{LiveStep}
 use Rattle.cct_lives.specs.LiveStep as live
 use Rattle.cct_lives.proofs.Life.{life_balance, life_command, life_next}
 use Rattle.cct_service.specs.declared.notice.Notice.{Notice}
+use Rattle.cct_service.specs.declared.notice.Notice.TheVariants as notice_of
 use Rattle.cct_service.specs.declared.served.Served.{Served}
 use Rattle.cct_service.specs.declared.served.Served.TheVariants as served
 use Rattle.cct_service.specs.Causes.{DiskServes, EndsBy, IsDiskFault, IsUnwritten}
-use Rattle.cct_service.specs.Doing.{FrontOf, Tells}
+use Rattle.cct_service.specs.Doing.{FrontOf, IsStating, Tells}
 use Rattle.cct_service.specs.Ending.{by_writing}
 use Rattle.cct_service.specs.Parts.{Acts, FailedSince, LifeGoes, LivesOn, LivesTo, Part}
 use Rattle.cct_service.specs.Held.{IsAfter}
 use Rattle.cct_service.specs.Reported.{AreSo}
+use Rattle.cct_service.specs.Stated.{IsStateFor, TellsKnown}
 use Rattle.cct_service.specs.Since.{Given, StandsSince}
 use Rattle.cct_service.specs.Said.{IsOfInput}
-use Rattle.cct_service.specs.Told.{Told, WritesTold, as_told, attempt_told, news_of, notices_told, told_line}
+use Rattle.cct_service.specs.Told.{Told, WritesTold, as_told, attempt_told, knows_each, news_of, notice, notices_told, told_line}
 use Rattle.cct_text.specs.Writing.{PutsLine}
-use Rattle.cct_service.proofs.Reporting.{so_attempt, so_then}
+use Rattle.cct_service.proofs.Knows.{news_known, so_known}
+use Rattle.cct_service.proofs.Reporting.{so_attempt, so_then, so_where}
 use Rattle.cct_service.proofs.Since.{attempt_records, command_records, since_left, since_put, since_same}
 use Rattle.cct_service.proofs.Suiting.{life_suits}
 use Rattle.cct_service.proofs.Telling.{news_next, news_then, told_none, told_one, told_then}
 
 -- a life goes on by one part, and then by another
-pub goes_then : {I : Type 0} (setup : Setup) (A B C : I → List Record → List Entry → Type 0) (first then : List LiveStep) (told later : List Told) →
-    LifeGoes setup A first told B → LifeGoes setup B then later C → LifeGoes setup A (first ++ then) (told ++ later) C
-goes_then setup A B C first then told later h k given found before past life is =
+pub goes_then : {D : Type 0} {g : Ghosts D} (setup : Setup) (A B C : Given D → List Record → List Entry → Type 0) (first then : List LiveStep) (told later : List Told) →
+    LifeGoes g setup A first told B → LifeGoes g setup B then later C → LifeGoes g setup A (first ++ then) (told ++ later) C
+goes_then {D} {g} setup A B C first then told later h k given found before past life is =
     let one = h given found before past life is in
     let two = k given found (before ++ first) (news_of told ++ past) one.0 one.1 in
     let all = append_assoc (news_of later) (news_of told) past in
@@ -65,27 +68,27 @@ goes_then setup A B C first then told later h k given found before past life is 
           (append_assoc before first then)
           (subst (IsLife MOST_RECORDS setup found ((before ++ first) ++ then)) same two.0),
       subst (C given found) same two.1,
-      so_then setup past told later one.2 two.2,
+      so_then (IsTrusted g.honest g.seen given.disk) setup past told later one.2 two.2,
     )
 
 -- nothing is done
-pub goes_none : {I : Type 0} (setup : Setup) (A B : I → List Record → List Entry → Type 0) (told : List Told) → news_of told ≡ [] →
-    ((given : I) (found : List Record) (past : List Entry) → A given found past → B given found past) →
-    ((given : I) (found : List Record) (past : List Entry) → A given found past → AreSo setup past told) →
-    LifeGoes setup A [] told B
-goes_none setup A B told none keeps so given found before past life is = (
+pub goes_none : {D : Type 0} {g : Ghosts D} (setup : Setup) (A B : Given D → List Record → List Entry → Type 0) (told : List Told) → news_of told ≡ [] →
+    ((given : Given D) (found : List Record) (past : List Entry) → A given found past → B given found past) →
+    ((given : Given D) (found : List Record) (past : List Entry) → A given found past → AreSo setup past told) →
+    LifeGoes g setup A [] told B
+goes_none {D} {g} setup A B told none keeps so given found before past life is = (
   subst (λ steps. IsLife MOST_RECORDS setup found steps (news_of told ++ past)) (sym (append-nil before))
       (subst (λ news. IsLife MOST_RECORDS setup found before (news ++ past)) (sym none) life),
   subst (λ news. B given found (news ++ past)) (sym none) (keeps given found past is),
-  so given found past is,
+  so_where (IsTrusted g.honest g.seen given.disk) setup past told (so given found past is),
 )
 
 module _ {K : Type 0} (written : K → Option (List ℕ)) (puts : K → List ℕ → Result (Unit {0}) Failed → K → Type 0) where
   -- the same part is also this
-  pub part_weaker : {I : Type 0} (S : List Told → Type 0) (a b : K) (answer : Result (Unit {0}) Failed) (setup : Setup)
-      (A B : I → List Record → List Entry → Type 0) (P Q : List LiveStep → List Told → Type 0) →
+  pub part_weaker : {D : Type 0} {g : Ghosts D} (S : List Told → Type 0) (a b : K) (answer : Result (Unit {0}) Failed) (setup : Setup)
+      (A B : Given D → List Record → List Entry → Type 0) (P Q : List LiveStep → List Told → Type 0) →
       ((steps : List LiveStep) (told : List Told) → P steps told → Q steps told) →
-      Part written puts a b answer setup A B S P → Part written puts a b answer setup A B S Q
+      Part written puts g a b answer setup A B S P → Part written puts g a b answer setup A B S Q
   part_weaker S a b answer setup A B P Q to h = record {
     steps = h.steps;
     told = h.told;
@@ -96,10 +99,10 @@ module _ {K : Type 0} (written : K → Option (List ℕ)) (puts : K → List ℕ
   }
 
   -- the same part is so linked, too
-  pub part_linked : {I : Type 0} (S T : List Told → Type 0) → ((told : List Told) → S told → T told) → (a b : K)
-      (answer : Result (Unit {0}) Failed) (setup : Setup) (A B : I → List Record → List Entry → Type 0)
-      (P : List LiveStep → List Told → Type 0) → Part written puts a b answer setup A B S P →
-      Part written puts a b answer setup A B T P
+  pub part_linked : {D : Type 0} {g : Ghosts D} (S T : List Told → Type 0) → ((told : List Told) → S told → T told) → (a b : K)
+      (answer : Result (Unit {0}) Failed) (setup : Setup) (A B : Given D → List Record → List Entry → Type 0)
+      (P : List LiveStep → List Told → Type 0) → Part written puts g a b answer setup A B S P →
+      Part written puts g a b answer setup A B T P
   part_linked S T links a b answer setup A B P h = record {
     steps = h.steps;
     told = h.told;
@@ -110,11 +113,11 @@ module _ {K : Type 0} (written : K → Option (List ℕ)) (puts : K → List ℕ
   }
 
   -- nothing is done, and one line is told that isn't an entry
-  pub part_line : {I : Type 0} (S : List Told → Type 0) (a b : K) (answer : Result (Unit {0}) Failed) (setup : Setup)
-      (A : I → List Record → List Entry → Type 0) (what : Told) (P : List LiveStep → List Told → Type 0) → news_of (what ∷ []) ≡ [] →
+  pub part_line : {D : Type 0} {g : Ghosts D} (S : List Told → Type 0) (a b : K) (answer : Result (Unit {0}) Failed) (setup : Setup)
+      (A : Given D → List Record → List Entry → Type 0) (what : Told) (P : List LiveStep → List Told → Type 0) → news_of (what ∷ []) ≡ [] →
       ((past : List Entry) → AreSo setup past (what ∷ [])) →
       PutsLine written puts a (told_line what) answer b → P [] (what ∷ []) → S (what ∷ []) →
-      Part written puts a b answer setup A A S P
+      Part written puts g a b answer setup A A S P
   part_line S a b answer setup A what P none so line is linked = record {
     steps = [];
     told = what ∷ [];
@@ -124,12 +127,12 @@ module _ {K : Type 0} (written : K → Option (List ℕ)) (puts : K → List ℕ
     linked = linked;
   }
 
-  pub part_then : {I : Type 0} (S T U : List Told → Type 0) → ((t1 t2 : List Told) → S t1 → T t2 → U (t1 ++ t2)) → (a b c : K)
-      (answer : Result (Unit {0}) Failed) (setup : Setup) (A B C : I → List Record → List Entry → Type 0)
+  pub part_then : {D : Type 0} {g : Ghosts D} (S T U : List Told → Type 0) → ((t1 t2 : List Told) → S t1 → T t2 → U (t1 ++ t2)) → (a b c : K)
+      (answer : Result (Unit {0}) Failed) (setup : Setup) (A B C : Given D → List Record → List Entry → Type 0)
       (P Q R : List LiveStep → List Told → Type 0) →
       ((s1 s2 : List LiveStep) (t1 t2 : List Told) → P s1 t1 → Q s2 t2 → R (s1 ++ s2) (t1 ++ t2)) →
-      Part written puts a b (Ok tt) setup A B S P → Part written puts b c answer setup B C T Q →
-      Part written puts a c answer setup A C U R
+      Part written puts g a b (Ok tt) setup A B S P → Part written puts g b c answer setup B C T Q →
+      Part written puts g a c answer setup A C U R
   part_then S T U links a b c answer setup A B C P Q R to h k = record {
     steps = h.steps ++ k.steps;
     told = h.told ++ k.told;
@@ -167,7 +170,7 @@ module _ {D : Type 0} {g : Ghosts D} where
       (notices : List Notice) → All (IsAfter failed reported) notices → setup_of after ≡ setup_of before →
       GoesOn g.size g.honest g.seen g.cuts (disk_of before) (disk_of after) →
       Nexts gives old new addr before after [] reported →
-      LifeGoes (setup_of before) (StandsSince before) (live.next addr ∷ [])
+      LifeGoes g (setup_of before) (StandsSince before) (live.next addr ∷ [])
       (attempt_told is_sent reported ++ notices_told notices) (StandsSince after)
   next_goes gives few old new addr before after reported is_sent failed notices bears kept on nexts given found steps past life since =
       let what = nexts.what in
@@ -185,13 +188,14 @@ module _ {D : Type 0} {g : Ghosts D} where
             (since_put before after given found past (news ++ past) (attempt.put_of what) since kept on
             (attempt_records addr what past) (nexts.moments past since.stands) (λ none. ap journals.disk_of (nexts.quiet none))
             went.1),
-        so_attempt setup past is_sent failed reported notices bears,
+        so_where (IsTrusted g.honest g.seen given.disk) setup past (attempt_told is_sent reported ++ notices_told notices)
+            (so_attempt setup past is_sent failed reported notices bears),
       )
 
   -- a command that is answered
   pub command_goes : (before after : Host D g) (c : Command) (result : Result (Unit {0}) CommandNo) → IsCommand c →
       setup_of after ≡ setup_of before → disk_of after ≡ disk_of before → Answers before after c result →
-      LifeGoes (setup_of before) (StandsSince before) (live.command c ∷ []) (as_told (command_entry c (no_of result) ∷ []))
+      LifeGoes g (setup_of before) (StandsSince before) (live.command c ∷ []) (as_told (command_entry c (no_of result) ∷ []))
       (StandsSince after)
   command_goes before after c result is kept disk answers given found steps past life since =
       let setup = setup_of before in
@@ -207,7 +211,7 @@ module _ {D : Type 0} {g : Ghosts D} where
   -- a balance that is told
   pub balance_goes : (host : Host D g) (told : Totals) →
       ((past : List Entry) → Keeps host past → told ≡ totals (setup_of host) past) →
-      LifeGoes (setup_of host) (StandsSince host) (live.balance ∷ []) (as_told (entry_of.Balance told ∷ []))
+      LifeGoes g (setup_of host) (StandsSince host) (live.balance ∷ []) (as_told (entry_of.Balance told ∷ []))
       (StandsSince host)
   balance_goes host told tells given found steps past life since =
       let setup = setup_of host in (
@@ -216,6 +220,20 @@ module _ {D : Type 0} {g : Ghosts D} where
         since_same host host given found past (entry_of.Balance told ∷ past) since refl refl refl
             (host_quiet host past (entry_of.Balance told) (balance_quiet past told) since.stands),
         tt,
+      )
+
+  -- what the journal knows is told
+  pub known_goes : (host : Host D g) (lines : List (List ℕ)) → IsStateFor host lines →
+      LifeGoes g (setup_of host) (StandsSince host) [] (knows_each lines lines) (StandsSince host)
+  known_goes host lines is given found steps past life since =
+      let setup = setup_of host in
+      let none = news_known lines lines in (
+        subst (λ steps. IsLife MOST_RECORDS setup found steps (news_of (knows_each lines lines) ++ past))
+            (sym (append-nil steps))
+            (subst (λ news. IsLife MOST_RECORDS setup found steps (news ++ past)) (sym none) life),
+        subst (λ news. StandsSince host given found (news ++ past)) (sym none) since,
+        so_known (IsTrusted g.honest g.seen given.disk) setup past lines lines
+            (λ trusted. is past since.stands (since.trusted trusted)),
       )
 
   -- a put that failed
@@ -412,21 +430,21 @@ module _ {K : Type 0} (written : K → Option (List ℕ)) (puts : K → List ℕ
       (P Q R : List LiveStep → List Told → Type 0) →
       ((s1 s2 : List LiveStep) (t1 t2 : List Told) → P s1 t1 → Q s2 t2 → R (s1 ++ s2) (t1 ++ t2)) →
       setup_of between ≡ setup_of first →
-      Part written puts a b (Ok tt) (setup_of first) (StandsSince first) (StandsSince between) S P →
+      Part written puts g a b (Ok tt) (setup_of first) (StandsSince first) (StandsSince between) S P →
       LivesOn written puts T Q result b c between last → LivesOn written puts U R result a c first last
   lives_then S T U links (Ok done) a b c first between last P Q R to same h k =
       part_then written puts S T U links a b c (Ok tt) (setup_of first) (StandsSince first) (StandsSince between) (StandsSince last) P Q R to h
-      (subst (λ setup. Part written puts b c (Ok tt) setup (StandsSince between) (StandsSince last) T Q) same k)
+      (subst (λ setup. Part written puts g b c (Ok tt) setup (StandsSince between) (StandsSince last) T Q) same k)
   lives_then S T U links (Err served.Unwritten) a b c first between last P Q R to same h k = (
     k.0,
     part_then written puts S T U links a b c (Err k.0) (setup_of first) (StandsSince first) (StandsSince between) (StandsSince last) P
         (FrontOf Q) (FrontOf R) (front_then P Q R to) h
-        (subst (λ setup. Part written puts b c (Err k.0) setup (StandsSince between) (StandsSince last) T (FrontOf Q)) same k.1),
+        (subst (λ setup. Part written puts g b c (Err k.0) setup (StandsSince between) (StandsSince last) T (FrontOf Q)) same k.1),
   )
   lives_then S T U links (Err served.Disk) a b c first between last P Q R to same h k =
       part_then written puts S T U links a b c (Ok tt) (setup_of first) (StandsSince first) (StandsSince between) (FailedSince last) P
       (FrontOf Q) (FrontOf R) (front_then P Q R to) h
-      (subst (λ setup. Part written puts b c (Ok tt) setup (StandsSince between) (FailedSince last) T (FrontOf Q)) same k)
+      (subst (λ setup. Part written puts g b c (Ok tt) setup (StandsSince between) (FailedSince last) T (FrontOf Q)) same k)
   lives_then S T U links (Err served.Done) a b c first between last P Q R to same h k = absurd k
   lives_then S T U links (Err (served.Refused number kind)) a b c first between last P Q R to same h k = absurd k
   lives_then S T U links (Err served.Unread) a b c first between last P Q R to same h k = absurd k
@@ -439,7 +457,7 @@ module _ {K : Type 0} (written : K → Option (List ℕ)) (puts : K → List ℕ
       (a b c : K) (first between last : Host D g) (P Q R : List LiveStep → List Told → Type 0) →
       ((s1 s2 : List LiveStep) (t1 t2 : List Told) → P s1 t1 → Q s2 t2 → R (s1 ++ s2) (t1 ++ t2)) →
       setup_of between ≡ setup_of first →
-      Part written puts a b (Ok tt) (setup_of first) (StandsSince first) (StandsSince between) S P →
+      Part written puts g a b (Ok tt) (setup_of first) (StandsSince first) (StandsSince between) S P →
       LivesTo written puts T Q how b c between last → LivesTo written puts U R how a c first last
   lives_to S T U links served.Done = lives_then S T U links (Ok tt)
   lives_to S T U links (served.Refused number kind) = lives_then S T U links (Ok tt)
@@ -592,7 +610,7 @@ module _ {K : Type 0} (written : K → Option (List ℕ)) (puts : K → List ℕ
 
   lives_written : (S : List Told → Type 0) (answer : Result (Unit {0}) Failed) (a b : K) (old new : Host D g)
       (P : List LiveStep → List Told → Type 0) →
-      Part written puts a b answer (setup_of old) (StandsSince old) (StandsSince new) S P →
+      Part written puts g a b answer (setup_of old) (StandsSince old) (StandsSince new) S P →
       LivesOn written puts S P (by_writing answer) a b old new
   lives_written S (Ok done) a b old new P h = h
   lives_written S (Err failed) a b old new P h = (
@@ -604,7 +622,7 @@ module _ {K : Type 0} (written : K → Option (List ℕ)) (puts : K → List ℕ
   -- a part of a life, by how it was written
   acts_written : (S : List Told → Type 0) (answer : Result (Unit {0}) Failed) (a b : K) (old new : Host D g)
       (P : List LiveStep → List Told → Type 0) →
-      Part written puts a b answer (setup_of old) (StandsSince old) (StandsSince new) S P → has_failed new ≡ false →
+      Part written puts g a b answer (setup_of old) (StandsSince old) (StandsSince new) S P → has_failed new ≡ false →
       setup_of new ≡ setup_of old → Serves written faults a b (IsErr answer) →
       DiskServes g.size g.honest g.seen g.cuts g.faults (disk_of old) (disk_of new) ⊥ →
       Acts written puts faults S P (by_writing answer) a b old new
@@ -637,6 +655,28 @@ module _ {K : Type 0} (written : K → Option (List ℕ)) (puts : K → List ℕ
       whole refl sink
       (disk_none g.size g.honest g.seen g.cuts g.faults (disk_of host) ⊥ (λ fails. fails))
 
+  -- what the journal knows
+  pub acts_known : (S : List Told → Type 0) (answer : Result (Unit {0}) Failed) (a b : K) (host : Host D g) →
+      ((lines : List (List ℕ)) → S (knows_each lines lines)) → S (notice notice_of.StateUnread ∷ []) →
+      TellsKnown written puts host a answer b → has_failed host ≡ false → Serves written faults a b (IsErr answer) →
+      Acts written puts faults S IsStating (by_writing answer) a b host host
+  acts_known S answer a b host linked unread (inl known) whole sink =
+      let lines = known.0 in
+      acts_written S answer a b host host IsStating
+      (record {
+        steps = [];
+        told = knows_each lines lines;
+        wrote = known.2;
+        goes = known_goes host lines known.1;
+        does = (refl, inl (lines, refl));
+        linked = linked lines;
+      })
+      whole refl sink
+      (disk_none g.size g.honest g.seen g.cuts g.faults (disk_of host) ⊥ (λ fails. fails))
+  acts_known S answer a b host linked unread (inr none) whole sink =
+      acts_told S answer a b host (notice notice_of.StateUnread ∷ []) unread IsStating refl (λ past keeps. (tt, tt)) none whole
+      sink (refl, inr refl)
+
   -- one line that tells no entry
   pub acts_line : (S : List Told → Type 0) (answer : Result (Unit {0}) Failed) (a b : K) (host : Host D g) (what : Told) →
       S (what ∷ []) → news_of (what ∷ []) ≡ [] → ((past : List Entry) → AreSo (setup_of host) past (what ∷ [])) →
@@ -650,7 +690,7 @@ module _ {K : Type 0} (written : K → Option (List ℕ)) (puts : K → List ℕ
   pub acts_step : (S : List Told → Type 0) (answer : Result (Unit {0}) Failed) (a b : K) (old new : Host D g)
       (s : LiveStep) (told : List Told) → S told → (P : List LiveStep → List Told → Type 0) →
       WritesTold written puts a told answer b →
-      LifeGoes (setup_of old) (StandsSince old) (s ∷ []) told (StandsSince new) → P (s ∷ []) told → has_failed new ≡ false →
+      LifeGoes g (setup_of old) (StandsSince old) (s ∷ []) told (StandsSince new) → P (s ∷ []) told → has_failed new ≡ false →
       setup_of new ≡ setup_of old → Serves written faults a b (IsErr answer) →
       DiskServes g.size g.honest g.seen g.cuts g.faults (disk_of old) (disk_of new) ⊥ →
       Acts written puts faults S P (by_writing answer) a b old new

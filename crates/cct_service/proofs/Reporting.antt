@@ -13,27 +13,44 @@ use Rattle.cct_service.specs.declared.notice.Notice.TheVariants as notice_of
 use Rattle.cct_service.specs.Found.{Begun, found_there, made_new}
 use Rattle.cct_service.specs.Held.{IsAfter}
 use Rattle.cct_service.specs.Opening.{opening_of}
-use Rattle.cct_service.specs.Reported.{AreSo, IsSo, IsStatusOf}
-use Rattle.cct_service.specs.Told.{Told, answer_news, as_told, attempt_told, entry, falls_short, finding, last, news_of, notice, notices_told, operates, pays, refused, told_unsent, unheard, unsent}
+use Rattle.cct_service.specs.Reported.{AreSo, AreSoWhere, IsSo, IsStatusOf}
+use Rattle.cct_service.specs.Told.{Told, answer_news, as_told, attempt_told, entry, falls_short, finding, knows, last, news_of, notice, notices_told, operates, pays, refused, told_unsent, unheard, unsent}
 
 -- what is told first and then
-pub so_then : (setup : Setup) (past : List Entry) (t1 t2 : List Told) → AreSo setup past t1 →
-    AreSo setup (news_of t1 ++ past) t2 → AreSo setup past (t1 ++ t2)
-so_then setup past [] t2 h k = k
-so_then setup past (entry e ∷ t1) t2 h k =
-    so_then setup (e ∷ past) t1 t2 h (subst (λ p. AreSo setup p t2) (append_assoc (news_of t1) (e ∷ []) past) k)
-so_then setup past (unsent addr sent ∷ t1) t2 h k =
-    so_then setup (entry_of.Wire addr sent [] ∷ past) t1 t2 h
-    (subst (λ p. AreSo setup p t2) (append_assoc (news_of t1) (entry_of.Wire addr sent [] ∷ []) past) k)
-so_then setup past (notice n ∷ t1) t2 h k = (h.0, so_then setup past t1 t2 h.1 k)
-so_then setup past (refused number why ∷ t1) t2 h k = so_then setup past t1 t2 h k
-so_then setup past (finding f ∷ t1) t2 h k = so_then setup past t1 t2 h k
-so_then setup past (last e ∷ t1) t2 h k = so_then setup past t1 t2 h k
-so_then setup past (operates s e ∷ t1) t2 h k = so_then setup past t1 t2 h k
-so_then setup past (pays p answer ∷ t1) t2 h k =
-    so_then setup (answer_news p answer ++ past) t1 t2 h
-    (subst (λ before. AreSo setup before t2) (append_assoc (news_of t1) (answer_news p answer) past) k)
-so_then setup past (falls_short p paid rest ∷ t1) t2 h k = so_then setup past t1 t2 h k
+pub so_then : (T : Type 0) (setup : Setup) (past : List Entry) (t1 t2 : List Told) → AreSoWhere T setup past t1 →
+    AreSoWhere T setup (news_of t1 ++ past) t2 → AreSoWhere T setup past (t1 ++ t2)
+so_then T setup past [] t2 h k = k
+so_then T setup past (entry e ∷ t1) t2 h k =
+    so_then T setup (e ∷ past) t1 t2 h
+    (subst (λ p. AreSoWhere T setup p t2) (append_assoc (news_of t1) (e ∷ []) past) k)
+so_then T setup past (unsent addr sent ∷ t1) t2 h k =
+    so_then T setup (entry_of.Wire addr sent [] ∷ past) t1 t2 h
+    (subst (λ p. AreSoWhere T setup p t2) (append_assoc (news_of t1) (entry_of.Wire addr sent [] ∷ []) past) k)
+so_then T setup past (notice n ∷ t1) t2 h k = (h.0, so_then T setup past t1 t2 h.1 k)
+so_then T setup past (knows all line ∷ t1) t2 h k = (h.0, so_then T setup past t1 t2 h.1 k)
+so_then T setup past (refused number why ∷ t1) t2 h k = so_then T setup past t1 t2 h k
+so_then T setup past (finding f ∷ t1) t2 h k = so_then T setup past t1 t2 h k
+so_then T setup past (last e ∷ t1) t2 h k = so_then T setup past t1 t2 h k
+so_then T setup past (operates s e ∷ t1) t2 h k = so_then T setup past t1 t2 h k
+so_then T setup past (pays p answer ∷ t1) t2 h k =
+    so_then T setup (answer_news p answer ++ past) t1 t2 h
+    (subst (λ before. AreSoWhere T setup before t2) (append_assoc (news_of t1) (answer_news p answer) past) k)
+so_then T setup past (falls_short p paid rest ∷ t1) t2 h k = so_then T setup past t1 t2 h k
+
+-- what is so on any disk is so on this one
+pub so_where : (T : Type 0) (setup : Setup) (past : List Entry) (told : List Told) → AreSo setup past told →
+    AreSoWhere T setup past told
+so_where T setup past [] h = tt
+so_where T setup past (entry e ∷ told) h = so_where T setup (e ∷ past) told h
+so_where T setup past (unsent addr sent ∷ told) h = so_where T setup (entry_of.Wire addr sent [] ∷ past) told h
+so_where T setup past (notice n ∷ told) h = (h.0, so_where T setup past told h.1)
+so_where T setup past (knows all line ∷ told) h = (λ trusted. h.0 tt, so_where T setup past told h.1)
+so_where T setup past (refused number why ∷ told) h = so_where T setup past told h
+so_where T setup past (finding f ∷ told) h = so_where T setup past told h
+so_where T setup past (last e ∷ told) h = so_where T setup past told h
+so_where T setup past (operates s e ∷ told) h = so_where T setup past told h
+so_where T setup past (pays p answer ∷ told) h = so_where T setup (answer_news p answer ++ past) told h
+so_where T setup past (falls_short p paid rest ∷ told) h = so_where T setup past told h
 
 -- what comes after the entries of an attempt tells nothing of how a host stands
 so_after : (setup : Setup) (past : List Entry) (failed : Bool) (entries : List Entry) (n : Notice) →

@@ -9,7 +9,8 @@ use Rattle.cct_script.specs.declared.lines.LinesNo.{LinesNo}
 use Rattle.cct_script.specs.declared.lines.LinesNo.TheVariants as no
 use Rattle.cct_script.specs.declared.live.LiveLine.TheVariants as says
 use Rattle.cct_script.specs.Endless.{GivesNext, IsOneLine, cut, ended, long, text}
-use Rattle.cct_script.specs.Live.{IsTold, live_line}
+use Rattle.cct_service.specs.Input.{IsToldInput, input_line}
+use Rattle.cct_service.specs.declared.input.InputLine.TheVariants as input
 use Rattle.cct_service.specs.Causes.{EndsBy, IsUnread}
 use Rattle.cct_script.specs.Window.{Fills}
 use Rattle.cct_service.specs.declared.served.Served.{Served}
@@ -37,7 +38,7 @@ consumed held new (Some left) (Some rest) fills bytes is = (
 
 module _ (number : ℕ) (held kept : List ℕ) (left now : Option (List ℕ)) where
   -- a line that isn't too long
-  pub comes_text : (line : List ℕ) (said : Said) → said ≡ live_line line → GivesNext held kept left now (Ok (text line)) →
+  pub comes_text : (line : List ℕ) (said : Said) → said ≡ input_line line → GivesNext held kept left now (Ok (text line)) →
       ComesNext number (Ok said) held left kept now
   comes_text line said is gives bytes told =
       let all = consumed held (line ++ 10 ∷ kept) left now gives.2 bytes told in (
@@ -77,12 +78,12 @@ module _ (number : ℕ) (held kept : List ℕ) (left now : Option (List ℕ)) wh
       )
 
   -- a line that ends the service
-  pub comes_end : (line : List ℕ) → live_line line ≡ Ok says.End → GivesNext held kept left now (Ok (text line)) →
+  pub comes_end : (line : List ℕ) → input_line line ≡ Ok (input.Host says.End) → GivesNext held kept left now (Ok (text line)) →
       ComesNext number (Err served.Done) held left kept now
   comes_end line is gives many count = (
     tt,
     λ bytes told.
-        let next = comes_text line (Ok says.End) (sym is) gives bytes told in
+        let next = comes_text line (Ok (input.Host says.End)) (sym is) gives bytes told in
         inr (kept ++ next.0, next.2),
   )
 
@@ -101,19 +102,20 @@ module _ (number : ℕ) (held kept : List ℕ) (left now : Option (List ℕ)) wh
       let all = consumed held line left now fills bytes told in (line, all.0, all.2, one, many)
 
   -- a line, whatever it says
-  pub comes_said : (line : List ℕ) (said : Said) → said ≡ live_line line → GivesNext held kept left now (Ok (text line)) →
+  pub comes_said : (line : List ℕ) (said : Said) → said ≡ input_line line → GivesNext held kept left now (Ok (text line)) →
       ComesNext number (unless_end said) held left kept now
-  comes_said line (Ok says.End) is gives = comes_end line (sym is) gives
-  comes_said line (Ok (says.Command c)) is gives = comes_text line (Ok (says.Command c)) is gives
-  comes_said line (Ok (says.Next addr)) is gives = comes_text line (Ok (says.Next addr)) is gives
-  comes_said line (Ok (says.Do addr)) is gives = comes_text line (Ok (says.Do addr)) is gives
-  comes_said line (Ok says.Poll) is gives = comes_text line (Ok says.Poll) is gives
-  comes_said line (Ok says.Balance) is gives = comes_text line (Ok says.Balance) is gives
-  comes_said line (Ok says.Status) is gives = comes_text line (Ok says.Status) is gives
-  comes_said line (Ok (says.Order id)) is gives = comes_text line (Ok (says.Order id)) is gives
-  comes_said line (Ok (says.Stock addr count)) is gives = comes_text line (Ok (says.Stock addr count)) is gives
-  comes_said line (Ok (says.Change first amount)) is gives = comes_text line (Ok (says.Change first amount)) is gives
-  comes_said line (Ok says.Serve) is gives = comes_text line (Ok says.Serve) is gives
+  comes_said line (Ok (input.Host says.End)) is gives = comes_end line (sym is) gives
+  comes_said line (Ok (input.Host (says.Command c))) is gives = comes_text line (Ok (input.Host (says.Command c))) is gives
+  comes_said line (Ok (input.Host (says.Next addr))) is gives = comes_text line (Ok (input.Host (says.Next addr))) is gives
+  comes_said line (Ok (input.Host (says.Do addr))) is gives = comes_text line (Ok (input.Host (says.Do addr))) is gives
+  comes_said line (Ok (input.Host says.Poll)) is gives = comes_text line (Ok (input.Host says.Poll)) is gives
+  comes_said line (Ok (input.Host says.Balance)) is gives = comes_text line (Ok (input.Host says.Balance)) is gives
+  comes_said line (Ok (input.Host says.Status)) is gives = comes_text line (Ok (input.Host says.Status)) is gives
+  comes_said line (Ok (input.Host (says.Order id))) is gives = comes_text line (Ok (input.Host (says.Order id))) is gives
+  comes_said line (Ok (input.Host (says.Stock addr count))) is gives = comes_text line (Ok (input.Host (says.Stock addr count))) is gives
+  comes_said line (Ok (input.Host (says.Change first amount))) is gives = comes_text line (Ok (input.Host (says.Change first amount))) is gives
+  comes_said line (Ok (input.Host says.Serve)) is gives = comes_text line (Ok (input.Host says.Serve)) is gives
+  comes_said line (Ok input.State) is gives = comes_text line (Ok input.State) is gives
   comes_said line (Err why) is gives = comes_text line (Err why) is gives
 
   -- no line any more
@@ -128,46 +130,49 @@ module _ (number : ℕ) (held kept : List ℕ) (left now : Option (List ℕ)) wh
       (sym count, λ bytes told. inl (refl, too_long gives.0 gives.1 gives.2 gives.3 bytes told))
 
 -- what is known of the next line beside what it says
-pub said_sayable : (said : Said) → IfOk said IsTold → IfOk (unless_end said) IsSayable
-said_sayable (Ok says.End) is = tt
-said_sayable (Ok (says.Command c)) is = is
-said_sayable (Ok (says.Next addr)) is = tt
-said_sayable (Ok (says.Do addr)) is = tt
-said_sayable (Ok says.Poll) is = tt
-said_sayable (Ok says.Balance) is = tt
-said_sayable (Ok says.Status) is = tt
-said_sayable (Ok (says.Order id)) is = tt
-said_sayable (Ok (says.Stock addr count)) is = tt
-said_sayable (Ok (says.Change first amount)) is = is
-said_sayable (Ok says.Serve) is = tt
+pub said_sayable : (said : Said) → IfOk said IsToldInput → IfOk (unless_end said) IsSayable
+said_sayable (Ok (input.Host says.End)) is = tt
+said_sayable (Ok (input.Host (says.Command c))) is = is
+said_sayable (Ok (input.Host (says.Next addr))) is = tt
+said_sayable (Ok (input.Host (says.Do addr))) is = tt
+said_sayable (Ok (input.Host says.Poll)) is = tt
+said_sayable (Ok (input.Host says.Balance)) is = tt
+said_sayable (Ok (input.Host says.Status)) is = tt
+said_sayable (Ok (input.Host (says.Order id))) is = tt
+said_sayable (Ok (input.Host (says.Stock addr count))) is = tt
+said_sayable (Ok (input.Host (says.Change first amount))) is = is
+said_sayable (Ok (input.Host says.Serve)) is = tt
+said_sayable (Ok input.State) is = tt
 said_sayable (Err why) is = tt
 
 pub said_ends : (said : Said) → IfErr (unless_end said) IsOfInput
-said_ends (Ok says.End) = tt
-said_ends (Ok (says.Command c)) = tt
-said_ends (Ok (says.Next addr)) = tt
-said_ends (Ok (says.Do addr)) = tt
-said_ends (Ok says.Poll) = tt
-said_ends (Ok says.Balance) = tt
-said_ends (Ok says.Status) = tt
-said_ends (Ok (says.Order id)) = tt
-said_ends (Ok (says.Stock addr count)) = tt
-said_ends (Ok (says.Change first amount)) = tt
-said_ends (Ok says.Serve) = tt
+said_ends (Ok (input.Host says.End)) = tt
+said_ends (Ok (input.Host (says.Command c))) = tt
+said_ends (Ok (input.Host (says.Next addr))) = tt
+said_ends (Ok (input.Host (says.Do addr))) = tt
+said_ends (Ok (input.Host says.Poll)) = tt
+said_ends (Ok (input.Host says.Balance)) = tt
+said_ends (Ok (input.Host says.Status)) = tt
+said_ends (Ok (input.Host (says.Order id))) = tt
+said_ends (Ok (input.Host (says.Stock addr count))) = tt
+said_ends (Ok (input.Host (says.Change first amount))) = tt
+said_ends (Ok (input.Host says.Serve)) = tt
+said_ends (Ok input.State) = tt
 said_ends (Err why) = tt
 
 pub said_not_unread : (said : Said) → EndsBy IsUnread (unless_end said) → ⊥
-said_not_unread (Ok says.End) is = is
-said_not_unread (Ok (says.Command c)) is = is
-said_not_unread (Ok (says.Next addr)) is = is
-said_not_unread (Ok (says.Do addr)) is = is
-said_not_unread (Ok says.Poll) is = is
-said_not_unread (Ok says.Balance) is = is
-said_not_unread (Ok says.Status) is = is
-said_not_unread (Ok (says.Order id)) is = is
-said_not_unread (Ok (says.Stock addr count)) is = is
-said_not_unread (Ok (says.Change first amount)) is = is
-said_not_unread (Ok says.Serve) is = is
+said_not_unread (Ok (input.Host says.End)) is = is
+said_not_unread (Ok (input.Host (says.Command c))) is = is
+said_not_unread (Ok (input.Host (says.Next addr))) is = is
+said_not_unread (Ok (input.Host (says.Do addr))) is = is
+said_not_unread (Ok (input.Host says.Poll)) is = is
+said_not_unread (Ok (input.Host says.Balance)) is = is
+said_not_unread (Ok (input.Host says.Status)) is = is
+said_not_unread (Ok (input.Host (says.Order id))) is = is
+said_not_unread (Ok (input.Host (says.Stock addr count))) is = is
+said_not_unread (Ok (input.Host (says.Change first amount))) is = is
+said_not_unread (Ok (input.Host says.Serve)) is = is
+said_not_unread (Ok input.State) is = is
 said_not_unread (Err why) is = is
 
 pub stopped_ends : (number : ℕ) (why : LinesNo) → IsOfInput (stopped_by number why)

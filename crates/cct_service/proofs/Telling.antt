@@ -19,7 +19,7 @@ use Rattle.cct_service.specs.declared.notice.Notice.{Notice}
 use Rattle.cct_disk.specs.declared.disk.Disk.{Ghosts}
 use Rattle.cct_host.specs.declared.host.Host.{Host}
 use Rattle.cct_service.specs.Reported.{IsStatusOf, TellsStatus}
-use Rattle.cct_service.specs.Told.{Told, WritesTold, answer_news, as_told, attempt_told, entry, falls_short, finding, last, maybe_told, news_of, notice, notices_told, operates, pays, refused, told_line, told_text, told_unsent, unheard, unsent}
+use Rattle.cct_service.specs.Told.{Told, WritesTold, answer_news, as_told, attempt_told, entry, falls_short, finding, knows, last, maybe_told, news_of, notice, notices_told, operates, pays, refused, told_line, told_text, told_unsent, unheard, unsent}
 
 -- the news of what is told first and then
 pub news_then : (first then : List Told) → news_of (first ++ then) ≡ news_of then ++ news_of first
@@ -38,6 +38,7 @@ news_then (pays p answer ∷ first) then =
     ap (λ news. news ++ answer_news p answer) (news_then first then)
     ∙ append_assoc (news_of then) (news_of first) (answer_news p answer)
 news_then (falls_short p paid rest ∷ first) then = news_then first then
+news_then (knows all line ∷ first) then = news_then first then
 
 -- entries that are told as they are
 pub news_as : (entries : List Entry) → news_of (as_told entries) ≡ reverse entries

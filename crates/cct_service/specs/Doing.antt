@@ -21,6 +21,7 @@ use Rattle.cct_lives.specs.LiveStep as live
 use Rattle.cct_service.specs.declared.attempts.TheConstants.{MOST_ATTEMPTS}
 use Rattle.cct_service.specs.declared.attempts.Until.{Until}
 use Rattle.cct_service.specs.declared.attempts.Until.TheVariants as until_of
+use Rattle.cct_service.specs.declared.input.InputLine.TheVariants as input
 use Rattle.cct_service.specs.declared.notice.Notice.{Notice}
 use Rattle.cct_service.specs.declared.notice.Notice.TheVariants as notice_of
 use Rattle.cct_service.specs.declared.outside.OrderTold.{OrderTold}
@@ -29,7 +30,7 @@ use Rattle.cct_service.specs.declared.stopping.AtEnd.TheVariants as at_end
 use Rattle.cct_service.specs.Ends.{tells_end}
 use Rattle.cct_service.specs.Held.{IsAfter}
 use Rattle.cct_service.specs.Said.{Said}
-use Rattle.cct_service.specs.Told.{AreOfStatus, Told, attempt_told, entry, falls_short, findings_in, found_told, notice, notices_told, operates, pay_of, pays, refused, refused_for, taken, withheld_for}
+use Rattle.cct_service.specs.Told.{AreOfStatus, Told, attempt_told, entry, falls_short, findings_in, found_told, knows_each, notice, notices_told, operates, pay_of, pays, refused, refused_for, taken, withheld_for}
 
 -- One thing is done and told, and then another one, which goes by what was told.
 pub record ThenBy (First : List LiveStep → List Told → Type 0) (Next : List Told → List LiveStep → List Told → Type 0)
@@ -152,6 +153,12 @@ Decides findings c = ThenBy IsAsking (λ said. DoesCommand c (withheld_by (findi
 abbrev pub IsOrder : ℕ → List LiveStep → List Told → Type 0
 IsOrder id steps told = (steps ≡ []) × ((known : OrderTold) × (told ≡ notice (notice_of.Order id known) ∷ []))
 
+-- Nothing is done, and it is told what the journal knows: all of it, a line each; or that it couldn't be read.
+abbrev pub IsStating : List LiveStep → List Told → Type 0
+IsStating steps told =
+    (steps ≡ [])
+    × (((lines : List (List ℕ)) × (told ≡ knows_each lines lines)) ⊎ (told ≡ notice notice_of.StateUnread ∷ []))
+
 -- A step at the operator's desk, which gives the host nothing, and its entry is told. `AtDesk` says which that is.
 abbrev pub TellsStep : Step → List LiveStep → List Told → Type 0
 TellsStep s steps told = (steps ≡ []) × ((e : Entry) × (told ≡ operates s e ∷ []))
@@ -205,7 +212,8 @@ DoesKnown false findings number said = Tells (refused number kind.Device)
 
 -- What is done for the line of a number, by the devices of the setup; or it is told that it says nothing.
 abbrev pub DoesLine : List DeviceSetup → List Finding → ℕ → Said → List LiveStep → List Told → Type 0
-DoesLine devices findings number (Ok said) = DoesKnown (is_known devices said) findings number said
+DoesLine devices findings number (Ok (input.Host said)) = DoesKnown (is_known devices said) findings number said
+DoesLine devices findings number (Ok input.State) = IsStating
 DoesLine devices findings number (Err why) = Tells (refused number why)
 
 -- What was done for lines, newest first: each one is done after those before it, by what was found up to then.

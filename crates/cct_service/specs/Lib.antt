@@ -1,3 +1,4 @@
+pub mod Input
 pub mod Notice
 pub mod Held
 pub mod Told
@@ -9,6 +10,7 @@ pub mod Doing
 pub mod Asked
 pub mod Linked
 pub mod Since
+pub mod Stated
 pub mod Reported
 pub mod Causes
 pub mod Parts

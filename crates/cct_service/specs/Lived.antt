@@ -25,7 +25,7 @@ use Rattle.cct_service.specs.Found.{Begun, FoundOn, was_found}
 use Rattle.cct_service.specs.Laws.{IsLawful}
 use Rattle.cct_service.specs.Linked.{UsesLink}
 use Rattle.cct_service.specs.Opening.{BegunOn, opening_of, opening_over}
-use Rattle.cct_service.specs.Reported.{AreSo}
+use Rattle.cct_service.specs.Reported.{AreSoWhere}
 use Rattle.cct_service.specs.Since.{MayStand}
 use Rattle.cct_service.specs.Said.{Said, Says}
 use Rattle.cct_service.specs.Told.{Told, WritesTold, news_of}
@@ -90,9 +90,10 @@ module _ {K : Type 0} (written : K → Option (List ℕ)) (puts : K → List ℕ
         → IsLife MOST_RECORDS setup found steps (news_of told ++ started found)
         × IsLawful setup found (news_of told ++ started found)
         × LeftBy honest seen may_leave back setup how (news_of told ++ started found)
-    -- How the host stood was told as it was after all that was told before.
+    -- How the host stood was told as it was after all that was told before; and so was what its journal knew, where the disk is
+    -- trusted.
     pub standing : (found : List Record) → FoundOn honest seen may_leave given setup begun found
-        → AreSo setup (started found) told
+        → AreSoWhere (IsTrusted honest seen given) setup (started found) told
     -- Of sessions of change is told what the desk says.
     pub at_desk : FollowsTo how desk left_desk told
     pub linked : UsesLink gives sent failures setup.devices roll now line last told

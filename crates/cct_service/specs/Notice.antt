@@ -77,6 +77,7 @@ notice_text (notice.Last id) = codes "last" ++ number_field id
 notice_text (notice.Room records) = codes "room" ++ number_field records
 notice_text (notice.Order id told) = codes "order" ++ number_field id ++ order_fields told
 notice_text (notice.Withheld c why) = codes "no" ++ withheld_fields c why
+notice_text notice.StateUnread = codes "state unread"
 notice_text notice.LineFault = codes "linefault"
 notice_text notice.LineBack = codes "lineback"
 

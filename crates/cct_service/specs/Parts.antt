@@ -19,31 +19,36 @@ use Rattle.cct_service.specs.declared.served.Served.{Served}
 use Rattle.cct_service.specs.declared.served.Served.TheVariants as served
 use Rattle.cct_service.specs.Causes.{DiskServes, EndsBy, IsDiskFault, IsUnwritten}
 use Rattle.cct_service.specs.Doing.{FrontOf}
-use Rattle.cct_service.specs.Reported.{AreSo}
+use Rattle.cct_service.specs.Reported.{AreSoWhere}
 use Rattle.cct_service.specs.Since.{Given, MayStand, StandsSince}
 use Rattle.cct_service.specs.Said.{Said, Says}
 use Rattle.cct_service.specs.Told.{Told, WritesTold, news_of}
 
 -- By these steps a life goes on, whatever was given and found, from a past of which one thing holds to a past of which the
--- other does, the entries among what is told are those of the steps, and how the host stands is told as it is.
-abbrev pub LifeGoes : {I : Type 0} → Setup → (I → List Record → List Entry → Type 0) → List LiveStep → List Told
-    → (I → List Record → List Entry → Type 0) → Type 0
-LifeGoes {I} setup Before steps told After =
-    (given : I) (found : List Record) (before : List LiveStep) (past : List Entry) → IsLife MOST_RECORDS setup found before past
+-- other does, the entries among what is told are those of the steps, and how the host stands and what its journal knows is told
+-- as it is; the latter where the disk that was given is trusted.
+abbrev pub LifeGoes : {D : Type 0} → Ghosts D → Setup → (Given D → List Record → List Entry → Type 0) → List LiveStep
+    → List Told → (Given D → List Record → List Entry → Type 0) → Type 0
+LifeGoes {D} g setup Before steps told After =
+    (given : Given D) (found : List Record) (before : List LiveStep) (past : List Entry) → IsLife MOST_RECORDS setup found before past
     → Before given found past
-    → IsLife MOST_RECORDS setup found (before ++ steps) (news_of told ++ past) × After given found (news_of told ++ past) × AreSo setup past told
+    → IsLife MOST_RECORDS setup found (before ++ steps) (news_of told ++ past) × After given found (news_of told ++ past) × AreSoWhere (IsTrusted g.honest g.seen given.disk) setup past told
 
 -- of a sink, before and after
 module _ {K : Type 0} (written : K → Option (List ℕ)) (puts : K → List ℕ → Result (Unit {0}) Failed → K → Type 0) where
   -- A life went on by some steps, they were told so, this is what they are, and so did what is told go over a link.
-  pub record Part {I : Type 0} (old new : K) (answer : Result (Unit {0}) Failed) (setup : Setup)
-      (Before After : I → List Record → List Entry → Type 0) (Linked : List Told → Type 0) (Doing : List LiveStep → List Told → Type 0) : Type 0 where
+  pub record Part {D : Type 0} (g : Ghosts D) (old new : K) (answer : Result (Unit {0}) Failed) (setup : Setup)
+      (Before After : Given D → List Record → List Entry → Type 0) (Linked : List Told → Type 0) (Doing : List LiveStep → List Told → Type 0) : Type 0 where
     pub steps : List LiveStep
     pub told : List Told
     pub wrote : WritesTold written puts old told answer new
-    pub goes : LifeGoes setup Before steps told After
+    pub goes : LifeGoes g setup Before steps told After
     pub does : Doing steps told
     pub linked : Linked told
+
+-- A life of a host goes on so, which stands for the past before and after.
+abbrev pub HostGoes : {D : Type 0} → {g : Ghosts D} → Host D g → List LiveStep → List Told → Host D g → Type 0
+HostGoes {D} {g} old steps told new = LifeGoes g (setup_of old) (StandsSince old) steps told (StandsSince new)
 
 -- A put failed: the host has all of the past, a record was due at an address, and whatever a power cut leaves on a trusted
 -- disk stands for the records of the past, or for these and that one.
@@ -71,12 +76,12 @@ module _ {K : Type 0} (written : K → Option (List ℕ)) (puts : K → List ℕ
   abbrev pub LivesOn : (List Told → Type 0) → (List LiveStep → List Told → Type 0) → Result (Unit {0}) Served → K → K
       → Host D g → Host D g → Type 0
   LivesOn Linked Doing (Ok done) out out1 old new =
-      Part written puts out out1 (Ok tt) (setup_of old) (StandsSince old) (StandsSince new) Linked Doing
+      Part written puts g out out1 (Ok tt) (setup_of old) (StandsSince old) (StandsSince new) Linked Doing
   LivesOn Linked Doing (Err served.Unwritten) out out1 old new =
       (failed : Failed)
-      × Part written puts out out1 (Err failed) (setup_of old) (StandsSince old) (StandsSince new) Linked (FrontOf Doing)
+      × Part written puts g out out1 (Err failed) (setup_of old) (StandsSince old) (StandsSince new) Linked (FrontOf Doing)
   LivesOn Linked Doing (Err served.Disk) out out1 old new =
-      Part written puts out out1 (Ok tt) (setup_of old) (StandsSince old) (FailedSince new) Linked (FrontOf Doing)
+      Part written puts g out out1 (Ok tt) (setup_of old) (StandsSince old) (FailedSince new) Linked (FrontOf Doing)
   LivesOn Linked Doing (Err how) out out1 old new = ⊥
 
   -- The answer of a host that lived to this end. The disk brings no other one.

@@ -7,21 +7,22 @@ use Rattle.cct_model.specs.Script.{IsCommand, most_bytes}
 use Rattle.cct_script.specs.declared.endless.TheConstants.{MOST_PASSED}
 use Rattle.cct_script.specs.declared.lines.LinesNo.{LinesNo}
 use Rattle.cct_script.specs.declared.lines.LinesNo.TheVariants as no
-use Rattle.cct_script.specs.declared.live.LiveLine.{LiveLine}
 use Rattle.cct_script.specs.declared.live.LiveLine.TheVariants as says
 use Rattle.cct_script.specs.Endless.{IsOneLine}
-use Rattle.cct_script.specs.Live.{live_line}
+use Rattle.cct_service.specs.Input.{input_line}
+use Rattle.cct_service.specs.declared.input.InputLine.{InputLine}
+use Rattle.cct_service.specs.declared.input.InputLine.TheVariants as input
 use Rattle.cct_service.specs.declared.served.Served.{Served}
 use Rattle.cct_service.specs.declared.served.Served.TheVariants as served
 
 -- What a line says, or why it says nothing.
 abbrev pub Said : Type 0
-Said = Result LiveLine LineKind
+Said = Result InputLine LineKind
 
 -- A line without its line feed says this; a longer one than a line may be says nothing.
 abbrev pub SaysText : List ℕ → Said → Type 0
 SaysText line said =
-    ((length line ≤ most_bytes) × (said ≡ live_line line)) ⊎ ((most_bytes < length line) × (said ≡ Err kind.Long))
+    ((length line ≤ most_bytes) × (said ≡ input_line line)) ⊎ ((most_bytes < length line) × (said ≡ Err kind.Long))
 
 -- The next line of these bytes says this, and these come after it; or they end without a line feed, and say nothing.
 abbrev pub SaysNext : List ℕ → Said → List ℕ → Type 0
@@ -42,7 +43,7 @@ IsTooLong bytes =
 -- An input ends so after this many lines, with these bytes still to come: none, or a line `end`; a line that isn't passed
 -- over; or after 4,294,967,294 lines. What else ends a service isn't what the input says.
 abbrev pub EndsInput : Served → ℕ → List ℕ → Type 0
-EndsInput served.Done many bytes = (bytes ≡ []) ⊎ ((rest : List ℕ) × SaysNext bytes (Ok says.End) rest)
+EndsInput served.Done many bytes = (bytes ≡ []) ⊎ ((rest : List ℕ) × SaysNext bytes (Ok (input.Host says.End)) rest)
 EndsInput (served.Refused number why) many bytes =
     ((why ≡ kind.Long) × IsTooLong bytes) ⊎ ((why ≡ kind.Lines) × (many ≡ 2 ^ 32 - 2))
 EndsInput how many bytes = ⊤
@@ -75,14 +76,14 @@ ComesNext number (Err how) held left kept now =
 
 -- What a line says can be done: its numbers are in their ranges, and it doesn't end the service.
 abbrev pub IsSayable : Said → Type 0
-IsSayable (Ok (says.Command c)) = IsCommand c
-IsSayable (Ok (says.Change first amount)) = (1 ≤ first) × (amount ≤ GREATEST_AMOUNT)
-IsSayable (Ok says.End) = ⊥
+IsSayable (Ok (input.Host (says.Command c))) = IsCommand c
+IsSayable (Ok (input.Host (says.Change first amount))) = (1 ≤ first) × (amount ≤ GREATEST_AMOUNT)
+IsSayable (Ok (input.Host says.End)) = ⊥
 IsSayable said = ⊤
 
 -- What a line says, unless it ends the service.
 abbrev pub unless_end : Said → Result Said Served
-unless_end (Ok says.End) = Err served.Done
+unless_end (Ok (input.Host says.End)) = Err served.Done
 unless_end said = Ok said
 
 -- How a service ends where no line is read any more.

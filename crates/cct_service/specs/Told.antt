@@ -35,6 +35,7 @@ pub data Answer : Type 0 where
 -- An entry of a step, that of an exchange whose message wasn't written, so that nothing was heard, a line of the input that is refused, by its
 -- number and kind, a notice, what a device said of itself, or the last line. Of the operator's desk: the entry of a step
 -- there that gives the host no payment; the answer to a payment; and that a session ends short, as its payment wasn't taken.
+-- And of what the journal knows a line, of all these.
 pub data Told : Type 0 where
   entry : (e : Entry) → Told
   unsent : (addr : ℕ) (sent : List ℕ) → Told
@@ -45,6 +46,7 @@ pub data Told : Type 0 where
   operates : (s : Step) (e : Entry) → Told
   pays : (p : Payment) (answer : Answer) → Told
   falls_short : (p : Payment) (paid rest : ℕ) → Told
+  knows : (all : List (List ℕ)) (line : List ℕ) → Told
 
 -- The line of an answer to a payment.
 abbrev pub answer_line : Payment → Answer → List ℕ
@@ -69,6 +71,7 @@ told_line (last e) = line_of e
 told_line (operates s e) = line_of e
 told_line (pays p answer) = answer_line p answer
 told_line (falls_short p paid rest) = line_of (entry_of.Short paid rest)
+told_line (knows all line) = line
 
 -- All lines.
 abbrev pub told_text : List Told → List ℕ
@@ -86,6 +89,7 @@ news_of (last e ∷ told) = news_of told
 news_of (operates s e ∷ told) = news_of told
 news_of (pays p answer ∷ told) = news_of told ++ answer_news p answer
 news_of (falls_short p paid rest ∷ told) = news_of told
+news_of (knows all line ∷ told) = news_of told
 
 -- Entries are told as they are.
 abbrev pub as_told : List Entry → List Told
@@ -116,6 +120,10 @@ notices_told notices = map (λ n. notice n) notices
 abbrev pub maybe_told : Option Notice → List Told
 maybe_told n = notices_told (option_to_list n)
 
+-- Some lines of what the journal knows are told, of all these.
+abbrev pub knows_each : List (List ℕ) → List (List ℕ) → List Told
+knows_each all lines = map (λ line. knows all line) lines
+
 -- What devices said of themselves is told.
 abbrev pub found_told : List Finding → List Told
 found_told findings = map (λ f. finding f) findings
@@ -132,6 +140,7 @@ findings_in (last e ∷ told) = findings_in told
 findings_in (operates s e ∷ told) = findings_in told
 findings_in (pays p answer ∷ told) = findings_in told
 findings_in (falls_short p paid rest ∷ told) = findings_in told
+findings_in (knows all line ∷ told) = findings_in told
 
 -- These were written to a sink: the line of each was put once, in their order, up to the first whose put failed; and what is
 -- told of the bytes grew by their text, or by a front of it where a put failed.

@@ -6,8 +6,7 @@ ghost use Rattle.cct_model.specs.Script.{IsCommand};
 ghost use Rattle.cct_service.specs.AtDesk.{Both, IsApart};
 ghost use Rattle.cct_service.specs.Doing.{DoesCommand, IsOrder, IsStatus, TellsOne};
 ghost use Rattle.cct_service.specs.Linked.{AreQuiet};
-ghost use Rattle.cct_service.specs.Parts.{Acts, LifeGoes};
-ghost use Rattle.cct_service.specs.Since.{StandsSince};
+ghost use Rattle.cct_service.specs.Parts.{Acts, HostGoes};
 ghost use Rattle.cct_service.specs.Told.{as_told};
 ghost use Rattle.cct_survey.specs.Finding.{withheld_by};
 
@@ -84,8 +83,8 @@ fn answer_of<D: Disk>(host: &mut Host<'_, D>, command: &Command) -> Entry
     ensures whole { has_failed host.new ≡ has_failed host.old }
     ensures setup { setup_of host.new ≡ setup_of host.old }
     ensures disk { disk_of host.new ≡ disk_of host.old }
-    ensures lives { LifeGoes (setup_of host.old) (StandsSince host.old) (live.command command.now ∷ [])
-        (as_told (result ∷ [])) (StandsSince host.new) }
+    ensures lives { HostGoes host.old (live.command command.now ∷ [])
+        (as_told (result ∷ [])) host.new }
     ensures quiet { Both AreQuiet IsApart (as_told (result ∷ [])) }
 {
     match host.command(command) {

@@ -4,9 +4,12 @@
 
 mod asking;
 mod attempts;
+mod beside;
 mod commands;
 mod fields;
 mod holds;
+mod input;
+mod knowing;
 mod notice;
 mod opening;
 mod outside;
@@ -22,7 +25,9 @@ mod stopping;
 mod unsent;
 mod visit;
 
+pub use beside::Beside;
 pub use holds::Hold;
+pub use input::InputLine;
 pub use notice::Notice;
 pub use outside::{OrderTold, Outside};
 pub use page::Page;

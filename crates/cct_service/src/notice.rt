@@ -58,6 +58,8 @@ pub enum Notice {
         command: Command,
         why: Withheld,
     },
+    /// `state unread`: the journal couldn't be read beside the host.
+    StateUnread,
     /// `linefault`: an exchange failed, and not for want of an answer. It is told again only after one that went through.
     LineFault,
     /// `lineback`: the first exchange after a `linefault` went through.
@@ -128,6 +130,7 @@ fn write_notice(line: &mut TextLine, notice: &Notice)
             line.push(b"no");
             write_withheld(line, command, why);
         }
+        Notice::StateUnread => line.push(b"state unread"),
         Notice::LineFault => line.push(b"linefault"),
         Notice::LineBack => line.push(b"lineback"),
     }

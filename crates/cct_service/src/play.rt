@@ -6,6 +6,7 @@ ghost use Rattle.cct_model.specs.Exchange.{device_at, hopper_there};
 ghost use Rattle.cct_model.specs.Script.{IsCommand};
 ghost use Rattle.cct_model.specs.lines.entry.LineKind.TheVariants as kind;
 ghost use Rattle.cct_script.specs.Endless.{held_of};
+ghost use Rattle.cct_service.specs.declared.input.InputLine.TheVariants as input;
 ghost use Rattle.cct_service.specs.Asked.{AsksAt, asked_before};
 ghost use Rattle.cct_service.specs.AtDesk.{Both, FollowsDesk, FollowsTo, IsApart};
 ghost use Rattle.cct_service.specs.Causes.{DiskServes, EndsBy, IsDiskFault, IsUnread, IsUnwritten};
@@ -17,8 +18,11 @@ ghost use Rattle.cct_service.specs.Told.{refused};
 
 use crate::asking::ask_before;
 use crate::attempts::{Until, attempt, attempts};
+use crate::beside::Beside;
 use crate::commands::{answer_or_withhold, balance, order, status};
 use crate::fields::write_number;
+use crate::input::{InputLine, read_input_line};
+use crate::knowing::state;
 use crate::outside::Outside;
 use crate::page::Page;
 use crate::poll::poll;
@@ -30,12 +34,12 @@ use cct_edge::{Sink, Source};
 use cct_host::Host;
 use cct_model::{Command, Entry, LineKind, Setup};
 use cct_port::CountedLink;
-use cct_script::{EndlessLines, LinesNo, LiveLine, NextLine, read_live_line};
+use cct_script::{EndlessLines, LinesNo, LiveLine, NextLine};
 use cct_survey::Roll;
 use cct_text::{TextLine, write_entry};
 
 /// Does what each line says, up to `end` or the end of the input. A line that says nothing is told, and changes nothing.
-pub(crate) fn play<S: Source, K: Sink, D: Disk, L: CountedLink, O: Outside>(
+pub(crate) fn play<S: Source, K: Sink, D: Disk + Drop, L: CountedLink, O: Beside<D>>(
     host: &mut Host<'_, D>,
     roll: &mut Roll,
     desk: &mut Desk,
@@ -81,7 +85,7 @@ fn next_line<S: Source, O: Outside>(
     number: u32,
     input: &mut S,
     outside: &mut O,
-) -> Result<Result<LiveLine, LineKind>, Served>
+) -> Result<Result<InputLine, LineKind>, Served>
     ensures comes { ComesNext number result (held_of lines.old) (S.left input.old) (held_of lines.new) (S.left input.new) }
     ensures sayable { IfOk result IsSayable }
     ensures ends { IfErr result IsOfInput }
@@ -89,7 +93,7 @@ fn next_line<S: Source, O: Outside>(
 {
     match lines.line(input) {
         Ok(NextLine::Text(line)) => {
-            let said = read_live_line(line);
+            let said = read_input_line(line);
             tell_refusal(said, number, line, outside);
             unless_end(said)
         }
@@ -108,7 +112,7 @@ fn next_line<S: Source, O: Outside>(
 
 /// Who is outside is told of a line that says nothing.
 fn tell_refusal<O: Outside>(
-    said: Result<LiveLine, LineKind>,
+    said: Result<InputLine, LineKind>,
     number: u32,
     line: &[u8],
     outside: &mut O,
@@ -120,11 +124,11 @@ fn tell_refusal<O: Outside>(
 }
 
 /// What a line says, unless it ends the service.
-fn unless_end(said: Result<LiveLine, LineKind>) -> Result<Result<LiveLine, LineKind>, Served>
+fn unless_end(said: Result<InputLine, LineKind>) -> Result<Result<InputLine, LineKind>, Served>
     ensures { result ≡ unless_end said }
 {
     match said {
-        Ok(LiveLine::End) => Err(Served::Done),
+        Ok(InputLine::Host(LiveLine::End)) => Err(Served::Done),
         said => Ok(said),
     }
 }
@@ -143,12 +147,12 @@ fn stopped(number: u32, why: LinesNo) -> Served
 }
 
 /// Does what the line of this number says, or tells that it says nothing.
-fn take_line<K: Sink, D: Disk, L: CountedLink, O: Outside>(
+fn take_line<K: Sink, D: Disk + Drop, L: CountedLink, O: Beside<D>>(
     host: &mut Host<'_, D>,
     roll: &mut Roll,
     desk: &mut Desk,
     number: u32,
-    line: &Result<LiveLine, LineKind>,
+    line: &Result<InputLine, LineKind>,
     out: &mut K,
     link: &mut L,
     outside: &mut O,
@@ -163,13 +167,14 @@ fn take_line<K: Sink, D: Disk, L: CountedLink, O: Outside>(
         result out.old out.new host.old host.new }
 {
     match line {
-        Ok(said) => {
+        Ok(InputLine::Host(said)) => {
             if is_known(host.setup(), said) {
                 obey(host, roll, desk, said, out, link, outside, page)
             } else {
                 refuse_unknown(host, number, said, out, outside, page)
             }
         }
+        Ok(InputLine::State) => state(host, outside, out, page),
         Err(kind) => refuse(host, number, *kind, out, page),
     }
 }
@@ -249,7 +254,7 @@ fn obey<K: Sink, D: Disk, L: CountedLink, O: Outside>(
     page: &mut Page,
 ) -> Result<(), Served>
     requires whole { has_failed host.old ≡ false }
-    requires sayable { IsSayable (Ok said.now) }
+    requires sayable { IsSayable (Ok (input.Host said.now)) }
     ensures acts { Acts K.written K.puts K.faults
         (Both (UsesLink L.gives L.sent L.failures (setup_of host.old).devices roll.old roll.new link.old link.new)
         (FollowsDesk result desk.old desk.new))

@@ -15,8 +15,8 @@ ghost use Rattle.cct_service.specs.Opening.{HasBegun, opening_of};
 ghost use Rattle.cct_service.specs.Parts.{Plays};
 ghost use Rattle.cct_service.specs.Said.{IsOfInput};
 
+use crate::beside::Beside;
 use crate::opening::open_host;
-use crate::outside::Outside;
 use crate::page::Page;
 use crate::play::play;
 use crate::served::{Served, close};
@@ -38,7 +38,7 @@ use cct_survey::Roll;
 /// serial number than the setup names isn't given to the host, and neither is a start whose mask has a place that told another
 /// coin. What is left is asked in polls, and before such a command is decided. `page` may be used for one service after
 /// another.
-pub fn serve<S: Source, K: Sink, D: Disk, L: CountedLink, O: Outside>(
+pub fn serve<S: Source, K: Sink, D: Disk + Drop, L: CountedLink, O: Beside<D>>(
     setup: &Setup,
     roll: &mut Roll,
     desk: &mut Desk,
@@ -82,7 +82,7 @@ pub fn serve<S: Source, K: Sink, D: Disk, L: CountedLink, O: Outside>(
 }
 
 /// All of it but the last line.
-fn live<S: Source, K: Sink, D: Disk, L: CountedLink, O: Outside>(
+fn live<S: Source, K: Sink, D: Disk + Drop, L: CountedLink, O: Beside<D>>(
     setup: &Setup,
     roll: &mut Roll,
     desk: &mut Desk,
@@ -117,7 +117,7 @@ fn live<S: Source, K: Sink, D: Disk, L: CountedLink, O: Outside>(
 }
 
 /// Tells what was found, does what each line says, and stops the acceptors that run, where it is wanted.
-fn live_on<S: Source, K: Sink, D: Disk, L: CountedLink, O: Outside>(
+fn live_on<S: Source, K: Sink, D: Disk + Drop, L: CountedLink, O: Beside<D>>(
     host: &mut Host<'_, D>,
     was_there: bool,
     roll: &mut Roll,
@@ -151,7 +151,7 @@ fn live_on<S: Source, K: Sink, D: Disk, L: CountedLink, O: Outside>(
 }
 
 /// Tells what was found, and does what each line says.
-fn open_and_play<S: Source, K: Sink, D: Disk, L: CountedLink, O: Outside>(
+fn open_and_play<S: Source, K: Sink, D: Disk + Drop, L: CountedLink, O: Beside<D>>(
     host: &mut Host<'_, D>,
     was_there: bool,
     roll: &mut Roll,

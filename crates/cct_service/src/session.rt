@@ -22,9 +22,8 @@ ghost use Rattle.cct_service.specs.declared.notice.Notice.TheVariants as notice_
 ghost use Rattle.cct_service.specs.AtDesk.{Both, FollowsDesk, GivesAt};
 ghost use Rattle.cct_service.specs.Doing.{DecidesPay, DoesPay, Finds, IsServing, MayServe, TellsStep};
 ghost use Rattle.cct_service.specs.Linked.{AreQuiet, UsesLink};
-ghost use Rattle.cct_service.specs.Parts.{Acts, LifeGoes};
+ghost use Rattle.cct_service.specs.Parts.{Acts, HostGoes};
 ghost use Rattle.cct_service.specs.Session.{HasAsked};
-ghost use Rattle.cct_service.specs.Since.{StandsSince};
 ghost use Rattle.cct_service.specs.Told.{WritesTold, as_told, falls_short, pay_of, pays, withheld_for};
 
 use crate::asking::ask_before;
@@ -300,8 +299,8 @@ fn ask_host<D: Disk>(host: &mut Host<'_, D>, payment: Payment) -> Result<(), Com
     ensures whole { has_failed host.new ≡ has_failed host.old }
     ensures setup { setup_of host.new ≡ setup_of host.old }
     ensures disk { disk_of host.new ≡ disk_of host.old }
-    ensures lives { LifeGoes (setup_of host.old) (StandsSince host.old) (live.command (pay_of payment) ∷ [])
-        (as_told (command_entry (pay_of payment) (no_of result) ∷ [])) (StandsSince host.new) }
+    ensures lives { HostGoes host.old (live.command (pay_of payment) ∷ [])
+        (as_told (command_entry (pay_of payment) (no_of result) ∷ [])) host.new }
 {
     host.command(&command_of(payment))
 }

@@ -11,7 +11,7 @@ use cct_disk::{MADE_LEN, MemDisk};
 use cct_edge::{MemSink, MemSource};
 use cct_model::{Happening, LineKind, MOST_HEARD, Setup};
 use cct_port::{CountedLink, is_answered};
-use cct_service::{AtEnd, OrderTold, Outside, Page, Served, serve};
+use cct_service::{AtEnd, Beside, OrderTold, Outside, Page, Served, serve};
 use cct_survey::Roll;
 use cct_wire::Link;
 use std::alloc::Global;
@@ -144,6 +144,12 @@ impl Outside for Around {
         } else {
             OrderTold::Unknown
         }
+    }
+}
+
+impl Beside<MemDisk> for Around {
+    fn beside(&mut self, _: &MemDisk) -> Option<MemDisk> {
+        None
     }
 }
 

@@ -66,18 +66,18 @@ fn an_unsent_message_is_told(rt: HostRuntime) -> Result<(), Fail> {
     Ok(())
 }
 
-/// What is known of orders; a line that is refused is told outside too.
+/// What is known of orders, and that there is no journal beside the host to read; a line that is refused is told outside too.
 #[test]
 fn orders_and_refused_lines(rt: HostRuntime) -> Result<(), Fail> {
     let alloc = rt.alloc();
     let setup = setup_of(alloc, MACHINE)?;
-    let lines = b"order 7\norder 8\nabc 1\n";
+    let lines = b"order 7\norder 8\nstate\nstate 7\nabc 1\n";
     let (out, around) = written(alloc, &setup, QUIET, AtEnd::Leave, lines)?;
     assert_eq!(rt;
         out.bytes(),
-        b"made 0 0 0\norder 7 closed 1 2\norder 8 unknown\nrefused 3 word\n".as_slice()
+        b"made 0 0 0\norder 7 closed 1 2\norder 8 unknown\nstate unread\nrefused 4 form\nrefused 5 word\n".as_slice()
     );
-    assert_eq!(rt; around.refused, 1);
+    assert_eq!(rt; around.refused, 2);
     assert_eq!(rt; around.first, Some(b'a'));
     Ok(())
 }

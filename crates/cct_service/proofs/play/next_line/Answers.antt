@@ -17,14 +17,14 @@ returns-in-Ok-Text g c =
     let left = source.left c.args.input.now in
     let now = source.left c.line.new.source in
     let line = c.in-Ok-Text.line.now in
-    let said = c.read_live_line-said.result in
+    let said = c.read_input_line-said.result in
     let is = sym c.unless_end.ensures in
     record {
       comes = subst (λ r. ComesNext c.args.number r held left kept now) is
-          (comes_said c.args.number held kept left now line said c.read_live_line-said.ensures.reads
+          (comes_said c.args.number held kept left now line said c.read_input_line-said.ensures.reads
           (subst (λ r. GivesNext held kept left now (next_given r)) (c.in-Ok-Text.is ∙ ap (λ n. Ok n) c.in-Ok-Text.field-0-is)
           c.line.follows.holds-at-none));
-      sayable = subst (λ r. IfOk r IsSayable) is (said_sayable said c.read_live_line-said.ensures.told);
+      sayable = subst (λ r. IfOk r IsSayable) is (said_sayable said c.read_input_line-said.ensures.told);
       ends = subst (λ r. IfErr r IsOfInput) is (said_ends said);
       serves = subst (λ r. Serves source.left source.faults c.args.input.now c.line.new.source (EndsBy IsUnread r)) is
           (serves_weaker source.left source.faults c.args.input.now c.line.new.source ⊥ (EndsBy IsUnread (unless_end said))

@@ -8,6 +8,7 @@ use Rattle.cct_service.specs.Doing.{Decides, Does, Finds, IsAttempt, IsOrder, Is
 use Rattle.cct_service.specs.Linked.{UsesLink}
 use Rattle.cct_service.specs.Parts.{Acts}
 use Rattle.cct_service.specs.Said.{IsSayable}
+use Rattle.cct_service.specs.declared.input.InputLine.TheVariants as input
 use Rattle.cct_service.proofs.Found.{attempt_finds, attempts_find, finds_none, one_finds, order_finds, status_finds}
 use Rattle.cct_service.proofs.Linking.{quiet_at_desk, roll_apart, roll_quiet, roll_told}
 use Rattle.cct_service.proofs.Parts.{acts_weaker}
@@ -15,7 +16,7 @@ use Rattle.cct_service.proofs.Sessions.{step_finds}
 use Rattle.cct_service.proofs.play.obey.Goals as goal
 
 pub returns-in-End : goal.returns-in-End
-returns-in-End g c = absurd (subst (λ said. IsSayable (Ok said)) c.in-End.is c.requires.sayable)
+returns-in-End g c = absurd (subst (λ said. IsSayable (Ok (input.Host said))) c.in-End.is c.requires.sayable)
 
 pub returns-in-Next : goal.returns-in-Next
 returns-in-Next g c =
@@ -206,7 +207,7 @@ returns-in-Change g c =
 
 pub begin_session-requires : goal.begin_session-requires
 begin_session-requires g c =
-    let sayable = subst (λ said. IsSayable (Ok said)) c.in-Change.is c.requires.sayable in
+    let sayable = subst (λ said. IsSayable (Ok (input.Host said))) c.in-Change.is c.requires.sayable in
     record { whole = c.requires.whole; ids = sayable.0; within = sayable.1 }
 
 pub returns-in-Command : goal.returns-in-Command

@@ -2,11 +2,13 @@ use Rattle.std.proofs.Common.{◌∙◌, Ok, false, subst, sym, ap}
 use Rattle.cct_host.specs.Host.{setup_of}
 use Rattle.cct_model.specs.lines.entry.LineKind.TheVariants as kind
 use Rattle.cct_service.specs.AtDesk.{Both, FollowsDesk}
-use Rattle.cct_service.specs.Doing.{Does, DoesLine, Finds, Tells, is_known}
+use Rattle.cct_service.specs.Doing.{Does, DoesLine, Finds, IsStating, Tells, is_known}
+use Rattle.cct_service.specs.declared.input.InputLine.TheVariants as input
 use Rattle.cct_service.specs.Linked.{UsesLink}
 use Rattle.cct_service.specs.Parts.{Acts}
 use Rattle.cct_service.specs.Told.{refused}
 use Rattle.cct_service.proofs.Found.{finds_none, finds_weaker, tells_finds}
+use Rattle.cct_service.proofs.Knows.{stating_finds}
 use Rattle.cct_service.proofs.Linking.{quiet_at_desk, roll_quiet}
 use Rattle.cct_service.proofs.Parts.{acts_weaker}
 use Rattle.cct_service.proofs.Sessions.{known_line, unknown_line}
@@ -49,16 +51,16 @@ returns-then-is_known g c =
     let host = c.args.host.now in
     let devices = (setup_of host).devices in
     let number = c.args.number in
-    let said = c.in-Ok.said in
+    let said = c.in-Ok-Host.said in
     let there = sym (ap (λ setup. is_known setup.devices said) c.setup.ensures) ∙ sym c.is_known.ensures ∙ c.if-is_known.true in
     let uses = Both (UsesLink g.L.Link.gives link.sent link.failures devices roll c.obey.new.roll c.args.link.now
     c.obey.new.link) (FollowsDesk c.obey.result c.args.desk.now c.obey.new.desk) in
     record {
       acts = subst (λ said. Acts sink.written sink.puts sink.faults uses (Finds known now (DoesLine devices known number said))
-          c.obey.result c.args.out.now c.obey.new.out host c.obey.new.host) (sym c.in-Ok.is)
+          c.obey.result c.args.out.now c.obey.new.out host c.obey.new.host) (sym (c.in-Ok-Host.is ∙ ap (λ said. Ok said) c.in-Ok-Host.field-0-is))
           (acts_weaker sink.written sink.puts sink.faults c.obey.result c.args.out.now c.obey.new.out host c.obey.new.host
-          (Finds known now (Does known said)) (Finds known now (DoesLine devices known number (Ok said)))
-          (finds_weaker known now (Does known said) (DoesLine devices known number (Ok said))
+          (Finds known now (Does known said)) (Finds known now (DoesLine devices known number (Ok (input.Host said))))
+          (finds_weaker known now (Does known said) (DoesLine devices known number (Ok (input.Host said)))
           (known_line (is_known devices said) there known number said))
           c.obey.ensures.acts);
     }
@@ -74,7 +76,7 @@ returns-else-is_known g c =
     let host = c.args.host.now in
     let devices = (setup_of host).devices in
     let number = c.args.number in
-    let said = c.in-Ok.said in
+    let said = c.in-Ok-Host.said in
     let result = c.refuse_unknown.result in
     let does = Tells (refused number kind.Device) in
     let there = sym (ap (λ setup. is_known setup.devices said) c.setup.ensures) ∙ sym c.is_known.ensures ∙ c.if-is_known.false in
@@ -82,16 +84,43 @@ returns-else-is_known g c =
     let uses = Both (UsesLink g.L.Link.gives link.sent link.failures devices roll roll line line) follows in
     record {
       acts = subst (λ said. Acts sink.written sink.puts sink.faults uses (Finds known known (DoesLine devices known number said))
-          result c.args.out.now c.refuse_unknown.new.out host c.refuse_unknown.new.host) (sym c.in-Ok.is)
+          result c.args.out.now c.refuse_unknown.new.out host c.refuse_unknown.new.host) (sym (c.in-Ok-Host.is ∙ ap (λ said. Ok said) c.in-Ok-Host.field-0-is))
           (roll_quiet sink.written sink.puts sink.faults g.L.Link.gives link.sent link.failures devices roll line follows
           result c.args.out.now c.refuse_unknown.new.out host c.refuse_unknown.new.host
-          (Finds known known (DoesLine devices known number (Ok said)))
+          (Finds known known (DoesLine devices known number (Ok (input.Host said))))
           (quiet_at_desk sink.written sink.puts sink.faults desk result c.args.out.now c.refuse_unknown.new.out host
-          c.refuse_unknown.new.host (Finds known known (DoesLine devices known number (Ok said)))
+          c.refuse_unknown.new.host (Finds known known (DoesLine devices known number (Ok (input.Host said))))
           (acts_weaker sink.written sink.puts sink.faults result c.args.out.now c.refuse_unknown.new.out host
-          c.refuse_unknown.new.host does (Finds known known (DoesLine devices known number (Ok said)))
-          (λ steps told h. finds_weaker known known does (DoesLine devices known number (Ok said))
+          c.refuse_unknown.new.host does (Finds known known (DoesLine devices known number (Ok (input.Host said))))
+          (λ steps told h. finds_weaker known known does (DoesLine devices known number (Ok (input.Host said)))
           (unknown_line (is_known devices said) there known number said) steps told
           (finds_none known does (tells_finds number kind.Device) steps told h))
           c.refuse_unknown.ensures.acts)));
+    }
+
+pub returns-in-Ok-State : goal.returns-in-Ok-State
+returns-in-Ok-State g c =
+    let sink = g.K.Sink in
+    let link = g.L.CountedLink in
+    let roll = c.args.roll.now in
+    let known = roll.findings in
+    let line = c.args.link.now in
+    let desk = c.args.desk.now in
+    let host = c.args.host.now in
+    let devices = (setup_of host).devices in
+    let number = c.args.number in
+    let result = c.state.result in
+    let out = c.args.out.now in
+    let told = c.state.new.out in
+    let after = c.state.new.host in
+    let follows = FollowsDesk result desk desk in
+    let uses = Both (UsesLink g.L.Link.gives link.sent link.failures devices roll roll line line) follows in
+    record {
+      acts = subst (λ said. Acts sink.written sink.puts sink.faults uses (Finds known known (DoesLine devices known number said))
+          result out told host after) (sym (c.in-Ok-State.is ∙ ap (λ said. Ok said) c.in-Ok-State.field-0-is))
+          (roll_quiet sink.written sink.puts sink.faults g.L.Link.gives link.sent link.failures devices roll line follows
+          result out told host after (Finds known known IsStating)
+          (quiet_at_desk sink.written sink.puts sink.faults desk result out told host after (Finds known known IsStating)
+          (acts_weaker sink.written sink.puts sink.faults result out told host after IsStating (Finds known known IsStating)
+          (finds_none known IsStating stating_finds) c.state.ensures.acts)));
     }
