@@ -9,6 +9,8 @@ from devices import Acceptor, Bills, Hopper
 from host import MOST_SECONDS, Line, start
 from tally import want
 
+EXAMPLES = Path(__file__).resolve().parents[2] / "examples"
+
 
 def bills(programs: dict[str, Path], short: bool) -> None:
     """A held bill is told once, and in each status as long as it is held. It is routed once."""
@@ -146,6 +148,33 @@ def states(programs: dict[str, Path], short: bool) -> None:
     Path(line.folder, "away").rename(Path(line.folder, "journal"))
     agree("a state of the file that came back")
     want("states: the exit status", host.end(), 0)
+    line.close()
+
+
+# A journal that turned after 40,000 records: an epoch of acceptor 2 runs, and order 41 is open; then a coin is posted.
+TURNED = """. ./journal_by_hand
+head -c 1048576 /dev/zero
+{ start 1 40000 $(sums 77 30000 500 0 300 1 50 2 900) 0c02$(low 2 16)09$(low 3 300) 0503$(low 4 41)04$(low 3 16777214)
+  slot "a502020a$(low 3 0)$(low 3 301)010501"; head -c 1048576 /dev/zero; } | head -c 1048576"""
+
+
+def states_after_a_turn(programs: dict[str, Path], short: bool) -> None:
+    """Of a journal that turned the state tells what stands in its carry, too, and what came since."""
+    line = Line(programs["cct_live"], [Acceptor(2), Hopper(3)])
+    made = subprocess.run(["bash", "-c", TURNED], cwd=EXAMPLES, capture_output=True, timeout=MOST_SECONDS)
+    Path(line.folder, "journal").write_bytes(made.stdout)
+    host = line.start()
+    want("a turned journal: its setup is kept", host.first(), "setupkept")
+    want("a turned journal: it is found", host.first(), "found 40001 1 1")
+    told = host.state()
+    want("a turned journal: as cct_main has it", told, of_main(programs, line))
+    want("a turned journal: the epoch, what came since, and the order", told[:3],
+         ["epoch 2 0010 10 301", "since 2 1 0 0", "order 41 open 3 4 16777214"])
+    host.work("settle 3", 3)
+    told = host.state()
+    want("a turned journal, and an order settled: as cct_main has it", told, of_main(programs, line))
+    want("a turned journal, and an order settled", [text for text in told if text.startswith("order")], [])
+    want("states after a turn: the exit status", host.end(), 0)
     line.close()
 
 

@@ -56,9 +56,9 @@ use Rattle.cct_service.proofs.Suiting.{life_suits}
 use Rattle.cct_service.proofs.Telling.{news_next, news_then, told_none, told_one, told_then}
 
 -- a life goes on by one part, and then by another
-pub goes_then : {D : Type 0} {g : Ghosts D} (setup : Setup) (A B C : Given D → List Record → List Entry → Type 0) (first then : List LiveStep) (told later : List Told) →
+pub goes_then : {D : Type 0} (g : Ghosts D) (setup : Setup) (A B C : Given D → List Record → List Entry → Type 0) (first then : List LiveStep) (told later : List Told) →
     LifeGoes g setup A first told B → LifeGoes g setup B then later C → LifeGoes g setup A (first ++ then) (told ++ later) C
-goes_then {D} {g} setup A B C first then told later h k given found before past life is =
+goes_then g setup A B C first then told later h k given found before past life is =
     let one = h given found before past life is in
     let two = k given found (before ++ first) (news_of told ++ past) one.0 one.1 in
     let all = append_assoc (news_of later) (news_of told) past in
@@ -72,11 +72,11 @@ goes_then {D} {g} setup A B C first then told later h k given found before past 
     )
 
 -- nothing is done
-pub goes_none : {D : Type 0} {g : Ghosts D} (setup : Setup) (A B : Given D → List Record → List Entry → Type 0) (told : List Told) → news_of told ≡ [] →
+pub goes_none : {D : Type 0} (g : Ghosts D) (setup : Setup) (A B : Given D → List Record → List Entry → Type 0) (told : List Told) → news_of told ≡ [] →
     ((given : Given D) (found : List Record) (past : List Entry) → A given found past → B given found past) →
     ((given : Given D) (found : List Record) (past : List Entry) → A given found past → AreSo setup past told) →
     LifeGoes g setup A [] told B
-goes_none {D} {g} setup A B told none keeps so given found before past life is = (
+goes_none g setup A B told none keeps so given found before past life is = (
   subst (λ steps. IsLife MOST_RECORDS setup found steps (news_of told ++ past)) (sym (append-nil before))
       (subst (λ news. IsLife MOST_RECORDS setup found before (news ++ past)) (sym none) life),
   subst (λ news. B given found (news ++ past)) (sym none) (keeps given found past is),
@@ -118,11 +118,11 @@ module _ {K : Type 0} (written : K → Option (List ℕ)) (puts : K → List ℕ
       ((past : List Entry) → AreSo setup past (what ∷ [])) →
       PutsLine written puts a (told_line what) answer b → P [] (what ∷ []) → S (what ∷ []) →
       Part written puts g a b answer setup A A S P
-  part_line S a b answer setup A what P none so line is linked = record {
+  part_line {D} {g} S a b answer setup A what P none so line is linked = record {
     steps = [];
     told = what ∷ [];
     wrote = told_one written puts a b what answer line;
-    goes = goes_none setup A A (what ∷ []) none (λ given found past is. is) (λ given found past is. so past);
+    goes = goes_none g setup A A (what ∷ []) none (λ given found past is. is) (λ given found past is. so past);
     does = is;
     linked = linked;
   }
@@ -133,11 +133,11 @@ module _ {K : Type 0} (written : K → Option (List ℕ)) (puts : K → List ℕ
       ((s1 s2 : List LiveStep) (t1 t2 : List Told) → P s1 t1 → Q s2 t2 → R (s1 ++ s2) (t1 ++ t2)) →
       Part written puts g a b (Ok tt) setup A B S P → Part written puts g b c answer setup B C T Q →
       Part written puts g a c answer setup A C U R
-  part_then S T U links a b c answer setup A B C P Q R to h k = record {
+  part_then {D} {g} S T U links a b c answer setup A B C P Q R to h k = record {
     steps = h.steps ++ k.steps;
     told = h.told ++ k.told;
     wrote = told_then written puts a b c h.told k.told answer h.wrote k.wrote;
-    goes = goes_then setup A B C h.steps k.steps h.told k.told h.goes k.goes;
+    goes = goes_then g setup A B C h.steps k.steps h.told k.told h.goes k.goes;
     does = to h.steps k.steps h.told k.told h.does k.does;
     linked = links h.told k.told h.linked k.linked;
   }
@@ -599,7 +599,7 @@ module _ {K : Type 0} (written : K → Option (List ℕ)) (puts : K → List ℕ
       steps = [];
       told = [];
       wrote = told_none written puts a;
-      goes = goes_none (setup_of host) (StandsSince host) (StandsSince host) [] refl (λ given found past is. is)
+      goes = goes_none g (setup_of host) (StandsSince host) (StandsSince host) [] refl (λ given found past is. is)
           (λ given found past is. tt);
       does = is;
       linked = linked;
@@ -647,7 +647,7 @@ module _ {K : Type 0} (written : K → Option (List ℕ)) (puts : K → List ℕ
         steps = [];
         told = told;
         wrote = wrote;
-        goes = goes_none (setup_of host) (StandsSince host) (StandsSince host) told none (λ given found past is. is)
+        goes = goes_none g (setup_of host) (StandsSince host) (StandsSince host) told none (λ given found past is. is)
             (λ given found past since. so past since.stands.keeps);
         does = is;
         linked = linked;
@@ -711,7 +711,7 @@ module _ {K : Type 0} (written : K → Option (List ℕ)) (puts : K → List ℕ
       steps = [];
       told = [];
       wrote = told_none written puts a;
-      goes = goes_none (setup_of before) (StandsSince before) (FailedSince after) [] refl
+      goes = goes_none g (setup_of before) (StandsSince before) (FailedSince after) [] refl
           (put_failed before after addr same fails between disk.goes_on) (λ given found past is. tt);
       does = is;
       linked = linked;

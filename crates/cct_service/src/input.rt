@@ -1,6 +1,6 @@
 //! The lines of the input: what is said to the host, and what is asked of its journal (`docs/LIVE.md`).
 ghost use Rattle.std.specs.Prelude.{◌≡◌, IfOk};
-ghost use Rattle.cct_service.specs.Input.{IsToldInput, input_line};
+ghost use Rattle.cct_service.specs.Input.{IsToldInput, begins_with_state, input_line};
 
 use cct_model::LineKind;
 use cct_script::{LiveLine, read_live_line};

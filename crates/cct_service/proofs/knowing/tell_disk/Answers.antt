@@ -1,5 +1,8 @@
-use Rattle.std.proofs.Common.{[], Ok, Err, IsErr, inl, inr}
+use Rattle.std.proofs.Common.{◌≡◌, [], ◌∷◌, Ok, Err, IsErr, inl, inr}
 use Rattle.cct_audit.specs.Writing.{WritesLines}
+use Rattle.cct_state.specs.declared.telling.StateEnd.TheVariants as telling
+use Rattle.cct_service.specs.declared.notice.Notice.TheVariants as notice_of
+use Rattle.cct_service.specs.Told.{notice}
 use Rattle.cct_service.proofs.Knows.{state_front, state_none, state_whole, told_known}
 use Rattle.cct_service.proofs.Parts.{serves_then, serves_weaker}
 use Rattle.cct_service.proofs.Telling.{told_then}
@@ -37,9 +40,10 @@ returns-in-Unread g c =
     c.setup.result.now c.setup.ensures (g.D.Disk.seen c.args.disk) c.requires.same how.ensures.told how.ensures.lines c.in-Unread.field-0
     c.in-Unread.is in
     record {
-      tells = inr (told_then sink.written sink.puts out between last [] _ answer
+      tells = inr (told_then sink.written sink.puts out between last [] (notice notice_of.StateUnread ∷ []) answer
           (told_known sink.written sink.puts out between [] [] (Ok tt) none) c.tell_unread.ensures.tells);
       serves = serves_then sink.written sink.faults out between last ⊥ (IsErr answer)
-          (serves_weaker sink.written sink.faults out between _ ⊥ (λ e. cc (e, c.in-Unread.is)) how.ensures.sink)
+          (serves_weaker sink.written sink.faults out between (how.result.0 ≡ telling.Unwritten) ⊥
+          (λ none. absurd none) how.ensures.sink)
           c.tell_unread.ensures.serves (IsErr answer) (λ fails. inr fails);
     }
