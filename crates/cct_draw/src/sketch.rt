@@ -162,24 +162,23 @@ fn draw_lanes<K: Sink>(pen: &mut Pen<'_, K>, sheet: &Sheet<'_>, drawn: usize, en
 /// Draws the exchanges that came through clean: the first with a device has the path that the others use.
 fn draw_exchanges<K: Sink>(pen: &mut Pen<'_, K>, sheet: &Sheet<'_>, rows: &[Row]) {
     for addr in 0..=u8::MAX {
-        let mut is_there = false;
+        let mut first = None;
         for (index, row) in rows.iter().filter(|row| is_drawn(row)).enumerate() {
             if clean_addr(&row.mark) == Some(addr) {
-                if !is_there {
-                    draw_clean(pen, sheet, addr);
+                let top = row_top(index);
+                match first {
+                    None => {
+                        draw_clean(pen, sheet, addr, top);
+                        first = Some(top);
+                    }
+                    Some(first) => {
+                        let below = top.saturating_sub(first);
+                        push_pair(pen, b"<use href=#d", u32::from(addr), b" y=", below, b" />");
+                    }
                 }
-                is_there = true;
-                push_pair(
-                    pen,
-                    b"<use href=#d",
-                    u32::from(addr),
-                    b" y=",
-                    row_top(index),
-                    b" />",
-                );
             }
         }
-        if is_there {
+        if first.is_some() {
             pen.push(b"\n");
         }
     }
@@ -198,13 +197,13 @@ fn clean_addr(mark: &Mark) -> Option<u8> {
     }
 }
 
-/// Draws, above the picture, there and back to a device.
-fn draw_clean<K: Sink>(pen: &mut Pen<'_, K>, sheet: &Sheet<'_>, addr: u8) {
+/// Draws, in a row with this top, there and back to a device.
+fn draw_clean<K: Sink>(pen: &mut Pen<'_, K>, sheet: &Sheet<'_>, addr: u8, top: u32) {
     let lane = sheet.lanes.place(addr);
-    push_numbered(pen, b"<defs><path id=d", addr, b" stroke=#047 d=\"");
-    push_stroke(pen, &arrow(Arrow::Request, sheet.host, lane), 0);
-    push_stroke(pen, &arrow(Arrow::Answer, lane, sheet.host), 0);
-    pen.push(b"\"/></defs>");
+    push_numbered(pen, b"<path id=d", addr, b" stroke=#047 d=\"");
+    push_stroke(pen, &arrow(Arrow::Request, sheet.host, lane), top);
+    push_stroke(pen, &arrow(Arrow::Answer, lane, sheet.host), top);
+    pen.push(b"\"/>");
 }
 
 /// Draws all lines of one look as one path.

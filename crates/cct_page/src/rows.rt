@@ -197,7 +197,7 @@ fn write_run_cells<K: Sink>(pen: &mut Pen<'_, K>, page: &Page, row: &Row) {
     if !row.until.as_slice().is_empty() {
         pen.push(b" ");
         pen.push_label(&row.place.time);
-        pen.push(b" to ");
+        pen.push(b"\nto ");
         pen.push_label(&row.until);
     }
     pen.push(b"\t");

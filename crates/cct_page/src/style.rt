@@ -15,9 +15,9 @@ const MANY_ROWS: usize = 1000;
 /// feed stands for itself.
 const ALWAYS: &[u8] = b"\
 :root{color-scheme:light dark}\
-body{font:14px system-ui;margin:auto;max-width:80em;padding:5px}\
+body{font:14px system-ui;margin:6px}\
 table{display:block;overflow:auto}\
-td,th{padding:0 .5em;text-align:right}tr>:first-child{text-align:left}\
+td,th{padding:0 .5em;text-align:right}\
 p,summary{margin:0;padding-left:6em;text-indent:-6em;white-space:pre-wrap;overflow-wrap:anywhere}\
 b{color:gray;display:inline-block;font:inherit;tab-size:3em;text-indent:0;white-space:pre}\n";
 
