@@ -90,6 +90,7 @@ impl Joined {
     /// Takes what the next line has, whose bytes follow those before it or don't.
     pub(crate) fn take(&mut self, has: Has, is_anew: bool) {
         self.is_anew = is_anew;
+        self.has_sent |= matches!(has, Has::Tap { .. } | Has::Exchange { .. });
         self.todo = match has {
             Has::Tap { sent, heard } => Some(Todo::Whole(Said::Tap { sent, heard })),
             Has::Exchange { sent, heard } => Some(Todo::Whole(Said::Exchange { sent, heard })),
