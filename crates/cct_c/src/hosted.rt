@@ -1,5 +1,7 @@
 //! A host, step by step, as a program in another language meets it.
-ghost use Rattle.std.specs.Prelude.{None};
+ghost use Rattle.std.specs.Prelude.{◌≡◌, ◌⊎◌, ◌↔◌, [], IsOk, None, take};
+ghost use Rattle.cct_host.specs.Host.{disk_of};
+ghost use Rattle.cct_poll.specs.Steps.{Tells};
 
 use crate::codes::{
     BAD_COMMAND, BAD_PART, BAD_RECORD, NO_MEMORY, NO_ROOM, NOT_NOW, OK, OVER, SMALL_PART, TOO_LONG,
@@ -99,7 +101,13 @@ impl Hosted {
     }
 
     /// What the program is to do next at an address. A record that is due there is put: its calls are the next.
-    pub(crate) fn ask(&mut self, address: u8, ask: &mut LhAsk, out: &mut [u8]) -> u32 {
+    pub(crate) fn ask(&mut self, address: u8, ask: &mut LhAsk, out: &mut [u8]) -> u32
+        // Nothing is to be sent, and no line to be taken, while a call on the part is noted.
+        ensures settled { result ≡ OK → (ask.new.what ≡ SEND) ⊎ (ask.new.what ≡ TAKE)
+            → (disk_of self.new.poll.host).calls ≡ [] }
+        // The message is the one that the host then heard a reply to.
+        ensures sends { result ≡ OK → ask.new.what ≡ SEND → take ask.new.count out.new ≡ self.new.poll.piece.items }
+    {
         if out.len() < MOST_TEXT {
             return NO_ROOM;
         }
@@ -120,7 +128,9 @@ impl Hosted {
     }
 
     /// What is next, once a record that is due is put.
-    fn next(&mut self, address: u8) -> Ask {
+    fn next(&mut self, address: u8) -> Ask
+        ensures settled { Tells result → (disk_of self.new.poll.host).calls ≡ [] }
+    {
         match self.poll.ask(address) {
             Ask::Put => match self.poll.put(address) {
                 Ok(()) => self.poll.ask(address),
@@ -131,7 +141,9 @@ impl Hosted {
     }
 
     /// The call that is to be made on the part.
-    fn tell_call(&mut self, ask: &mut LhAsk, out: &mut [u8]) -> u32 {
+    fn tell_call(&mut self, ask: &mut LhAsk, out: &mut [u8]) -> u32
+        ensures { (ask.new.what ≡ WRITE) ⊎ ((ask.new.what ≡ SYNC) ⊎ (ask.new.what ≡ ENDED)) }
+    {
         match self.poll.call() {
             Some(Call::Write { at, bytes }) => {
                 ask.what = WRITE;
@@ -144,7 +156,10 @@ impl Hosted {
     }
 
     /// The line of the entry that is to be taken, with its line feed.
-    fn tell_entry(&mut self, ask: &mut LhAsk, out: &mut [u8]) -> u32 {
+    fn tell_entry(&mut self, ask: &mut LhAsk, out: &mut [u8]) -> u32
+        ensures line { (ask.new.what ≡ TAKE) ⊎ (ask.new.what ≡ ENDED) }
+        ensures poll { self.new.poll ≡ self.old.poll }
+    {
         match self.poll.entry() {
             Some(entry) => {
                 ask.what = TAKE;
@@ -164,7 +179,10 @@ impl Hosted {
     }
 
     /// This was heard after the message that was sent.
-    pub(crate) fn heard(&mut self, bytes: &[u8]) -> u32 {
+    pub(crate) fn heard(&mut self, bytes: &[u8]) -> u32
+        // A reply is heard once, after a message that was sent.
+        ensures once { result ≡ OK → self.new.poll.asked ≡ None }
+    {
         if bytes.len() > MOST_HEARD {
             return TOO_LONG;
         }
@@ -199,13 +217,17 @@ impl Hosted {
 }
 
 /// Something without bytes is to be done.
-fn tell(ask: &mut LhAsk, what: u8) -> u32 {
+fn tell(ask: &mut LhAsk, what: u8) -> u32
+    ensures { ask.new.what ≡ what }
+{
     ask.what = what;
     OK
 }
 
 /// What a call answers to something that was due, or wasn't.
-fn code_of(done: Result<(), NotNow>) -> u32 {
+fn code_of(done: Result<(), NotNow>) -> u32
+    ensures { (result ≡ OK) ↔ IsOk done }
+{
     match done {
         Ok(()) => OK,
         Err(NotNow) => NOT_NOW,

@@ -1,6 +1,6 @@
 //! Hosts behind handles. Each call takes a handle, and gives it back through `back` as it was.
 
-use crate::codes::BAD_HANDLE;
+use crate::codes::{BAD_HANDLE, NO_MEMORY};
 use crate::devices::hand_out;
 use crate::handle::{LhHandle, LhOpaque};
 use crate::hosted::{Hosted, LhAsk, LhTotals};
@@ -17,7 +17,10 @@ pub extern "C" fn lh_raw_machine_new(
     out: &mut *mut LhOpaque,
 ) -> u32 {
     match Machine::read(alloc, text, line) {
-        Ok(machine) => hand_out(alloc, Kept::Machine(machine), out),
+        Ok(machine) => match Box::new(alloc, machine) {
+            Ok(machine) => hand_out(alloc, Kept::Machine(machine), out),
+            Err(_) => NO_MEMORY,
+        },
         Err(code) => code,
     }
 }
@@ -35,8 +38,11 @@ pub extern "C" fn lh_raw_host_new(
     let Kept::Machine(machine) = kept else {
         return BAD_HANDLE;
     };
-    match Hosted::start(alloc, machine, part, index) {
-        Ok(hosted) => hand_out(alloc, Kept::Host(hosted), out),
+    match Hosted::start(alloc, &**machine, part, index) {
+        Ok(hosted) => match Box::new(alloc, hosted) {
+            Ok(hosted) => hand_out(alloc, Kept::Host(hosted), out),
+            Err(_) => NO_MEMORY,
+        },
         Err(code) => code,
     }
 }

@@ -5,10 +5,11 @@ use crate::held::Held;
 use crate::hosted::Hosted;
 use crate::machine::Machine;
 
-/// Settings or a device core, the devices of a machine, or a host.
+/// Settings or a device core, the devices of a machine, or a host. The two that are large lie in a block of their own, so a core
+/// takes no more memory than it needs.
 #[derive(Drop)]
 pub enum Kept {
     Device(Held),
-    Machine(Machine),
-    Host(Hosted),
+    Machine(Box<Machine>),
+    Host(Box<Hosted>),
 }
