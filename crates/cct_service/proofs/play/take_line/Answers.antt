@@ -57,7 +57,7 @@ returns-then-is_known g c =
     c.obey.new.link) (FollowsDesk c.obey.result c.args.desk.now c.obey.new.desk) in
     record {
       acts = subst (λ said. Acts sink.written sink.puts sink.faults uses (Finds known now (DoesLine devices known number said))
-          c.obey.result c.args.out.now c.obey.new.out host c.obey.new.host) (sym (c.in-Ok-Host.is ∙ ap (λ said. Ok said) c.in-Ok-Host.field-0-is))
+          c.obey.result c.args.out.now c.obey.new.out host c.obey.new.host) (sym (c.in-Ok-Host.is ∙ ap (λ said. Ok said) (rw c.in-Ok-Host.is at c.in-Ok-Host.field-0-is)))
           (acts_weaker sink.written sink.puts sink.faults c.obey.result c.args.out.now c.obey.new.out host c.obey.new.host
           (Finds known now (Does known said)) (Finds known now (DoesLine devices known number (Ok (input.Host said))))
           (finds_weaker known now (Does known said) (DoesLine devices known number (Ok (input.Host said)))
@@ -84,7 +84,7 @@ returns-else-is_known g c =
     let uses = Both (UsesLink g.L.Link.gives link.sent link.failures devices roll roll line line) follows in
     record {
       acts = subst (λ said. Acts sink.written sink.puts sink.faults uses (Finds known known (DoesLine devices known number said))
-          result c.args.out.now c.refuse_unknown.new.out host c.refuse_unknown.new.host) (sym (c.in-Ok-Host.is ∙ ap (λ said. Ok said) c.in-Ok-Host.field-0-is))
+          result c.args.out.now c.refuse_unknown.new.out host c.refuse_unknown.new.host) (sym (c.in-Ok-Host.is ∙ ap (λ said. Ok said) (rw c.in-Ok-Host.is at c.in-Ok-Host.field-0-is)))
           (roll_quiet sink.written sink.puts sink.faults g.L.Link.gives link.sent link.failures devices roll line follows
           result c.args.out.now c.refuse_unknown.new.out host c.refuse_unknown.new.host
           (Finds known known (DoesLine devices known number (Ok (input.Host said))))
@@ -117,7 +117,7 @@ returns-in-Ok-State g c =
     let uses = Both (UsesLink g.L.Link.gives link.sent link.failures devices roll roll line line) follows in
     record {
       acts = subst (λ said. Acts sink.written sink.puts sink.faults uses (Finds known known (DoesLine devices known number said))
-          result out told host after) (sym (c.in-Ok-State.is ∙ ap (λ said. Ok said) c.in-Ok-State.field-0-is))
+          result out told host after) (sym (c.in-Ok-State.is ∙ ap (λ said. Ok said) (rw c.in-Ok-State.is at c.in-Ok-State.field-0-is)))
           (roll_quiet sink.written sink.puts sink.faults g.L.Link.gives link.sent link.failures devices roll line follows
           result out told host after (Finds known known IsStating)
           (quiet_at_desk sink.written sink.puts sink.faults desk result out told host after (Finds known known IsStating)
