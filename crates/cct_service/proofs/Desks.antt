@@ -1,6 +1,6 @@
 -- What is told goes by the desk, one part of a service after another.
 use Rattle.std.proofs.Common.{◌≡◌, ◌==◌, ◌||◌, ℕ, Bool, true, false, if◌then◌else◌, List, [], ◌∷◌, ◌++◌, reverse, Option, Some, None, Result, Ok, Err, inl, inr, refl, sym, ap, ◌∙◌, subst}
-use Rattle.std.specs.Prelude.{MatchBool}
+use Rattle.std.specs.Prelude.{MatchBool, is_some}
 use Rattle.std.specs.List.{list_any}
 use Rattle.std.specs.Option.{option_map}
 use Rattle.std.proofs.lemmas.Bool.{both_ways}
@@ -27,13 +27,17 @@ use Rattle.cct_model.specs.Records.{records}
 use Rattle.cct_model.specs.Refusal.{refusal}
 use Rattle.cct_host.specs.Attempt.{Attempt, asked, idle, put}
 use Rattle.cct_host.specs.Attempt as attempt
-use Rattle.cct_change.specs.Serving.{Asks, Ends, change_told}
+use Rattle.cct_host.specs.Standing.{command_at}
+use Rattle.cct_change.specs.declared.desk.Serving.{Serving}
+use Rattle.cct_change.specs.declared.desk.Serving.TheVariants as serving_of
+use Rattle.cct_change.specs.Serving.{Asks, Ends, ServesBy, change_told, entries_by}
 use Rattle.cct_survey.specs.declared.finding.Finding.{Finding}
 use Rattle.cct_survey.specs.declared.withholding.Withheld.{Withheld}
 use Rattle.cct_service.specs.declared.notice.Notice.{Notice}
 use Rattle.cct_service.specs.declared.served.Served.{Served}
 use Rattle.cct_service.specs.declared.served.Served.TheVariants as served
 use Rattle.cct_service.specs.AtDesk.{AtDesk, FollowsDesk, FollowsTo, GivesAt, IsApart, answered, ended, seen_at}
+use Rattle.cct_service.specs.Known.{Rests, rests, waits_for, waits_in, works_at}
 use Rattle.cct_service.specs.Told.{Told, as_told, attempt_told, entry, falls_short, found_told, notices_told, operates, pay_of, pays, refused_for, taken, withheld_for}
 
 -- one part, and then another
@@ -316,6 +320,100 @@ idle_same setup old new h = still_same setup old new entry_of.ServeIdle refl h
 pub wait_same : (setup : Setup) (addr : ℕ) (old new : Desk) → Ends old new (entry_of.ServeWait addr) → new ≡ old
 unfolding is_still
 wait_same setup addr old new h = still_same setup old new (entry_of.ServeWait addr) refl h
+
+wait_addr : (a b : ℕ) → entry_of.ServeWait a ∷ [] ≡ entry_of.ServeWait b ∷ [] → a ≡ b
+wait_addr a b e = cc e
+
+-- whether a session has nothing to do, by what a `serve` comes to
+pub idle_rests : (setup : Setup) (past : List Entry) (old new : Desk) → Ends old new entry_of.ServeIdle → Rests setup true old past
+unfolding is_still first_still
+idle_rests setup past old new h = by_session old.session (h.entries 0 setup [])
+  where
+    by_phase : (s : Session) (due : Due) (phase : Phase) →
+        Settles 0 setup [] old.trays s due phase (entry_of.ServeIdle ∷ []) → works_at setup past (waits_in due phase) ≡ true
+    by_phase s due Begun told = cc told
+    by_phase s due Opened told = cc told
+    by_phase s due Odd told = cc told
+    by_phase s due (Closed paid unpaid) told =
+        absurd (not_gone setup (settled_trays due old.trays) (settled old.trays due s) entry_of.ServeIdle refl told)
+    by_phase s due Lost told =
+        absurd (not_gone setup (settled_trays due old.trays) (settled old.trays due s) entry_of.ServeIdle refl told)
+
+    by_due : (s : Session) (due : Option Due) → ServesDue 0 setup [] old.trays s due (entry_of.ServeIdle ∷ []) →
+        works_at setup past (waits_for due) ≡ true
+    by_due s None told = absurd (not_gone setup old.trays s entry_of.ServeIdle refl told)
+    by_due s (Some due) told = by_phase s due due.phase told
+
+    by_session : (session : Option Session) → Serves 0 setup [] old.trays session (entry_of.ServeIdle ∷ []) →
+        rests setup past session ≡ true
+    by_session None told = refl
+    by_session (Some s) told = by_due s s.due told
+
+pub wait_rests : (setup : Setup) (past : List Entry) (addr : ℕ) (rest : Bool) (old new : Desk) →
+    Ends old new (entry_of.ServeWait addr) → is_some (command_at setup past addr) ≡ rest → Rests setup rest old past
+unfolding is_still first_still
+wait_rests setup past addr rest old new h is = by_session old.session (h.entries 0 setup [])
+  where
+    by_phase : (s : Session) (due : Due) (phase : Phase) →
+        Settles 0 setup [] old.trays s due phase (entry_of.ServeWait addr ∷ []) →
+        works_at setup past (waits_in due phase) ≡ rest
+    by_phase s due Begun told =
+        subst (λ a. is_some (command_at setup past a) ≡ rest) (wait_addr addr due.payment.addr told) is
+    by_phase s due Opened told =
+        subst (λ a. is_some (command_at setup past a) ≡ rest) (wait_addr addr due.payment.addr told) is
+    by_phase s due Odd told = cc told
+    by_phase s due (Closed paid unpaid) told =
+        absurd (not_gone setup (settled_trays due old.trays) (settled old.trays due s) (entry_of.ServeWait addr) refl told)
+    by_phase s due Lost told =
+        absurd (not_gone setup (settled_trays due old.trays) (settled old.trays due s) (entry_of.ServeWait addr) refl told)
+
+    by_due : (s : Session) (due : Option Due) → ServesDue 0 setup [] old.trays s due (entry_of.ServeWait addr ∷ []) →
+        works_at setup past (waits_for due) ≡ rest
+    by_due s None told = absurd (not_gone setup old.trays s (entry_of.ServeWait addr) refl told)
+    by_due s (Some due) told = by_phase s due due.phase told
+
+    by_session : (session : Option Session) → Serves 0 setup [] old.trays session (entry_of.ServeWait addr ∷ []) →
+        rests setup past session ≡ rest
+    by_session None told = cc told
+    by_session (Some s) told = by_due s s.due told
+
+goes_unrested : (setup : Setup) (past : List Entry) (old : Desk) (news : List Entry) → first_still news ≡ false →
+    Serves 0 setup [] old.trays old.session news → Rests setup false old past
+unfolding is_still first_still
+goes_unrested setup past old news goes told = by_session old.session told
+  where
+    by_phase : (s : Session) (due : Due) (phase : Phase) → Settles 0 setup [] old.trays s due phase news →
+        works_at setup past (waits_in due phase) ≡ false
+    by_phase s due Begun told = absurd (both_ways (first_still news) goes (ap first_still told))
+    by_phase s due Opened told = absurd (both_ways (first_still news) goes (ap first_still told))
+    by_phase s due Odd told = refl
+    by_phase s due (Closed paid unpaid) told = refl
+    by_phase s due Lost told = refl
+
+    by_due : (s : Session) (due : Option Due) → ServesDue 0 setup [] old.trays s due news →
+        works_at setup past (waits_for due) ≡ false
+    by_due s None told = refl
+    by_due s (Some due) told = by_phase s due due.phase told
+
+    by_session : (session : Option Session) → Serves 0 setup [] old.trays session news → rests setup past session ≡ false
+    by_session None told = absurd (both_ways (first_still news) goes (ap first_still told))
+    by_session (Some s) told = by_due s s.due told
+
+pub serves_unrested : (setup : Setup) (past : List Entry) (serving : Serving) (old new : Desk) →
+    (serving ≡ serving_of.Idle → ⊥) → ((addr : ℕ) → serving ≡ serving_of.Wait addr → ⊥) → ServesBy serving old new →
+    Rests setup false old past
+unfolding is_still first_still
+serves_unrested setup past serving_of.Idle old new no_idle no_wait h = absurd (no_idle refl)
+serves_unrested setup past (serving_of.Wait addr) old new no_idle no_wait h = absurd (no_wait addr refl)
+serves_unrested setup past (serving_of.Odd id) old new no_idle no_wait h =
+    goes_unrested setup past old (entry_of.ServeOdd id ∷ []) refl (h.entries 0 setup [])
+serves_unrested setup past (serving_of.Served amount) old new no_idle no_wait h =
+    goes_unrested setup past old (entry_of.Served amount ∷ []) refl (h.entries 0 setup [])
+serves_unrested setup past (serving_of.Short shortfall) old new no_idle no_wait h =
+    goes_unrested setup past old (entry_of.Short shortfall.paid shortfall.rest ∷ []) refl (h.entries 0 setup [])
+serves_unrested setup past (serving_of.Pay p) old new no_idle no_wait h =
+    goes_unrested setup past old (entries_by 0 setup [] h.session p)
+    (not_paid h.session p (refusal 0 setup [] (pay_of p))) (h.entries 0 setup [])
 
 -- a payment that is taken
 pub taken_at_desk : (old asking new : Desk) (p : Payment) → Asks old asking p →

@@ -1,26 +1,28 @@
 -- What is done for a line, made of its parts.
-use Rattle.std.proofs.Common.{◌≡◌, ◌≤◌, ◌+◌, ◌∙◌, ◌⊎◌, ℕ, zero, suc, List, [], ◌∷◌, ◌++◌, length, Bool, true, false, ◌==◌, ◌||◌, refl, eqb-true, sym, ap, subst, inl, inr, append_assoc, arith}
+use Rattle.std.proofs.Common.{◌≡◌, ◌≤◌, ◌+◌, ◌∙◌, ◌⊎◌, ℕ, zero, suc, List, [], ◌∷◌, ◌++◌, length, Bool, true, false, Ok, Err, ◌==◌, ◌||◌, refl, eqb-true, sym, ap, subst, inl, inr, append_assoc, arith}
 use Rattle.std.specs.List.{All, list_any}
 use Rattle.std.proofs.lemmas.Bool.Decides.{nat_tests}
 use Rattle.std.proofs.lemmas.List.{append-nil}
 use Rattle.std.proofs.lemmas.List.Elements.{All-nil}
 use Rattle.cct_model.specs.terms.device.DeviceSetup.{DeviceSetup}
+use Rattle.cct_model.specs.terms.device.Setup.{Setup}
 use Rattle.cct_model.specs.lines.command.Command.{Command}
-use Rattle.cct_model.specs.lines.command.Command.TheVariants as command
 use Rattle.cct_model.specs.lines.entry.Entry.{Entry}
 use Rattle.cct_model.specs.lines.entry.Entry.TheVariants as entry_of
 use Rattle.cct_lives.specs.LiveStep.{LiveStep}
 use Rattle.cct_lives.specs.LiveStep as live
+use Rattle.cct_script.specs.declared.live.LiveLine.{LiveLine}
+use Rattle.cct_script.specs.declared.live.LiveLine.TheVariants as says
 use Rattle.cct_survey.specs.declared.finding.Finding.{Finding}
 use Rattle.cct_service.specs.declared.attempts.TheConstants.{MOST_ATTEMPTS}
 use Rattle.cct_service.specs.declared.attempts.Until.{Until}
 use Rattle.cct_service.specs.declared.attempts.Until.TheVariants as until_of
-use Rattle.cct_service.specs.declared.stopping.AtEnd.{AtEnd}
 use Rattle.cct_service.specs.declared.stopping.AtEnd.TheVariants as at_end
 use Rattle.cct_service.specs.declared.notice.Notice.{Notice}
 use Rattle.cct_service.specs.Held.{IsAfter}
-use Rattle.cct_service.specs.Doing.{AreAttempts, DoesLine, DoesLines, FrontOf, GoesOn, IsAttempt, IsAttemptWith, IsLastTry, IsStepOf, MakesAttempts, Many, PlaysLines, ServesLines, StopsBy, Tells, TellsOne, Then, Times}
+use Rattle.cct_service.specs.Doing.{AreAttempts, Does, DoesKnown, DoesLine, DoesLines, FrontOf, GoesOn, IsAttempt, IsAttemptWith, IsLastTry, IsStepOf, MakesAttempts, Many, PlaysLines, ServesLines, ServesOn, Tells, TellsOne, Then, ThenBy, Times, is_known}
 use Rattle.cct_service.specs.Ends.{is_end, tells_end}
+use Rattle.cct_service.specs.Known.{Knows, Rests}
 use Rattle.cct_service.specs.Said.{Said}
 use Rattle.cct_service.specs.Told.{Told, as_told, attempt_told, entry, findings_in, notice, notices_told, told_unsent, unheard}
 use Rattle.cct_service.proofs.Parts.{front_whole}
@@ -293,28 +295,51 @@ pub command_step : (begun : ℕ → Command) (addr : ℕ) (steps : List LiveStep
     TellsOne (live.command (begun addr)) steps told → Many (IsStepOf begun) steps told
 command_step begun addr steps told h = many_one (IsStepOf begun) steps told (inl (addr, h))
 
--- lines, and the next one, by what was found up to then
-pub line_then : (devices : List DeviceSetup) (findings now : List Finding) (lines : List Said) (number : ℕ) (said : Said) →
-    suc (length lines) ≡ number → (s1 s2 : List LiveStep) (t1 t2 : List Told) → DoesLines devices findings lines s1 t1 →
-    now ≡ findings ++ findings_in t1 → DoesLine devices now number said s2 t2 →
-    DoesLines devices findings (said ∷ lines) (s1 ++ s2) (t1 ++ t2)
-line_then devices findings now lines number said is s1 s2 t1 t2 h found k = record {
-  before = s1;
-  after = s2;
-  said = t1;
-  added = t2;
-  steps_are = refl;
-  told_is = refl;
-  first = h;
-  next = subst (λ f. DoesLine devices f (suc (length lines)) said s2 t2) found
-      (subst (λ n. DoesLine devices now n said s2 t2) (sym is) k);
+-- what is done for a line, where more is known
+does_weaker : (A B : Bool → Type 0) → ((rest : Bool) → A rest → B rest) → (findings : List Finding) (said : LiveLine)
+    (steps : List LiveStep) (told : List Told) → Does A findings said steps told → Does B findings said steps told
+does_weaker A B to findings says.Poll steps told h = record {
+  before = h.before;
+  after = h.after;
+  said = h.said;
+  added = h.added;
+  steps_are = h.steps_are;
+  told_is = h.told_is;
+  first = serves_on h.first;
+  next = h.next;
 }
+  where
+    serves_on : ServesOn A findings h.before h.said → ServesOn B findings h.before h.said
+    serves_on (inl none) = inl (none.0, to true none.1)
+    serves_on (inr some) = inr (some.0, to false some.1)
+does_weaker A B to findings (says.Command c) steps told h = h
+does_weaker A B to findings (says.Next addr) steps told h = h
+does_weaker A B to findings (says.Do addr) steps told h = h
+does_weaker A B to findings says.Balance steps told h = h
+does_weaker A B to findings says.Status steps told h = h
+does_weaker A B to findings (says.Order id) steps told h = h
+does_weaker A B to findings (says.Stock addr count) steps told h = h
+does_weaker A B to findings (says.Change first amount) steps told h = h
+does_weaker A B to findings says.Serve steps told h = h
+does_weaker A B to findings says.End steps told h = h
 
--- what is told first, and then lines
-pub opening_then : (devices : List DeviceSetup) (opening : Notice) (findings : List Finding) (lines : List Said) (s1 s2 : List LiveStep)
-    (t1 t2 : List Told) → Tells (notice opening) s1 t1 → DoesLines devices findings lines s2 t2 →
-    PlaysLines devices opening findings lines (s1 ++ s2) (t1 ++ t2)
-opening_then devices opening findings lines s1 s2 t1 t2 h k = record {
+known_weaker : (A B : Bool → Type 0) → ((rest : Bool) → A rest → B rest) → (known : Bool) (findings : List Finding)
+    (number : ℕ) (said : LiveLine) (steps : List LiveStep) (told : List Told) →
+    DoesKnown A known findings number said steps told → DoesKnown B known findings number said steps told
+known_weaker A B to true findings number said steps told h = does_weaker A B to findings said steps told h
+known_weaker A B to false findings number said steps told h = h
+
+pub line_weaker : (A B : Bool → Type 0) → ((rest : Bool) → A rest → B rest) → (devices : List DeviceSetup)
+    (findings : List Finding) (number : ℕ) (said : Said) (steps : List LiveStep) (told : List Told) →
+    DoesLine A devices findings number said steps told → DoesLine B devices findings number said steps told
+line_weaker A B to devices findings number (Ok said) steps told h =
+    known_weaker A B to (is_known devices said) findings number said steps told h
+line_weaker A B to devices findings number (Err why) steps told h = h
+
+-- one thing, and then another one that goes by it
+pub then_by : (P : List LiveStep → List Told → Type 0) (Q : List Told → List LiveStep → List Told → Type 0)
+    (s1 s2 : List LiveStep) (t1 t2 : List Told) → P s1 t1 → Q t1 s2 t2 → ThenBy P Q (s1 ++ s2) (t1 ++ t2)
+then_by P Q s1 s2 t1 t2 h k = record {
   before = s1;
   after = s2;
   said = t1;
@@ -325,10 +350,32 @@ opening_then devices opening findings lines s1 s2 t1 t2 h k = record {
   next = k;
 }
 
+-- lines, and the next one, by what is known and was found up to then
+pub line_then : (knows : Knows) (Rested : Bool → Type 0) (setup : Setup) (findings now : List Finding) (lines : List Said)
+    (number : ℕ) (said : Said) → suc (length lines) ≡ number → (s1 s2 : List LiveStep) (t1 t2 : List Told) →
+    ((rest : Bool) → Rested rest → knows t1 (Rests setup rest)) → DoesLines knows setup findings lines s1 t1 →
+    now ≡ findings ++ findings_in t1 → DoesLine Rested setup.devices now number said s2 t2 →
+    DoesLines knows setup findings (said ∷ lines) (s1 ++ s2) (t1 ++ t2)
+line_then knows Rested setup findings now lines number said is s1 s2 t1 t2 to h found k =
+    then_by (DoesLines knows setup findings lines)
+    (λ told. DoesLine (λ rest. knows told (Rests setup rest)) setup.devices (findings ++ findings_in told)
+    (suc (length lines)) said) s1 s2 t1 t2 h
+    (line_weaker Rested (λ rest. knows t1 (Rests setup rest)) to setup.devices (findings ++ findings_in t1)
+    (suc (length lines)) said s2 t2
+    (subst (λ f. DoesLine Rested setup.devices f (suc (length lines)) said s2 t2) found
+    (subst (λ n. DoesLine Rested setup.devices now n said s2 t2) (sym is) k)))
+
+-- what is told first, and then lines
+pub opening_then : (knows : Knows) (setup : Setup) (opening : Notice) (findings : List Finding) (lines : List Said)
+    (s1 s2 : List LiveStep) (t1 t2 : List Told) → Tells (notice opening) s1 t1 → DoesLines knows setup findings lines s2 t2 →
+    PlaysLines knows setup opening findings lines (s1 ++ s2) (t1 ++ t2)
+opening_then knows setup opening findings lines =
+    then_one (Tells (notice opening)) (DoesLines knows setup findings lines)
+
 -- that alone
-pub opening_alone : (devices : List DeviceSetup) (opening : Notice) (findings : List Finding) (steps : List LiveStep) (told : List Told) →
-    Tells (notice opening) steps told → PlaysLines devices opening findings [] steps told
-opening_alone devices opening findings steps told h = record {
+pub opening_alone : (knows : Knows) (setup : Setup) (opening : Notice) (findings : List Finding) (steps : List LiveStep)
+    (told : List Told) → Tells (notice opening) steps told → PlaysLines knows setup opening findings [] steps told
+opening_alone knows setup opening findings steps told h = record {
   before = steps;
   after = [];
   said = told;
@@ -339,30 +386,11 @@ opening_alone devices opening findings steps told h = record {
   next = (refl, refl);
 }
 
--- lines, and the end
-pub end_then : (devices : List DeviceSetup) (opening : Notice) (findings : List Finding) (ends : AtEnd) (lines : List Said) (s1 s2 : List LiveStep)
-    (t1 t2 : List Told) → PlaysLines devices opening findings lines s1 t1 → StopsBy ends s2 t2 →
-    ServesLines devices opening findings ends lines (s1 ++ s2) (t1 ++ t2)
-end_then devices opening findings ends lines s1 s2 t1 t2 h k = record {
-  before = s1;
-  after = s2;
-  said = t1;
-  added = t2;
-  steps_are = refl;
-  told_is = refl;
-  first = h;
-  next = k;
-}
-
-no_stop : (ends : AtEnd) → StopsBy ends [] []
-no_stop at_end.Leave = (refl, refl)
-no_stop at_end.Stop = many_none (IsStepOf (λ addr. command.Stop addr))
-
 -- lines, and nothing at the end
-pub end_none : (devices : List DeviceSetup) (opening : Notice) (findings : List Finding) (ends : AtEnd) (lines : List Said) (steps : List LiveStep)
-    (told : List Told) → PlaysLines devices opening findings lines steps told →
-    ServesLines devices opening findings ends lines steps told
-end_none devices opening findings ends lines steps told h = record {
+pub end_none : (knows : Knows) (setup : Setup) (opening : Notice) (findings : List Finding) (lines : List Said)
+    (steps : List LiveStep) (told : List Told) → PlaysLines knows setup opening findings lines steps told →
+    ServesLines knows setup opening findings at_end.Leave lines steps told
+end_none knows setup opening findings lines steps told h = record {
   before = steps;
   after = [];
   said = told;
@@ -370,7 +398,7 @@ end_none devices opening findings ends lines steps told h = record {
   steps_are = sym (append-nil steps);
   told_is = sym (append-nil told);
   first = h;
-  next = no_stop ends;
+  next = (refl, refl);
 }
 
 -- the number of the next line

@@ -1,7 +1,6 @@
 -- What was found, read off what is told.
 use Rattle.std.proofs.Common.{◌≡◌, ◌≤◌, ◌∙◌, ℕ, zero, suc, List, [], ◌∷◌, ◌++◌, Bool, true, false, Option, Some, None, refl, sym, ap, subst, inl, inr, append_assoc, length, drop, take, arith}
 use Rattle.std.proofs.lemmas.List.{append-nil, map-append}
-use Rattle.cct_model.specs.terms.device.DeviceSetup.{DeviceSetup}
 use Rattle.cct_model.specs.terms.device.Setup.{Setup}
 use Rattle.cct_model.specs.lines.command.Command.{Command}
 use Rattle.cct_model.specs.lines.command.Command.TheVariants as command
@@ -18,6 +17,7 @@ use Rattle.cct_service.specs.declared.notice.Notice.{Notice}
 use Rattle.cct_service.specs.declared.notice.Notice.TheVariants as notice_of
 use Rattle.cct_service.specs.Doing.{Decides, DoesCommand, DoesLine, DoesLines, Finds, FrontOf, IsAsking, IsAttempt, IsFound, IsOfPoll, IsOrder, IsPoll, IsStatus, IsStepOf, IsVisit, MakesAttempts, Tells, TellsOne, Times}
 use Rattle.cct_service.specs.Told.{Told, as_told, attempt_told, entry, falls_short, finding, findings_in, found_told, knows, last, notice, notices_told, operates, pays, refused, told_unsent, unheard, unsent}
+use Rattle.cct_service.specs.Known.{Knows, Rests}
 use Rattle.cct_service.specs.Said.{Said}
 use Rattle.cct_service.proofs.Doings.{line_then, made_are, many_none, many_one, many_weaker}
 
@@ -234,13 +234,14 @@ asking_rest a b added known is len steps told h =
     steps told h
 
 -- lines, and the next one, and what is found then
-pub lines_then : (first between : Setup) → between ≡ first → (a b c : List Finding) (lines : List Said) (number : ℕ)
-    (said : Said) → suc (length lines) ≡ number → (s1 s2 : List LiveStep) (t1 t2 : List Told) →
-    Finds a b (DoesLines first.devices a lines) s1 t1 → Finds b c (DoesLine between.devices b number said) s2 t2 →
-    Finds a c (DoesLines first.devices a (said ∷ lines)) (s1 ++ s2) (t1 ++ t2)
-lines_then first between same a b c lines number said is s1 s2 t1 t2 h k = (
-  line_then first.devices a b lines number said is s1 s2 t1 t2 h.0 h.1
-      (subst (λ setup. DoesLine setup.devices b number said s2 t2) same k.0),
+pub lines_then : (knows : Knows) (Rested : Bool → Type 0) (first between : Setup) → between ≡ first →
+    (a b c : List Finding) (lines : List Said) (number : ℕ) (said : Said) → suc (length lines) ≡ number →
+    (s1 s2 : List LiveStep) (t1 t2 : List Told) → ((rest : Bool) → Rested rest → knows t1 (Rests first rest)) →
+    Finds a b (DoesLines knows first a lines) s1 t1 → Finds b c (DoesLine Rested between.devices b number said) s2 t2 →
+    Finds a c (DoesLines knows first a (said ∷ lines)) (s1 ++ s2) (t1 ++ t2)
+lines_then knows Rested first between same a b c lines number said is s1 s2 t1 t2 to h k = (
+  line_then knows Rested first a b lines number said is s1 s2 t1 t2 to h.0 h.1
+      (subst (λ setup. DoesLine Rested setup.devices b number said s2 t2) same k.0),
   found_on a b c t1 t2 h.1 k.1,
 )
 
@@ -248,6 +249,6 @@ pub tells_finds : (n : ℕ) (why : LineKind) (steps : List LiveStep) (told : Lis
     findings_in told ≡ []
 tells_finds n why steps told h = ap findings_in h.1
 
-pub lines_none : (devices : List DeviceSetup) (findings : List Finding) →
-    Finds findings findings (DoesLines devices findings []) [] []
-lines_none devices findings = ((refl, refl), sym (append-nil findings))
+pub lines_none : (knows : Knows) (setup : Setup) (findings : List Finding) →
+    Finds findings findings (DoesLines knows setup findings []) [] []
+lines_none knows setup findings = ((refl, refl), sym (append-nil findings))

@@ -7,11 +7,14 @@ pub mod Parts
 pub mod Desks
 pub mod Linking
 pub mod Doings
+pub mod Knowing
+pub mod Stops
 pub mod Found
 pub mod Sessions
 pub mod Saying
 pub mod Causing
 pub mod Counting
+pub mod Ordering
 pub mod Begins
 pub mod Lawful
 pub mod Living

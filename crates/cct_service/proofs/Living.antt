@@ -29,15 +29,18 @@ use Rattle.cct_service.specs.Found.{Begun, FoundOn, found_there, made_new, was_f
 use Rattle.cct_service.specs.Opening.{BegunOn, given_as, opening_of, opening_over}
 use Rattle.cct_service.specs.Laws.{IsLawful}
 use Rattle.cct_service.specs.Linked.{UsesLink}
-use Rattle.cct_service.specs.Lived.{LeftBy, LeftSince, Lived}
+use Rattle.cct_service.specs.Lived.{KnownOn, LeftBy, LeftSince, Lived}
 use Rattle.cct_service.specs.AtDesk.{Both, FollowsTo}
-use Rattle.cct_service.specs.Doing.{FrontOf, ServesLines}
+use Rattle.cct_service.specs.Doing.{FrontOf, ServesLines, ends_by}
+use Rattle.cct_service.specs.Known.{KnownAfter}
 use Rattle.cct_service.specs.Causes.{SuitsDisk}
 use Rattle.cct_service.specs.Parts.{FailedSince, FailedToPut, LivesTo, Part, Plays}
 use Rattle.cct_service.specs.Reported.{AreSoWhere}
 use Rattle.cct_service.specs.Since.{Given, MayStand, StandsSince}
 use Rattle.cct_service.specs.Told.{Told, news_of}
 use Rattle.cct_service.proofs.Lawful.{lawful}
+use Rattle.cct_service.proofs.Parts.{lives_to_weaker}
+use Rattle.cct_service.proofs.Stops.{serves_lines_weaker}
 
 -- the records that are found follow one another
 found_follow : {D : Type 0} (honest : D → Bool) (seen : D → Option (List ℕ)) (may_leave : D → List ℕ → Type 0) (disk : D)
@@ -144,12 +147,25 @@ module _ {K : Type 0} (written : K → Option (List ℕ)) (puts : K → List ℕ
       UsesLink gives sent failures (setup_of last).devices roll now line next told
   devices_same told h = subst (λ s. UsesLink gives sent failures s.devices roll now line next told) same h
 
-  pub lived_by : (how : Served) (a b : K) →
+  -- what is known after what was told, whichever records were found
+  known_on : (told : List Told) (Fact : Desk → List Entry → Type 0) → KnownAfter host desk told Fact →
+      KnownOn g.honest g.seen g.may_leave given (setup_of last) begun desk told Fact
+  known_on told Fact known = (
+    known.0,
+    known.1,
+    λ found on.
+        let follow = found_follow g.honest g.seen g.may_leave given (setup_of last) begun found sound began on in
+        known.2 (given_as given [] begun) found [] (started found)
+        (subst (λ setup. IsLife MOST_RECORDS setup found [] (started found)) (sym same)
+        (life_begins MOST_RECORDS (setup_of last) found follow)) (opens found on []),
+  )
+
+  lived_so : (how : Served) (a b : K) →
       Plays written puts (Both (UsesLink gives sent failures (setup_of host).devices roll now line next) (FollowsTo how desk left_desk))
-      (ServesLines (setup_of last).devices (opening_of (setup_of last) begun) roll.findings ends) left how a b host last →
+      (ServesLines (KnownOn g.honest g.seen g.may_leave given (setup_of last) begun desk) (setup_of last) (opening_of (setup_of last) begun) roll.findings (ends_by how ends)) left how a b host last →
       Lived written puts gives sent failures g.size g.honest g.seen g.may_leave g.moment g.left_since g.cuts given back (setup_of last) roll now desk left_desk ends left how a b
       line next
-  lived_by served.Done a b plays = record {
+  lived_so served.Done a b plays = record {
     begun = begun;
     lines = plays.lines;
     steps = plays.lives.steps;
@@ -158,21 +174,21 @@ module _ {K : Type 0} (written : K → Option (List ℕ)) (puts : K → List ℕ
     does = plays.lives.does;
     wrote = plays.lives.wrote;
     lived = λ found on.
-        let l = part_lived a b (Ok tt) (StandsSince last) (Both (UsesLink gives sent failures (setup_of host).devices roll now line next) (FollowsTo served.Done desk left_desk)) (ServesLines (setup_of last).devices (opening_of (setup_of last) begun) roll.findings ends plays.lines) plays.lives found on [] in
+        let l = part_lived a b (Ok tt) (StandsSince last) (Both (UsesLink gives sent failures (setup_of host).devices roll now line next) (FollowsTo served.Done desk left_desk)) (ServesLines (KnownOn g.honest g.seen g.may_leave given (setup_of last) begun desk) (setup_of last) (opening_of (setup_of last) begun) roll.findings (ends_by served.Done ends) plays.lines) plays.lives found on [] in
         (l.0, l.1, left_standing (news_of plays.lives.told ++ started found) l.2.stands);
-    standing = λ found on. part_so a b (Ok tt) (StandsSince last) (Both (UsesLink gives sent failures (setup_of host).devices roll now line next) (FollowsTo served.Done desk left_desk)) (ServesLines (setup_of last).devices (opening_of (setup_of last) begun) roll.findings ends plays.lines) plays.lives found on;
+    standing = λ found on. part_so a b (Ok tt) (StandsSince last) (Both (UsesLink gives sent failures (setup_of host).devices roll now line next) (FollowsTo served.Done desk left_desk)) (ServesLines (KnownOn g.honest g.seen g.may_leave given (setup_of last) begun desk) (setup_of last) (opening_of (setup_of last) begun) roll.findings (ends_by served.Done ends) plays.lines) plays.lives found on;
     at_desk = plays.lives.linked.1;
     linked = devices_same plays.lives.told plays.lives.linked.0;
     on = began;
     numbers = numbered;
     moments = λ found on image holds.
-        let l = part_lived a b (Ok tt) (StandsSince last) (Both (UsesLink gives sent failures (setup_of host).devices roll now line next) (FollowsTo served.Done desk left_desk)) (ServesLines (setup_of last).devices (opening_of (setup_of last) begun) roll.findings ends plays.lines) plays.lives found on image in
+        let l = part_lived a b (Ok tt) (StandsSince last) (Both (UsesLink gives sent failures (setup_of host).devices roll now line next) (FollowsTo served.Done desk left_desk)) (ServesLines (KnownOn g.honest g.seen g.may_leave given (setup_of last) begun desk) (setup_of last) (opening_of (setup_of last) begun) roll.findings (ends_by served.Done ends) plays.lines) plays.lives found on image in
         moments_standing found image (news_of plays.lives.told ++ started found) l.2 holds;
     read = λ found on there whole none.
-        let l = part_lived a b (Ok tt) (StandsSince last) (Both (UsesLink gives sent failures (setup_of host).devices roll now line next) (FollowsTo served.Done desk left_desk)) (ServesLines (setup_of last).devices (opening_of (setup_of last) begun) roll.findings ends plays.lines) plays.lives found on [] in
+        let l = part_lived a b (Ok tt) (StandsSince last) (Both (UsesLink gives sent failures (setup_of host).devices roll now line next) (FollowsTo served.Done desk left_desk)) (ServesLines (KnownOn g.honest g.seen g.may_leave given (setup_of last) begun desk) (setup_of last) (opening_of (setup_of last) begun) roll.findings (ends_by served.Done ends) plays.lines) plays.lives found on [] in
         read_standing found (news_of plays.lives.told ++ started found) l.2 there none;
   }
-  lived_by (served.Refused number kind) a b plays = record {
+  lived_so (served.Refused number kind) a b plays = record {
     begun = begun;
     lines = plays.lines;
     steps = plays.lives.steps;
@@ -181,21 +197,21 @@ module _ {K : Type 0} (written : K → Option (List ℕ)) (puts : K → List ℕ
     does = plays.lives.does;
     wrote = plays.lives.wrote;
     lived = λ found on.
-        let l = part_lived a b (Ok tt) (StandsSince last) (Both (UsesLink gives sent failures (setup_of host).devices roll now line next) (FollowsTo (served.Refused number kind) desk left_desk)) (ServesLines (setup_of last).devices (opening_of (setup_of last) begun) roll.findings ends plays.lines) plays.lives found on [] in
+        let l = part_lived a b (Ok tt) (StandsSince last) (Both (UsesLink gives sent failures (setup_of host).devices roll now line next) (FollowsTo (served.Refused number kind) desk left_desk)) (ServesLines (KnownOn g.honest g.seen g.may_leave given (setup_of last) begun desk) (setup_of last) (opening_of (setup_of last) begun) roll.findings (ends_by (served.Refused number kind) ends) plays.lines) plays.lives found on [] in
         (l.0, l.1, left_standing (news_of plays.lives.told ++ started found) l.2.stands);
-    standing = λ found on. part_so a b (Ok tt) (StandsSince last) (Both (UsesLink gives sent failures (setup_of host).devices roll now line next) (FollowsTo (served.Refused number kind) desk left_desk)) (ServesLines (setup_of last).devices (opening_of (setup_of last) begun) roll.findings ends plays.lines) plays.lives found on;
+    standing = λ found on. part_so a b (Ok tt) (StandsSince last) (Both (UsesLink gives sent failures (setup_of host).devices roll now line next) (FollowsTo (served.Refused number kind) desk left_desk)) (ServesLines (KnownOn g.honest g.seen g.may_leave given (setup_of last) begun desk) (setup_of last) (opening_of (setup_of last) begun) roll.findings (ends_by (served.Refused number kind) ends) plays.lines) plays.lives found on;
     at_desk = plays.lives.linked.1;
     linked = devices_same plays.lives.told plays.lives.linked.0;
     on = began;
     numbers = numbered;
     moments = λ found on image holds.
-        let l = part_lived a b (Ok tt) (StandsSince last) (Both (UsesLink gives sent failures (setup_of host).devices roll now line next) (FollowsTo (served.Refused number kind) desk left_desk)) (ServesLines (setup_of last).devices (opening_of (setup_of last) begun) roll.findings ends plays.lines) plays.lives found on image in
+        let l = part_lived a b (Ok tt) (StandsSince last) (Both (UsesLink gives sent failures (setup_of host).devices roll now line next) (FollowsTo (served.Refused number kind) desk left_desk)) (ServesLines (KnownOn g.honest g.seen g.may_leave given (setup_of last) begun desk) (setup_of last) (opening_of (setup_of last) begun) roll.findings (ends_by (served.Refused number kind) ends) plays.lines) plays.lives found on image in
         moments_standing found image (news_of plays.lives.told ++ started found) l.2 holds;
     read = λ found on there whole none.
-        let l = part_lived a b (Ok tt) (StandsSince last) (Both (UsesLink gives sent failures (setup_of host).devices roll now line next) (FollowsTo (served.Refused number kind) desk left_desk)) (ServesLines (setup_of last).devices (opening_of (setup_of last) begun) roll.findings ends plays.lines) plays.lives found on [] in
+        let l = part_lived a b (Ok tt) (StandsSince last) (Both (UsesLink gives sent failures (setup_of host).devices roll now line next) (FollowsTo (served.Refused number kind) desk left_desk)) (ServesLines (KnownOn g.honest g.seen g.may_leave given (setup_of last) begun desk) (setup_of last) (opening_of (setup_of last) begun) roll.findings (ends_by (served.Refused number kind) ends) plays.lines) plays.lives found on [] in
         read_standing found (news_of plays.lives.told ++ started found) l.2 there none;
   }
-  lived_by served.Unread a b plays = record {
+  lived_so served.Unread a b plays = record {
     begun = begun;
     lines = plays.lines;
     steps = plays.lives.steps;
@@ -204,21 +220,21 @@ module _ {K : Type 0} (written : K → Option (List ℕ)) (puts : K → List ℕ
     does = plays.lives.does;
     wrote = plays.lives.wrote;
     lived = λ found on.
-        let l = part_lived a b (Ok tt) (StandsSince last) (Both (UsesLink gives sent failures (setup_of host).devices roll now line next) (FollowsTo served.Unread desk left_desk)) (ServesLines (setup_of last).devices (opening_of (setup_of last) begun) roll.findings ends plays.lines) plays.lives found on [] in
+        let l = part_lived a b (Ok tt) (StandsSince last) (Both (UsesLink gives sent failures (setup_of host).devices roll now line next) (FollowsTo served.Unread desk left_desk)) (ServesLines (KnownOn g.honest g.seen g.may_leave given (setup_of last) begun desk) (setup_of last) (opening_of (setup_of last) begun) roll.findings (ends_by served.Unread ends) plays.lines) plays.lives found on [] in
         (l.0, l.1, left_standing (news_of plays.lives.told ++ started found) l.2.stands);
-    standing = λ found on. part_so a b (Ok tt) (StandsSince last) (Both (UsesLink gives sent failures (setup_of host).devices roll now line next) (FollowsTo served.Unread desk left_desk)) (ServesLines (setup_of last).devices (opening_of (setup_of last) begun) roll.findings ends plays.lines) plays.lives found on;
+    standing = λ found on. part_so a b (Ok tt) (StandsSince last) (Both (UsesLink gives sent failures (setup_of host).devices roll now line next) (FollowsTo served.Unread desk left_desk)) (ServesLines (KnownOn g.honest g.seen g.may_leave given (setup_of last) begun desk) (setup_of last) (opening_of (setup_of last) begun) roll.findings (ends_by served.Unread ends) plays.lines) plays.lives found on;
     at_desk = plays.lives.linked.1;
     linked = devices_same plays.lives.told plays.lives.linked.0;
     on = began;
     numbers = numbered;
     moments = λ found on image holds.
-        let l = part_lived a b (Ok tt) (StandsSince last) (Both (UsesLink gives sent failures (setup_of host).devices roll now line next) (FollowsTo served.Unread desk left_desk)) (ServesLines (setup_of last).devices (opening_of (setup_of last) begun) roll.findings ends plays.lines) plays.lives found on image in
+        let l = part_lived a b (Ok tt) (StandsSince last) (Both (UsesLink gives sent failures (setup_of host).devices roll now line next) (FollowsTo served.Unread desk left_desk)) (ServesLines (KnownOn g.honest g.seen g.may_leave given (setup_of last) begun desk) (setup_of last) (opening_of (setup_of last) begun) roll.findings (ends_by served.Unread ends) plays.lines) plays.lives found on image in
         moments_standing found image (news_of plays.lives.told ++ started found) l.2 holds;
     read = λ found on there whole none.
-        let l = part_lived a b (Ok tt) (StandsSince last) (Both (UsesLink gives sent failures (setup_of host).devices roll now line next) (FollowsTo served.Unread desk left_desk)) (ServesLines (setup_of last).devices (opening_of (setup_of last) begun) roll.findings ends plays.lines) plays.lives found on [] in
+        let l = part_lived a b (Ok tt) (StandsSince last) (Both (UsesLink gives sent failures (setup_of host).devices roll now line next) (FollowsTo served.Unread desk left_desk)) (ServesLines (KnownOn g.honest g.seen g.may_leave given (setup_of last) begun desk) (setup_of last) (opening_of (setup_of last) begun) roll.findings (ends_by served.Unread ends) plays.lines) plays.lives found on [] in
         read_standing found (news_of plays.lives.told ++ started found) l.2 there none;
   }
-  lived_by served.Unwritten a b plays = record {
+  lived_so served.Unwritten a b plays = record {
     begun = begun;
     lines = plays.lines;
     steps = plays.lives.1.steps;
@@ -227,21 +243,21 @@ module _ {K : Type 0} (written : K → Option (List ℕ)) (puts : K → List ℕ
     does = plays.lives.1.does;
     wrote = (plays.lives.0, plays.lives.1.wrote);
     lived = λ found on.
-        let l = part_lived a b (Err plays.lives.0) (StandsSince last) (Both (UsesLink gives sent failures (setup_of host).devices roll now line next) (FollowsTo served.Unwritten desk left_desk)) (FrontOf (ServesLines (setup_of last).devices (opening_of (setup_of last) begun) roll.findings ends plays.lines)) plays.lives.1 found on [] in
+        let l = part_lived a b (Err plays.lives.0) (StandsSince last) (Both (UsesLink gives sent failures (setup_of host).devices roll now line next) (FollowsTo served.Unwritten desk left_desk)) (FrontOf (ServesLines (KnownOn g.honest g.seen g.may_leave given (setup_of last) begun desk) (setup_of last) (opening_of (setup_of last) begun) roll.findings (ends_by served.Unwritten ends) plays.lines)) plays.lives.1 found on [] in
         (l.0, l.1, left_standing (news_of plays.lives.1.told ++ started found) l.2.stands);
-    standing = λ found on. part_so a b (Err plays.lives.0) (StandsSince last) (Both (UsesLink gives sent failures (setup_of host).devices roll now line next) (FollowsTo served.Unwritten desk left_desk)) (FrontOf (ServesLines (setup_of last).devices (opening_of (setup_of last) begun) roll.findings ends plays.lines)) plays.lives.1 found on;
+    standing = λ found on. part_so a b (Err plays.lives.0) (StandsSince last) (Both (UsesLink gives sent failures (setup_of host).devices roll now line next) (FollowsTo served.Unwritten desk left_desk)) (FrontOf (ServesLines (KnownOn g.honest g.seen g.may_leave given (setup_of last) begun desk) (setup_of last) (opening_of (setup_of last) begun) roll.findings (ends_by served.Unwritten ends) plays.lines)) plays.lives.1 found on;
     at_desk = plays.lives.1.linked.1;
     linked = devices_same plays.lives.1.told plays.lives.1.linked.0;
     on = began;
     numbers = numbered;
     moments = λ found on image holds.
-        let l = part_lived a b (Err plays.lives.0) (StandsSince last) (Both (UsesLink gives sent failures (setup_of host).devices roll now line next) (FollowsTo served.Unwritten desk left_desk)) (FrontOf (ServesLines (setup_of last).devices (opening_of (setup_of last) begun) roll.findings ends plays.lines)) plays.lives.1 found on image in
+        let l = part_lived a b (Err plays.lives.0) (StandsSince last) (Both (UsesLink gives sent failures (setup_of host).devices roll now line next) (FollowsTo served.Unwritten desk left_desk)) (FrontOf (ServesLines (KnownOn g.honest g.seen g.may_leave given (setup_of last) begun desk) (setup_of last) (opening_of (setup_of last) begun) roll.findings (ends_by served.Unwritten ends) plays.lines)) plays.lives.1 found on image in
         moments_standing found image (news_of plays.lives.1.told ++ started found) l.2 holds;
     read = λ found on there whole none.
-        let l = part_lived a b (Err plays.lives.0) (StandsSince last) (Both (UsesLink gives sent failures (setup_of host).devices roll now line next) (FollowsTo served.Unwritten desk left_desk)) (FrontOf (ServesLines (setup_of last).devices (opening_of (setup_of last) begun) roll.findings ends plays.lines)) plays.lives.1 found on [] in
+        let l = part_lived a b (Err plays.lives.0) (StandsSince last) (Both (UsesLink gives sent failures (setup_of host).devices roll now line next) (FollowsTo served.Unwritten desk left_desk)) (FrontOf (ServesLines (KnownOn g.honest g.seen g.may_leave given (setup_of last) begun desk) (setup_of last) (opening_of (setup_of last) begun) roll.findings (ends_by served.Unwritten ends) plays.lines)) plays.lives.1 found on [] in
         read_standing found (news_of plays.lives.1.told ++ started found) l.2 there none;
   }
-  lived_by served.Disk a b plays = record {
+  lived_so served.Disk a b plays = record {
     begun = begun;
     lines = plays.lines;
     steps = plays.lives.steps;
@@ -250,21 +266,40 @@ module _ {K : Type 0} (written : K → Option (List ℕ)) (puts : K → List ℕ
     does = plays.lives.does;
     wrote = plays.lives.wrote;
     lived = λ found on.
-        let l = part_lived a b (Ok tt) (FailedSince last) (Both (UsesLink gives sent failures (setup_of host).devices roll now line next) (FollowsTo served.Disk desk left_desk)) (FrontOf (ServesLines (setup_of last).devices (opening_of (setup_of last) begun) roll.findings ends plays.lines)) plays.lives found on [] in
+        let l = part_lived a b (Ok tt) (FailedSince last) (Both (UsesLink gives sent failures (setup_of host).devices roll now line next) (FollowsTo served.Disk desk left_desk)) (FrontOf (ServesLines (KnownOn g.honest g.seen g.may_leave given (setup_of last) begun desk) (setup_of last) (opening_of (setup_of last) begun) roll.findings (ends_by served.Disk ends) plays.lines)) plays.lives found on [] in
         (l.0, l.1, left_failed (news_of plays.lives.told ++ started found) l.2.failed);
-    standing = λ found on. part_so a b (Ok tt) (FailedSince last) (Both (UsesLink gives sent failures (setup_of host).devices roll now line next) (FollowsTo served.Disk desk left_desk)) (FrontOf (ServesLines (setup_of last).devices (opening_of (setup_of last) begun) roll.findings ends plays.lines)) plays.lives found on;
+    standing = λ found on. part_so a b (Ok tt) (FailedSince last) (Both (UsesLink gives sent failures (setup_of host).devices roll now line next) (FollowsTo served.Disk desk left_desk)) (FrontOf (ServesLines (KnownOn g.honest g.seen g.may_leave given (setup_of last) begun desk) (setup_of last) (opening_of (setup_of last) begun) roll.findings (ends_by served.Disk ends) plays.lines)) plays.lives found on;
     at_desk = plays.lives.linked.1;
     linked = devices_same plays.lives.told plays.lives.linked.0;
     on = began;
     numbers = numbered;
     moments = λ found on image holds.
-        let l = part_lived a b (Ok tt) (FailedSince last) (Both (UsesLink gives sent failures (setup_of host).devices roll now line next) (FollowsTo served.Disk desk left_desk)) (FrontOf (ServesLines (setup_of last).devices (opening_of (setup_of last) begun) roll.findings ends plays.lines)) plays.lives found on image in
+        let l = part_lived a b (Ok tt) (FailedSince last) (Both (UsesLink gives sent failures (setup_of host).devices roll now line next) (FollowsTo served.Disk desk left_desk)) (FrontOf (ServesLines (KnownOn g.honest g.seen g.may_leave given (setup_of last) begun desk) (setup_of last) (opening_of (setup_of last) begun) roll.findings (ends_by served.Disk ends) plays.lines)) plays.lives found on image in
         moments_failed found image (news_of plays.lives.told ++ started found) l.2 holds;
     read = λ found on there whole none. absurd (whole tt);
   }
-  lived_by (served.OtherSize len) a b plays = absurd plays.lives
-  lived_by served.Alien a b plays = absurd plays.lives
-  lived_by (served.BadRecord index) a b plays = absurd plays.lives
+  lived_so (served.OtherSize len) a b plays = absurd plays.lives
+  lived_so served.Alien a b plays = absurd plays.lives
+  lived_so (served.BadRecord index) a b plays = absurd plays.lives
+
+  pub lived_by : (how : Served) (a b : K) →
+      Plays written puts (Both (UsesLink gives sent failures (setup_of host).devices roll now line next) (FollowsTo how desk left_desk))
+      (ServesLines (KnownAfter host desk) (setup_of last) (opening_of (setup_of last) begun) roll.findings (ends_by how ends)) left how a b host last →
+      Lived written puts gives sent failures g.size g.honest g.seen g.may_leave g.moment g.left_since g.cuts given back (setup_of last) roll now desk left_desk ends left how a b
+      line next
+  lived_by how a b plays =
+      let opening = opening_of (setup_of last) begun in
+      let knows = KnownOn g.honest g.seen g.may_leave given (setup_of last) begun desk in
+      lived_so how a b (record {
+        lines = plays.lines;
+        lives = lives_to_weaker written puts
+            (Both (UsesLink gives sent failures (setup_of host).devices roll now line next) (FollowsTo how desk left_desk)) how a b host last
+            (ServesLines (KnownAfter host desk) (setup_of last) opening roll.findings (ends_by how ends) plays.lines)
+            (ServesLines knows (setup_of last) opening roll.findings (ends_by how ends) plays.lines)
+            (serves_lines_weaker (setup_of last) (KnownAfter host desk) knows known_on opening roll.findings (ends_by how ends) plays.lines)
+            plays.lives;
+        says = plays.says;
+      })
 
 -- a host that lived had a disk that it could be started over
 pub lived_suits : {K D : Type 0} (written : K → Option (List ℕ)) (puts : K → List ℕ → Result (Unit {0}) Failed → K → Type 0)

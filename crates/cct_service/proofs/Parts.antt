@@ -386,7 +386,7 @@ module _ {K : Type 0} (written : K → Option (List ℕ)) (puts : K → List ℕ
   lives_weaker S (Err (served.BadRecord index)) a b old new P Q to h = absurd h
 
   -- an end within one thing is one within another
-  lives_front : (S : List Told → Type 0) (how : Served) (a b : K) (old new : Host D g)
+  pub lives_front : (S : List Told → Type 0) (how : Served) (a b : K) (old new : Host D g)
       (P Q : List LiveStep → List Told → Type 0) →
       ((steps : List LiveStep) (told : List Told) → P steps told → FrontOf Q steps told) →
       LivesOn written puts S P (Err how) a b old new → LivesOn written puts S Q (Err how) a b old new

@@ -61,6 +61,12 @@ so_after setup past failed (e ∷ entries) (notice_of.Device addr job epoch orde
 so_after setup past failed [] (notice_of.Last id) h = absurd h
 so_after setup past failed (entry_of.Wire addr sent heard ∷ entries) (notice_of.Last id) h = absurd h
 so_after setup past failed (e ∷ entries) (notice_of.Last id) h = absurd h
+so_after setup past failed [] (notice_of.Room records) h = absurd h
+so_after setup past failed (entry_of.Wire addr sent heard ∷ entries) (notice_of.Room records) h = absurd h
+so_after setup past failed (e ∷ entries) (notice_of.Room records) h = absurd h
+so_after setup past failed [] (notice_of.Order id told) h = absurd h
+so_after setup past failed (entry_of.Wire addr sent heard ∷ entries) (notice_of.Order id told) h = absurd h
+so_after setup past failed (e ∷ entries) (notice_of.Order id told) h = absurd h
 so_after setup past failed entries n h = tt
 
 so_notices : (setup : Setup) (past : List Entry) (failed : Bool) (entries : List Entry) (notices : List Notice) →

@@ -23,7 +23,7 @@ use Rattle.cct_script.specs.declared.live.LiveLine.{LiveLine}
 use Rattle.cct_survey.specs.declared.finding.Finding.{Finding}
 use Rattle.cct_survey.specs.declared.withholding.Withheld.{Withheld}
 use Rattle.cct_survey.specs.Finding.{withheld_by}
-use Rattle.cct_service.specs.Doing.{DecidesPay, Does, DoesKnown, DoesPay, Finds, FrontOf, IsAsking, IsNothing, IsOfPoll, IsPoll, IsServing, MayServe, Tells, TellsStep, Then}
+use Rattle.cct_service.specs.Doing.{DecidesPay, Does, DoesKnown, DoesPay, Finds, FrontOf, IsAsking, IsNothing, IsOfPoll, IsPoll, IsServing, ServesOn, Tells, TellsStep, Then}
 use Rattle.cct_service.specs.Session.{HasAsked}
 use Rattle.cct_service.specs.Told.{Told, falls_short, findings_in, operates, pay_of, pays, refused, refused_for, taken, withheld_for}
 use Rattle.cct_service.proofs.Doings.{many_none}
@@ -97,12 +97,13 @@ pub pay_serves : (findings : List Finding) (p : Payment) (steps : List LiveStep)
     DecidesPay findings p steps told → IsServing findings steps told
 pay_serves findings p steps told h = inr (p, h)
 
-pub serving_may : (findings : List Finding) (steps : List LiveStep) (told : List Told) → IsServing findings steps told →
-    MayServe findings steps told
-serving_may findings steps told h = inr h
+pub goes_unrested : (Rested : Bool → Type 0) → Rested false → (findings : List Finding) (steps : List LiveStep)
+    (told : List Told) → IsServing findings steps told → ServesOn Rested findings steps told
+goes_unrested Rested has findings steps told h = inr (h, has)
 
-pub may_wait : (findings : List Finding) → Finds findings findings (MayServe findings) [] []
-may_wait findings = (inl (refl, refl), sym (append-nil findings))
+pub may_rest : (Rested : Bool → Type 0) → Rested true → (findings : List Finding) →
+    Finds findings findings (ServesOn Rested findings) [] []
+may_rest Rested none findings = (inl ((refl, refl), none), sym (append-nil findings))
 
 -- a payment tells no finding
 pay_finds : (p : Payment) (why : Option Withheld) (steps : List LiveStep) (told : List Told) → DoesPay p why steps told →
@@ -145,9 +146,9 @@ pays_broken a b p steps told h =
     record { undone = k.0; untold = k.1; whole = pays_then a b p steps k.0 told k.1 h k.2 }
 
 -- a session that goes on or not, and then the rest of a poll
-pub served_then : (known : List Finding) (s1 s2 : List LiveStep) (t1 t2 : List Told) → MayServe known s1 t1 → IsPoll s2 t2 →
-    Then (MayServe known) IsPoll (s1 ++ s2) (t1 ++ t2)
-served_then known s1 s2 t1 t2 h k = record {
+pub served_then : (Rested : Bool → Type 0) (known : List Finding) (s1 s2 : List LiveStep) (t1 t2 : List Told) →
+    ServesOn Rested known s1 t1 → IsPoll s2 t2 → Then (ServesOn Rested known) IsPoll (s1 ++ s2) (t1 ++ t2)
+served_then Rested known s1 s2 t1 t2 h k = record {
   before = s1;
   after = s2;
   said = t1;
@@ -158,10 +159,11 @@ served_then known s1 s2 t1 t2 h k = record {
   next = k;
 }
 
-pub served_alone : (known now : List Finding) (steps : List LiveStep) (told : List Told) →
-    Finds known now (MayServe known) steps told → Finds known now (Then (MayServe known) IsPoll) steps told
-served_alone known now =
-    finds_weaker known now (MayServe known) (Then (MayServe known) IsPoll) (λ steps told h. record {
+pub served_alone : (Rested : Bool → Type 0) (known now : List Finding) (steps : List LiveStep) (told : List Told) →
+    Finds known now (ServesOn Rested known) steps told →
+    Finds known now (Then (ServesOn Rested known) IsPoll) steps told
+served_alone Rested known now =
+    finds_weaker known now (ServesOn Rested known) (Then (ServesOn Rested known) IsPoll) (λ steps told h. record {
       before = steps;
       after = [];
       said = told;
@@ -173,14 +175,14 @@ served_alone known now =
     })
 
 -- what a line says is done for it, where it names what is there, and else it is refused
-pub known_line : (known : Bool) → known ≡ true → (findings : List Finding) (number : ℕ) (said : LiveLine)
-    (steps : List LiveStep) (told : List Told) → Does findings said steps told →
-    DoesKnown known findings number said steps told
-known_line true is findings number said steps told h = h
-known_line false is findings number said steps told h = cc is
+pub known_line : (Rested : Bool → Type 0) (known : Bool) → known ≡ true → (findings : List Finding) (number : ℕ)
+    (said : LiveLine) (steps : List LiveStep) (told : List Told) → Does Rested findings said steps told →
+    DoesKnown Rested known findings number said steps told
+known_line Rested true is findings number said steps told h = h
+known_line Rested false is findings number said steps told h = cc is
 
-pub unknown_line : (known : Bool) → known ≡ false → (findings : List Finding) (number : ℕ) (said : LiveLine)
-    (steps : List LiveStep) (told : List Told) → Tells (refused number kind.Device) steps told →
-    DoesKnown known findings number said steps told
-unknown_line true is findings number said steps told h = cc is
-unknown_line false is findings number said steps told h = h
+pub unknown_line : (Rested : Bool → Type 0) (known : Bool) → known ≡ false → (findings : List Finding) (number : ℕ)
+    (said : LiveLine) (steps : List LiveStep) (told : List Told) → Tells (refused number kind.Device) steps told →
+    DoesKnown Rested known findings number said steps told
+unknown_line Rested true is findings number said steps told h = cc is
+unknown_line Rested false is findings number said steps told h = h

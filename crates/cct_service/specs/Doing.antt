@@ -10,6 +10,7 @@ use Rattle.cct_model.specs.lines.entry.Entry.{Entry}
 use Rattle.cct_model.specs.lines.entry.LineKind.TheVariants as kind
 use Rattle.cct_model.specs.declared.change.Payment.{Payment}
 use Rattle.cct_model.specs.terms.device.DeviceSetup.{DeviceSetup}
+use Rattle.cct_model.specs.terms.device.Setup.{Setup}
 use Rattle.cct_model.specs.Exchange.{device_at, hopper_there}
 use Rattle.cct_script.specs.declared.live.LiveLine.{LiveLine}
 use Rattle.cct_script.specs.declared.live.LiveLine.TheVariants as says
@@ -25,10 +26,13 @@ use Rattle.cct_service.specs.declared.input.InputLine.TheVariants as input
 use Rattle.cct_service.specs.declared.notice.Notice.{Notice}
 use Rattle.cct_service.specs.declared.notice.Notice.TheVariants as notice_of
 use Rattle.cct_service.specs.declared.outside.OrderTold.{OrderTold}
+use Rattle.cct_service.specs.declared.served.Served.{Served}
+use Rattle.cct_service.specs.declared.served.Served.TheVariants as served
 use Rattle.cct_service.specs.declared.stopping.AtEnd.{AtEnd}
 use Rattle.cct_service.specs.declared.stopping.AtEnd.TheVariants as at_end
 use Rattle.cct_service.specs.Ends.{tells_end}
 use Rattle.cct_service.specs.Held.{IsAfter}
+use Rattle.cct_service.specs.Known.{HasJob, IsIdle, Knows, Rests}
 use Rattle.cct_service.specs.Said.{Said}
 use Rattle.cct_service.specs.Told.{AreOfStatus, Told, attempt_told, entry, falls_short, findings_in, found_told, knows_each, notice, notices_told, operates, pay_of, pays, refused, refused_for, taken, withheld_for}
 
@@ -182,23 +186,25 @@ abbrev pub IsServing : List Finding → List LiveStep → List Told → Type 0
 IsServing findings steps told =
     TellsStep step.Serve steps told ⊎ ((p : Payment) × DecidesPay findings p steps told)
 
--- It does, or it waits.
-abbrev pub MayServe : List Finding → List LiveStep → List Told → Type 0
-MayServe findings steps told = IsNothing steps told ⊎ IsServing findings steps told
+-- In a poll it does, unless it has nothing to do: just then nothing is done.
+abbrev pub ServesOn : (Bool → Type 0) → List Finding → List LiveStep → List Told → Type 0
+ServesOn Rested findings steps told =
+    (IsNothing steps told × Rested true) ⊎ (IsServing findings steps told × Rested false)
 
--- What is done for what a line says, by what was found before. One that ends the service is none of these.
-abbrev pub Does : List Finding → LiveLine → List LiveStep → List Told → Type 0
-Does findings (says.Command c) = Decides findings c
-Does findings (says.Next addr) = IsAttempt addr
-Does findings (says.Do addr) = MakesAttempts until_of.Ended addr
-Does findings says.Poll = Then (MayServe findings) IsPoll
-Does findings says.Balance = TellsOne live.balance
-Does findings says.Status = IsStatus
-Does findings (says.Order id) = IsOrder id
-Does findings (says.Stock addr count) = TellsStep (step.Stock addr count)
-Does findings (says.Change first amount) = TellsStep (step.Change first amount)
-Does findings says.Serve = IsServing findings
-Does findings says.End = λ steps told. ⊥
+-- What is done for what a line says, by whether the session has nothing to do, and by what was found before. One that ends
+-- the service is none of these.
+abbrev pub Does : (Bool → Type 0) → List Finding → LiveLine → List LiveStep → List Told → Type 0
+Does Rested findings (says.Command c) = Decides findings c
+Does Rested findings (says.Next addr) = IsAttempt addr
+Does Rested findings (says.Do addr) = MakesAttempts until_of.Ended addr
+Does Rested findings says.Poll = Then (ServesOn Rested findings) IsPoll
+Does Rested findings says.Balance = TellsOne live.balance
+Does Rested findings says.Status = IsStatus
+Does Rested findings (says.Order id) = IsOrder id
+Does Rested findings (says.Stock addr count) = TellsStep (step.Stock addr count)
+Does Rested findings (says.Change first amount) = TellsStep (step.Change first amount)
+Does Rested findings says.Serve = IsServing findings
+Does Rested findings says.End = λ steps told. ⊥
 
 -- A line names what is there: a stock is one of a hopper.
 abbrev pub is_known : List DeviceSetup → LiveLine → Bool
@@ -206,40 +212,80 @@ is_known devices (says.Stock addr count) = hopper_there (device_at devices addr)
 is_known devices said = true
 
 -- What is done for a line that names what is there, or not: what it says, or it is refused.
-abbrev pub DoesKnown : Bool → List Finding → ℕ → LiveLine → List LiveStep → List Told → Type 0
-DoesKnown true findings number said = Does findings said
-DoesKnown false findings number said = Tells (refused number kind.Device)
+abbrev pub DoesKnown : (Bool → Type 0) → Bool → List Finding → ℕ → LiveLine → List LiveStep → List Told → Type 0
+DoesKnown Rested true findings number said = Does Rested findings said
+DoesKnown Rested false findings number said = Tells (refused number kind.Device)
 
 -- What is done for the line of a number, by the devices of the setup; or it is told that it says nothing.
-abbrev pub DoesLine : List DeviceSetup → List Finding → ℕ → Said → List LiveStep → List Told → Type 0
-DoesLine devices findings number (Ok (input.Host said)) = DoesKnown (is_known devices said) findings number said
-DoesLine devices findings number (Ok input.State) = IsStating
-DoesLine devices findings number (Err why) = Tells (refused number why)
+abbrev pub DoesLine : (Bool → Type 0) → List DeviceSetup → List Finding → ℕ → Said → List LiveStep → List Told → Type 0
+DoesLine Rested devices findings number (Ok (input.Host said)) = DoesKnown Rested (is_known devices said) findings number said
+DoesLine Rested devices findings number (Ok input.State) = IsStating
+DoesLine Rested devices findings number (Err why) = Tells (refused number why)
 
--- What was done for lines, newest first: each one is done after those before it, by what was found up to then.
-abbrev pub DoesLines : List DeviceSetup → List Finding → List Said → List LiveStep → List Told → Type 0
-DoesLines devices findings [] = IsNothing
-DoesLines devices findings (said ∷ before) =
-    ThenBy (DoesLines devices findings before)
-    (λ told. DoesLine devices (findings ++ findings_in told) (suc (length before)) said)
+-- What was done for lines, newest first: each one is done after those before it, by what is known and was found up to then.
+abbrev pub DoesLines : Knows → Setup → List Finding → List Said → List LiveStep → List Told → Type 0
+DoesLines knows setup findings [] = IsNothing
+DoesLines knows setup findings (said ∷ before) =
+    ThenBy (DoesLines knows setup findings before)
+    (λ told. DoesLine (λ rest. knows told (Rests setup rest)) setup.devices (findings ++ findings_in told)
+    (suc (length before)) said)
 
 -- It was done so, and what is found then is what was found before and what was told.
 abbrev pub Finds : List Finding → List Finding → (List LiveStep → List Told → Type 0) → List LiveStep → List Told → Type 0
 Finds before now Doing steps told = Doing steps told × (now ≡ before ++ findings_in told)
 
--- Acceptors are stopped: stops are begun, and jobs make attempts.
-abbrev pub IsStopping : List LiveStep → List Told → Type 0
-IsStopping = Many (IsStepOf (λ addr. command.Stop addr))
+-- The job at an address makes attempts up to there, where one is; where none is, nothing is done.
+abbrev pub GoesOnTo : Type 0 → Until → ℕ → List LiveStep → List Told → Type 0
+GoesOnTo NoJob until addr steps told = (IsNothing steps told × NoJob) ⊎ MakesAttempts until addr steps told
 
--- What is done at the end.
-abbrev pub StopsBy : AtEnd → List LiveStep → List Told → Type 0
-StopsBy at_end.Leave = IsNothing
-StopsBy at_end.Stop = IsStopping
+-- A stop is begun at an address, and its job makes attempts up to its end, if it was taken.
+abbrev pub GivesStop : Knows → Setup → ℕ → List LiveStep → List Told → Type 0
+GivesStop knows setup addr =
+    ThenBy (TellsOne (live.command (command.Stop addr)))
+    (λ said. GoesOnTo (knows said (HasJob setup addr false)) until_of.Ended addr)
+
+-- An acceptor that runs still after this is stopped. One at which a job was may be left so, since it may have ended for want
+-- of an answer.
+abbrev pub StopsStill : Knows → Setup → ℕ → List Told → List LiveStep → List Told → Type 0
+StopsStill knows setup addr said steps told =
+    (IsNothing steps told × (knows said (IsIdle setup addr) ⊎ knows [] (HasJob setup addr true)))
+    ⊎ GivesStop (λ more. knows (said ++ more)) setup addr steps told
+
+-- The job at an address makes attempts up to its end, and then the acceptor is stopped.
+abbrev pub StopsRunning : Knows → Setup → ℕ → List LiveStep → List Told → Type 0
+StopsRunning knows setup addr =
+    ThenBy (GoesOnTo (knows [] (HasJob setup addr false)) until_of.Ended addr) (StopsStill knows setup addr)
+
+-- So the acceptor at an address is stopped, unless none runs there.
+abbrev pub StopsAt : Knows → Setup → ℕ → List LiveStep → List Told → Type 0
+StopsAt knows setup addr steps told =
+    (IsNothing steps told × knows [] (IsIdle setup addr)) ⊎ StopsRunning knows setup addr steps told
+
+-- So it is at each of the first so many addresses, one after another.
+abbrev pub StopsUpTo : ℕ → Knows → Setup → List LiveStep → List Told → Type 0
+StopsUpTo zero knows setup = IsNothing
+StopsUpTo (suc addr) knows setup =
+    ThenBy (StopsUpTo addr knows setup) (λ said. StopsAt (λ more. knows (said ++ more)) setup addr)
+
+-- What is done at the end: at each address.
+abbrev pub StopsBy : AtEnd → Knows → Setup → List LiveStep → List Told → Type 0
+StopsBy at_end.Leave knows setup = IsNothing
+StopsBy at_end.Stop knows setup = StopsUpTo 256 knows setup
+
+-- Only where the input said so, or was over, something is done at the end.
+abbrev pub ends_by : Served → AtEnd → AtEnd
+ends_by served.Done ends = ends
+ends_by served.Unwritten ends = ends
+ends_by served.Disk ends = ends
+ends_by how ends = at_end.Leave
 
 -- What a service does for lines, newest first, up to its end: it tells first what it begins with.
-abbrev pub PlaysLines : List DeviceSetup → Notice → List Finding → List Said → List LiveStep → List Told → Type 0
-PlaysLines devices opening findings lines = Then (Tells (notice opening)) (DoesLines devices findings lines)
+abbrev pub PlaysLines : Knows → Setup → Notice → List Finding → List Said → List LiveStep → List Told → Type 0
+PlaysLines knows setup opening findings lines =
+    Then (Tells (notice opening)) (DoesLines knows setup findings lines)
 
 -- And what it does at the end.
-abbrev pub ServesLines : List DeviceSetup → Notice → List Finding → AtEnd → List Said → List LiveStep → List Told → Type 0
-ServesLines devices opening findings ends lines = Then (PlaysLines devices opening findings lines) (StopsBy ends)
+abbrev pub ServesLines : Knows → Setup → Notice → List Finding → AtEnd → List Said → List LiveStep → List Told → Type 0
+ServesLines knows setup opening findings ends lines =
+    ThenBy (PlaysLines knows setup opening findings lines)
+    (λ said. StopsBy ends (λ more. knows (said ++ more)) setup)

@@ -6,6 +6,7 @@ pub mod Said
 pub mod Session
 pub mod AtDesk
 pub mod Ends
+pub mod Known
 pub mod Doing
 pub mod Asked
 pub mod Linked

@@ -17,11 +17,12 @@ use Rattle.cct_lives.specs.Live.{started}
 use Rattle.cct_lives.specs.LiveStep.{LiveStep}
 use Rattle.cct_service.specs.declared.served.Served.{Served}
 use Rattle.cct_service.specs.declared.served.Served.TheVariants as served
-use Rattle.cct_service.specs.AtDesk.{FollowsTo}
+use Rattle.cct_service.specs.AtDesk.{AtDesk, FollowsTo}
 use Rattle.cct_service.specs.Causes.{IsDiskFault}
-use Rattle.cct_service.specs.Doing.{FrontOf, ServesLines}
+use Rattle.cct_service.specs.Doing.{FrontOf, ServesLines, ends_by}
 use Rattle.cct_service.specs.Ending.{IsOfDisk, closed_by, last_told}
 use Rattle.cct_service.specs.Found.{Begun, FoundOn, was_found}
+use Rattle.cct_service.specs.Known.{Knows}
 use Rattle.cct_service.specs.Laws.{IsLawful}
 use Rattle.cct_service.specs.Linked.{UsesLink}
 use Rattle.cct_service.specs.Opening.{BegunOn, opening_of, opening_over}
@@ -68,6 +69,14 @@ module _ {D : Type 0} (moment : D → ℕ) (left_since : D → ℕ → List ℕ 
   LeftSince setup how there image found past =
       LeavesOnly moment left_since given back (MayStand setup there image found (records past))
 
+-- What holds of the desk and of all that happened, after what was told since a service began with this, whichever records were
+-- found.
+abbrev pub KnownOn : {D : Type 0} → (D → Bool) → (D → Option (List ℕ)) → (D → List ℕ → Type 0) → D → Setup → Begun → Desk
+    → Knows
+KnownOn honest seen may_leave given setup begun desk told Fact =
+    (now : Desk) × AtDesk desk now told
+    × ((found : List Record) → FoundOn honest seen may_leave given setup begun found → Fact now (news_of told ++ started found))
+
 -- of a sink, of a link, and of a disk as it was given and as it came back
 module _ {K : Type 0} (written : K → Option (List ℕ)) (puts : K → List ℕ → Result (Unit {0}) Failed → K → Type 0)
     {L : Type 0} (gives : L → List ℕ → List ℕ → L → Type 0) (sent : L → Bool) (failures : L → ℕ)
@@ -84,7 +93,8 @@ module _ {K : Type 0} (written : K → Option (List ℕ)) (puts : K → List ℕ
     pub steps : List LiveStep
     pub told : List Told
     pub says : Says left lines how
-    pub does : DoesTo (ServesLines setup.devices (opening_of setup begun) roll.findings ends lines) how steps told
+    pub does : DoesTo (ServesLines (KnownOn honest seen may_leave given setup begun desk) setup (opening_of setup begun)
+        roll.findings (ends_by how ends) lines) how steps told
     pub wrote : TellsTo written puts how old told new
     pub lived : (found : List Record) → FoundOn honest seen may_leave given setup begun found
         → IsLife MOST_RECORDS setup found steps (news_of told ++ started found)

@@ -1,26 +1,58 @@
 -- What is told of how a host stands, against all that was told before it.
-use Rattle.std.specs.Prelude.{◌≡◌, ℕ, List, [], ◌∷◌, ◌++◌, Option, Result, ⊤}
+use Rattle.std.specs.Prelude.{◌≡◌, ◌==◌, ℕ, List, [], ◌∷◌, ◌++◌, if◌then◌else◌, Option, Some, None, Result, ⊤}
 use Rattle.std.specs.List.{All}
 use Rattle.cct_edge.specs.declared.fault.Failed.{Failed}
 use Rattle.cct_disk.specs.declared.disk.Disk.{Ghosts}
+use Rattle.cct_model.specs.terms.device.DeviceSetup.{DeviceSetup}
 use Rattle.cct_model.specs.terms.device.Setup.{Setup}
+use Rattle.cct_model.specs.declared.judging.OpenOrder.{OpenOrder}
 use Rattle.cct_model.specs.lines.entry.Entry.{Entry}
 use Rattle.cct_model.specs.lines.entry.Entry.TheVariants as entry_of
 use Rattle.cct_model.specs.Records.{records}
 use Rattle.cct_model.specs.Refusal.{last_id}
+use Rattle.cct_journal.specs.declared.format.TheConstants.{MOST_RECORDS}
 use Rattle.cct_host.specs.declared.host.Host.{Host}
 use Rattle.cct_host.specs.Host.{Keeps, setup_of}
-use Rattle.cct_host.specs.Standing.{command_at, epoch_at, order_at}
+use Rattle.cct_host.specs.Standing.{command_at, epoch_at, order_at, room_after}
 use Rattle.cct_service.specs.declared.notice.Notice.{Notice}
 use Rattle.cct_service.specs.declared.notice.Notice.TheVariants as notice_of
+use Rattle.cct_service.specs.declared.outside.OrderTold.{OrderTold}
+use Rattle.cct_service.specs.declared.outside.OrderTold.TheVariants as order_of
 use Rattle.cct_service.specs.Stated.{IsStateOf}
 use Rattle.cct_service.specs.Told.{IsOfStatus, Told, WritesTold, answer_news, entry, knows, notice, notices_told, pays, unsent}
 
--- A notice tells how a host stands after a past: the job, the running epoch and the open order at an address, and the last id.
+-- What is told of the order of an id, where this is an open order at an address.
+abbrev pub open_by : ℕ → ℕ → Option OpenOrder → Option OrderTold
+open_by id addr None = None
+open_by id addr (Some owed) = if owed.id == id then Some (order_of.Open addr owed.count) else None
+
+-- This is told, or else the other.
+abbrev pub first_of : Option OrderTold → Option OrderTold → Option OrderTold
+first_of None other = other
+first_of (Some told) other = Some told
+
+-- What is told of the first of some devices of which something is.
+abbrev pub first_in : (DeviceSetup → Option OrderTold) → List DeviceSetup → Option OrderTold
+first_in tells [] = None
+first_in tells (d ∷ devices) = first_of (tells d) (first_in tells devices)
+
+-- What is told of an order that is open at one of the devices, after a past.
+abbrev pub open_in : Setup → List Entry → ℕ → Option OrderTold
+open_in setup past id = first_in (λ d. open_by id d.addr (order_at setup past d.addr)) setup.devices
+
+-- Just this is told, where it is known.
+abbrev pub IsJust : Option OrderTold → OrderTold → Type 0
+IsJust None told = ⊤
+IsJust (Some known) told = told ≡ known
+
+-- A notice tells how a host stands after a past: the job, the running epoch and the open order at an address, the last id, the
+-- room of the journal, and where an order is open.
 abbrev pub IsSo : Setup → List Entry → Notice → Type 0
 IsSo setup past (notice_of.Device addr job epoch order) =
     (job ≡ command_at setup past addr) × (epoch ≡ epoch_at setup past addr) × (order ≡ order_at setup past addr)
 IsSo setup past (notice_of.Last id) = id ≡ last_id setup past
+IsSo setup past (notice_of.Room records) = records ≡ room_after MOST_RECORDS setup past
+IsSo setup past (notice_of.Order id told) = IsJust (open_in setup past id) told
 IsSo setup past n = ⊤
 
 -- Each does among what is told, after the past and the entries that are told before it; and what the journal knows is told as

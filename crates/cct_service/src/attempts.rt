@@ -5,8 +5,9 @@ ghost use Rattle.cct_disk.specs.Disk.{GoesOn};
 ghost use Rattle.cct_edge.specs.Faults.{HasCause};
 ghost use Rattle.cct_host.specs.Host.{Fails, FailsBetween, Nexts, disk_of, has_failed, setup_of};
 ghost use Rattle.cct_service.specs.AtDesk.{Both, FollowsDesk};
-ghost use Rattle.cct_service.specs.Doing.{AreAttempts, IsAttemptWith, MakesAttempts};
+ghost use Rattle.cct_service.specs.Doing.{GoesOnTo, IsAttemptWith, MakesAttempts};
 ghost use Rattle.cct_service.specs.Ends.{is_end};
+ghost use Rattle.cct_service.specs.Known.{HasJob, IsKnown};
 ghost use Rattle.cct_service.specs.Linked.{Exchanges, HasGone};
 ghost use Rattle.cct_service.specs.Parts.{Acts};
 
@@ -151,7 +152,7 @@ pub(crate) fn go_on<K: Sink, D: Disk, L: CountedLink>(
     requires whole { has_failed host.old ≡ false }
     ensures acts { Acts K.written K.puts K.faults (Both (Exchanges L.gives L.sent L.failures link.old link.new)
         (FollowsDesk result desk.old desk.new))
-        (AreAttempts addr MOST_ATTEMPTS) result out.old out.new host.old host.new }
+        (GoesOnTo (IsKnown host.old desk.old (HasJob (setup_of host.old) addr false)) until addr) result out.old out.new host.old host.new }
 {
     if host.command_at(addr).is_some() {
         attempts(host, addr, until, desk, link, out, page)

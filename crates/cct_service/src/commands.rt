@@ -1,12 +1,14 @@
 //! What is answered at once: commands, the balance, the standing of the devices, and orders.
-ghost use Rattle.std.specs.Prelude.{◌≡◌, ◌∷◌, [], false};
-ghost use Rattle.cct_host.specs.Host.{disk_of, has_failed, setup_of};
+ghost use Rattle.std.specs.Prelude.{◌≡◌, ◌∷◌, [], List, false};
+ghost use Rattle.cct_host.specs.Host.{Keeps, disk_of, has_failed, setup_of};
 ghost use Rattle.cct_lives.specs.LiveStep as live;
 ghost use Rattle.cct_model.specs.Script.{IsCommand};
+ghost use Rattle.cct_model.specs.lines.entry.Entry.{Entry};
 ghost use Rattle.cct_service.specs.AtDesk.{Both, IsApart};
 ghost use Rattle.cct_service.specs.Doing.{DoesCommand, IsOrder, IsStatus, TellsOne};
 ghost use Rattle.cct_service.specs.Linked.{AreQuiet};
 ghost use Rattle.cct_service.specs.Parts.{Acts, HostGoes};
+ghost use Rattle.cct_service.specs.Reported.{IsJust, open_by, open_in};
 ghost use Rattle.cct_service.specs.Told.{as_told};
 ghost use Rattle.cct_survey.specs.Finding.{withheld_by};
 
@@ -18,7 +20,7 @@ use crate::standing::tell_status;
 use cct_disk::Disk;
 use cct_edge::Sink;
 use cct_host::Host;
-use cct_model::{Command, Entry};
+use cct_model::{Command, Entry, OpenOrder};
 use cct_survey::{Finding, Withheld, withheld_by};
 
 /// Gives the host a command, unless what was found withholds it, which is told.
@@ -139,7 +141,9 @@ pub(crate) fn order<K: Sink, D: Disk, O: Outside>(
 }
 
 /// What is known of an order: the host knows those that are open.
-fn order_told<D: Disk, O: Outside>(host: &Host<'_, D>, id: u32, outside: &mut O) -> OrderTold {
+fn order_told<D: Disk, O: Outside>(host: &Host<'_, D>, id: u32, outside: &mut O) -> OrderTold
+    ensures known { (past : List Entry) → Keeps host.now past → IsJust (open_in (setup_of host.now) past id) result }
+{
     match open_order(host, id) {
         Some(told) => told,
         None => outside.order(id),
@@ -147,16 +151,33 @@ fn order_told<D: Disk, O: Outside>(host: &Host<'_, D>, id: u32, outside: &mut O)
 }
 
 /// Where an order is open, if it is.
-fn open_order<D: Disk>(host: &Host<'_, D>, id: u32) -> Option<OrderTold> {
+fn open_order<D: Disk>(host: &Host<'_, D>, id: u32) -> Option<OrderTold>
+    ensures known { (past : List Entry) → Keeps host.now past → result ≡ open_in (setup_of host.now) past id }
+{
     for device in host.setup().devices.as_slice() {
-        if let Some(order) = host.order_at(device.addr) {
-            if order.id == id {
-                return Some(OrderTold::Open {
-                    addr: device.addr,
-                    count: order.count,
-                });
-            }
+        let told = open_by(id, device.addr, host.order_at(device.addr));
+        if told.is_some() {
+            return told;
         }
     }
     None
+}
+
+/// What is told of the order of an id, where this is an open order at an address.
+fn open_by(id: u32, addr: u8, order: Option<OpenOrder>) -> Option<OrderTold>
+    ensures { result ≡ open_by id addr order }
+{
+    match order {
+        Some(owed) => {
+            if owed.id == id {
+                Some(OrderTold::Open {
+                    addr,
+                    count: owed.count,
+                })
+            } else {
+                None
+            }
+        }
+        None => None,
+    }
 }

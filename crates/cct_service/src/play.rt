@@ -11,6 +11,7 @@ ghost use Rattle.cct_service.specs.Asked.{AsksAt, asked_before};
 ghost use Rattle.cct_service.specs.AtDesk.{Both, FollowsDesk, FollowsTo, IsApart};
 ghost use Rattle.cct_service.specs.Causes.{DiskServes, EndsBy, IsDiskFault, IsUnread, IsUnwritten};
 ghost use Rattle.cct_service.specs.Doing.{Decides, Does, DoesLine, DoesLines, Finds, IsAttempt, MakesAttempts, Tells, is_known};
+ghost use Rattle.cct_service.specs.Known.{KnownAfter, Rested};
 ghost use Rattle.cct_service.specs.Linked.{AreQuiet, Exchanges, UsesLink};
 ghost use Rattle.cct_service.specs.Parts.{Acts, Plays};
 ghost use Rattle.cct_service.specs.Said.{ComesNext, IsOfInput, IsSayable, stopped_by, unless_end};
@@ -55,7 +56,7 @@ pub(crate) fn play<S: Source, K: Sink, D: Disk + Drop, L: CountedLink, O: Beside
     ensures plays { Plays K.written K.puts
         (Both (UsesLink L.gives L.sent L.failures (setup_of host.old).devices roll.old roll.new link.old link.new)
         (FollowsTo result desk.old desk.new))
-        (DoesLines (setup_of host.old).devices roll.old.findings) (S.left input.old) result out.old out.new host.old host.new }
+        (DoesLines (KnownAfter host.old desk.old) (setup_of host.old) roll.old.findings) (S.left input.old) result out.old out.new host.old host.new }
     ensures input { Serves S.left S.faults input.old input.new (IsUnread result) }
     ensures sink { Serves K.written K.faults out.old out.new (IsUnwritten result) }
     ensures disk { DiskServes D.size D.honest D.seen D.cuts D.faults (disk_of host.old) (disk_of host.new)
@@ -163,7 +164,7 @@ fn take_line<K: Sink, D: Disk + Drop, L: CountedLink, O: Beside<D>>(
     ensures acts { Acts K.written K.puts K.faults
         (Both (UsesLink L.gives L.sent L.failures (setup_of host.old).devices roll.old roll.new link.old link.new)
         (FollowsDesk result desk.old desk.new))
-        (Finds roll.old.findings roll.new.findings (DoesLine (setup_of host.old).devices roll.old.findings number line.now))
+        (Finds roll.old.findings roll.new.findings (DoesLine (Rested host.old desk.old) (setup_of host.old).devices roll.old.findings number line.now))
         result out.old out.new host.old host.new }
 {
     match line {
@@ -258,7 +259,7 @@ fn obey<K: Sink, D: Disk, L: CountedLink, O: Outside>(
     ensures acts { Acts K.written K.puts K.faults
         (Both (UsesLink L.gives L.sent L.failures (setup_of host.old).devices roll.old roll.new link.old link.new)
         (FollowsDesk result desk.old desk.new))
-        (Finds roll.old.findings roll.new.findings (Does roll.old.findings said.now))
+        (Finds roll.old.findings roll.new.findings (Does (Rested host.old desk.old) roll.old.findings said.now))
         result out.old out.new host.old host.new }
 {
     match said {

@@ -2,7 +2,8 @@
 ghost use Rattle.std.specs.Prelude.{◌≡◌, false};
 ghost use Rattle.cct_host.specs.Host.{has_failed, setup_of};
 ghost use Rattle.cct_service.specs.AtDesk.{Both, FollowsDesk, IsApart};
-ghost use Rattle.cct_service.specs.Doing.{Finds, IsPoll, IsVisit, MayServe, Then};
+ghost use Rattle.cct_service.specs.Doing.{Finds, IsPoll, IsVisit, ServesOn, Then};
+ghost use Rattle.cct_service.specs.Known.{Rested};
 ghost use Rattle.cct_service.specs.Linked.{Exchanges, UsesLink};
 ghost use Rattle.cct_service.specs.Parts.{Acts};
 
@@ -36,7 +37,7 @@ pub(crate) fn poll<K: Sink, D: Disk, L: CountedLink>(
     ensures acts { Acts K.written K.puts K.faults
         (Both (UsesLink L.gives L.sent L.failures (setup_of host.old).devices roll.old roll.new link.old link.new)
         (FollowsDesk result desk.old desk.new))
-        (Finds roll.old.findings roll.new.findings (Then (MayServe roll.old.findings) IsPoll))
+        (Finds roll.old.findings roll.new.findings (Then (ServesOn (Rested host.old desk.old) roll.old.findings) IsPoll))
         result out.old out.new host.old host.new }
 {
     page.rests.begin_poll();

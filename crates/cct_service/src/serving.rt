@@ -7,8 +7,9 @@ ghost use Rattle.cct_host.specs.Host.{disk_of, has_failed, setup_of};
 ghost use Rattle.cct_model.specs.Setup.{IsSoundSetup};
 ghost use Rattle.cct_service.specs.AtDesk.{Both, FollowsTo};
 ghost use Rattle.cct_service.specs.Causes.{DiskServes, IsDiskFault, IsUnread, IsUnwritten, SuitsDisk};
-ghost use Rattle.cct_service.specs.Doing.{PlaysLines, ServesLines};
+ghost use Rattle.cct_service.specs.Doing.{PlaysLines, ServesLines, ends_by};
 ghost use Rattle.cct_service.specs.Found.{Begun, was_found};
+ghost use Rattle.cct_service.specs.Known.{KnownAfter};
 ghost use Rattle.cct_service.specs.Lived.{Closed, LivedOrNot};
 ghost use Rattle.cct_service.specs.Linked.{UsesLink};
 ghost use Rattle.cct_service.specs.Opening.{HasBegun, opening_of};
@@ -134,7 +135,7 @@ fn live_on<S: Source, K: Sink, D: Disk + Drop, L: CountedLink, O: Beside<D>>(
     ensures plays { (begun : Begun) → HasBegun host.old begun → was_there ≡ was_found begun → Plays K.written K.puts
         (Both (UsesLink L.gives L.sent L.failures (setup_of host.old).devices roll.old roll.new link.old link.new)
         (FollowsTo result desk.old desk.new))
-        (ServesLines (setup_of host.old).devices (opening_of (setup_of host.old) begun) roll.old.findings ends) (S.left input.old) result out.old out.new
+        (ServesLines (KnownAfter host.old desk.old) (setup_of host.old) (opening_of (setup_of host.old) begun) roll.old.findings (ends_by result ends)) (S.left input.old) result out.old out.new
         host.old host.new }
     ensures input { Serves S.left S.faults input.old input.new (IsUnread result) }
     ensures sink { Serves K.written K.faults out.old out.new (IsUnwritten result) }
@@ -168,7 +169,7 @@ fn open_and_play<S: Source, K: Sink, D: Disk + Drop, L: CountedLink, O: Beside<D
     ensures plays { (begun : Begun) → HasBegun host.old begun → was_there ≡ was_found begun → Plays K.written K.puts
         (Both (UsesLink L.gives L.sent L.failures (setup_of host.old).devices roll.old roll.new link.old link.new)
         (FollowsTo result desk.old desk.new))
-        (PlaysLines (setup_of host.old).devices (opening_of (setup_of host.old) begun) roll.old.findings) (S.left input.old) result out.old out.new
+        (PlaysLines (KnownAfter host.old desk.old) (setup_of host.old) (opening_of (setup_of host.old) begun) roll.old.findings) (S.left input.old) result out.old out.new
         host.old host.new }
     ensures input { Serves S.left S.faults input.old input.new (IsUnread result) }
     ensures sink { Serves K.written K.faults out.old out.new (IsUnwritten result) }

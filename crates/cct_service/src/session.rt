@@ -20,7 +20,8 @@ ghost use Rattle.cct_survey.specs.declared.withholding.Withheld.{Withheld};
 ghost use Rattle.cct_survey.specs.Finding.{withheld_by};
 ghost use Rattle.cct_service.specs.declared.notice.Notice.TheVariants as notice_of;
 ghost use Rattle.cct_service.specs.AtDesk.{Both, FollowsDesk, GivesAt};
-ghost use Rattle.cct_service.specs.Doing.{DecidesPay, DoesPay, Finds, IsServing, MayServe, TellsStep};
+ghost use Rattle.cct_service.specs.Doing.{DecidesPay, DoesPay, Finds, IsServing, ServesOn, TellsStep};
+ghost use Rattle.cct_service.specs.Known.{Rested};
 ghost use Rattle.cct_service.specs.Linked.{AreQuiet, UsesLink};
 ghost use Rattle.cct_service.specs.Parts.{Acts, HostGoes};
 ghost use Rattle.cct_service.specs.Session.{HasAsked};
@@ -122,7 +123,7 @@ pub(crate) fn go_on_with_session<K: Sink, D: Disk, L: CountedLink>(
     ensures acts { Acts K.written K.puts K.faults
         (Both (UsesLink L.gives L.sent L.failures (setup_of host.old).devices roll.old roll.new link.old link.new)
         (FollowsDesk result desk.old desk.new))
-        (Finds roll.old.findings roll.new.findings (MayServe roll.old.findings))
+        (Finds roll.old.findings roll.new.findings (ServesOn (Rested host.old desk.old) roll.old.findings))
         result out.old out.new host.old host.new }
 {
     match desk.serve() {

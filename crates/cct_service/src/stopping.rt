@@ -1,8 +1,12 @@
 //! The acceptors that run are stopped at the end.
-ghost use Rattle.std.specs.Prelude.{◌≡◌, false};
-ghost use Rattle.cct_host.specs.Host.{has_failed};
+ghost use Rattle.std.specs.Prelude.{◌≡◌, List, false};
+ghost use Rattle.cct_host.specs.Host.{Keeps, has_failed, setup_of};
+ghost use Rattle.cct_host.specs.Standing.{epoch_at};
+ghost use Rattle.cct_model.specs.lines.entry.Entry.{Entry};
 ghost use Rattle.cct_service.specs.AtDesk.{Both, FollowsDesk};
-ghost use Rattle.cct_service.specs.Doing.{IsStopping, StopsBy};
+ghost use Rattle.cct_service.specs.Doing.{GivesStop, StopsAt, StopsBy, StopsRunning, StopsUpTo};
+ghost use Rattle.cct_service.specs.Known.{KnownAfter};
+ghost use Rattle.cct_service.specs.Opening.{is_running};
 ghost use Rattle.cct_service.specs.Linked.{Exchanges};
 ghost use Rattle.cct_service.specs.Parts.{Acts};
 
@@ -40,7 +44,7 @@ pub(crate) fn stop_at_end<K: Sink, D: Disk, L: CountedLink>(
     requires whole { has_failed host.old ≡ false }
     ensures acts { Acts K.written K.puts K.faults (Both (Exchanges L.gives L.sent L.failures link.old link.new)
         (FollowsDesk result desk.old desk.new))
-        (StopsBy ends) result out.old out.new host.old host.new }
+        (StopsBy ends (KnownAfter host.old desk.old) (setup_of host.old)) result out.old out.new host.old host.new }
 {
     match ends {
         AtEnd::Leave => Ok(()),
@@ -59,7 +63,7 @@ fn stop_all<K: Sink, D: Disk, L: CountedLink>(
     requires whole { has_failed host.old ≡ false }
     ensures acts { Acts K.written K.puts K.faults (Both (Exchanges L.gives L.sent L.failures link.old link.new)
         (FollowsDesk result desk.old desk.new))
-        IsStopping result out.old out.new host.old host.new }
+        (StopsUpTo 256 (KnownAfter host.old desk.old) (setup_of host.old)) result out.old out.new host.old host.new }
 {
     for addr in 0..=u8::MAX {
         match stop_if_running(host, addr, desk, link, out, page) {
@@ -82,7 +86,7 @@ fn stop_if_running<K: Sink, D: Disk, L: CountedLink>(
     requires whole { has_failed host.old ≡ false }
     ensures acts { Acts K.written K.puts K.faults (Both (Exchanges L.gives L.sent L.failures link.old link.new)
         (FollowsDesk result desk.old desk.new))
-        IsStopping result out.old out.new host.old host.new }
+        (StopsAt (KnownAfter host.old desk.old) (setup_of host.old) addr) result out.old out.new host.old host.new }
 {
     if runs(host.epoch_at(addr)) {
         stop(host, addr, desk, link, out, page)
@@ -103,23 +107,26 @@ fn stop<K: Sink, D: Disk, L: CountedLink>(
     requires whole { has_failed host.old ≡ false }
     ensures acts { Acts K.written K.puts K.faults (Both (Exchanges L.gives L.sent L.failures link.old link.new)
         (FollowsDesk result desk.old desk.new))
-        IsStopping result out.old out.new host.old host.new }
+        (StopsRunning (KnownAfter host.old desk.old) (setup_of host.old) addr) result out.old out.new host.old host.new }
 {
-    page.report.clear();
+    let had_job = host.command_at(addr).is_some();
     match go_on(host, addr, Until::Ended, desk, link, out, page) {
         Ok(()) => {}
         Err(how) => return Err(how),
     }
-    if is_to_stop(host, addr, page) {
+    if is_to_stop(host, addr, had_job, page) {
         stop_idle(host, addr, desk, link, out, page)
     } else {
         Ok(())
     }
 }
 
-/// Whether the acceptor at an address still runs, and the last job didn't end for want of an answer.
-fn is_to_stop<D: Disk>(host: &Host<'_, D>, addr: u8, page: &Page) -> bool {
-    runs(host.epoch_at(addr)) && !is_unanswered(page.report.as_slice())
+/// Whether the acceptor at an address still runs, and the job that was there, if one was, didn't end for want of an answer.
+fn is_to_stop<D: Disk>(host: &Host<'_, D>, addr: u8, had_job: bool, page: &Page) -> bool
+    ensures stays { result ≡ false → had_job ≡ false
+        → (past : List Entry) → Keeps host.now past → is_running (epoch_at (setup_of host.now) past addr) ≡ false }
+{
+    runs(host.epoch_at(addr)) && !(had_job && is_unanswered(page.report.as_slice()))
 }
 
 /// Whether the last of these entries tells that a job got no answer.
@@ -148,7 +155,7 @@ fn stop_idle<K: Sink, D: Disk, L: CountedLink>(
     requires whole { has_failed host.old ≡ false }
     ensures acts { Acts K.written K.puts K.faults (Both (Exchanges L.gives L.sent L.failures link.old link.new)
         (FollowsDesk result desk.old desk.new))
-        IsStopping result out.old out.new host.old host.new }
+        (GivesStop (KnownAfter host.old desk.old) (setup_of host.old) addr) result out.old out.new host.old host.new }
 {
     match answer(host, &Command::Stop { addr }, out, page) {
         Ok(()) => go_on(host, addr, Until::Ended, desk, link, out, page),

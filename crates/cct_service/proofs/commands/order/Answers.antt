@@ -22,6 +22,6 @@ returns g c =
           (acts_told sink.written sink.puts sink.faults (Both AreQuiet IsApart) c.tell.result out c.tell.new.out host (what ∷ [])
           (refl, λ desk. refl)
           (IsOrder c.args.id)
-          refl (λ past keeps. (tt, tt)) (told_one sink.written sink.puts out c.tell.new.out what c.tell.result c.tell.ensures.puts) c.requires.whole
+          refl (λ past keeps. (c.order_told-told.ensures.known past keeps, tt)) (told_one sink.written sink.puts out c.tell.new.out what c.tell.result c.tell.ensures.puts) c.requires.whole
           c.tell.ensures.serves (refl, (known, refl)));
     }

@@ -4,6 +4,7 @@ use Rattle.cct_host.specs.Host.{setup_of}
 use Rattle.cct_script.specs.Endless.{held_of}
 use Rattle.cct_service.specs.AtDesk.{Both, FollowsDesk}
 use Rattle.cct_service.specs.Doing.{DoesLines, Finds}
+use Rattle.cct_service.specs.Known.{KnownAfter}
 use Rattle.cct_service.specs.Linked.{UsesLink}
 use Rattle.cct_service.specs.Parts.{Acts}
 use Rattle.cct_service.specs.Said.{HasSaid, Said}
@@ -21,7 +22,7 @@ invariant-loop-number g l =
       acts : Acts sink.written sink.puts sink.faults
           (Both (UsesLink g.L.Link.gives link.sent link.failures (setup_of l.fn.host).devices l.fn.roll l.roll l.fn.link l.link)
           (FollowsDesk (Ok tt) l.fn.desk l.desk))
-          (Finds l.fn.roll.findings l.roll.findings (DoesLines (setup_of l.fn.host).devices l.fn.roll.findings said)) (Ok tt) l.fn.out l.out l.fn.host
+          (Finds l.fn.roll.findings l.roll.findings (DoesLines (KnownAfter l.fn.host l.fn.desk) (setup_of l.fn.host) l.fn.roll.findings said)) (Ok tt) l.fn.out l.out l.fn.host
           l.host;
       says : HasSaid (source.left l.fn.input) said (held_of l.lines) (source.left l.input);
       serves : Serves source.left source.faults l.fn.input l.input ⊥;

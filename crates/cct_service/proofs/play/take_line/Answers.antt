@@ -3,6 +3,7 @@ use Rattle.cct_host.specs.Host.{setup_of}
 use Rattle.cct_model.specs.lines.entry.LineKind.TheVariants as kind
 use Rattle.cct_service.specs.AtDesk.{Both, FollowsDesk}
 use Rattle.cct_service.specs.Doing.{Does, DoesLine, Finds, IsStating, Tells, is_known}
+use Rattle.cct_service.specs.Known.{Rested}
 use Rattle.cct_service.specs.declared.input.InputLine.TheVariants as input
 use Rattle.cct_service.specs.Linked.{UsesLink}
 use Rattle.cct_service.specs.Parts.{Acts}
@@ -24,13 +25,14 @@ returns-in-Err g c =
     let desk = c.args.desk.now in
     let host = c.args.host.now in
     let devices = (setup_of host).devices in
+    let rested = Rested host c.args.desk.now in
     let number = c.args.number in
     let result = c.refuse.result in
     let does = Tells (refused number c.in-Err.kind) in
     let follows = FollowsDesk result desk desk in
     let uses = Both (UsesLink g.L.Link.gives link.sent link.failures devices roll roll line line) follows in
     record {
-      acts = subst (λ said. Acts sink.written sink.puts sink.faults uses (Finds known known (DoesLine devices known number said))
+      acts = subst (λ said. Acts sink.written sink.puts sink.faults uses (Finds known known (DoesLine rested devices known number said))
           result c.args.out.now c.refuse.new.out host c.refuse.new.host) (sym c.in-Err.is)
           (roll_quiet sink.written sink.puts sink.faults g.L.Link.gives link.sent link.failures devices roll line follows
           result c.args.out.now c.refuse.new.out host c.refuse.new.host (Finds known known does)
@@ -50,18 +52,19 @@ returns-then-is_known g c =
     let now = c.obey.new.roll.findings in
     let host = c.args.host.now in
     let devices = (setup_of host).devices in
+    let rested = Rested host c.args.desk.now in
     let number = c.args.number in
     let said = c.in-Ok-Host.said in
     let there = sym (ap (λ setup. is_known setup.devices said) c.setup.ensures) ∙ sym c.is_known.ensures ∙ c.if-is_known.true in
     let uses = Both (UsesLink g.L.Link.gives link.sent link.failures devices roll c.obey.new.roll c.args.link.now
     c.obey.new.link) (FollowsDesk c.obey.result c.args.desk.now c.obey.new.desk) in
     record {
-      acts = subst (λ said. Acts sink.written sink.puts sink.faults uses (Finds known now (DoesLine devices known number said))
+      acts = subst (λ said. Acts sink.written sink.puts sink.faults uses (Finds known now (DoesLine rested devices known number said))
           c.obey.result c.args.out.now c.obey.new.out host c.obey.new.host) (sym (c.in-Ok-Host.is ∙ ap (λ said. Ok said) (rw c.in-Ok-Host.is at c.in-Ok-Host.field-0-is)))
           (acts_weaker sink.written sink.puts sink.faults c.obey.result c.args.out.now c.obey.new.out host c.obey.new.host
-          (Finds known now (Does known said)) (Finds known now (DoesLine devices known number (Ok (input.Host said))))
-          (finds_weaker known now (Does known said) (DoesLine devices known number (Ok (input.Host said)))
-          (known_line (is_known devices said) there known number said))
+          (Finds known now (Does rested known said)) (Finds known now (DoesLine rested devices known number (Ok (input.Host said))))
+          (finds_weaker known now (Does rested known said) (DoesLine rested devices known number (Ok (input.Host said)))
+          (known_line rested (is_known devices said) there known number said))
           c.obey.ensures.acts);
     }
 
@@ -75,6 +78,7 @@ returns-else-is_known g c =
     let desk = c.args.desk.now in
     let host = c.args.host.now in
     let devices = (setup_of host).devices in
+    let rested = Rested host c.args.desk.now in
     let number = c.args.number in
     let said = c.in-Ok-Host.said in
     let result = c.refuse_unknown.result in
@@ -83,17 +87,17 @@ returns-else-is_known g c =
     let follows = FollowsDesk result desk desk in
     let uses = Both (UsesLink g.L.Link.gives link.sent link.failures devices roll roll line line) follows in
     record {
-      acts = subst (λ said. Acts sink.written sink.puts sink.faults uses (Finds known known (DoesLine devices known number said))
+      acts = subst (λ said. Acts sink.written sink.puts sink.faults uses (Finds known known (DoesLine rested devices known number said))
           result c.args.out.now c.refuse_unknown.new.out host c.refuse_unknown.new.host) (sym (c.in-Ok-Host.is ∙ ap (λ said. Ok said) (rw c.in-Ok-Host.is at c.in-Ok-Host.field-0-is)))
           (roll_quiet sink.written sink.puts sink.faults g.L.Link.gives link.sent link.failures devices roll line follows
           result c.args.out.now c.refuse_unknown.new.out host c.refuse_unknown.new.host
-          (Finds known known (DoesLine devices known number (Ok (input.Host said))))
+          (Finds known known (DoesLine rested devices known number (Ok (input.Host said))))
           (quiet_at_desk sink.written sink.puts sink.faults desk result c.args.out.now c.refuse_unknown.new.out host
-          c.refuse_unknown.new.host (Finds known known (DoesLine devices known number (Ok (input.Host said))))
+          c.refuse_unknown.new.host (Finds known known (DoesLine rested devices known number (Ok (input.Host said))))
           (acts_weaker sink.written sink.puts sink.faults result c.args.out.now c.refuse_unknown.new.out host
-          c.refuse_unknown.new.host does (Finds known known (DoesLine devices known number (Ok (input.Host said))))
-          (λ steps told h. finds_weaker known known does (DoesLine devices known number (Ok (input.Host said)))
-          (unknown_line (is_known devices said) there known number said) steps told
+          c.refuse_unknown.new.host does (Finds known known (DoesLine rested devices known number (Ok (input.Host said))))
+          (λ steps told h. finds_weaker known known does (DoesLine rested devices known number (Ok (input.Host said)))
+          (unknown_line rested (is_known devices said) there known number said) steps told
           (finds_none known does (tells_finds number kind.Device) steps told h))
           c.refuse_unknown.ensures.acts)));
     }
@@ -108,6 +112,7 @@ returns-in-Ok-State g c =
     let desk = c.args.desk.now in
     let host = c.args.host.now in
     let devices = (setup_of host).devices in
+    let rested = Rested host c.args.desk.now in
     let number = c.args.number in
     let result = c.state.result in
     let out = c.args.out.now in
@@ -116,7 +121,7 @@ returns-in-Ok-State g c =
     let follows = FollowsDesk result desk desk in
     let uses = Both (UsesLink g.L.Link.gives link.sent link.failures devices roll roll line line) follows in
     record {
-      acts = subst (λ said. Acts sink.written sink.puts sink.faults uses (Finds known known (DoesLine devices known number said))
+      acts = subst (λ said. Acts sink.written sink.puts sink.faults uses (Finds known known (DoesLine rested devices known number said))
           result out told host after) (sym (c.in-Ok-State.is ∙ ap (λ said. Ok said) (rw c.in-Ok-State.is at c.in-Ok-State.field-0-is)))
           (roll_quiet sink.written sink.puts sink.faults g.L.Link.gives link.sent link.failures devices roll line follows
           result out told host after (Finds known known IsStating)

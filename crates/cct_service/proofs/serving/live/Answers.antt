@@ -3,8 +3,9 @@ use Rattle.cct_host.specs.Host.{disk_of, setup_of}
 use Rattle.cct_model.specs.Setup.{IsSoundSetup}
 use Rattle.cct_service.specs.Causes.{DiskServes, IsDiskFault, IsUnread, IsUnwritten}
 use Rattle.cct_service.specs.AtDesk.{Both, FollowsTo}
-use Rattle.cct_service.specs.Doing.{ServesLines}
+use Rattle.cct_service.specs.Doing.{ServesLines, ends_by}
 use Rattle.cct_service.specs.Found.{FoundOn}
+use Rattle.cct_service.specs.Known.{KnownAfter}
 use Rattle.cct_service.specs.Linked.{UsesLink}
 use Rattle.cct_service.specs.Lived.{Lived}
 use Rattle.cct_service.specs.Opening.{BegunOn, opening_of, opening_over}
@@ -52,10 +53,10 @@ returns g c =
           (subst (λ s. FoundOn disk.honest disk.seen disk.may_leave c.args.disk s begun found) p on))
           how c.args.out.now c.live_on-how.new.out
           (subst (λ s. Plays sink.written sink.puts
-          linked (ServesLines s.devices (opening_of s begun) roll.findings ends) left how c.args.out.now c.live_on-how.new.out host last)
+          linked (ServesLines (KnownAfter host desk) s (opening_of s begun) roll.findings (ends_by how ends)) left how c.args.out.now c.live_on-how.new.out host last)
           (sym c.live_on-how.ensures.setup) plays)));
       suits = lived_suits sink.written sink.puts {g = disk} c.args.disk back c.args.setup.now
-          linked (ServesLines (setup_of host).devices opening roll.findings ends plays.lines) how c.args.out.now c.live_on-how.new.out host last plays.lives;
+          linked (ServesLines (KnownAfter host desk) (setup_of host) opening roll.findings (ends_by how ends) plays.lines) how c.args.out.now c.live_on-how.new.out host last plays.lives;
       size = λ other. absurd (other c.in-Ok.ensures.sized);
       input = c.live_on-how.ensures.input;
       sink = c.live_on-how.ensures.sink;

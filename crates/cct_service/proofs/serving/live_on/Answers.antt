@@ -2,15 +2,17 @@ use Rattle.std.proofs.Common.{◌∙◌, Ok, Err, inr}
 use Rattle.cct_host.specs.Host.{disk_of, setup_of}
 use Rattle.cct_service.specs.Causes.{IsDiskFault, IsUnread, IsUnwritten}
 use Rattle.cct_service.specs.AtDesk.{Both, FollowsDesk, FollowsTo}
-use Rattle.cct_service.specs.Doing.{PlaysLines, ServesLines, StopsBy}
+use Rattle.cct_service.specs.Doing.{PlaysLines, ServesLines, StopsBy, ends_by}
+use Rattle.cct_service.specs.Known.{KnownAfter}
 use Rattle.cct_service.specs.Linked.{UsesLink}
 use Rattle.cct_service.specs.Opening.{opening_of}
 use Rattle.cct_service.proofs.Causing.{unread_of_input}
 use Rattle.cct_service.proofs.Desks.{follows_then}
-use Rattle.cct_service.proofs.Doings.{end_none, end_then}
+use Rattle.cct_service.proofs.Knowing.{Knowing, part_knowing}
 use Rattle.cct_service.proofs.Linking.{both_then, lives_end, roll_told, uses_then}
-use Rattle.cct_service.proofs.Parts.{breaks, disk_then, lives_then, lives_to_weaker, serves_then, serves_weaker}
+use Rattle.cct_service.proofs.Parts.{breaks, disk_then, lives_then, serves_then, serves_weaker}
 use Rattle.cct_service.proofs.Saying.{said_ended}
+use Rattle.cct_service.proofs.Stops.{end_then, ended_by, played_to}
 use Rattle.cct_service.proofs.serving.live_on.Goals as goal
 
 pub stop_at_end-requires : goal.stop_at_end-requires
@@ -25,6 +27,7 @@ returns-in-Ok g c =
     let ends = c.args.ends in
     let host = c.args.host.now in
     let devices = (setup_of host).devices in
+    let knows = KnownAfter host c.args.desk.now in
     let mid = c.open_and_play.new.host in
     let last = c.stop_at_end.new.host in
     let out = c.args.out.now in
@@ -51,18 +54,21 @@ returns-in-Ok g c =
     (uses_then g.L.Link.gives link.sent link.failures (setup_of host) (setup_of mid) before.setup roll between_roll
     between_roll line between_line last_line) (follows_then (Ok tt) was between_desk last_desk) in
     let acts = roll_told sink.written sink.puts sink.faults g.L.Link.gives link.sent link.failures (setup_of mid).devices
-    between_roll between_line last_line between_desk last_desk (Ok tt) between told mid last (StopsBy ends) c.in-Ok.ensures.acts in
+    between_roll between_line last_line between_desk last_desk (Ok tt) between told mid last (StopsBy ends (KnownAfter mid between_desk) (setup_of mid)) c.in-Ok.ensures.acts in
     record {
       setup = acts.setup ∙ before.setup;
       plays = λ begun has there.
           let plays = before.plays begun has there in
           let lines = plays.lines in
           let opening = opening_of (setup_of host) begun in
+          let plays_so = PlaysLines knows (setup_of host) opening known lines in
           record {
             lines = lines;
-            lives = lives_then sink.written sink.puts first then all links (Ok tt) out between told host mid last (PlaysLines devices opening known lines)
-                (StopsBy ends) (ServesLines devices opening known ends lines) (end_then devices opening known ends lines) before.setup
-                plays.lives acts.lives;
+            lives = lives_then sink.written sink.puts first then all links (Ok tt) out between told host mid last (Knowing plays_so first host mid)
+                (StopsBy ends (KnownAfter mid between_desk) (setup_of mid)) (ServesLines knows (setup_of host) opening known ends lines)
+                (λ s1 s2 t1 t2 h k. end_then host mid before.setup was between_desk opening known ends lines s1 s2 t1 t2 h.0
+                (h.2, h.1.1) k) before.setup
+                (part_knowing sink.written sink.puts sink.faults first out between host mid plays_so plays.lives) acts.lives;
             says = plays.says;
           };
       input = before.input;
@@ -81,6 +87,7 @@ returns-in-Err g c =
     let ends = c.args.ends in
     let host = c.args.host.now in
     let devices = (setup_of host).devices in
+    let knows = KnownAfter host c.args.desk.now in
     let mid = c.open_and_play.new.host in
     let last = c.stop_at_end.new.host in
     let out = c.args.out.now in
@@ -108,19 +115,25 @@ returns-in-Err g c =
     (uses_then g.L.Link.gives link.sent link.failures (setup_of host) (setup_of mid) before.setup roll between_roll
     between_roll line between_line last_line) (follows_then (Err how) was between_desk last_desk) in
     let acts = roll_told sink.written sink.puts sink.faults g.L.Link.gives link.sent link.failures (setup_of mid).devices
-    between_roll between_line last_line between_desk last_desk (Err how) between told mid last (StopsBy ends) c.in-Err.ensures.acts in
-    let other = breaks sink.written sink.puts then how (StopsBy ends) between told mid last acts.lives in
+    between_roll between_line last_line between_desk last_desk (Err how) between told mid last (StopsBy ends (KnownAfter mid between_desk) (setup_of mid)) c.in-Err.ensures.acts in
+    let other = breaks sink.written sink.puts then how (StopsBy ends (KnownAfter mid between_desk) (setup_of mid)) between told mid last acts.lives in
     record {
       setup = acts.setup ∙ before.setup;
       plays = λ begun has there.
           let plays = before.plays begun has there in
           let lines = plays.lines in
           let opening = opening_of (setup_of host) begun in
+          let plays_so = PlaysLines knows (setup_of host) opening known lines in
           record {
             lines = lines;
-            lives = lives_end sink.written sink.puts uses how was last_desk (ServesLines devices opening known ends lines) out told host last
-                (lives_then sink.written sink.puts first then all links (Err how) out between told host mid last (PlaysLines devices opening known lines)
-                (StopsBy ends) (ServesLines devices opening known ends lines) (end_then devices opening known ends lines) before.setup plays.lives acts.lives);
+            lives = lives_end sink.written sink.puts uses how was last_desk (ServesLines knows (setup_of host) opening known (ends_by how ends) lines) out told host last
+                (ended_by sink.written sink.puts all how (λ e. ServesLines knows (setup_of host) opening known e lines) ends out told host last
+                (lives_then sink.written sink.puts first then all links (Err how) out between told host mid last
+                (Knowing plays_so first host mid) (StopsBy ends (KnownAfter mid between_desk) (setup_of mid))
+                (ServesLines knows (setup_of host) opening known ends lines)
+                (λ s1 s2 t1 t2 h k. end_then host mid before.setup was between_desk opening known ends lines s1 s2 t1 t2 h.0
+                (h.2, h.1.1) k) before.setup
+                (part_knowing sink.written sink.puts sink.faults first out between host mid plays_so plays.lives) acts.lives));
             says = said_ended how (source.left c.args.input.now) lines other plays.says;
           };
       input = serves_weaker source.left source.faults c.args.input.now c.open_and_play.new.input ⊥ (IsUnread how)
@@ -139,6 +152,7 @@ returns-in_default g c =
     let ends = c.args.ends in
     let host = c.args.host.now in
     let devices = (setup_of host).devices in
+    let knows = KnownAfter host c.args.desk.now in
     let before = c.open_and_play.ensures in
     let uses = Both (UsesLink g.L.Link.gives link.sent link.failures devices c.args.roll.now c.open_and_play.new.roll
     c.args.link.now c.open_and_play.new.link) (FollowsTo c.open_and_play.result c.args.desk.now c.open_and_play.new.desk) in
@@ -150,9 +164,8 @@ returns-in_default g c =
           let opening = opening_of (setup_of host) begun in
           record {
             lines = lines;
-            lives = lives_to_weaker sink.written sink.puts uses c.open_and_play.result c.args.out.now c.open_and_play.new.out
-                host c.open_and_play.new.host (PlaysLines devices opening known lines) (ServesLines devices opening known ends lines)
-                (end_none devices opening known ends lines) plays.lives;
+            lives = played_to sink.written sink.puts uses c.open_and_play.result c.in_default.not-Done knows (setup_of host)
+                opening known ends lines c.args.out.now c.open_and_play.new.out host c.open_and_play.new.host plays.lives;
             says = plays.says;
           };
       input = before.input;

@@ -5,6 +5,7 @@ use Rattle.cct_service.specs.Causes.{IsUnwritten}
 use Rattle.cct_service.specs.declared.served.Served.TheVariants.{Unwritten}
 use Rattle.cct_service.specs.AtDesk.{Both, FollowsDesk, FollowsTo}
 use Rattle.cct_service.specs.Doing.{DoesLines, FrontOf, PlaysLines, Tells}
+use Rattle.cct_service.specs.Known.{KnownAfter}
 use Rattle.cct_service.specs.Opening.{opening_of}
 use Rattle.cct_service.specs.Linked.{UsesLink}
 use Rattle.cct_service.specs.Since.{StandsSince}
@@ -33,6 +34,7 @@ returns-in-Ok g c =
     let line = c.args.link.now in
     let devices = (setup_of host).devices in
     let desk = c.args.desk.now in
+    let knows = KnownAfter host desk in
     let new = c.play.new.desk in
     let result = c.play.result in
     let still = UsesLink g.L.Link.gives link.sent link.failures devices roll roll line line in
@@ -50,8 +52,8 @@ returns-in-Ok g c =
             (uses_then g.L.Link.gives link.sent link.failures (setup_of host) (setup_of host) refl roll roll c.play.new.roll
             line line c.play.new.link) (follows_to_then result desk desk new))
             result out between c.play.new.out host host c.play.new.host
-            (Tells (notice opening)) (DoesLines devices known plays.lines) (PlaysLines devices opening known plays.lines)
-            (opening_then devices opening known plays.lines) refl
+            (Tells (notice opening)) (DoesLines knows (setup_of host) known plays.lines) (PlaysLines knows (setup_of host) opening known plays.lines)
+            (opening_then knows (setup_of host) opening known plays.lines) refl
             (part_line sink.written sink.puts quiet out between (Ok tt) (setup_of host) (StandsSince host) (notice opening)
             (Tells (notice opening)) refl (λ past. so_opening (setup_of host) past begun) (opening_put sink.written sink.puts host tells begun has there) (refl, refl) (
               uses_quiet g.L.Link.gives link.sent link.failures devices roll line (notice opening ∷ [])
@@ -84,6 +86,7 @@ returns-in-Err g c =
     let line = c.args.link.now in
     let devices = (setup_of host).devices in
     let desk = c.args.desk.now in
+    let knows = KnownAfter host desk in
     let uses = Both (UsesLink g.L.Link.gives link.sent link.failures devices roll roll line line) (FollowsTo Unwritten desk desk) in
     let broke : Result (Unit {0}) Failed = Err why in
     record {
@@ -94,11 +97,11 @@ returns-in-Err g c =
         lives = (
           why,
           let opening = opening_of (setup_of host) begun in
-              let whole = PlaysLines devices opening known [] in
+              let whole = PlaysLines knows (setup_of host) opening known [] in
               part_line sink.written sink.puts uses out between (Err why) (setup_of host) (StandsSince host) (notice opening)
               (FrontOf whole) refl (λ past. so_opening (setup_of host) past begun) (opening_put sink.written sink.puts host tells begun has there)
               (front_whole whole [] (notice opening ∷ [])
-              (opening_alone devices opening known [] (notice opening ∷ []) (refl, refl))) (
+              (opening_alone knows (setup_of host) opening known [] (notice opening ∷ []) (refl, refl))) (
                 uses_quiet g.L.Link.gives link.sent link.failures devices roll line (notice opening ∷ [])
                     (opening_quiet (setup_of host) begun),
                 (desk, refl),

@@ -46,7 +46,7 @@ returns g c =
           before.tells
           (status_two sink.written sink.puts c.args.host.now c.loop-device.out c.tell_two.new.out
           (notice_of.Last c.last_id.result) (notice_of.Room c.room.result) answer (tt, λ past keeps. c.last_id.ensures past keeps)
-          (tt, λ past keeps. tt) c.tell_two.ensures.tells);
+          (tt, λ past keeps. c.room.ensures past keeps) c.tell_two.ensures.tells);
       serves = serves_then sink.written sink.faults c.args.out.now c.loop-device.out c.tell_two.new.out ⊥ (IsErr answer)
           before.serves c.tell_two.ensures.serves (IsErr answer) (λ fails. inr fails);
     }
