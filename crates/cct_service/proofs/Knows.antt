@@ -1,5 +1,5 @@
 -- What is told of what the journal knows.
-use Rattle.std.proofs.Common.{◌≡◌, ◌∙◌, ℕ, List, [], ◌∷◌, ◌++◌, reverse, flat_map, map, Bool, true, false, Option, Some, None, is_some, Result, Ok, Err, refl, sym, ap, ap₂, subst, inl, inr}
+use Rattle.std.proofs.Common.{◌≡◌, ◌∙◌, ℕ, List, [], ◌∷◌, ◌++◌, reverse, map, true, false, Option, Some, None, is_some, Result, Ok, Err, refl, sym, ap, ap₂, subst, inl, inr}
 use Rattle.std.specs.Prelude.{MatchResult}
 use Rattle.std.specs.Io.KnownBytes.{Appends}
 use Rattle.std.proofs.lemmas.List.{reverse-append, reverse-reverse}
@@ -8,7 +8,6 @@ use Rattle.cct_audit.specs.Writing.{WritesLines, bytes_of}
 use Rattle.cct_edge.specs.Bytes.{AppendsFront}
 use Rattle.cct_edge.specs.declared.fault.Failed.{Failed}
 use Rattle.cct_disk.specs.declared.disk.Disk.{Ghosts}
-use Rattle.cct_disk.specs.Disk.{IsTrusted}
 use Rattle.cct_journal.specs.Image.{HasFrom}
 use Rattle.cct_journal.specs.Journal as journals
 use Rattle.cct_journal.specs.declared.refusal.OpenNo.{OpenNo}
@@ -19,10 +18,10 @@ use Rattle.cct_model.specs.terms.device.Setup.{Setup}
 use Rattle.cct_model.specs.lines.carry.Carry.{Carry}
 use Rattle.cct_model.specs.lines.entry.Entry.{Entry}
 use Rattle.cct_model.specs.lines.record.Record.{Record}
-use Rattle.cct_model.specs.Carry.{carry, carry_of}
+use Rattle.cct_model.specs.Carry.{carry}
 use Rattle.cct_model.specs.Records.{records}
 use Rattle.cct_host.specs.declared.host.Host.{Host}
-use Rattle.cct_host.specs.Host.{StandsFor, disk_of, setup_of}
+use Rattle.cct_host.specs.Host.{disk_of, setup_of}
 use Rattle.cct_state.specs.Books.{state_lines}
 use Rattle.cct_state.specs.Known.{any_disk, of_image}
 use Rattle.cct_state.specs.Telling.{Tells}
@@ -30,12 +29,11 @@ use Rattle.cct_state.specs.declared.telling.StateEnd.{StateEnd}
 use Rattle.cct_state.specs.declared.telling.StateEnd.TheVariants as telling
 use Rattle.cct_lives.specs.LiveStep.{LiveStep}
 use Rattle.cct_service.specs.Doing.{IsStating}
-use Rattle.cct_service.specs.AtDesk.{AtDesk, IsApart}
+use Rattle.cct_service.specs.AtDesk.{IsApart}
 use Rattle.cct_service.specs.Linked.{AreQuiet}
-use Rattle.cct_model.specs.Change.{Desk}
 use Rattle.cct_service.specs.Reported.{AreSoWhere}
 use Rattle.cct_service.specs.Stated.{IsStateFor, IsStateOf}
-use Rattle.cct_service.specs.Told.{Told, WritesTold, findings_in, knows, knows_each, news_of, told_line, told_text}
+use Rattle.cct_service.specs.Told.{Told, WritesTold, findings_in, knows_each, news_of, told_line, told_text}
 
 -- it is no news of the host, and no finding
 pub news_known : (all lines : List (List ℕ)) → news_of (knows_each all lines) ≡ []

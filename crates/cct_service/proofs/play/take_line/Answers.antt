@@ -1,4 +1,4 @@
-use Rattle.std.proofs.Common.{◌∙◌, Ok, false, subst, sym, ap}
+use Rattle.std.proofs.Common.{◌∙◌, Ok, subst, sym, ap}
 use Rattle.cct_host.specs.Host.{setup_of}
 use Rattle.cct_model.specs.lines.entry.LineKind.TheVariants as kind
 use Rattle.cct_service.specs.AtDesk.{Both, FollowsDesk}
