@@ -18,6 +18,7 @@ use Rattle.cct_service.specs.declared.attempts.TheConstants.{MOST_ATTEMPTS}
 use Rattle.cct_service.specs.declared.attempts.Until.{Until}
 use Rattle.cct_service.specs.declared.attempts.Until.TheVariants as until_of
 use Rattle.cct_service.specs.declared.stopping.AtEnd.TheVariants as at_end
+use Rattle.cct_service.specs.declared.input.InputLine.TheVariants as input
 use Rattle.cct_service.specs.declared.notice.Notice.{Notice}
 use Rattle.cct_service.specs.Held.{IsAfter}
 use Rattle.cct_service.specs.Doing.{AreAttempts, Does, DoesKnown, DoesLine, DoesLines, FrontOf, GoesOn, IsAttempt, IsAttemptWith, IsLastTry, IsStepOf, MakesAttempts, Many, PlaysLines, ServesLines, ServesOn, Tells, TellsOne, Then, ThenBy, Times, is_known}
@@ -332,8 +333,9 @@ known_weaker A B to false findings number said steps told h = h
 pub line_weaker : (A B : Bool → Type 0) → ((rest : Bool) → A rest → B rest) → (devices : List DeviceSetup)
     (findings : List Finding) (number : ℕ) (said : Said) (steps : List LiveStep) (told : List Told) →
     DoesLine A devices findings number said steps told → DoesLine B devices findings number said steps told
-line_weaker A B to devices findings number (Ok said) steps told h =
+line_weaker A B to devices findings number (Ok (input.Host said)) steps told h =
     known_weaker A B to (is_known devices said) findings number said steps told h
+line_weaker A B to devices findings number (Ok input.State) steps told h = h
 line_weaker A B to devices findings number (Err why) steps told h = h
 
 -- one thing, and then another one that goes by it

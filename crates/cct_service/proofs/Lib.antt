@@ -7,7 +7,7 @@ pub mod Parts
 pub mod Desks
 pub mod Linking
 pub mod Doings
-pub mod Knowing
+pub mod KnownLater
 pub mod Stops
 pub mod Found
 pub mod Sessions

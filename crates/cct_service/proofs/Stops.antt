@@ -29,7 +29,7 @@ use Rattle.cct_service.specs.Parts.{LivesOn, LivesTo}
 use Rattle.cct_service.specs.Said.{Said}
 use Rattle.cct_service.specs.Told.{Told, attempt_told, entry, findings_in, notices_told}
 use Rattle.cct_service.proofs.Doings.{end_none, last_made, line_weaker, made_are, none_made, then_by}
-use Rattle.cct_service.proofs.Knowing.{GoesTo, known_later, known_now, known_then}
+use Rattle.cct_service.proofs.KnownLater.{GoesTo, known_later, known_now, known_then}
 use Rattle.cct_service.proofs.Parts.{front_whole, lives_front, lives_weaker}
 
 -- attempts, where a job is, are attempts

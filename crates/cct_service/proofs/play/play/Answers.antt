@@ -10,7 +10,7 @@ use Rattle.cct_service.specs.Said.{HasSaid}
 use Rattle.cct_service.proofs.Causing.{input_no_fault, input_not_unwritten, unread_of_input}
 use Rattle.cct_service.proofs.Doings.{next_number}
 use Rattle.cct_service.proofs.Found.{lines_none, lines_then}
-use Rattle.cct_service.proofs.Knowing.{Knowing, acts_knowing, rested_later}
+use Rattle.cct_service.proofs.KnownLater.{Knowing, acts_knowing, rested_later}
 use Rattle.cct_service.proofs.Linking.{lives_end, lives_stop, roll_desk, roll_none}
 use Rattle.cct_service.proofs.Parts.{acts_weaker, breaks, disk_weaker, lives_weaker, serves_none, serves_then, serves_weaker}
 use Rattle.cct_service.proofs.Saying.{said_all, said_broken, said_many, said_more, said_none}

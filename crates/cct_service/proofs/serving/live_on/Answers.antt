@@ -8,7 +8,7 @@ use Rattle.cct_service.specs.Linked.{UsesLink}
 use Rattle.cct_service.specs.Opening.{opening_of}
 use Rattle.cct_service.proofs.Causing.{unread_of_input}
 use Rattle.cct_service.proofs.Desks.{follows_then}
-use Rattle.cct_service.proofs.Knowing.{Knowing, part_knowing}
+use Rattle.cct_service.proofs.KnownLater.{Knowing, part_knowing}
 use Rattle.cct_service.proofs.Linking.{both_then, lives_end, roll_told, uses_then}
 use Rattle.cct_service.proofs.Parts.{breaks, disk_then, lives_then, serves_then, serves_weaker}
 use Rattle.cct_service.proofs.Saying.{said_ended}

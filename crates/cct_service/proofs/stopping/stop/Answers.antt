@@ -5,7 +5,7 @@ use Rattle.cct_service.specs.AtDesk.{Both, FollowsDesk}
 use Rattle.cct_service.specs.Doing.{GivesStop, GoesOnTo, StopsRunning}
 use Rattle.cct_service.specs.Known.{HasJob, IsKnown, KnownAfter}
 use Rattle.cct_service.specs.Linked.{Exchanges}
-use Rattle.cct_service.proofs.Knowing.{Knowing, acts_knowing, known_now}
+use Rattle.cct_service.proofs.KnownLater.{Knowing, acts_knowing, known_now}
 use Rattle.cct_service.proofs.Linking.{link_then}
 use Rattle.cct_service.proofs.Parts.{acts_front, acts_weaker}
 use Rattle.cct_service.proofs.Stops.{gone_weaker, running_front, running_none, running_then}

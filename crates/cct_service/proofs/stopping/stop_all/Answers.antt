@@ -5,7 +5,7 @@ use Rattle.cct_service.specs.Doing.{StopsAt, StopsUpTo}
 use Rattle.cct_service.specs.Known.{KnownAfter}
 use Rattle.cct_service.specs.Linked.{Exchanges}
 use Rattle.cct_service.specs.Parts.{Acts}
-use Rattle.cct_service.proofs.Knowing.{Knowing, acts_knowing}
+use Rattle.cct_service.proofs.KnownLater.{Knowing, acts_knowing}
 use Rattle.cct_service.proofs.Linking.{link_none, link_then}
 use Rattle.cct_service.proofs.Parts.{acts_front}
 use Rattle.cct_service.proofs.Stops.{all_stop, up_to_then}

@@ -7,7 +7,7 @@ use Rattle.cct_service.specs.AtDesk.{Both, FollowsDesk}
 use Rattle.cct_service.specs.Doing.{GivesStop, GoesOnTo, TellsOne}
 use Rattle.cct_service.specs.Known.{HasJob, IsKnown, KnownAfter}
 use Rattle.cct_service.specs.Linked.{Exchanges}
-use Rattle.cct_service.proofs.Knowing.{Knowing, acts_knowing}
+use Rattle.cct_service.proofs.KnownLater.{Knowing, acts_knowing}
 use Rattle.cct_service.proofs.Linking.{link_quiet, link_then}
 use Rattle.cct_service.proofs.Parts.{acts_front}
 use Rattle.cct_service.proofs.Stops.{given_then, gives_front}

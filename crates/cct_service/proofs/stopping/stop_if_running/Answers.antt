@@ -3,7 +3,7 @@ use Rattle.cct_host.specs.Host.{setup_of}
 use Rattle.cct_service.specs.Doing.{StopsAt, StopsRunning}
 use Rattle.cct_service.specs.Known.{IsIdle, KnownAfter}
 use Rattle.cct_service.specs.Opening.{is_running}
-use Rattle.cct_service.proofs.Knowing.{known_now}
+use Rattle.cct_service.proofs.KnownLater.{known_now}
 use Rattle.cct_service.proofs.Linking.{link_none}
 use Rattle.cct_service.proofs.Parts.{acts_weaker}
 use Rattle.cct_service.proofs.stopping.stop_if_running.Goals as goal

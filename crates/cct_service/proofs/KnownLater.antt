@@ -73,8 +73,8 @@ module _ {D : Type 0} {g : Ghosts D} where
 module _ {K : Type 0} (written : K → Option (List ℕ)) (puts : K → List ℕ → Result (Unit {0}) Failed → K → Type 0)
     (faults : K → ℕ) {D : Type 0} {g : Ghosts D} where
   pub part_knowing : (S : List Told → Type 0) (a b : K) (old new : Host D g) (P : List LiveStep → List Told → Type 0) →
-      Part written puts a b (Ok tt) (setup_of old) (StandsSince old) (StandsSince new) S P →
-      Part written puts a b (Ok tt) (setup_of old) (StandsSince old) (StandsSince new) S (Knowing P S old new)
+      Part written puts g a b (Ok tt) (setup_of old) (StandsSince old) (StandsSince new) S P →
+      Part written puts g a b (Ok tt) (setup_of old) (StandsSince old) (StandsSince new) S (Knowing P S old new)
   part_knowing S a b old new P h = record {
     steps = h.steps;
     told = h.told;
