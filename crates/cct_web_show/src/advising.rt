@@ -13,10 +13,10 @@ const CHUNK: usize = 4096;
 /// the end of a line that is refused. What `cct_main` would say on standard error is written at the front of `page`, and in
 /// `wrote` how many bytes these are: none where the line says all itself. Answers 0, or 4 where there is too little room.
 #[unsafe(no_mangle)]
-pub extern "C" fn cct_advise(
+pub extern "C" fn cct_advise<'a>(
     is_audit: u32,
-    text: &[u8],
-    last: &[u8],
+    text: &'a [u8],
+    last: &'a [u8],
     page: &mut [u8],
     wrote: &mut u64,
 ) -> u32 {
