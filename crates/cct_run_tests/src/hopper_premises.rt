@@ -1,5 +1,6 @@
 //! A hopper that is watched for premises: which of them its taps show broken.
-use crate::audits::{joined, says};
+use crate::audits::says;
+use crate::runs::joined;
 use cct_bench::Status;
 use std::alloc::Global;
 use std::process::Abort;
