@@ -297,9 +297,10 @@ pub command_step : (begun : ℕ → Command) (addr : ℕ) (steps : List LiveStep
 command_step begun addr steps told h = many_one (IsStepOf begun) steps told (inl (addr, h))
 
 -- what is done for a line, where more is known
-does_weaker : (A B : Bool → Type 0) → ((rest : Bool) → A rest → B rest) → (findings : List Finding) (said : LiveLine)
-    (steps : List LiveStep) (told : List Told) → Does A findings said steps told → Does B findings said steps told
-does_weaker A B to findings says.Poll steps told h = record {
+does_weaker : (A B : Bool → Type 0) → ((rest : Bool) → A rest → B rest) → (devices : List DeviceSetup)
+    (findings : List Finding) (said : LiveLine) (steps : List LiveStep) (told : List Told) →
+    Does A devices findings said steps told → Does B devices findings said steps told
+does_weaker A B to devices findings says.Poll steps told h = record {
   before = h.before;
   after = h.after;
   said = h.said;
@@ -313,28 +314,29 @@ does_weaker A B to findings says.Poll steps told h = record {
     serves_on : ServesOn A findings h.before h.said → ServesOn B findings h.before h.said
     serves_on (inl none) = inl (none.0, to true none.1)
     serves_on (inr some) = inr (some.0, to false some.1)
-does_weaker A B to findings (says.Command c) steps told h = h
-does_weaker A B to findings (says.Next addr) steps told h = h
-does_weaker A B to findings (says.Do addr) steps told h = h
-does_weaker A B to findings says.Balance steps told h = h
-does_weaker A B to findings says.Status steps told h = h
-does_weaker A B to findings (says.Order id) steps told h = h
-does_weaker A B to findings (says.Stock addr count) steps told h = h
-does_weaker A B to findings (says.Change first amount) steps told h = h
-does_weaker A B to findings says.Serve steps told h = h
-does_weaker A B to findings says.End steps told h = h
+does_weaker A B to devices findings (says.Command c) steps told h = h
+does_weaker A B to devices findings (says.Next addr) steps told h = h
+does_weaker A B to devices findings (says.Do addr) steps told h = h
+does_weaker A B to devices findings says.Balance steps told h = h
+does_weaker A B to devices findings says.Status steps told h = h
+does_weaker A B to devices findings (says.Order id) steps told h = h
+does_weaker A B to devices findings (says.Stock addr count) steps told h = h
+does_weaker A B to devices findings (says.Change first amount) steps told h = h
+does_weaker A B to devices findings says.Serve steps told h = h
+does_weaker A B to devices findings says.End steps told h = h
 
-known_weaker : (A B : Bool → Type 0) → ((rest : Bool) → A rest → B rest) → (known : Bool) (findings : List Finding)
-    (number : ℕ) (said : LiveLine) (steps : List LiveStep) (told : List Told) →
-    DoesKnown A known findings number said steps told → DoesKnown B known findings number said steps told
-known_weaker A B to true findings number said steps told h = does_weaker A B to findings said steps told h
-known_weaker A B to false findings number said steps told h = h
+known_weaker : (A B : Bool → Type 0) → ((rest : Bool) → A rest → B rest) → (known : Bool)
+    (devices : List DeviceSetup) (findings : List Finding) (number : ℕ) (said : LiveLine) (steps : List LiveStep)
+    (told : List Told) → DoesKnown A known devices findings number said steps told →
+    DoesKnown B known devices findings number said steps told
+known_weaker A B to true devices findings number said steps told h = does_weaker A B to devices findings said steps told h
+known_weaker A B to false devices findings number said steps told h = h
 
 pub line_weaker : (A B : Bool → Type 0) → ((rest : Bool) → A rest → B rest) → (devices : List DeviceSetup)
     (findings : List Finding) (number : ℕ) (said : Said) (steps : List LiveStep) (told : List Told) →
     DoesLine A devices findings number said steps told → DoesLine B devices findings number said steps told
 line_weaker A B to devices findings number (Ok (input.Host said)) steps told h =
-    known_weaker A B to (is_known devices said) findings number said steps told h
+    known_weaker A B to (is_known devices said) devices findings number said steps told h
 line_weaker A B to devices findings number (Ok input.State) steps told h = h
 line_weaker A B to devices findings number (Err why) steps told h = h
 

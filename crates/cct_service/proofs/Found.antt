@@ -1,6 +1,7 @@
 -- What was found, read off what is told.
 use Rattle.std.proofs.Common.{◌≡◌, ◌≤◌, ◌∙◌, ℕ, zero, suc, List, [], ◌∷◌, ◌++◌, Bool, true, false, Option, Some, None, refl, sym, ap, subst, inl, inr, append_assoc, length, drop, take, arith}
 use Rattle.std.proofs.lemmas.List.{append-nil, map-append}
+use Rattle.cct_model.specs.terms.device.DeviceSetup.{DeviceSetup}
 use Rattle.cct_model.specs.terms.device.Setup.{Setup}
 use Rattle.cct_model.specs.lines.command.Command.{Command}
 use Rattle.cct_model.specs.lines.command.Command.TheVariants as command
@@ -93,8 +94,9 @@ attempts_find until addr steps told h =
     let all = made_are until addr steps told h in
     times_find (IsAttempt addr) (attempt_finds addr) all.0 steps told all.2
 
-pub status_finds : (steps : List LiveStep) (told : List Told) → IsStatus steps told → findings_in told ≡ []
-status_finds steps told h = ap findings_in h.1.2 ∙ found_notices h.1.0
+pub status_finds : (devices : List DeviceSetup) (steps : List LiveStep) (told : List Told) →
+    IsStatus devices steps told → findings_in told ≡ []
+status_finds devices steps told h = ap findings_in h.1.2 ∙ found_notices h.1.0
 
 pub order_finds : (id : ℕ) (steps : List LiveStep) (told : List Told) → IsOrder id steps told → findings_in told ≡ []
 order_finds id steps told h = ap findings_in h.1.1

@@ -3,7 +3,7 @@ use Rattle.std.proofs.Common.{◌≡◌, ◌≤◌, ◌⊎◌, ℕ, List, [], �
 use Rattle.std.specs.Prelude.{⊤}
 use Rattle.std.proofs.Common.{Ok, Err, refl, ap, sym, ◌∙◌, subst, append_assoc, arith, inl, inr, ⊎_elim}
 use Rattle.std.specs.List.{All}
-use Rattle.std.proofs.lemmas.List.{append-nil}
+use Rattle.std.proofs.lemmas.List.{append-nil, map-append}
 use Rattle.cct_edge.specs.Bytes.{Serves}
 use Rattle.cct_edge.proofs.Chains.{Rose-earlier, Rose-later}
 use Rattle.cct_edge.specs.declared.fault.Failed.{Failed}
@@ -53,7 +53,7 @@ use Rattle.cct_service.proofs.Knows.{news_known, so_known}
 use Rattle.cct_service.proofs.Reporting.{so_attempt, so_then, so_where}
 use Rattle.cct_service.proofs.Since.{attempt_records, command_records, since_left, since_put, since_same}
 use Rattle.cct_service.proofs.Suiting.{life_suits}
-use Rattle.cct_service.proofs.Telling.{news_next, news_then, told_none, told_one, told_then}
+use Rattle.cct_service.proofs.Telling.{news_next, news_notices, news_then, told_none, told_one, told_then}
 
 -- a life goes on by one part, and then by another
 pub goes_then : {D : Type 0} (g : Ghosts D) (setup : Setup) (A B C : Given D → List Record → List Entry → Type 0) (first then : List LiveStep) (told later : List Told) →
@@ -654,6 +654,25 @@ module _ {K : Type 0} (written : K → Option (List ℕ)) (puts : K → List ℕ
       })
       whole refl sink
       (disk_none g.size g.honest g.seen g.cuts g.faults (disk_of host) ⊥ (λ fails. fails))
+
+  -- notices, and others that are left where one couldn't be written
+  pub acts_notices : (S : List Told → Type 0) (answer : Result (Unit {0}) Failed) (a b : K) (host : Host D g)
+      (notices others : List Notice) → S (notices_told notices) → (P : List LiveStep → List Told → Type 0) →
+      ((past : List Entry) → Keeps host past → AreSo (setup_of host) past (notices_told notices)) →
+      WritesTold written puts a (notices_told notices) answer b → has_failed host ≡ false →
+      Serves written faults a b (IsErr answer) → OnOk answer (others ≡ []) → P [] (notices_told (notices ++ others)) →
+      Acts written puts faults S P (by_writing answer) a b host host
+  acts_notices S (Ok done) a b host notices others linked P so wrote whole sink none is =
+      acts_told S (Ok done) a b host (notices_told notices) linked P (news_notices notices) so wrote whole sink
+      (subst (λ all. P [] (notices_told all)) (ap (λ more. notices ++ more) none ∙ append-nil notices) is)
+  acts_notices S (Err failed) a b host notices others linked P so wrote whole sink left is =
+      acts_front served.Unwritten a b host host (FrontOf P) P (λ steps told h. h)
+      (acts_told S (Err failed) a b host (notices_told notices) linked (FrontOf P) (news_notices notices) so wrote whole sink
+      (record {
+        undone = [];
+        untold = notices_told others;
+        whole = subst (P []) (map-append (λ n. notice n) notices others) is;
+      }))
 
   -- what the journal knows
   pub acts_known : (S : List Told → Type 0) (answer : Result (Unit {0}) Failed) (a b : K) (host : Host D g) →

@@ -6,6 +6,7 @@ use Rattle.std.proofs.lemmas.List.{append-nil}
 use Rattle.cct_model.specs.declared.change.Payment.{Payment}
 use Rattle.cct_model.specs.declared.change.Session.{Session}
 use Rattle.cct_model.specs.declared.change.Tray.{Tray}
+use Rattle.cct_model.specs.terms.device.DeviceSetup.{DeviceSetup}
 use Rattle.cct_model.specs.lines.command.CommandNo.{CommandNo}
 use Rattle.cct_model.specs.lines.command.Step.{Step}
 use Rattle.cct_model.specs.lines.command.Step.TheVariants as step
@@ -175,14 +176,15 @@ served_alone Rested known now =
     })
 
 -- what a line says is done for it, where it names what is there, and else it is refused
-pub known_line : (Rested : Bool → Type 0) (known : Bool) → known ≡ true → (findings : List Finding) (number : ℕ)
-    (said : LiveLine) (steps : List LiveStep) (told : List Told) → Does Rested findings said steps told →
-    DoesKnown Rested known findings number said steps told
-known_line Rested true is findings number said steps told h = h
-known_line Rested false is findings number said steps told h = cc is
+pub known_line : (Rested : Bool → Type 0) (known : Bool) → known ≡ true → (devices : List DeviceSetup)
+    (findings : List Finding) (number : ℕ) (said : LiveLine) (steps : List LiveStep) (told : List Told) →
+    Does Rested devices findings said steps told → DoesKnown Rested known devices findings number said steps told
+known_line Rested true is devices findings number said steps told h = h
+known_line Rested false is devices findings number said steps told h = cc is
 
-pub unknown_line : (Rested : Bool → Type 0) (known : Bool) → known ≡ false → (findings : List Finding) (number : ℕ)
+pub unknown_line : (Rested : Bool → Type 0) (known : Bool) → known ≡ false → (devices : List DeviceSetup)
+    (findings : List Finding) (number : ℕ)
     (said : LiveLine) (steps : List LiveStep) (told : List Told) → Tells (refused number kind.Device) steps told →
-    DoesKnown Rested known findings number said steps told
-unknown_line Rested true is findings number said steps told h = cc is
-unknown_line Rested false is findings number said steps told h = h
+    DoesKnown Rested known devices findings number said steps told
+unknown_line Rested true is devices findings number said steps told h = cc is
+unknown_line Rested false is devices findings number said steps told h = h

@@ -1,16 +1,18 @@
 -- What writing does to a sink, one part of what is told after another.
-use Rattle.std.proofs.Common.{◌≡◌, ◌≤◌, ◌-◌, ℕ, zero, suc, take, drop, get_or, length, arith, List, [], ◌∷◌, ◌++◌, map, reverse, Bool, true, false, Option, Some, None, Result}
+use Rattle.std.proofs.Common.{◌≡◌, ◌≤◌, ◌-◌, ◌+◌, ◌<◌, ℕ, zero, suc, take, drop, get_or, length, arith, List, [], ◌∷◌, ◌++◌, map, reverse, Bool, true, false, Option, Some, None, Result}
 use Rattle.std.proofs.Common.{Ok, Err, refl, ap, sym, ◌∙◌, subst, append_assoc, inl, inr}
 use Rattle.std.specs.Prelude.{OnOk, OnErr, MatchResult}
 use Rattle.std.specs.Io.KnownBytes.{Appends}
 use Rattle.std.specs.List.{All}
 use Rattle.std.specs.Option.{IfSome, option_to_list}
-use Rattle.std.proofs.lemmas.List.{append-nil, map-append, reverse-append, reverse-reverse}
-use Rattle.std.proofs.lemmas.List.Concat.{flat_map-append}
+use Rattle.std.proofs.lemmas.List.{append-nil, map-append, reverse-append, reverse-reverse, take-append-drop, take_all, take_more}
+use Rattle.std.proofs.lemmas.List.Concat.{flat_map-append, flat_map_more}
 use Rattle.std.proofs.lemmas.List.Elements.{All-append, All-cons, All-nil}
 use Rattle.cct_edge.specs.Bytes.{AppendsFront}
 use Rattle.cct_edge.specs.declared.fault.Failed.{Failed}
 use Rattle.cct_edge.proofs.Chains.{Appends-nil, Appends-trans, Appends-then_front}
+use Rattle.cct_model.specs.declared.judging.EpochState.TheVariants.{Idle}
+use Rattle.cct_model.specs.terms.device.DeviceSetup.{DeviceSetup}
 use Rattle.cct_model.specs.lines.entry.Entry.{Entry}
 use Rattle.cct_model.specs.lines.entry.Entry.TheVariants as entry_of
 use Rattle.cct_model.specs.Text.{line_of, text}
@@ -18,7 +20,9 @@ use Rattle.cct_text.specs.Writing.{Puts, PutsLine, Writes}
 use Rattle.cct_service.specs.declared.notice.Notice.{Notice}
 use Rattle.cct_disk.specs.declared.disk.Disk.{Ghosts}
 use Rattle.cct_host.specs.declared.host.Host.{Host}
-use Rattle.cct_service.specs.Reported.{IsStatusOf, TellsStatus}
+use Rattle.cct_host.specs.Host.{setup_of}
+use Rattle.cct_service.specs.Reported.{IsStatusOf, TellsDevice, TellsDevices, TellsStatus, WritesStatus}
+use Rattle.cct_service.specs.Status.{Stand, addresses_in, addresses_told, end_notices, stand_notices, stands_notices}
 use Rattle.cct_service.specs.Told.{Told, WritesTold, answer_news, as_told, attempt_told, entry, falls_short, finding, knows, last, maybe_told, news_of, notice, notices_told, operates, pays, refused, told_line, told_text, told_unsent, unheard, unsent}
 
 -- the news of what is told first and then
@@ -231,32 +235,102 @@ pub all_maybe : (P : Notice → Type 0) (n : Option Notice) → IfSome n P → A
 all_maybe P None h = All-nil P
 all_maybe P (Some n) h = All-cons P n [] h (All-nil P)
 
--- how a host stands is told, of nothing yet
+-- a device of which nothing is known but where it is
+blank_at : DeviceSetup → Stand
+blank_at d = record { addr = d.addr; job = None; epoch = Idle; order = None; held = None }
+
+blanks_there : (ds : List DeviceSetup) → addresses_told (map blank_at ds) ≡ addresses_in ds
+blanks_there [] = refl
+blanks_there (d ∷ ds) = ap (λ more. d.addr ∷ more) (blanks_there ds)
+
+-- how a host stands is told
 module _ {K : Type 0} (written : K → Option (List ℕ)) (puts : K → List ℕ → Result (Unit {0}) Failed → K → Type 0)
     {D : Type 0} {g : Ghosts D} (host : Host D g) where
-  pub status_none : (a : K) → TellsStatus written puts host a (Ok tt) a
-  status_none a = ([], All-nil (IsStatusOf host), told_none written puts a)
-
-  -- and more
-  pub status_then : (a b c : K) (answer : Result (Unit {0}) Failed) → TellsStatus written puts host a (Ok tt) b →
-      TellsStatus written puts host b answer c → TellsStatus written puts host a answer c
-  status_then a b c answer h k = (
-    h.0 ++ k.0,
-    All-append (IsStatusOf host) h.0 k.0 h.1 k.1,
-    subst (λ told. WritesTold written puts a told answer c) (sym (map-append (λ n. notice n) h.0 k.0))
-        (told_then written puts a b c (notices_told h.0) (notices_told k.0) answer h.2 k.2),
+  writes_then : (a b c : K) (xs ys : List Notice) (answer : Result (Unit {0}) Failed) →
+      WritesStatus written puts host a xs (Ok tt) b → WritesStatus written puts host b ys answer c →
+      WritesStatus written puts host a (xs ++ ys) answer c
+  writes_then a b c xs ys answer h k = (
+    All-append (IsStatusOf host) xs ys h.0 k.0,
+    subst (λ told. WritesTold written puts a told answer c) (sym (map-append (λ n. notice n) xs ys))
+        (told_then written puts a b c (notices_told xs) (notices_told ys) answer h.1 k.1),
   )
 
-  -- one thing of it, or two
-  pub status_one : (a b : K) (n : Notice) (answer : Result (Unit {0}) Failed) → IsStatusOf host n →
-      WritesTold written puts a (notice n ∷ []) answer b → TellsStatus written puts host a answer b
-  status_one a b n answer is wrote =
-      (n ∷ [], All-cons (IsStatusOf host) n [] is (All-nil (IsStatusOf host)), wrote)
+  -- one notice of it, or two
+  pub writes_one : (a b : K) (n : Notice) (answer : Result (Unit {0}) Failed) → IsStatusOf host n →
+      WritesTold written puts a (notice n ∷ []) answer b → WritesStatus written puts host a (n ∷ []) answer b
+  writes_one a b n answer is wrote = (All-cons (IsStatusOf host) n [] is (All-nil (IsStatusOf host)), wrote)
 
-  pub status_two : (a b : K) (n m : Notice) (answer : Result (Unit {0}) Failed) → IsStatusOf host n → IsStatusOf host m →
-      WritesTold written puts a (notice n ∷ notice m ∷ []) answer b → TellsStatus written puts host a answer b
-  status_two a b n m answer is also wrote = (
-    n ∷ m ∷ [],
-    All-cons (IsStatusOf host) n (m ∷ []) is (All-cons (IsStatusOf host) m [] also (All-nil (IsStatusOf host))),
-    wrote,
+  pub writes_two : (a b : K) (n m : Notice) (answer : Result (Unit {0}) Failed) → IsStatusOf host n → IsStatusOf host m →
+      WritesTold written puts a (notice n ∷ notice m ∷ []) answer b → WritesStatus written puts host a (n ∷ m ∷ []) answer b
+  writes_two a b n m answer is also wrote =
+      (All-cons (IsStatusOf host) n (m ∷ []) is (All-cons (IsStatusOf host) m [] also (All-nil (IsStatusOf host))), wrote)
+
+  -- no device, and one more
+  pub devices_none : (a : K) → TellsDevices written puts host [] a (Ok tt) a
+  devices_none a = ([], refl, (All-nil (IsStatusOf host), told_none written puts a))
+
+  pub devices_more : (ds : List DeviceSetup) (i : ℕ) (d : DeviceSetup) (a b c : K) (answer : Result (Unit {0}) Failed) →
+      i < length ds → d ≡ get_or ds i d → TellsDevices written puts host (take i ds) a (Ok tt) b →
+      TellsDevice written puts host d.addr b answer c → TellsDevices written puts host (take (i + 1) ds) a answer c
+  devices_more ds i d a b c answer within at h k = (
+    h.0 ++ k.0 ∷ [],
+    map-append (λ (s : Stand). s.addr) h.0 (k.0 ∷ []) ∙ ap (λ all. all ++ k.0.addr ∷ []) h.1
+        ∙ ap (λ addr. addresses_in (take i ds) ++ addr ∷ []) k.1
+        ∙ sym (map-append (λ (e : DeviceSetup). e.addr) (take i ds) (d ∷ [])) ∙ ap addresses_in (sym more),
+    subst (λ all. WritesStatus written puts host a all answer c) (flat_map_more stand_notices [] h.0 k.0)
+        (writes_then a b c (stands_notices h.0) (stand_notices k.0) answer h.2 k.2),
   )
+    where
+      more : take (i + 1) ds ≡ take i ds ++ d ∷ []
+      more = take_more ds i d within ∙ ap (λ x. take i ds ++ x ∷ []) (sym at)
+
+  -- the first devices, of which the last one couldn't be told
+  pub status_broken : (n : ℕ) (a b : K) (failed : Failed) →
+      TellsDevices written puts host (take n (setup_of host).devices) a (Err failed) b →
+      TellsStatus written puts host a (Err failed) b
+  status_broken n a b failed h =
+      let ds = (setup_of host).devices in
+      let rest = map blank_at (drop n ds) in
+      (
+        stands_notices h.0,
+        stands_notices rest ++ end_notices 0 0,
+        tt,
+        (
+          h.0 ++ rest,
+          0,
+          0,
+          map-append (λ (s : Stand). s.addr) h.0 rest ∙ ap (λ all. all ++ addresses_told rest) h.1
+              ∙ ap (λ all. addresses_in (take n ds) ++ all) (blanks_there (drop n ds))
+              ∙ sym (map-append (λ (e : DeviceSetup). e.addr) (take n ds) (drop n ds))
+              ∙ ap addresses_in (take-append-drop n ds),
+          sym (append_assoc (stands_notices h.0) (stands_notices rest) (end_notices 0 0))
+              ∙ ap (λ all. all ++ end_notices 0 0) (sym (flat_map-append stand_notices h.0 rest)),
+        ),
+        h.2,
+      )
+
+  -- all devices, and then the last id and the room
+  pub status_ended : (n : ℕ) (a b c : K) (id records : ℕ) (answer : Result (Unit {0}) Failed) →
+      length (setup_of host).devices ≤ n →
+      TellsDevices written puts host (take n (setup_of host).devices) a (Ok tt) b →
+      WritesStatus written puts host b (end_notices id records) answer c → TellsStatus written puts host a answer c
+  status_ended n a b c id records answer all h k = (
+    stands_notices h.0 ++ end_notices id records,
+    [],
+    none_left answer,
+    (
+      h.0,
+      id,
+      records,
+      h.1 ∙ ap addresses_in (take_all n (setup_of host).devices all),
+      append-nil (stands_notices h.0 ++ end_notices id records),
+    ),
+    writes_then a b c (stands_notices h.0) (end_notices id records) answer h.2 k,
+  )
+    where
+      none : List Notice
+      none = []
+
+      none_left : (result : Result (Unit {0}) Failed) → OnOk result (none ≡ [])
+      none_left (Ok done) = refl
+      none_left (Err failed) = tt

@@ -34,7 +34,8 @@ use Rattle.cct_service.specs.Ends.{tells_end}
 use Rattle.cct_service.specs.Held.{IsAfter}
 use Rattle.cct_service.specs.Known.{HasJob, IsIdle, Knows, Rests}
 use Rattle.cct_service.specs.Said.{Said}
-use Rattle.cct_service.specs.Told.{AreOfStatus, Told, attempt_told, entry, falls_short, findings_in, found_told, knows_each, notice, notices_told, operates, pay_of, pays, refused, refused_for, taken, withheld_for}
+use Rattle.cct_service.specs.Status.{AreOfStatus}
+use Rattle.cct_service.specs.Told.{Told, attempt_told, entry, falls_short, findings_in, found_told, knows_each, notice, notices_told, operates, pay_of, pays, refused, refused_for, taken, withheld_for}
 
 -- One thing is done and told, and then another one, which goes by what was told.
 pub record ThenBy (First : List LiveStep → List Told → Type 0) (Next : List Told → List LiveStep → List Told → Type 0)
@@ -71,9 +72,9 @@ TellsOne s steps told = (steps ≡ s ∷ []) × ((e : Entry) × (told ≡ entry 
 abbrev pub Tells : Told → List LiveStep → List Told → Type 0
 Tells what steps told = (steps ≡ []) × (told ≡ what ∷ [])
 
--- Nothing is done, and it is told how a host stands.
-abbrev pub IsStatus : List LiveStep → List Told → Type 0
-IsStatus steps told = (steps ≡ []) × AreOfStatus told
+-- Nothing is done, and it is told how a host stands, by the devices of its setup.
+abbrev pub IsStatus : List DeviceSetup → List LiveStep → List Told → Type 0
+IsStatus devices steps told = (steps ≡ []) × AreOfStatus devices told
 
 -- It is done and told so many times in a row.
 abbrev pub Times : ℕ → (List LiveStep → List Told → Type 0) → List LiveStep → List Told → Type 0
@@ -191,20 +192,20 @@ abbrev pub ServesOn : (Bool → Type 0) → List Finding → List LiveStep → L
 ServesOn Rested findings steps told =
     (IsNothing steps told × Rested true) ⊎ (IsServing findings steps told × Rested false)
 
--- What is done for what a line says, by whether the session has nothing to do, and by what was found before. One that ends
--- the service is none of these.
-abbrev pub Does : (Bool → Type 0) → List Finding → LiveLine → List LiveStep → List Told → Type 0
-Does Rested findings (says.Command c) = Decides findings c
-Does Rested findings (says.Next addr) = IsAttempt addr
-Does Rested findings (says.Do addr) = MakesAttempts until_of.Ended addr
-Does Rested findings says.Poll = Then (ServesOn Rested findings) IsPoll
-Does Rested findings says.Balance = TellsOne live.balance
-Does Rested findings says.Status = IsStatus
-Does Rested findings (says.Order id) = IsOrder id
-Does Rested findings (says.Stock addr count) = TellsStep (step.Stock addr count)
-Does Rested findings (says.Change first amount) = TellsStep (step.Change first amount)
-Does Rested findings says.Serve = IsServing findings
-Does Rested findings says.End = λ steps told. ⊥
+-- What is done for what a line says, by whether the session has nothing to do, by the devices of the setup, and by what was
+-- found before. One that ends the service is none of these.
+abbrev pub Does : (Bool → Type 0) → List DeviceSetup → List Finding → LiveLine → List LiveStep → List Told → Type 0
+Does Rested devices findings (says.Command c) = Decides findings c
+Does Rested devices findings (says.Next addr) = IsAttempt addr
+Does Rested devices findings (says.Do addr) = MakesAttempts until_of.Ended addr
+Does Rested devices findings says.Poll = Then (ServesOn Rested findings) IsPoll
+Does Rested devices findings says.Balance = TellsOne live.balance
+Does Rested devices findings says.Status = IsStatus devices
+Does Rested devices findings (says.Order id) = IsOrder id
+Does Rested devices findings (says.Stock addr count) = TellsStep (step.Stock addr count)
+Does Rested devices findings (says.Change first amount) = TellsStep (step.Change first amount)
+Does Rested devices findings says.Serve = IsServing findings
+Does Rested devices findings says.End = λ steps told. ⊥
 
 -- A line names what is there: a stock is one of a hopper.
 abbrev pub is_known : List DeviceSetup → LiveLine → Bool
@@ -212,13 +213,14 @@ is_known devices (says.Stock addr count) = hopper_there (device_at devices addr)
 is_known devices said = true
 
 -- What is done for a line that names what is there, or not: what it says, or it is refused.
-abbrev pub DoesKnown : (Bool → Type 0) → Bool → List Finding → ℕ → LiveLine → List LiveStep → List Told → Type 0
-DoesKnown Rested true findings number said = Does Rested findings said
-DoesKnown Rested false findings number said = Tells (refused number kind.Device)
+abbrev pub DoesKnown : (Bool → Type 0) → Bool → List DeviceSetup → List Finding → ℕ → LiveLine → List LiveStep → List Told
+    → Type 0
+DoesKnown Rested true devices findings number said = Does Rested devices findings said
+DoesKnown Rested false devices findings number said = Tells (refused number kind.Device)
 
 -- What is done for the line of a number, by the devices of the setup; or it is told that it says nothing.
 abbrev pub DoesLine : (Bool → Type 0) → List DeviceSetup → List Finding → ℕ → Said → List LiveStep → List Told → Type 0
-DoesLine Rested devices findings number (Ok (input.Host said)) = DoesKnown Rested (is_known devices said) findings number said
+DoesLine Rested devices findings number (Ok (input.Host said)) = DoesKnown Rested (is_known devices said) devices findings number said
 DoesLine Rested devices findings number (Ok input.State) = IsStating
 DoesLine Rested devices findings number (Err why) = Tells (refused number why)
 

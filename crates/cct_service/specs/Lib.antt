@@ -2,6 +2,7 @@ pub mod Input
 pub mod Notice
 pub mod Held
 pub mod Told
+pub mod Status
 pub mod Said
 pub mod Session
 pub mod AtDesk

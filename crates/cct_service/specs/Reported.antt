@@ -1,5 +1,5 @@
 -- What is told of how a host stands, against all that was told before it.
-use Rattle.std.specs.Prelude.{◌≡◌, ◌==◌, ℕ, List, [], ◌∷◌, ◌++◌, if◌then◌else◌, Option, Some, None, Result, ⊤}
+use Rattle.std.specs.Prelude.{◌≡◌, ◌==◌, ℕ, List, [], ◌∷◌, ◌++◌, if◌then◌else◌, Option, Some, None, OnOk, Result, ⊤}
 use Rattle.std.specs.List.{All}
 use Rattle.cct_edge.specs.declared.fault.Failed.{Failed}
 use Rattle.cct_disk.specs.declared.disk.Disk.{Ghosts}
@@ -19,6 +19,7 @@ use Rattle.cct_service.specs.declared.notice.Notice.TheVariants as notice_of
 use Rattle.cct_service.specs.declared.outside.OrderTold.{OrderTold}
 use Rattle.cct_service.specs.declared.outside.OrderTold.TheVariants as order_of
 use Rattle.cct_service.specs.Stated.{IsStateOf}
+use Rattle.cct_service.specs.Status.{AreStatus, Stand, addresses_in, addresses_told, stand_notices, stands_notices}
 use Rattle.cct_service.specs.Told.{IsOfStatus, Told, WritesTold, answer_news, entry, knows, notice, notices_told, pays, unsent}
 
 -- What is told of the order of an id, where this is an open order at an address.
@@ -76,9 +77,28 @@ module _ {D : Type 0} {g : Ghosts D} where
   abbrev pub IsStatusOf : Host D g → Notice → Type 0
   IsStatusOf host n = IsOfStatus n × ((past : List Entry) → Keeps host past → IsSo (setup_of host) past n)
 
-  -- It was written how it stands.
+  -- These notices of it were written.
+  abbrev pub WritesStatus : {K : Type 0} → (K → Option (List ℕ)) → (K → List ℕ → Result (Unit {0}) Failed → K → Type 0)
+      → Host D g → K → List Notice → Result (Unit {0}) Failed → K → Type 0
+  WritesStatus written puts host before notices result now =
+      All (IsStatusOf host) notices × WritesTold written puts before (notices_told notices) result now
+
+  -- It was written how the device at an address stands.
+  abbrev pub TellsDevice : {K : Type 0} → (K → Option (List ℕ)) → (K → List ℕ → Result (Unit {0}) Failed → K → Type 0)
+      → Host D g → ℕ → K → Result (Unit {0}) Failed → K → Type 0
+  TellsDevice written puts host addr before result now =
+      (s : Stand) × (s.addr ≡ addr) × WritesStatus written puts host before (stand_notices s) result now
+
+  -- It was written how these devices stand.
+  abbrev pub TellsDevices : {K : Type 0} → (K → Option (List ℕ)) → (K → List ℕ → Result (Unit {0}) Failed → K → Type 0)
+      → Host D g → List DeviceSetup → K → Result (Unit {0}) Failed → K → Type 0
+  TellsDevices written puts host devices before result now =
+      (stands : List Stand) × (addresses_told stands ≡ addresses_in devices)
+      × WritesStatus written puts host before (stands_notices stands) result now
+
+  -- Its status was written, or the first notices of one, up to one that couldn't be.
   abbrev pub TellsStatus : {K : Type 0} → (K → Option (List ℕ)) → (K → List ℕ → Result (Unit {0}) Failed → K → Type 0)
       → Host D g → K → Result (Unit {0}) Failed → K → Type 0
   TellsStatus written puts host before result now =
-      (notices : List Notice) × All (IsStatusOf host) notices
-      × WritesTold written puts before (notices_told notices) result now
+      (notices : List Notice) × (others : List Notice) × OnOk result (others ≡ [])
+      × AreStatus (setup_of host).devices (notices ++ others) × WritesStatus written puts host before notices result now

@@ -151,14 +151,10 @@ pub record WritesTold {K : Type 0} (written : K → Option (List ℕ))
   pub bytes : MatchResult result (λ _. Appends (written before) (written now) (told_text told))
       (λ _. AppendsFront (written before) (written now) (told_text told))
 
--- How a host stands is told by its devices, the bills that they hold, the last id, and the room of its journal.
+-- A notice of how a host stands: of a device, of a bill that it holds, of the last id, or of the room of the journal.
 abbrev pub IsOfStatus : Notice → Type 0
 IsOfStatus (notice_of.Device addr job epoch order) = ⊤
 IsOfStatus (notice_of.Held addr place) = ⊤
 IsOfStatus (notice_of.Last id) = ⊤
 IsOfStatus (notice_of.Room records) = ⊤
 IsOfStatus n = ⊥
-
--- Such notices are told.
-abbrev pub AreOfStatus : List Told → Type 0
-AreOfStatus told = (notices : List Notice) × All IsOfStatus notices × (told ≡ notices_told notices)

@@ -120,7 +120,8 @@ pub(crate) fn status<K: Sink, D: Disk>(
     page: &mut Page,
 ) -> Result<(), Served>
     requires whole { has_failed host.old ≡ false }
-    ensures acts { Acts K.written K.puts K.faults (Both AreQuiet IsApart) IsStatus result out.old out.new host.old host.new }
+    ensures acts { Acts K.written K.puts K.faults (Both AreQuiet IsApart) (IsStatus (setup_of host.old).devices)
+        result out.old out.new host.old host.new }
 {
     by_writing(tell_status(host, out, page))
 }

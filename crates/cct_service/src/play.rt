@@ -259,7 +259,7 @@ fn obey<K: Sink, D: Disk, L: CountedLink, O: Outside>(
     ensures acts { Acts K.written K.puts K.faults
         (Both (UsesLink L.gives L.sent L.failures (setup_of host.old).devices roll.old roll.new link.old link.new)
         (FollowsDesk result desk.old desk.new))
-        (Finds roll.old.findings roll.new.findings (Does (Rested host.old desk.old) roll.old.findings said.now))
+        (Finds roll.old.findings roll.new.findings (Does (Rested host.old desk.old) (setup_of host.old).devices roll.old.findings said.now))
         result out.old out.new host.old host.new }
 {
     match said {

@@ -5,7 +5,7 @@ ghost use Rattle.cct_host.specs.Host.{setup_of};
 ghost use Rattle.cct_host.specs.Starting.{BeginsAs};
 ghost use Rattle.cct_model.specs.Following.{Known};
 ghost use Rattle.cct_service.specs.Opening.{IsOpening, TellsOpening, epochs_known, is_running, orders_known};
-ghost use Rattle.cct_service.specs.Reported.{TellsStatus};
+ghost use Rattle.cct_service.specs.Reported.{TellsDevice, TellsStatus};
 ghost use Rattle.cct_service.specs.Told as lines;
 ghost use Rattle.cct_service.specs.Told.{WritesTold};
 
@@ -110,7 +110,7 @@ fn tell_device<K: Sink, D: Disk>(
     out: &mut K,
     page: &mut Page,
 ) -> Result<(), Failed>
-    ensures tells { TellsStatus K.written K.puts host.now out.old result out.new }
+    ensures tells { TellsDevice K.written K.puts host.now addr out.old result out.new }
     ensures serves { Serves K.written K.faults out.old out.new (IsErr result) }
 {
     let stands = Notice::Device {

@@ -37,7 +37,7 @@ returns-in-Next g c =
     let out1 = c.next.new.out in
     let after = c.next.new.host in
     record {
-      acts = subst (λ said. Acts sink.written sink.puts sink.faults uses (Finds known known (Does (Rested host c.args.desk.now) known said)) result out out1
+      acts = subst (λ said. Acts sink.written sink.puts sink.faults uses (Finds known known (Does (Rested host c.args.desk.now) devices known said)) result out out1
           host after) (sym c.in-Next.is)
           (roll_told sink.written sink.puts sink.faults g.L.Link.gives link.sent link.failures devices roll line c.next.new.link
           desk c.next.new.desk result out out1 host after (Finds known known does)
@@ -63,7 +63,7 @@ returns-in-Do g c =
     let out1 = c.do_job.new.out in
     let after = c.do_job.new.host in
     record {
-      acts = subst (λ said. Acts sink.written sink.puts sink.faults uses (Finds known known (Does (Rested host c.args.desk.now) known said)) result out out1
+      acts = subst (λ said. Acts sink.written sink.puts sink.faults uses (Finds known known (Does (Rested host c.args.desk.now) devices known said)) result out out1
           host after) (sym c.in-Do.is)
           (roll_told sink.written sink.puts sink.faults g.L.Link.gives link.sent link.failures devices roll line c.do_job.new.link
           desk c.do_job.new.desk result out out1 host after (Finds known known does)
@@ -89,7 +89,7 @@ returns-in-Balance g c =
     let out1 = c.balance.new.out in
     let after = c.balance.new.host in
     record {
-      acts = subst (λ said. Acts sink.written sink.puts sink.faults uses (Finds known known (Does (Rested host c.args.desk.now) known said)) result out out1
+      acts = subst (λ said. Acts sink.written sink.puts sink.faults uses (Finds known known (Does (Rested host c.args.desk.now) devices known said)) result out out1
           host after) (sym c.in-Balance.is)
           (roll_quiet sink.written sink.puts sink.faults g.L.Link.gives link.sent link.failures devices roll line
           follows result out out1 host after (Finds known known does)
@@ -108,7 +108,7 @@ returns-in-Status g c =
     let host = c.args.host.now in
     let desk = c.args.desk.now in
     let devices = (setup_of host).devices in
-    let does = IsStatus in
+    let does = IsStatus devices in
     let result = c.status.result in
     let follows = FollowsDesk result desk desk in
     let uses = Both (UsesLink g.L.Link.gives link.sent link.failures devices roll roll line line) follows in
@@ -116,13 +116,13 @@ returns-in-Status g c =
     let out1 = c.status.new.out in
     let after = c.status.new.host in
     record {
-      acts = subst (λ said. Acts sink.written sink.puts sink.faults uses (Finds known known (Does (Rested host c.args.desk.now) known said)) result out out1
+      acts = subst (λ said. Acts sink.written sink.puts sink.faults uses (Finds known known (Does (Rested host c.args.desk.now) devices known said)) result out out1
           host after) (sym c.in-Status.is)
           (roll_quiet sink.written sink.puts sink.faults g.L.Link.gives link.sent link.failures devices roll line
           follows result out out1 host after (Finds known known does)
           (quiet_at_desk sink.written sink.puts sink.faults desk result out out1 host after (Finds known known does)
           (acts_weaker sink.written sink.puts sink.faults result out out1 host after does (Finds known known does)
-          (finds_none known does status_finds) c.status.ensures.acts)));
+          (finds_none known does (status_finds devices)) c.status.ensures.acts)));
     }
 
 pub returns-in-Order : goal.returns-in-Order
@@ -143,7 +143,7 @@ returns-in-Order g c =
     let out1 = c.order.new.out in
     let after = c.order.new.host in
     record {
-      acts = subst (λ said. Acts sink.written sink.puts sink.faults uses (Finds known known (Does (Rested host c.args.desk.now) known said)) result out out1
+      acts = subst (λ said. Acts sink.written sink.puts sink.faults uses (Finds known known (Does (Rested host c.args.desk.now) devices known said)) result out out1
           host after) (sym c.in-Order.is)
           (roll_quiet sink.written sink.puts sink.faults g.L.Link.gives link.sent link.failures devices roll line
           follows result out out1 host after (Finds known known does)
@@ -171,7 +171,7 @@ returns-in-Stock g c =
     let out1 = c.count_stock.new.out in
     let after = c.count_stock.new.host in
     record {
-      acts = subst (λ said. Acts sink.written sink.puts sink.faults uses (Finds known known (Does (Rested host c.args.desk.now) known said)) result out out1
+      acts = subst (λ said. Acts sink.written sink.puts sink.faults uses (Finds known known (Does (Rested host c.args.desk.now) devices known said)) result out out1
           host after) (sym c.in-Stock.is)
           (roll_quiet sink.written sink.puts sink.faults g.L.Link.gives link.sent link.failures devices roll line
           follows result out out1 host after (Finds known known does)
@@ -198,7 +198,7 @@ returns-in-Change g c =
     let out1 = c.begin_session.new.out in
     let after = c.begin_session.new.host in
     record {
-      acts = subst (λ said. Acts sink.written sink.puts sink.faults uses (Finds known known (Does (Rested host c.args.desk.now) known said)) result out out1
+      acts = subst (λ said. Acts sink.written sink.puts sink.faults uses (Finds known known (Does (Rested host c.args.desk.now) devices known said)) result out out1
           host after) (sym c.in-Change.is)
           (roll_quiet sink.written sink.puts sink.faults g.L.Link.gives link.sent link.failures devices roll line
           follows result out out1 host after (Finds known known does)
@@ -229,7 +229,7 @@ returns-in-Command g c =
     let uses = Both (UsesLink g.L.Link.gives link.sent link.failures devices roll c.decide.new.roll line c.decide.new.link)
     (FollowsDesk result desk desk) in
     record {
-      acts = subst (λ said. Acts sink.written sink.puts sink.faults uses (Finds known now (Does (Rested host c.args.desk.now) known said)) result out out1
+      acts = subst (λ said. Acts sink.written sink.puts sink.faults uses (Finds known now (Does (Rested host c.args.desk.now) devices known said)) result out out1
           host after) (sym c.in-Command.is)
           (roll_apart sink.written sink.puts sink.faults g.L.Link.gives link.sent link.failures devices roll c.decide.new.roll line
           c.decide.new.link desk result out out1 host after (Finds known now (Decides known c.in-Command.command))
