@@ -140,6 +140,7 @@ fn write_premise(line: &mut TextLine, premise: Premise)
         Premise::Serial => line.push(b" serial"),
         Premise::Enable => line.push(b" enable"),
         Premise::Life => line.push(b" life"),
+        Premise::Alone => line.push(b" alone"),
     }
 }
 

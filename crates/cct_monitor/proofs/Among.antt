@@ -124,6 +124,7 @@ broken_names addr number (signs.Mask mask) (Some k) = none_or_one addr ((mask ==
 broken_names addr number (signs.MaskTaken mask) known = no_names addr
 broken_names addr number signs.MaskLost known = no_names addr
 broken_names addr number signs.ResetTaken known = no_names addr
+broken_names addr number signs.OtherAnswers known = one_names addr _ refl
 broken_names addr number signs.Nothing known = no_names addr
 
 serial_names : (addr number serial : ℕ) (known : Option KnownSerial) → NamesAll addr (broken_serial addr number serial known)
@@ -147,6 +148,7 @@ life_names addr number count (Some k) =
     none_or addr (nat_le (2 ^ 24) k.most) _ (none_or_one addr (rise_fits (life_between k.count count) k) _ refl)
 
 hopper_names : (addr number : ℕ) (s : Deed) (known : KnownHopper) → NamesAll addr (hopper_broken_by addr number s known)
+unfolding addr_of
 hopper_names addr number (deeds.Serial serial) known = serial_names addr number serial known.serial
 hopper_names addr number (deeds.Dispensed serial count) known =
     both_name addr (broken_serial addr number serial known.serial) (broken_enable addr number known.shut)
@@ -156,6 +158,7 @@ hopper_names addr number deeds.Enabled known = no_names addr
 hopper_names addr number deeds.Shut known = no_names addr
 hopper_names addr number (deeds.Asked count) known = no_names addr
 hopper_names addr number (deeds.Status left paid) known = no_names addr
+hopper_names addr number deeds.OtherAnswers known = one_names addr _ refl
 hopper_names addr number deeds.Nothing known = no_names addr
 
 said_names : (t : Tap) (a : Account) → NamesAll a.watch.addr (said_of t a)

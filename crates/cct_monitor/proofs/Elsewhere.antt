@@ -1,12 +1,12 @@
 -- A tap for another address shows nothing of a device.
-use Rattle.std.proofs.Common.{◌≡◌, ℕ, ◌+◌, ◌*◌, ◌%◌, ◌==◌, ◌&&◌, Bool, true, false, cond, List, [], ◌∷◌, refl, ap, ap₂, Option, Some, None, option_and_then, sum, take, slice_index}
+use Rattle.std.proofs.Common.{◌≡◌, ℕ, ◌+◌, ◌*◌, ◌%◌, ◌==◌, ◌&&◌, Bool, true, false, cond, List, [], ◌∷◌, refl, ap, ap₂, ◌∙◌, Option, Some, None, option_and_then, sum, take, slice_index}
 use Rattle.cct_model.specs.terms.wire.TheConstants.{BROADCAST}
 use Rattle.cct_model.specs.terms.wire.CheckKind.{CheckKind}
 use Rattle.cct_model.specs.terms.wire.CheckKind.TheVariants.{Simple, Crc}
 use Rattle.cct_model.specs.terms.request.Request.{Request}
 use Rattle.cct_model.specs.terms.request.Request.TheVariants.{AddressPoll, SetMask}
 use Rattle.cct_model.specs.terms.request.ReplyForm.{ReplyForm}
-use Rattle.cct_model.specs.Exchange.{asked_of, got, to_all, to_one}
+use Rattle.cct_model.specs.Exchange.{after_echo, asked_of, got, to_all, to_one}
 use Rattle.cct_model.specs.Message.{Message, message, length_agrees, crc}
 use Rattle.cct_model.specs.Reply.{Reply}
 use Rattle.cct_model.specs.Request.{request_of}
@@ -24,7 +24,7 @@ use Rattle.cct_taps.specs.declared.signs.Sign.TheVariants as signs
 use Rattle.cct_taps.specs.Signs.{broken_by, known_on, sign, sign_by}
 use Rattle.cct_taps.specs.declared.deeds.Deed.TheVariants as deeds
 use Rattle.cct_taps.specs.Deeds.{deed, deed_by, hopper_broken_by, hopper_on}
-use Rattle.cct_taps.specs.Taps.{Tap, asks_at, bills_by, but_masks, is_message, is_to, life_by, life_shown, quiet_shown, shown, shown_by, tap_of}
+use Rattle.cct_taps.specs.Taps.{Tap, asks_at, bills_by, but_masks, is_message, is_of_other, is_to, life_by, life_shown, quiet_shown, shown, shown_by, tap_of}
 use Rattle.cct_monitor.specs.Tallies.{is_counted, is_events, is_life, is_mask, is_masked, is_reading, tally_by, tally_more}
 use Rattle.cct_monitor.specs.Lives.{fell_by}
 use Rattle.cct_monitor.specs.Machine.{acceptor_on, acceptor_says, family_of, kept_on, last_on, life_on, quiet_says, says_by, says_on, watched_on}
@@ -133,15 +133,22 @@ quiet_look_is : (money : Money) (kind : CheckKind) (addr : ℕ) (t : Tap) → Is
 quiet_look_is Coins kind addr t idle = still_nothing (asks_at kind addr t.sent) (shown kind addr t) (look_is kind addr t idle)
 quiet_look_is Bills kind addr t idle = idle.bills (λ form. got kind addr form t.sent t.heard)
 
-sign_is : (money : Money) (kind : CheckKind) (addr : ℕ) (t : Tap) → IsIdle (asks_at kind addr t.sent) →
-    sign money kind addr t ≡ signs.Nothing
-sign_is money kind addr t idle = idle.premises money (λ form. got kind addr form t.sent t.heard)
+sign_is : (money : Money) (kind : CheckKind) (addr : ℕ) (t : Tap) → is_message kind addr t.sent ≡ false →
+    IsIdle (asks_at kind addr t.sent) → sign money kind addr t ≡ signs.Nothing
+sign_is money kind addr t none idle =
+    ap (λ b. cond (b && is_of_other addr (option_and_then (message kind) (after_echo t.sent t.heard))) signs.OtherAnswers
+    (sign_by money (asks_at kind addr t.sent) (λ form. got kind addr form t.sent t.heard))) none
+    ∙ idle.premises money (λ form. got kind addr form t.sent t.heard)
 
 live_is : (kind : CheckKind) (addr : ℕ) (t : Tap) → IsIdle (asks_at kind addr t.sent) → life_shown kind addr t ≡ None
 live_is kind addr t idle = idle.lives (λ form. got kind addr form t.sent t.heard)
 
-deed_is : (kind : CheckKind) (addr : ℕ) (t : Tap) → IsIdle (asks_at kind addr t.sent) → deed kind addr t ≡ deeds.Nothing
-deed_is kind addr t idle = idle.hoppers (λ form. got kind addr form t.sent t.heard)
+deed_is : (kind : CheckKind) (addr : ℕ) (t : Tap) → is_message kind addr t.sent ≡ false →
+    IsIdle (asks_at kind addr t.sent) → deed kind addr t ≡ deeds.Nothing
+deed_is kind addr t none idle =
+    ap (λ b. cond (b && is_of_other addr (option_and_then (message kind) (after_echo t.sent t.heard))) deeds.OtherAnswers
+    (deed_by (asks_at kind addr t.sent) (λ form. got kind addr form t.sent t.heard))) none
+    ∙ idle.hoppers (λ form. got kind addr form t.sent t.heard)
 
 tally_same : (fam : Family) (kind : CheckKind) (addr : ℕ) (t : Tap) (tally : Tally) → is_message kind addr t.sent ≡ false →
     IsIdle (asks_at kind addr t.sent) → tally_by fam kind addr t tally ≡ tally
@@ -150,33 +157,33 @@ tally_same family.Acceptor kind addr t tally none idle =
 tally_same (family.QuietAcceptor money) kind addr t tally none idle =
     ap₂ (λ to_it s. tally_more to_it (is_reading s) (is_masked s) tally) none (quiet_look_is money kind addr t idle)
 tally_same (family.Premises money) kind addr t tally none idle =
-    ap₂ (λ to_it s. tally_more to_it (is_events s) (is_mask s) tally) none (sign_is money kind addr t idle)
+    ap₂ (λ to_it s. tally_more to_it (is_events s) (is_mask s) tally) none (sign_is money kind addr t none idle)
 tally_same family.Hopper kind addr t tally none idle =
     ap₂ (λ to_it s. tally_more to_it (is_life s) false tally) none (live_is kind addr t idle)
 tally_same family.HopperPremises kind addr t tally none idle =
-    ap₂ (λ to_it s. tally_more to_it (is_counted s) false tally) none (deed_is kind addr t idle)
+    ap₂ (λ to_it s. tally_more to_it (is_counted s) false tally) none (deed_is kind addr t none idle)
 
-keeps : (kind : CheckKind) (addr : ℕ) (t : Tap) (number : ℕ) (kept : Kept) → IsIdle (asks_at kind addr t.sent) →
-    kept_on kind addr t number kept ≡ kept
-keeps kind addr t number (Acceptor kept) idle = ap (λ s. Acceptor (acceptor_on s number kept)) (look_is kind addr t idle)
-keeps kind addr t number (QuietAcceptor money last) idle =
+keeps : (kind : CheckKind) (addr : ℕ) (t : Tap) (number : ℕ) (kept : Kept) → is_message kind addr t.sent ≡ false →
+    IsIdle (asks_at kind addr t.sent) → kept_on kind addr t number kept ≡ kept
+keeps kind addr t number (Acceptor kept) none idle = ap (λ s. Acceptor (acceptor_on s number kept)) (look_is kind addr t idle)
+keeps kind addr t number (QuietAcceptor money last) none idle =
     ap (λ s. QuietAcceptor money (last_on s number last)) (quiet_look_is money kind addr t idle)
-keeps kind addr t number (Premises money known) idle =
-    ap (λ s. Premises money (known_on number s known)) (sign_is money kind addr t idle)
-keeps kind addr t number (Hopper life) idle = ap (λ s. Hopper (life_on s number life)) (live_is kind addr t idle)
-keeps kind addr t number (HopperPremises known) idle =
-    ap (λ s. HopperPremises (hopper_on number s known)) (deed_is kind addr t idle)
+keeps kind addr t number (Premises money known) none idle =
+    ap (λ s. Premises money (known_on number s known)) (sign_is money kind addr t none idle)
+keeps kind addr t number (Hopper life) none idle = ap (λ s. Hopper (life_on s number life)) (live_is kind addr t idle)
+keeps kind addr t number (HopperPremises known) none idle =
+    ap (λ s. HopperPremises (hopper_on number s known)) (deed_is kind addr t none idle)
 
-is_silent : (kind : CheckKind) (addr : ℕ) (t : Tap) (number : ℕ) (kept : Kept) → IsIdle (asks_at kind addr t.sent) →
-    says_by kind addr t number kept ≡ []
-is_silent kind addr t number (Acceptor kept) idle = ap (λ s. acceptor_says addr s number kept) (look_is kind addr t idle)
-is_silent kind addr t number (QuietAcceptor money last) idle =
+is_silent : (kind : CheckKind) (addr : ℕ) (t : Tap) (number : ℕ) (kept : Kept) → is_message kind addr t.sent ≡ false →
+    IsIdle (asks_at kind addr t.sent) → says_by kind addr t number kept ≡ []
+is_silent kind addr t number (Acceptor kept) none idle = ap (λ s. acceptor_says addr s number kept) (look_is kind addr t idle)
+is_silent kind addr t number (QuietAcceptor money last) none idle =
     ap (λ s. quiet_says addr s number last) (quiet_look_is money kind addr t idle)
-is_silent kind addr t number (Premises money known) idle =
-    ap (λ s. broken_by addr number s known) (sign_is money kind addr t idle)
-is_silent kind addr t number (Hopper life) idle = ap (λ s. fell_by addr number s life) (live_is kind addr t idle)
-is_silent kind addr t number (HopperPremises known) idle =
-    ap (λ s. hopper_broken_by addr number s known) (deed_is kind addr t idle)
+is_silent kind addr t number (Premises money known) none idle =
+    ap (λ s. broken_by addr number s known) (sign_is money kind addr t none idle)
+is_silent kind addr t number (Hopper life) none idle = ap (λ s. fell_by addr number s life) (live_is kind addr t idle)
+is_silent kind addr t number (HopperPremises known) none idle =
+    ap (λ s. hopper_broken_by addr number s known) (deed_is kind addr t none idle)
 
 -- a tap passes a device by
 pub record PassesBy (t : Tap) (number : ℕ) (w : Watched) : Type 0 where
@@ -187,8 +194,8 @@ idle_passes : (t : Tap) (number : ℕ) (w : Watched) → is_message w.kind w.add
     IsIdle (asks_at w.kind w.addr t.sent) → PassesBy t number w
 idle_passes t number w none idle = record {
   same = ap₂ (λ (tally : Tally) (kept : Kept). record { addr = w.addr; kind = w.kind; tally = tally; kept = kept })
-      (tally_same (family_of w.kept) w.kind w.addr t w.tally none idle) (keeps w.kind w.addr t number w.kept idle);
-  silent = is_silent w.kind w.addr t number w.kept idle;
+      (tally_same (family_of w.kept) w.kind w.addr t w.tally none idle) (keeps w.kind w.addr t number w.kept none idle);
+  silent = is_silent w.kind w.addr t number w.kept none idle;
 }
 
 pub other_passes : (to : ℕ) (rest heard : List ℕ) (number : ℕ) (w : Watched) → (w.addr == to) ≡ false →

@@ -108,6 +108,7 @@ fn is_events(sign: &Sign) -> bool
         Sign::MaskTaken { .. } => false,
         Sign::MaskLost => false,
         Sign::ResetTaken => false,
+        Sign::OtherAnswers => false,
         Sign::Nothing => false,
     }
 }
@@ -122,6 +123,7 @@ fn is_mask(sign: &Sign) -> bool
         Sign::MaskTaken { .. } => false,
         Sign::MaskLost => false,
         Sign::ResetTaken => false,
+        Sign::OtherAnswers => false,
         Sign::Nothing => false,
     }
 }
@@ -138,6 +140,7 @@ fn is_counted(deed: &Deed) -> bool
         Deed::Dispensed { .. } => false,
         Deed::Asked { .. } => false,
         Deed::Status { .. } => false,
+        Deed::OtherAnswers => false,
         Deed::Nothing => false,
     }
 }

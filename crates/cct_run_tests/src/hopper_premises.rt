@@ -35,6 +35,11 @@ const PAY_REFUSED: &str = "tap 030401a739300003e5 030401a739300003e501000305f7\n
 /// It is to pay three coins under another serial number.
 const PAY_OTHER: &str = "tap 030401a73a300003e4 030401a73a300003e401000300fc\n";
 
+/// It is to pay three coins, or is enabled, and device 2 answers.
+const PAY_OF_OTHER: &str = "tap 030401a739300003e5 030401a739300003e501000200fd\n";
+
+const ENABLE_OF_OTHER: &str = "tap 030101a4a5b2 030101a4a5b201000200fd\n";
+
 /// It has no coin left to pay.
 const IDLE: &str = "tap 030001a656 030001a6560104030000000000f8\n";
 
@@ -136,6 +141,19 @@ fn what_a_hopper_breaks_is_told(rt: HostRuntime) -> Result<(), Fail> {
         (
             [LIFE_100, PAY_THREE, PAID_THREE, LIFE_102].as_slice(),
             "broken 3 life 1 4\n",
+        ),
+        // Another device answers: what the hopper heard isn't known, but for its serial number.
+        (
+            [RESET, LIFE_100, PAY_OF_OTHER, LIFE_103, LIFE_104].as_slice(),
+            "broken 3 alone 3 3\n",
+        ),
+        (
+            [DISABLE, ENABLE_OF_OTHER, PAY_THREE].as_slice(),
+            "broken 3 alone 2 2\n",
+        ),
+        (
+            [SERIAL_NUMBER, PAY_OF_OTHER, OTHER_NUMBER].as_slice(),
+            "broken 3 alone 2 2\nbroken 3 serial 1 3\n",
         ),
     ] {
         say(&rt, rt.alloc(), taps, text)?;

@@ -21,6 +21,31 @@ const SET_UNSURE: &str = "tap 020201e7ffff16 020201e7ffff16\n";
 
 const RESET_UNSURE: &str = "tap 02000101fc 02000101fc\n";
 
+/// It is asked for its mask, or to reset, and device 3 answers.
+const MASK_OF_OTHER: &str = "tap 020001e617 020001e61701020300fffffc\n";
+
+const RESET_OF_OTHER: &str = "tap 02000101fc 02000101fc01000300fc\n";
+
+/// The same with a refusal, with a damaged message, to another than the host, and with its echo damaged.
+const NO_OF_OTHER: &str = "tap 02000101fc 02000101fc01000305f7\n";
+
+const DAMAGED: &str = "tap 02000101fc 02000101fc01000300fb\n";
+
+const TO_OTHER: &str = "tap 02000101fc 02000101fc05000300f8\n";
+
+const ECHO_DAMAGED: &str = "tap 02000101fc 02000102fc01000300fc\n";
+
+/// After a reset without a reply the host asks device 3 for its mask.
+const NEXT_MESSAGE: &str = "tap 02000101fc 02000101fc030001e616\n";
+
+/// Device 3 is asked to reset, and acknowledges.
+const OF_OTHER: &str = "tap 03000101fb 03000101fb01000300fc\n";
+
+/// Under the CRC bill acceptor 40 is reset, and some device acknowledges that; under the simple check device 3 answers 159.
+const CRC_ANSWER: &str = "tap 280046013f 280046013f0100300037\n";
+
+const BILLS_OF_OTHER: &str = "tap 2800019f38 2800019f38010b03000000000000000000000000f1\n";
+
 /// Audits the taps of acceptor 2, and compares what is said.
 fn say(rt: &impl Abort, alloc: Global, taps: &[&str], text: &str) -> Result<(), Fail> {
     let mut capture = joined(alloc, &["watch 2 simple acceptor premises\nbegin\n"])?;
@@ -66,6 +91,54 @@ fn what_is_broken_is_told(rt: HostRuntime) -> Result<(), Fail> {
         say(&rt, rt.alloc(), taps, text)?;
     }
     Ok(())
+}
+
+#[test]
+fn an_answer_of_another_device_is_told(rt: HostRuntime) -> Result<(), Fail> {
+    for (taps, text) in [
+        ([RESET, RESET_OF_OTHER].as_slice(), "broken 2 alone 2 2\n"),
+        ([NO_EVENT, NO_OF_OTHER].as_slice(), "broken 2 alone 2 2\n"),
+        (
+            [MASK_OF_OTHER, MASK_OF_OTHER].as_slice(),
+            "broken 2 alone 1 1\nbroken 2 alone 2 2\n",
+        ),
+        // What it heard isn't known: neither its mask nor a reset is held against it.
+        (
+            [ONE_PLACE, RESET_OF_OTHER, ALL_PLACES].as_slice(),
+            "broken 2 alone 2 2\n",
+        ),
+        (
+            [RESET, MASK_OF_OTHER, FIVE_MORE].as_slice(),
+            "broken 2 alone 2 2\n",
+        ),
+        // No whole answer, or none to the host; the next message of the host; and an exchange of another device.
+        (
+            [DAMAGED, TO_OTHER, ECHO_DAMAGED, NEXT_MESSAGE, OF_OTHER].as_slice(),
+            "",
+        ),
+    ] {
+        say(&rt, rt.alloc(), taps, text)?;
+    }
+    // Under the CRC an answer names nobody.
+    tell(
+        &rt,
+        rt.alloc(),
+        Status::Done,
+        &[
+            (
+                &["watch 40 crc bills premises\nbegin\n", CRC_ANSWER, "end\n"],
+                "",
+            ),
+            (
+                &[
+                    "watch 40 simple bills premises\nbegin\n",
+                    BILLS_OF_OTHER,
+                    "end\n",
+                ],
+                "broken 40 alone 1 1\n",
+            ),
+        ],
+    )
 }
 
 #[test]

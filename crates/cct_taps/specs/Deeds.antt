@@ -14,11 +14,11 @@ use Rattle.cct_taps.specs.declared.said.Said.{Said}
 use Rattle.cct_taps.specs.declared.said.Said.TheVariants.{Broken}
 use Rattle.cct_taps.specs.declared.said.Premise.TheVariants as premise
 use Rattle.cct_taps.specs.declared.deeds.Deed.{Deed}
-use Rattle.cct_taps.specs.declared.deeds.Deed.TheVariants.{Serial, Enabled, Shut, Dispensed, Asked, Status, Life, Nothing}
+use Rattle.cct_taps.specs.declared.deeds.Deed.TheVariants.{Serial, Enabled, Shut, Dispensed, Asked, Status, Life, OtherAnswers, Nothing}
 use Rattle.cct_taps.specs.declared.hoppers.KnownSerial.{KnownSerial}
 use Rattle.cct_taps.specs.declared.hoppers.KnownLife.{KnownLife}
 use Rattle.cct_taps.specs.declared.hoppers.KnownHopper.{KnownHopper}
-use Rattle.cct_taps.specs.Taps.{Tap, asks_at}
+use Rattle.cct_taps.specs.Taps.{Tap, asks_at, other_answers}
 
 -- The serial number that a reply tells.
 abbrev pub serial_deed : Option Reply → Deed
@@ -54,7 +54,9 @@ deed_by asked replied = Nothing
 
 -- What a tap shows of the hopper at an address under a check.
 abbrev pub deed : CheckKind → ℕ → Tap → Deed
-deed kind addr tap = deed_by (asks_at kind addr tap.sent) (λ form. got kind addr form tap.sent tap.heard)
+deed kind addr tap =
+    if other_answers kind addr tap then OtherAnswers
+    else deed_by (asks_at kind addr tap.sent) (λ form. got kind addr form tap.sent tap.heard)
 
 -- The serial number that is known after a tap of a number: the first one that was shown.
 abbrev pub serial_first : ℕ → ℕ → Option KnownSerial → Option KnownSerial
@@ -71,6 +73,7 @@ serial_on number s found = found
 abbrev pub shut_on : ℕ → Deed → Option ℕ → Option ℕ
 shut_on number Enabled found = None
 shut_on number Shut found = Some number
+shut_on number OtherAnswers found = None
 shut_on number s found = found
 
 -- The greater of two counts.
@@ -83,6 +86,7 @@ rest_on Shut rest = 0
 rest_on (Dispensed serial count) rest = count
 rest_on (Asked count) rest = greater rest count
 rest_on (Status remaining paid) rest = remaining
+rest_on OtherAnswers rest = 255
 rest_on s rest = rest
 
 -- How many coins may have fallen and may yet fall, with this many more.
@@ -122,6 +126,7 @@ life_known number (Life count) rest found =
 life_known number (Dispensed serial count) rest found = asked_since true count found
 life_known number (Asked count) rest found = asked_since false count found
 life_known number (Status remaining paid) rest found = paid_since paid found
+life_known number OtherAnswers rest found = None
 life_known number s rest found = found
 
 -- What is known of a hopper after a tap of a number.
@@ -171,6 +176,7 @@ hopper_broken_by addr number (Serial serial) k = broken_serial addr number seria
 hopper_broken_by addr number (Dispensed serial count) k =
     broken_serial addr number serial k.serial ++ broken_enable addr number k.shut
 hopper_broken_by addr number (Life count) k = broken_life addr number count k.life
+hopper_broken_by addr number OtherAnswers k = Broken addr premise.Alone number number ∷ []
 hopper_broken_by addr number s k = []
 
 -- The same after the taps before it, newest first.

@@ -18,8 +18,8 @@ use Rattle.cct_taps.specs.declared.said.Said.TheVariants.{Broken}
 use Rattle.cct_taps.specs.declared.said.Premise.TheVariants as premise
 use Rattle.cct_taps.specs.declared.signs.KnownMask.{KnownMask}
 use Rattle.cct_taps.specs.declared.signs.Sign.{Sign}
-use Rattle.cct_taps.specs.declared.signs.Sign.TheVariants.{Events, Mask, MaskTaken, MaskLost, ResetTaken, Nothing}
-use Rattle.cct_taps.specs.Taps.{Tap, asks_at}
+use Rattle.cct_taps.specs.declared.signs.Sign.TheVariants.{Events, Mask, MaskTaken, MaskLost, ResetTaken, OtherAnswers, Nothing}
+use Rattle.cct_taps.specs.Taps.{Tap, asks_at, other_answers}
 
 -- The events that a reply tells.
 abbrev pub events_sign : Option Reply → Sign
@@ -58,7 +58,8 @@ sign_by money asked replied = Nothing
 -- What a tap shows of the acceptor of this money at an address under a check.
 abbrev pub sign : Money → CheckKind → ℕ → Tap → Sign
 sign money kind addr tap =
-    sign_by money (asks_at kind addr tap.sent) (λ form. got kind addr form tap.sent tap.heard)
+    if other_answers kind addr tap then OtherAnswers
+    else sign_by money (asks_at kind addr tap.sent) (λ form. got kind addr form tap.sent tap.heard)
 
 -- A mask that was known at a tap of a number.
 abbrev pub known_mask : ℕ → ℕ → KnownMask
@@ -76,6 +77,7 @@ known_on number (Mask mask) found = seen_mask number mask found
 known_on number (MaskTaken mask) found = Some (known_mask number mask)
 known_on number MaskLost found = None
 known_on number ResetTaken found = Some (record { number = number; mask = 0; is_fresh = true })
+known_on number OtherAnswers found = None
 known_on number Nothing found = found
 
 -- The known mask after taps that showed this, newest first. Taps are numbered from 1.
@@ -112,6 +114,7 @@ broken_mask addr number mask (Some k) =
 abbrev pub broken_by : ℕ → ℕ → Sign → Option KnownMask → List Said
 broken_by addr number (Events c) found = broken_buffer addr number c ++ broken_reset addr number c found
 broken_by addr number (Mask mask) found = broken_mask addr number mask found
+broken_by addr number OtherAnswers found = Broken addr premise.Alone number number ∷ []
 broken_by addr number s found = []
 
 -- The same after the taps before it, newest first.

@@ -1,6 +1,7 @@
 -- An exchange as a logger of the wire sees it, and what it shows of a device.
-use Rattle.std.specs.Prelude.{ℕ, ◌==◌, Bool, false, List, Option, Some, None, option_and_then}
+use Rattle.std.specs.Prelude.{ℕ, ◌==◌, ◌&&◌, not, Bool, false, List, Option, Some, None, option_and_then}
 use Rattle.cct_model.specs.terms.wire.CheckKind.{CheckKind}
+use Rattle.cct_model.specs.terms.wire.TheConstants.{HOST}
 use Rattle.cct_model.specs.terms.request.Request.{Request}
 use Rattle.cct_model.specs.terms.request.Request.TheVariants.{ReadBills, ReadCredits, GetMask, SetMask, ResetDevice, GetLife}
 use Rattle.cct_model.specs.terms.request.ReplyForm.{ReplyForm}
@@ -8,7 +9,7 @@ use Rattle.cct_model.specs.terms.request.ReplyForm.TheVariants as form
 use Rattle.cct_model.specs.Message.{Message, message}
 use Rattle.cct_model.specs.Reply.{Reply}
 use Rattle.cct_model.specs.Reply as reply
-use Rattle.cct_model.specs.Exchange.{asked_of, got}
+use Rattle.cct_model.specs.Exchange.{after_echo, asked_of, got, is_from}
 use Rattle.cct_model.specs.Job.{settled_events}
 use Rattle.cct_taps.specs.declared.money.Money.{Money}
 use Rattle.cct_taps.specs.declared.money.Money.TheVariants.{Coins, Bills}
@@ -36,6 +37,17 @@ is_to addr (Some m) = m.to == addr
 -- A piece is a message to an address under a check, whatever it asks.
 abbrev pub is_message : CheckKind → ℕ → List ℕ → Bool
 is_message kind addr piece = is_to addr (message kind piece)
+
+-- A message is to the host, and names another source than an address. Under the CRC it names none.
+abbrev pub is_of_other : ℕ → Option Message → Bool
+is_of_other addr None = false
+is_of_other addr (Some m) = (m.to == HOST) && not (is_from addr m.from)
+
+-- A tap shows that another device answers what was sent to the one at an address: after the echo of a message to it comes
+-- a message of another.
+abbrev pub other_answers : CheckKind → ℕ → Tap → Bool
+other_answers kind addr tap =
+    is_message kind addr tap.sent && is_of_other addr (option_and_then (message kind) (after_echo tap.sent tap.heard))
 
 -- A reading of the credits, where a reply is one.
 abbrev pub read_in : Option Reply → Shown

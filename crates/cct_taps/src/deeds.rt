@@ -1,11 +1,12 @@
 //! What a tap shows of a hopper of which premises are tried.
 ghost use Rattle.std.specs.Prelude.{◌≡◌};
 ghost use Rattle.std.specs.Option.{option_map};
+ghost use Rattle.cct_model.specs.Exchange.{got};
 ghost use Rattle.cct_model.specs.Reply.{reply_shown};
-ghost use Rattle.cct_taps.specs.Deeds.{deed, if_done, life_deed, serial_deed, status_deed};
-ghost use Rattle.cct_taps.specs.Taps.{tap_of};
+ghost use Rattle.cct_taps.specs.Deeds.{deed, deed_by, if_done, life_deed, serial_deed, status_deed};
+ghost use Rattle.cct_taps.specs.Taps.{asks_at, tap_of};
 
-use crate::asking::asked_at;
+use crate::asking::{asked_at, other_answers};
 use cct_model::{CheckKind, ENABLE_CODE, Reply, ReplyForm, Request};
 use cct_msg::wanted_reply;
 
@@ -26,6 +27,8 @@ pub enum Deed {
     Status { remaining: u8, paid: u8 },
     /// Its life count (168).
     Life { count: u32 },
+    /// Another device answered: what this one heard isn't known.
+    OtherAnswers,
     /// Nothing of these.
     Nothing,
 }
@@ -33,6 +36,17 @@ pub enum Deed {
 /// What a tap shows of the hopper at an address.
 pub fn deed_at(kind: CheckKind, addr: u8, sent: &[u8], heard: &[u8]) -> Deed
     ensures { result ≡ deed kind addr (tap_of sent.now heard.now) }
+{
+    if other_answers(kind, addr, sent, heard) {
+        Deed::OtherAnswers
+    } else {
+        own_deed(kind, addr, sent, heard)
+    }
+}
+
+/// What it shows where no other device answers.
+fn own_deed(kind: CheckKind, addr: u8, sent: &[u8], heard: &[u8]) -> Deed
+    ensures { result ≡ deed_by (asks_at kind addr sent.now) (λ form. got kind addr form sent.now heard.now) }
 {
     match asked_at(kind, addr, sent) {
         Some(Request::SerialNumber) => serial_deed(wanted_reply(

@@ -6,6 +6,7 @@ ghost use Rattle.cct_taps.specs.Deeds.{asked_since, broken_enable, broken_life, 
 
 use crate::deeds::Deed;
 use crate::said::{Premise, Said};
+use crate::signs::alone_broken;
 use arrayvec::ArrayVec;
 
 /// How many values the life count has, which is three bytes long.
@@ -80,6 +81,7 @@ fn serial_on(number: u32, deed: Deed, known: Option<KnownSerial>) -> Option<Know
         Deed::Asked { .. } => known,
         Deed::Status { .. } => known,
         Deed::Life { .. } => known,
+        Deed::OtherAnswers => known,
         Deed::Nothing => known,
     }
 }
@@ -101,6 +103,7 @@ fn shut_on(number: u32, deed: Deed, known: Option<u32>) -> Option<u32>
     match deed {
         Deed::Enabled => None,
         Deed::Shut => Some(number),
+        Deed::OtherAnswers => None,
         Deed::Serial { .. } => known,
         Deed::Dispensed { .. } => known,
         Deed::Asked { .. } => known,
@@ -119,6 +122,7 @@ fn rest_on(deed: Deed, rest: u8) -> u8
         Deed::Dispensed { count, .. } => count,
         Deed::Asked { count } => greater(rest, count),
         Deed::Status { remaining, .. } => remaining,
+        Deed::OtherAnswers => u8::MAX,
         Deed::Serial { .. } => rest,
         Deed::Enabled => rest,
         Deed::Life { .. } => rest,
@@ -148,6 +152,7 @@ fn life_known(number: u32, deed: Deed, rest: u8, known: Option<KnownLife>) -> Op
         Deed::Dispensed { count, .. } => asked_since(true, count, known),
         Deed::Asked { count } => asked_since(false, count, known),
         Deed::Status { paid, .. } => paid_since(paid, known),
+        Deed::OtherAnswers => None,
         Deed::Serial { .. } => known,
         Deed::Enabled => known,
         Deed::Shut => known,
@@ -219,6 +224,7 @@ pub fn tell_hopper(
             tell_enable(addr, number, known.shut, report);
         }
         Deed::Life { count } => tell_life(addr, number, count, known.life, report),
+        Deed::OtherAnswers => report.push(alone_broken(addr, number)),
         Deed::Enabled => {}
         Deed::Shut => {}
         Deed::Asked { .. } => {}

@@ -18,6 +18,8 @@ pub enum Premise {
     Enable,
     /// Its life count rises by one with each coin that falls, and else stays.
     Life,
+    /// No other device answers what is sent to it.
+    Alone,
 }
 
 /// What a monitor says of the watched device at `addr`: `first` and `last` are the numbers of two taps, from 1. All but

@@ -3,11 +3,14 @@
 ghost use Rattle.std.specs.Prelude.{◌≡◌, ◌≤◌, ◌++◌, [], length};
 ghost use Rattle.std.specs.List.{list_any};
 ghost use Rattle.std.specs.Option.{option_map};
+ghost use Rattle.cct_model.specs.Exchange.{got};
 ghost use Rattle.cct_model.specs.Reply.{reply_shown};
-ghost use Rattle.cct_taps.specs.Signs.{broken_buffer, broken_by, broken_mask, broken_reset, events_sign, if_acked, is_credit, is_event, known_mask, known_on, mask_sign, of_bills, of_coins, seen_mask, sign};
-ghost use Rattle.cct_taps.specs.Taps.{tap_of};
+ghost use Rattle.cct_taps.specs.declared.said.Said.TheVariants.{Broken};
+ghost use Rattle.cct_taps.specs.declared.said.Premise.TheVariants as premise;
+ghost use Rattle.cct_taps.specs.Signs.{broken_buffer, broken_by, broken_mask, broken_reset, events_sign, if_acked, is_credit, is_event, known_mask, known_on, mask_sign, of_bills, of_coins, seen_mask, sign, sign_by};
+ghost use Rattle.cct_taps.specs.Taps.{asks_at, tap_of};
 
-use crate::asking::asked_at;
+use crate::asking::{asked_at, other_answers};
 use crate::money::Money;
 use crate::said::{Premise, Said};
 use arrayvec::ArrayVec;
@@ -27,6 +30,8 @@ pub enum Sign {
     MaskLost,
     /// It acknowledged a reset (1).
     ResetTaken,
+    /// Another device answered: what this one heard isn't known.
+    OtherAnswers,
     /// Nothing of these.
     Nothing,
 }
@@ -44,6 +49,17 @@ pub struct KnownMask {
 /// What a tap shows of the acceptor of this money at an address.
 pub fn sign_at(money: Money, kind: CheckKind, addr: u8, sent: &[u8], heard: &[u8]) -> Sign
     ensures { result ≡ sign money kind addr (tap_of sent.now heard.now) }
+{
+    if other_answers(kind, addr, sent, heard) {
+        Sign::OtherAnswers
+    } else {
+        own_sign(money, kind, addr, sent, heard)
+    }
+}
+
+/// What it shows where no other device answers.
+fn own_sign(money: Money, kind: CheckKind, addr: u8, sent: &[u8], heard: &[u8]) -> Sign
+    ensures { result ≡ sign_by money (asks_at kind addr sent.now) (λ form. got kind addr form sent.now heard.now) }
 {
     match asked_at(kind, addr, sent) {
         Some(Request::ReadCredits) => of_coins(
@@ -133,6 +149,7 @@ pub fn known_on(number: u32, sign: Sign, known: Option<KnownMask>) -> Option<Kno
             mask: 0,
             is_fresh: true,
         }),
+        Sign::OtherAnswers => None,
         Sign::Nothing => known,
     }
 }
@@ -184,7 +201,20 @@ pub fn tell_broken(
         Sign::MaskTaken { .. } => {}
         Sign::MaskLost => {}
         Sign::ResetTaken => {}
+        Sign::OtherAnswers => report.push(alone_broken(addr, number)),
         Sign::Nothing => {}
+    }
+}
+
+/// That another device answered at a tap.
+pub(crate) fn alone_broken(addr: u8, number: u32) -> Said
+    ensures { result ≡ Broken addr premise.Alone number number }
+{
+    Said::Broken {
+        addr,
+        premise: Premise::Alone,
+        first: number,
+        last: number,
     }
 }
 

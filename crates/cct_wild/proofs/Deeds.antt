@@ -29,7 +29,7 @@ use Rattle.cct_laws.specs.Law.{IsOf}
 use Rattle.cct_laws.proofs.Replies.{start_of}
 use Rattle.cct_laws.proofs.jobs.Brought.{Comes, takes_coin, leaves_coin, takes_bill, leaves_bill, leaves_alien, drops_coin, drops_none, jams, jams_none, is_reset}
 use Rattle.cct_taps.specs.declared.deeds.Deed.{Deed}
-use Rattle.cct_taps.specs.declared.deeds.Deed.TheVariants.{Serial, Enabled, Shut, Dispensed, Asked, Status, Life, Nothing}
+use Rattle.cct_taps.specs.declared.deeds.Deed.TheVariants.{Serial, Enabled, Shut, Dispensed, Asked, Status, Life, OtherAnswers, Nothing}
 use Rattle.cct_taps.specs.declared.hoppers.KnownHopper.{KnownHopper}
 use Rattle.cct_taps.specs.declared.hoppers.KnownLife.{KnownLife}
 use Rattle.cct_taps.specs.declared.hoppers.KnownSerial.{KnownSerial}
@@ -37,8 +37,9 @@ use Rattle.cct_taps.specs.declared.said.Premise.TheVariants as premise
 use Rattle.cct_taps.specs.declared.said.Said.{Said}
 use Rattle.cct_taps.specs.declared.said.Said.TheVariants.{Broken}
 use Rattle.cct_taps.specs.Deeds.{asked_since, broken_enable, broken_life, broken_serial, deed, deed_by, greater, hopper_after, hopper_broken_at, hopper_broken_by, hopper_on, if_done, least_of, life_deed, more_coins, paid_since, rise_fits, serial_deed, serial_first, status_deed}
-use Rattle.cct_taps.specs.Taps.{Tap, asks_at, life_by, life_in}
+use Rattle.cct_taps.specs.Taps.{Tap, asks_at, life_by, life_in, tap_of}
 use Rattle.cct_wild.specs.Wild.{WildStep, WildFrom, taps}
+use Rattle.cct_wild.proofs.Alone.{none_other}
 use Rattle.cct_wild.proofs.Fallen.{since_exact}
 use Rattle.cct_wild.proofs.Run.{AllWild, Seen, Wild, comes, comes_to, elsewhere, faults, here, no_tap, sends, takes, wild_all}
 use Rattle.cct_wild.proofs.Wire.{acked, asked_or_none, dispense_replied, enable_replied, refused, reset_replied, told_life, told_serial, told_status}
@@ -733,7 +734,15 @@ module _ (setup : Setup) (d : DeviceSetup) (sound : IsSoundSetup setup) (own_one
   one_fine past _ (sends addr sent) honest fine =
       let is = deed_fine setup d sound own_one paying past sent honest.0 (suc (length (deeds d past)))
       (hopper_after (deeds d past)) fine.0 (asks_at d.kind d.addr sent) refl in
-      (is.known, ap₂ (λ xs ys. xs ++ ys) fine.1 is.silent)
+      let same : deed d.kind d.addr (tap_of sent (heard_after setup past sent))
+      ≡ deed_by (asks_at d.kind d.addr sent) (λ form. got d.kind d.addr form sent (heard_after setup past sent)) =
+      ap (λ b. cond b OtherAnswers
+      (deed_by (asks_at d.kind d.addr sent) (λ form. got d.kind d.addr form sent (heard_after setup past sent))))
+      (none_other setup d past sent sound own_one honest.0) in
+      let so = subst (Fine d.addr (suc (length (deeds d past))) d.serial (start_of d.body)
+      (heard (asks_of d (heard_by_devices (pending past) sent)) ∷ met d past) (hopper_after (deeds d past)))
+      (sym same) is in
+      (so.known, ap₂ (λ xs ys. xs ++ ys) fine.1 so.silent)
 
   all_fine : (past : List Entry) → AllWild setup past → HonestPast past → Shows d (met d past) (taps past)
   all_fine [] all honest = (record { serial_is = tt; shut_is = tt; rest_is = omega arith; life_is = tt }, refl)

@@ -9,6 +9,7 @@ pub mod Resets
 pub mod QuietRuns
 pub mod True
 pub mod Wire
+pub mod Alone
 pub mod Premises
 pub mod Deeds
 pub mod Worked

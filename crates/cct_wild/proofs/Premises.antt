@@ -41,11 +41,12 @@ use Rattle.cct_taps.specs.declared.said.Said.{Said}
 use Rattle.cct_taps.specs.declared.said.Said.TheVariants.{Broken}
 use Rattle.cct_taps.specs.declared.signs.KnownMask.{KnownMask}
 use Rattle.cct_taps.specs.declared.signs.Sign.{Sign}
-use Rattle.cct_taps.specs.declared.signs.Sign.TheVariants.{Events, Mask, MaskTaken, MaskLost, ResetTaken, Nothing}
+use Rattle.cct_taps.specs.declared.signs.Sign.TheVariants.{Events, Mask, MaskTaken, MaskLost, ResetTaken, OtherAnswers, Nothing}
 use Rattle.cct_taps.specs.Signs.{broken_at, broken_by, broken_reset, events_sign, if_acked, is_credit, is_event, known_after, known_mask, known_on, mask_sign, of_bills, of_coins, sign, sign_by}
-use Rattle.cct_taps.specs.Taps.{Tap, asks_at}
+use Rattle.cct_taps.specs.Taps.{Tap, asks_at, tap_of}
 use Rattle.cct_wild.specs.Wild.{WildStep, WildFrom, taps}
 use Rattle.cct_wild.specs.Claims.{Takes}
+use Rattle.cct_wild.proofs.Alone.{none_other}
 use Rattle.cct_wild.proofs.QuietRuns.{no_hopper, taker_is}
 use Rattle.cct_wild.proofs.Run.{AllWild, Seen, Wild, comes, comes_to, elsewhere, faults, here, no_tap, sends, takes, wild_all}
 use Rattle.cct_wild.proofs.Wire.{acked, asked_or_none, bills_request, coins_request, events_told, masks_told, reset_replied, set_replied}
@@ -446,7 +447,15 @@ module _ (money : Money) (setup : Setup) (d : DeviceSetup) (sound : IsSoundSetup
       let is = sign_fine money setup d sound own_one takes_it taking past sent honest.0
       (suc (length (premise_signs money d past))) (known_after (premise_signs money d past)) fine.0
       (asks_at d.kind d.addr sent) refl in
-      (is.known, ap₂ (λ xs ys. xs ++ ys) fine.1 is.silent)
+      let same : sign money d.kind d.addr (tap_of sent (heard_after setup past sent))
+      ≡ sign_by money (asks_at d.kind d.addr sent) (λ form. got d.kind d.addr form sent (heard_after setup past sent)) =
+      ap (λ b. cond b OtherAnswers
+      (sign_by money (asks_at d.kind d.addr sent) (λ form. got d.kind d.addr form sent (heard_after setup past sent))))
+      (none_other setup d past sent sound own_one honest.0) in
+      let so = subst (Fine d.addr (suc (length (premise_signs money d past))) d.body
+      (heard (asks_of d (heard_by_devices (pending past) sent)) ∷ met d past) (known_after (premise_signs money d past)))
+      (sym same) is in
+      (so.known, ap₂ (λ xs ys. xs ++ ys) fine.1 so.silent)
 
   all_fine : (past : List Entry) → AllWild setup past → HonestPast past → Shows money d (met d past) (taps past)
   all_fine [] all honest = (tt, refl)

@@ -48,7 +48,7 @@ use Rattle.cct_taps.specs.declared.shown.Shown.TheVariants.{Read, Masked}
 use Rattle.cct_monitor.specs.Spans.{is_set}
 use Rattle.cct_taps.specs.Taps.{asks_at, life_by, life_in, life_shown, mask_in, read_in, shown, shown_by, tap_of}
 
-none_some : {A : Type 0} (x : A) → None ≡ Some x → ⊥
+pub none_some : {A : Type 0} (x : A) → None ≡ Some x → ⊥
 none_some x e = cc
 
 -- ---- whom bytes are for
@@ -60,7 +60,7 @@ passed false x m found = absurd cc
 goes_to : (x m : Message) (to : ℕ) → x.to ≡ to → x ≡ m → m.to ≡ to
 goes_to x m to own same = sym (ap (λ (n : Message). n.to) same) ∙ own
 
-placed_to : (kind : CheckKind) (piece : List ℕ) (m : Message) → message kind piece ≡ Some m →
+pub placed_to : (kind : CheckKind) (piece : List ℕ) (m : Message) → message kind piece ≡ Some m →
     m.to ≡ slice_index piece 0
 unfolding message
 placed_to Simple [] m found = absurd cc
@@ -178,7 +178,7 @@ all_silent : (f : DeviceSetup → List ℕ) (devices : List DeviceSetup) → ((e
 all_silent f [] silent = refl
 all_silent f (e ∷ devices) silent = rw (silent e) (all_silent f devices silent)
 
-damaged_answers : (setup : Setup) (past : List Entry) (piece : List ℕ) → IsNoMessage piece →
+pub damaged_answers : (setup : Setup) (past : List Entry) (piece : List ℕ) → IsNoMessage piece →
     answers setup past piece ≡ []
 damaged_answers setup past piece none =
     all_silent _ (by_address setup.devices) (λ e. silent_to e (met e past) piece (damaged_asks e piece none))
@@ -200,18 +200,22 @@ answer_is : (d : DeviceSetup) (past : List Met) (sent : List ℕ) (q : Request) 
     reply_of d past q ≡ Some y → answer d past sent ≡ Some (spelling d.kind (replying (asker d.kind sent) d.addr y))
 answer_is d past sent q y asks replied = rw (asks, replied) refl
 
-answers_are : (setup : Setup) (d : DeviceSetup) (past : List Entry) (sent : List ℕ) (q : Request) (y : Reply) →
-    IsSoundSetup setup → IsOf setup d → (q ≡ AddressPoll → ⊥) → asks_of d sent ≡ Some q →
-    reply_of d (met d past) q ≡ Some y →
-    answers setup past sent ≡ spelling d.kind (replying (asker d.kind sent) d.addr y)
-answers_are setup d past sent q y sound own no_poll asks replied =
-    let to_it : slice_index sent 0 ≡ d.addr = first_is d sent q no_poll asks in
+pub alone_answers : (setup : Setup) (d : DeviceSetup) (past : List Entry) (sent : List ℕ) → IsSoundSetup setup → IsOf setup d →
+    slice_index sent 0 ≡ d.addr → answers setup past sent ≡ unwrap_or (answer d (met d past) sent) []
+alone_answers setup d past sent sound own to_it =
     let low = (found_in IsSound setup.devices d.addr d sound.devices own).0.low in
     let some : d.addr ≢ 0 = omega (arith, low) in
     let silent : (e : DeviceSetup) → e.addr ≢ d.addr → unwrap_or (answer e (met e past) sent) [] ≡ [] =
     λ e other. silent_to e (met e past) sent
     (asks_nothing e sent (λ same. other (sym same ∙ to_it)) (λ zero. some (sym to_it ∙ zero))) in
     one_gives (λ e. unwrap_or (answer e (met e past) sent) []) d.addr d setup.devices silent sound.distinct own
+
+answers_are : (setup : Setup) (d : DeviceSetup) (past : List Entry) (sent : List ℕ) (q : Request) (y : Reply) →
+    IsSoundSetup setup → IsOf setup d → (q ≡ AddressPoll → ⊥) → asks_of d sent ≡ Some q →
+    reply_of d (met d past) q ≡ Some y →
+    answers setup past sent ≡ spelling d.kind (replying (asker d.kind sent) d.addr y)
+answers_are setup d past sent q y sound own no_poll asks replied =
+    alone_answers setup d past sent sound own (first_is d sent q no_poll asks)
     ∙ ap (λ found. unwrap_or found []) (answer_is d (met d past) sent q y asks replied)
 
 -- the reply in a form that bytes from an address are
@@ -253,7 +257,7 @@ none_read : (kind : CheckKind) (addr : ℕ) (wanted : ReplyForm) (piece : List �
     read_from kind addr wanted piece ≡ None
 none_read kind addr wanted piece none = ap (option_and_then (reply_from wanted addr)) none
 
-empty_message : (kind : CheckKind) → message kind [] ≡ None
+pub empty_message : (kind : CheckKind) → message kind [] ≡ None
 unfolding message
 empty_message Simple = refl
 empty_message Crc = refl
@@ -271,13 +275,17 @@ not_got : (kind : CheckKind) (addr : ℕ) (wanted : ReplyForm) (sent heard : Lis
 unfolding got
 not_got kind addr wanted sent heard z none is = nothing_after kind addr wanted (after_echo sent heard) z none is
 
+pub no_poll_to : (setup : Setup) (d : DeviceSetup) (sent : List ℕ) → IsSoundSetup setup → IsOf setup d →
+    slice_index sent 0 ≡ d.addr → IsAddressPoll sent → ⊥
+no_poll_to setup d sent sound own to_it poll =
+    let low = (found_in IsSound setup.devices d.addr d sound.devices own).0.low in
+    let zero : d.addr ≡ 0 = sym to_it ∙ ap (λ piece. slice_index piece 0) poll.1 ∙ ask_to poll.0 0 AddressPoll in
+    omega (arith, low, zero)
+
 no_address_poll : (setup : Setup) (d : DeviceSetup) (sent : List ℕ) (q : Request) → IsSoundSetup setup → IsOf setup d →
     (q ≡ AddressPoll → ⊥) → asks_of d sent ≡ Some q → IsAddressPoll sent → ⊥
 no_address_poll setup d sent q sound own no_poll asks poll =
-    let low = (found_in IsSound setup.devices d.addr d sound.devices own).0.low in
-    let zero : d.addr ≡ 0 =
-    sym (first_is d sent q no_poll asks) ∙ ap (λ piece. slice_index piece 0) poll.1 ∙ ask_to poll.0 0 AddressPoll in
-    omega (arith, low, zero)
+    no_poll_to setup d sent sound own (first_is d sent q no_poll asks) poll
 
 -- what is got of the device is what it answers
 got_clear : (setup : Setup) (d : DeviceSetup) (past : List Entry) (sent : List ℕ) (z : Reply) (wanted : ReplyForm)
@@ -310,7 +318,7 @@ got_under setup d past sent q y z wanted f is damage found =
     ∙ got_clear setup d past sent z wanted f (no_address_poll setup d sent q is.sound is.own is.no_poll is.asks) damage found)
 
 -- a refusal is no other reply
-and_false : (b : Bool) → (b && false) ≡ false
+pub and_false : (b : Bool) → (b && false) ≡ false
 and_false true = refl
 and_false false = refl
 
