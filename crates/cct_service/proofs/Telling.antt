@@ -290,8 +290,7 @@ module _ {K : Type 0} (written : K → Option (List ℕ)) (puts : K → List ℕ
       TellsStatus written puts host a (Err failed) b
   status_broken n a b failed h =
       let ds = (setup_of host).devices in
-      let rest = map blank_at (drop n ds) in
-      (
+      let rest = map blank_at (drop n ds) in (
         stands_notices h.0,
         stands_notices rest ++ end_notices 0 0,
         tt,

@@ -10,8 +10,7 @@ returns-in-Some-clause-tells g c =
     let job = c.command_at.result in
     let epoch = c.epoch_at.result in
     let order = c.order_at.result in
-    let place = c.in-Some.place in
-    (
+    let place = c.in-Some.place in (
       record { addr = addr; job = job; epoch = epoch; order = order; held = Some place },
       refl,
       writes_two sink.written sink.puts c.args.host.now c.args.out.now c.tell_two.new.out
@@ -26,8 +25,7 @@ returns-in-None-clause-tells g c =
     let addr = c.args.addr in
     let job = c.command_at.result in
     let epoch = c.epoch_at.result in
-    let order = c.order_at.result in
-    (
+    let order = c.order_at.result in (
       record { addr = addr; job = job; epoch = epoch; order = order; held = None },
       refl,
       writes_one sink.written sink.puts c.args.host.now c.args.out.now c.tell_one.new.out
