@@ -27,6 +27,8 @@ pub(crate) struct Miss<'l> {
     place: usize,
     /// How many are right in all.
     right: usize,
+    /// Whether a word by which the form differs from others stands in its place.
+    has_word: bool,
     /// Whether the line has as many fields as the form.
     is_full: bool,
     wrong: Wrong<'l>,
@@ -50,6 +52,7 @@ pub(crate) fn miss_in<'l>(part: Part, line: &'l [u8]) -> Option<Miss<'l>> {
 fn miss_of<'l>(form: &Form, rest: Option<&'l [u8]>) -> Option<Miss<'l>> {
     let is_full = fields_behind(rest) == form.fields().len();
     let right = right_in(form, rest);
+    let has_word = has_word_of(form, rest);
     let mut rest = rest;
     let mut before = form.word();
     for (place, field) in form.fields().iter().enumerate() {
@@ -62,6 +65,7 @@ fn miss_of<'l>(form: &Form, rest: Option<&'l [u8]>) -> Option<Miss<'l>> {
                 form: *form,
                 place,
                 right,
+                has_word,
                 is_full,
                 wrong,
             });
@@ -73,6 +77,7 @@ fn miss_of<'l>(form: &Form, rest: Option<&'l [u8]>) -> Option<Miss<'l>> {
         form: *form,
         place: form.fields().len(),
         right,
+        has_word,
         is_full,
         wrong: Wrong::Surplus(before, rest?),
     })
@@ -95,6 +100,22 @@ fn right_in(form: &Form, rest: Option<&[u8]>) -> usize {
     right
 }
 
+/// Whether a field after a word is a word that the form has there.
+fn has_word_of(form: &Form, rest: Option<&[u8]>) -> bool {
+    let mut rest = rest;
+    for field in form.fields() {
+        let Some(text) = rest else {
+            return false;
+        };
+        let (first, after) = first_field(text);
+        if matches!(field.rule(), Rule::Only(_)) && field.rule().fits(first) {
+            return true;
+        }
+        rest = after;
+    }
+    false
+}
+
 /// What is wrong with a field, if anything is.
 fn unfit_in<'l>(field: &Field, text: &'l [u8]) -> Option<Wrong<'l>> {
     if field.rule().fits(text) {
@@ -103,10 +124,12 @@ fn unfit_in<'l>(field: &Field, text: &'l [u8]) -> Option<Wrong<'l>> {
     Some(Wrong::Unfit(*field, text))
 }
 
-/// The one of two misses after which more is right; the earlier one where both are alike. A line that is too long for one form,
-/// and has as many fields as the other, misses the other.
+/// The one of two misses whose form has a word that stands in the line, else the one after which more is right; the earlier one
+/// where both are alike. A line that is too long for one form, and has as many fields as the other, misses the other.
 fn nearer<'l>(earlier: Option<Miss<'l>>, later: Miss<'l>) -> Miss<'l> {
     match earlier {
+        Some(miss) if miss.has_word && !later.has_word => miss,
+        Some(miss) if later.has_word && !miss.has_word => later,
         Some(miss) if miss.is_too_long() && later.is_full => later,
         Some(miss) if later.place < miss.place => miss,
         Some(miss) if later.place == miss.place && later.is_no_nearer(&miss) => miss,
