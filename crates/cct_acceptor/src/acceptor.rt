@@ -13,7 +13,7 @@ ghost use Rattle.cct_device.specs.Listening.{kind_of};
 ghost use Rattle.cct_intake.specs.Intake.{Holds};
 
 use arrayvec::ArrayVec;
-use cct_device::{Asked, Listener, common_reply, give};
+use cct_device::{Asked, Listener, asked_whole, common_reply, give};
 use cct_intake::Intake;
 use cct_sorter::is_place;
 use cct_terms::{COIN_PLACES, Coin, DeviceBody, DeviceSetup, MOST_SENT, Pair, Reply, Request};
@@ -161,17 +161,15 @@ impl<'s> Acceptor<'s> {
             (λ bytes. (result ≡ true) × (out.new.items ≡ bytes)) }
         ensures gap { IsAtGap self.new }
     {
-        self.piece(piece);
-        self.gap(out)
-    }
-
-    /// Hears the bytes of a piece.
-    #[inline]
-    fn piece(&mut self, piece: &[u8])
-        ensures stands { (d : DeviceSetup) (past : List Met) → StandsFor self.old d past → StandsFor self.new d past }
-        ensures heard { (bytes : List ℕ) → HasHeard self.old bytes → HasHeard self.new (bytes ++ piece.now) }
-    {
-        self.listener.hear(self.setup.addr, piece);
+        out.clear();
+        let setup = self.setup;
+        match asked_whole(setup, piece) {
+            None => false,
+            Some(Asked { request, asker }) => {
+                let reply = self.act(request);
+                give(setup, asker, request, reply, out)
+            }
+        }
     }
 
     /// Acts on a request, and gives the reply, or none where no acceptor knows the request.

@@ -13,7 +13,7 @@ ghost use Rattle.cct_terms.specs.Reply.{IsSayable, ack, nak, reply_shown};
 ghost use Rattle.cct_device.specs.Listening.{kind_of};
 
 use arrayvec::ArrayVec;
-use cct_device::{Asked, Listener, common_reply, give};
+use cct_device::{Asked, Listener, asked_whole, common_reply, give};
 use cct_intake::Intake;
 use cct_terms::{
     COIN_PLACES, DeviceBody, DeviceSetup, MOST_SENT, Pair, RETURN_CODE, Reply, Request, STACK_CODE,
@@ -153,17 +153,15 @@ impl<'s> BillAcceptor<'s> {
             (λ bytes. (result ≡ true) × (out.new.items ≡ bytes)) }
         ensures gap { IsAtGap self.new }
     {
-        self.piece(piece);
-        self.gap(out)
-    }
-
-    /// Hears the bytes of a piece.
-    #[inline]
-    fn piece(&mut self, piece: &[u8])
-        ensures stands { (d : DeviceSetup) (past : List Met) → StandsFor self.old d past → StandsFor self.new d past }
-        ensures heard { (bytes : List ℕ) → HasHeard self.old bytes → HasHeard self.new (bytes ++ piece.now) }
-    {
-        self.listener.hear(self.setup.addr, piece);
+        out.clear();
+        let setup = self.setup;
+        match asked_whole(setup, piece) {
+            None => false,
+            Some(Asked { request, asker }) => {
+                let reply = self.act(request);
+                give(setup, asker, request, reply, out)
+            }
+        }
     }
 
     /// Whether a bill of a place, 1 to 16, is held when it is put in: the inhibits let it in, and none is held before.

@@ -1,5 +1,5 @@
 -- Bytes of a message for another device ask nothing of a device, whatever their check.
-use Rattle.std.proofs.Common.{◌≡◌, ℕ, ◌+◌, ◌*◌, ◌%◌, ◌==◌, ◌&&◌, ◌||◌, Bool, true, false, cond, not, List, [], ◌∷◌, ◌++◌, true≢false, refl, sym, ◌∙◌, Option, Some, None, option_and_then, sum, take, slice_index}
+use Rattle.std.proofs.Common.{◌≡◌, ℕ, ◌+◌, ◌*◌, ◌%◌, ◌==◌, ◌&&◌, ◌||◌, Bool, true, false, cond, not, List, [], ◌∷◌, refl, sym, ◌∙◌, Option, Some, None, option_and_then, sum, take, slice_index}
 use Rattle.cct_terms.specs.declared.wire.TheConstants.{BROADCAST}
 use Rattle.cct_terms.specs.declared.wire.CheckKind.{CheckKind}
 use Rattle.cct_terms.specs.declared.wire.CheckKind.TheVariants.{Simple, Crc}
@@ -9,7 +9,6 @@ use Rattle.cct_terms.specs.Exchange.{asked_of, asks_of, to_all, to_one}
 use Rattle.cct_terms.specs.Message.{Message, message, length_agrees, crc}
 use Rattle.cct_terms.specs.Request.{request_of}
 use Rattle.cct_device.specs.declared.hearing.Listener.{Listener}
-use Rattle.cct_wire.specs.Framer.{Since}
 use Rattle.cct_device.specs.Listening.{HeardSince, is_elsewhere, is_for}
 
 -- a message for another asks nothing
@@ -49,15 +48,3 @@ by_kind addr Crc (to ∷ said ∷ low ∷ header ∷ rest) other =
 pub asks_nothing : (d : DeviceSetup) (bytes : List ℕ) (listener : Listener) → HeardSince listener d.addr bytes → listener.elsewhere ≡ true → asks_of d bytes ≡ None
 unfolding asks_of
 asks_nothing d bytes listener heard other = by_kind d.addr d.kind bytes (sym heard.elsewhere ∙ other)
-
--- bytes after those of a message for another device are of it too
-pub passes_rest : (listener : Listener) (addr : ℕ) (bytes more : List ℕ) → listener.elsewhere ≡ true →
-    HeardSince listener addr bytes → HeardSince listener addr (bytes ++ more)
-passes_rest listener addr [] more other heard = absurd (true≢false (sym other ∙ heard.elsewhere))
-passes_rest listener addr (to ∷ rest) more other heard =
-    record { elsewhere = heard.elsewhere; since = by_test (not (is_for addr to)) (sym heard.elsewhere ∙ other) heard.since }
-  where
-    by_test : (pass : Bool) → pass ≡ true → Since listener.framer (cond pass [] (to ∷ rest)) →
-        Since listener.framer (cond pass [] (to ∷ rest ++ more))
-    by_test true is since = since
-    by_test false is since = absurd cc

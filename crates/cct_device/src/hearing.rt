@@ -1,10 +1,13 @@
 //! What the bytes that a device hears ask of it.
-ghost use Rattle.std.specs.Prelude.{◌≡◌, true, false, ℕ, List, [], ◌∷◌, ◌++◌, None, Some, MatchOption};
+ghost use Rattle.std.specs.Prelude.{◌≡◌, true, false, ℕ, List, [], ◌∷◌, ◌++◌, None, Some, MatchOption, unwrap_or};
 ghost use Rattle.cct_wire.specs.Framer.{Since};
 ghost use Rattle.cct_device.specs.Listening.{is_for};
 ghost use Rattle.cct_terms.specs.declared.device.DeviceSetup.{DeviceSetup};
-ghost use Rattle.cct_terms.specs.Exchange.{asker, asks_of};
+ghost use Rattle.cct_terms.specs.declared.wire.TheConstants.{HOST};
+ghost use Rattle.cct_terms.specs.Exchange.{asked_of, asker, asks_of};
+ghost use Rattle.cct_frame.specs.Frame.{message_of};
 
+use cct_frame::{FrameView, read};
 use cct_msg::asked_of;
 use cct_terms::{BROADCAST, CheckKind, DeviceSetup, HOST, Request};
 use cct_wire::Framer;
@@ -54,23 +57,6 @@ impl Listener {
             self.first_byte(address, byte);
         } else {
             self.framer.feed(byte);
-        }
-    }
-
-    /// The device at an address hears the bytes of a piece, one after the other. It stops at a byte that tells it that the
-    /// others pass by.
-    #[inline]
-    #[tactic(auto, using(crate::proofs::Listening::passes_rest))]
-    pub fn hear(&mut self, address: u8, piece: &[u8])
-        ensures kind { kind_of self.new ≡ kind_of self.old }
-        ensures heard { (bytes : List ℕ) → HeardSince self.old address bytes
-            → HeardSince self.new address (bytes ++ piece.now) }
-    {
-        for byte in piece {
-            if self.elsewhere {
-                return;
-            }
-            self.byte(address, *byte);
         }
     }
 
@@ -146,12 +132,37 @@ fn asked_in(setup: &DeviceSetup, framer: &Framer) -> Option<Asked>
 {
     match framer.view() {
         Err(_) => None,
-        Ok(view) => match asked_of(setup.addr, &view) {
-            None => None,
-            Some(request) => Some(Asked {
-                request,
-                asker: view.from.unwrap_or(HOST),
-            }),
-        },
+        Ok(view) => asked_by(setup, &view),
+    }
+}
+
+/// What a message asks of the device of a setup, and whom it answers.
+#[inline(always)]
+fn asked_by(setup: &DeviceSetup, view: &FrameView<'_>) -> Option<Asked>
+    ensures { MatchOption result (asked_of setup.now.addr (message_of view.now) ≡ None)
+        (λ asked. (asked_of setup.now.addr (message_of view.now) ≡ Some asked.request)
+        × (unwrap_or (message_of view.now).from HOST ≡ asked.asker)) }
+{
+    match asked_of(setup.addr, view) {
+        None => None,
+        Some(request) => Some(Asked {
+            request,
+            asker: view.from.unwrap_or(HOST),
+        }),
+    }
+}
+
+/// What a whole piece asks of the device of a setup, or nothing where it is no message under its check, or none that asks
+/// something of it.
+#[inline(always)]
+#[tactic(auto, unfolding(cct_terms::specs::Exchange::asks_of, cct_terms::specs::Exchange::asker))]
+pub fn asked_whole(setup: &DeviceSetup, piece: &[u8]) -> Option<Asked>
+    ensures { MatchOption result (asks_of setup.now piece.now ≡ None)
+        (λ asked. (asks_of setup.now piece.now ≡ Some asked.request)
+        × (asker setup.now.kind piece.now ≡ asked.asker)) }
+{
+    match read(setup.kind, piece) {
+        Err(_) => None,
+        Ok(view) => asked_by(setup, &view),
     }
 }

@@ -4,5 +4,5 @@
 mod hearing;
 mod replies;
 
-pub use hearing::{Asked, Listener};
+pub use hearing::{Asked, Listener, asked_whole};
 pub use replies::{common_reply, give};

@@ -53,6 +53,7 @@ fn text(text: &[u8]) -> Reply<'_>
 
 /// Gives a device's reply to a request, or none, to the asker: true with its bytes in `out`, or false with nothing there
 /// where there is none. An address poll alone is answered without a reply, by the bare address.
+#[inline(always)]
 pub fn give(
     setup: &DeviceSetup,
     asker: u8,

@@ -61,16 +61,6 @@ impl<'s> Device<'s> {
         self.listener.byte(self.setup.addr, byte);
     }
 
-    /// Hears the bytes of a piece.
-    #[inline]
-    pub(crate) fn piece(&mut self, piece: &[u8])
-        ensures setup { self.new.setup ≡ self.old.setup }
-        ensures memory { memory self.new ≡ memory self.old }
-        ensures heard { (bytes : List ℕ) → DeviceHeard self.old bytes → DeviceHeard self.new (bytes ++ piece.now) }
-    {
-        self.listener.hear(self.setup.addr, piece);
-    }
-
     /// No byte came since the last gap any more.
     #[inline]
     pub(crate) fn forget_bytes(&mut self)

@@ -15,7 +15,7 @@ use crate::register::Register;
 use crate::states::{AfterFall, HopperIdle, HopperOff, HopperPaying};
 use arrayvec::ArrayVec;
 use bitflags::Flags;
-use cct_device::{Asked, common_reply, give};
+use cct_device::{Asked, asked_whole, common_reply, give};
 use cct_life::LifeCount;
 use cct_terms::{DeviceBody, DeviceSetup, ENABLE_CODE, MOST_SENT, Reply, Request};
 
@@ -155,20 +155,14 @@ impl<'s> Hopper<'s> {
             (λ bytes. (result ≡ true) × (out.new.items ≡ bytes)) }
         ensures gap { IsAtGap self.new }
     {
-        self.piece(piece);
-        self.gap(out)
-    }
-
-    /// Hears the bytes of a piece.
-    #[inline]
-    fn piece(&mut self, piece: &[u8])
-        ensures stands { (d : DeviceSetup) (past : List Met) → StandsFor self.old d past → StandsFor self.new d past }
-        ensures heard { (bytes : List ℕ) → HasHeard self.old bytes → HasHeard self.new (bytes ++ piece.now) }
-    {
-        match self {
-            Hopper::Off(hopper) => hopper.device.piece(piece),
-            Hopper::Idle(hopper) => hopper.device.piece(piece),
-            Hopper::Paying(hopper) => hopper.device.piece(piece),
+        out.clear();
+        let setup = self.device().setup;
+        match asked_whole(setup, piece) {
+            None => false,
+            Some(Asked { request, asker }) => {
+                let reply = self.act(request);
+                give(setup, asker, request, reply, out)
+            }
         }
     }
 

@@ -1,10 +1,5 @@
 use Rattle.std.proofs.Common.{[]}
 use Rattle.cct_hopper.proofs.hopper.Hopper.hear.Goals as goal
 
-pub returns-clause-stands : goal.returns-clause-stands
-returns-clause-stands c = λ d past so.
-    c.gap.ensures.stands d past c.args.piece.now (c.piece.ensures.stands d past so) (c.piece.ensures.heard [] c.requires.gap)
-
-pub returns-clause-answer : goal.returns-clause-answer
-returns-clause-answer c = λ d past so.
-    c.gap.ensures.answer d past c.args.piece.now (c.piece.ensures.stands d past so) (c.piece.ensures.heard [] c.requires.gap)
+pub returns-in-Some-clause-gap : goal.returns-in-Some-clause-gap
+returns-in-Some-clause-gap c = c.act-reply.ensures.heard [] c.requires.gap
