@@ -19,7 +19,7 @@ use crate::cutting::cut_power;
 use crate::format::MOST_RECORDS;
 use crate::opening::find_place;
 use crate::place::Place;
-use crate::putting::{go_on, put_record};
+use crate::putting::{put_next, put_record};
 use crate::range::GATED_CALLS;
 use crate::reading::read_record;
 use crate::replay::OnlyCounted;
@@ -266,11 +266,8 @@ impl<D: Disk> Journal<D> {
         if used == self.capacity() {
             return Err(JournalNo::Full { used });
         }
-        match put_record(&mut self.disk, &self.place, carry, entry, GATED_CALLS) {
-            Ok(turned) => {
-                go_on(&mut self.place, turned);
-                Ok(())
-            }
+        match put_next(&mut self.disk, &mut self.place, carry, entry) {
+            Ok(()) => Ok(()),
             Err(Failed) => {
                 self.failed = true;
                 Err(JournalNo::Disk)

@@ -151,9 +151,21 @@ pub(crate) fn turn_if_full<D: Disk>(
     ensures goes_on { GoesOn D.size D.honest D.seen D.cuts disk.old disk.new }
     ensures cause { HasCause (D.faults disk.old) (D.faults disk.new) result }
 {
-    if place.used - place.base < room_on(disk.len(), place.base) {
+    if !is_full(disk, place) {
         return Ok(None);
     }
     let turned = turn_half(disk, place, carry)?;
     Ok(Some(turned))
+}
+
+/// Whether the current half is full.
+#[inline]
+pub(crate) fn is_full<D: Disk>(disk: &D, place: &Place) -> bool
+    requires placed { IsPlaced (D.size disk.now) place.now }
+    ensures full { result ≡ true
+        → place.now.used ≡ place.now.base + room_of (D.size disk.now) place.now.base }
+    ensures room { result ≡ false
+        → place.now.used < place.now.base + room_of (D.size disk.now) place.now.base }
+{
+    place.used - place.base >= room_on(disk.len(), place.base)
 }

@@ -1,6 +1,5 @@
-use Rattle.std.proofs.Common.{[], ◌∷◌, ◌++◌, inl, refl, sym, subst}
+use Rattle.std.proofs.Common.{inl}
 use Rattle.cct_journal.specs.Image.{StandsFor, StandsForOneOf}
-use Rattle.cct_journal.specs.Stands.{Stands}
 use Rattle.cct_journal.proofs.Leaving.{leaves_one_of}
 use Rattle.cct_journal.proofs.Moments.{weaker}
 use Rattle.cct_journal.proofs.TurnCalls.{same_moments}
@@ -12,15 +11,8 @@ returns-then-used-capacity-clause-moments g c carry_of records stands =
     (λ image. StandsFor carry_of image records) (StandsForOneOf carry_of records c.args.entry.now)
     (λ image has. inl has) (same_moments g.met.D.Disk.only_now stands.stands)
 
-pub returns-in-Ok-clause-done : goal.returns-in-Ok-clause-done
-returns-in-Ok-clause-done g c carry_of records stands =
-    let disk = g.D.Disk in
-    subst (λ place. Stands carry_of disk.honest disk.seen disk.may_leave c.put_record.new.disk place
-    (records ++ c.args.entry.now ∷ [])) (sym c.go_on.ensures)
-    (c.in-Ok.ensures.done refl carry_of records stands)
-
 pub returns-in-Err-clause-left : goal.returns-in-Err-clause-left
 returns-in-Err-clause-left g c carry_of records stands =
-    leaves_one_of g.met.D.Disk.counts_now c.put_record.ensures.goes_on.same_honest
-    c.put_record.ensures.goes_on.same_telling stands.stands c.args.entry.now
-    (c.put_record.ensures.moments.each carry_of records stands)
+    leaves_one_of g.met.D.Disk.counts_now c.put_next.ensures.goes_on.same_honest
+    c.put_next.ensures.goes_on.same_telling stands.stands c.args.entry.now
+    (c.put_next.ensures.moments carry_of records stands)
