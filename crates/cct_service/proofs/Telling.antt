@@ -5,8 +5,8 @@ use Rattle.std.specs.Prelude.{OnOk, OnErr, MatchResult}
 use Rattle.std.specs.Io.KnownBytes.{Appends}
 use Rattle.std.specs.List.{All}
 use Rattle.std.specs.Option.{IfSome, option_to_list}
-use Rattle.std.proofs.lemmas.List.{append-nil, map-append, reverse-append, reverse-reverse, take-append-drop, take_all, take_more}
-use Rattle.std.proofs.lemmas.List.Concat.{flat_map-append, flat_map_more}
+use Rattle.std.proofs.lemmas.List.{append-nil, flat_map_more, map-append, reverse-append, reverse-reverse, take-append-drop, take_all, take_more}
+use Rattle.std.proofs.lemmas.List.Concat.{flat_map-append}
 use Rattle.std.proofs.lemmas.List.Elements.{All-append, All-cons, All-nil}
 use Rattle.cct_edge.specs.Bytes.{AppendsFront}
 use Rattle.cct_edge.specs.declared.fault.Failed.{Failed}
@@ -240,6 +240,7 @@ blank_at : DeviceSetup → Stand
 blank_at d = record { addr = d.addr; job = None; epoch = Idle; order = None; held = None }
 
 blanks_there : (ds : List DeviceSetup) → addresses_told (map blank_at ds) ≡ addresses_in ds
+unfolding blank_at
 blanks_there [] = refl
 blanks_there (d ∷ ds) = ap (λ more. d.addr ∷ more) (blanks_there ds)
 
