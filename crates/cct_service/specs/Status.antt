@@ -34,10 +34,11 @@ stands_notices stands = flat_map stand_notices stands
 abbrev pub end_notices : ℕ → ℕ → List Notice
 end_notices id records = notice_of.Last id ∷ notice_of.Room records ∷ []
 
--- The addresses at which devices are told, and those of devices of a setup.
+-- The addresses at which devices are told.
 abbrev pub addresses_told : List Stand → List ℕ
 addresses_told stands = map (λ (s : Stand). s.addr) stands
 
+-- The addresses of the devices of a setup.
 abbrev pub addresses_in : List DeviceSetup → List ℕ
 addresses_in devices = map (λ (d : DeviceSetup). d.addr) devices
 
