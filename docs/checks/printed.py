@@ -124,12 +124,16 @@ def crates(root: Path) -> list[str]:
 
 
 def edits(root: Path) -> list[str]:
-    """Each must-fail edit: its crate, what it does, and the file that it changes."""
-    rows = []
-    for path in sorted(root.glob("crates/*/must-fail/*.*")):
-        changed = re.findall(r"^file: (.*)$", path.read_text(), re.MULTILINE)
-        rows.append([f"`{path.parent.parent.name}`", path.stem.replace("_", " "), ", ".join(f"`{name}`" for name in changed)])
-    return table(["Crate", "Edit", "It changes"], rows)
+    """The must-fail edits by the clause that each breaks, as its first line says: those that the gate tries and those that are
+    kept to be read."""
+    found: dict[tuple[str, str, str], list[str]] = {}
+    for name in lists.stands_on(root):
+        for path in sorted(root.glob(f"crates/{name}/must-fail/*.*")):
+            head = re.match(r"breaks: (.*) \| (.*)\n", path.read_text())
+            function, clause = head.groups() if head else ("not said", "not said")
+            kept = "" if path.suffix == ".edit" else " (kept)"
+            found.setdefault((f"`{name}`", function, clause), []).append(f"`{path.stem}`{kept}")
+    return table(["Crate", "Function", "Clause", "Edit"], [[*front, ", ".join(names)] for front, names in found.items()])
 
 
 def scripts(root: Path) -> list[str]:
