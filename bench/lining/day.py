@@ -26,7 +26,7 @@ begin
 """
 # The life counts at the start.
 LIVES = {3: 0, 5: 7}
-# At each silence one of these befalls the devices: coins of orders fall soon, and a coin falls in seldom enough that no
+# At each silence one of these happens to the devices: coins of orders fall soon, and a coin falls in seldom enough that no
 # reading meets more than five.
 EVENTS = ("fall 3\nfall 5\n" * 6 + "coin 2 5\n" + "fall 3\nfall 5\n" * 6 + "coin 4 5\n") * 5000
 # So many silent reads are the longest time in which these devices answer, which they do at once.

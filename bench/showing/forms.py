@@ -25,7 +25,7 @@ RENAMED_AFTER = {
     "coin PLACE TEXT": "coin", "JOB EPOCH": "mask", "PLACE VALUE ID": "coin", "watch A CHECK KIND": "category"}
 # After these words all that is left stands in one column, and so it does after those of a text.
 LEFT = {"texts A": "rest", "do A": "rest", "journalfull": "rest"}
-# What stands for a field, where it isn't a number of its own.
+# What represents a field, where it isn't a number of its own.
 SAMPLES = {
     "PLACE": "5", "PATH": "3", "WAY": "1", "PIECE": "0100", "SENT": "020001e617", "HEARD": "020001e617010202003f00bc",
     "HEX": "020001e617", "COINS": "5/1,3/2", "MASK": "001f", "EPOCH": "00ff", "LIST": "2/simple,3/crc",

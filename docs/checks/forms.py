@@ -13,7 +13,7 @@ from pathlib import Path
 import markdown
 import played
 
-# What stands for a field that has no range.
+# What represents a field that has no range.
 SAMPLES = {"`simple` or `crc`": "simple", "exactly six": "ABCDEF", "1 to 24 printing": "TEXT", "four hexadecimal": "0001",
            "`-` or two": "-", "two hexadecimal": "00", "`acceptor` or `hopper`": "acceptor", "`acceptor` or `bills`": "acceptor",
            "`acceptor`, `bills` or": "acceptor"}

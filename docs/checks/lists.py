@@ -94,7 +94,7 @@ def paths(root: Path):
     for path in [root / "README.md", *sorted(root.glob("*/*.md"))]:
         for number, line in enumerate(path.read_text().splitlines(), 1):
             for word, name in re.findall(r"(?:`(\w+)` in )?`((?:bench|crates|docs|examples)/[^` ]*[^` .])`", line):
-                # those that stand for any name, and what is built
+                # those that represent any name, and what is built
                 if re.search(r"NAME|EDIT|\*|/out\b", name):
                     continue
                 count += 1

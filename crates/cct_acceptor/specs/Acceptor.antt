@@ -1,4 +1,4 @@
--- A coin acceptor that stands for all that it met (ccTalk Generic Specification 4, part 2).
+-- A coin acceptor that represents all that it met (ccTalk Generic Specification 4, part 2).
 use Rattle.std.specs.Prelude.{◌≡◌, ℕ, Bool, true, false, List, [], if◌then◌else◌}
 use Rattle.cct_terms.specs.declared.device.DeviceBody.{DeviceBody}
 use Rattle.cct_terms.specs.declared.device.DeviceBody.TheVariants as body
@@ -26,7 +26,7 @@ ids_of (body.Acceptor start values ids) = ids
 ids_of (body.Hopper life value) = []
 ids_of (body.Bill start values ids) = []
 
--- An acceptor stands for one of this setup that met all this, newest first: its settings, its events and its accept
+-- An acceptor represents one of this setup that met all this, newest first: its settings, its events and its accept
 -- counter are what that made them.
 pub record StandsFor (acceptor : Acceptor) (d : DeviceSetup) (past : List Met) : Type 0 where
   pub kind : IsAcceptor d.body

@@ -23,7 +23,7 @@ among_front : (front some whole : List Coin) → AreAmong some whole → AreAmon
 among_front [] some whole are = are
 among_front (c ∷ front) some whole are = inl (refl, among_front front some whole are)
 
--- coins that came up to a moment stand behind those that came after it
+-- coins that came up to a moment stand after those that came after it
 abbrev IsBehind : List Coin → List Coin → Type 0
 IsBehind upto whole = (newer : List Coin) × (whole ≡ newer ++ upto)
 

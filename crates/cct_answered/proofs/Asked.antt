@@ -44,7 +44,7 @@ heard_same setup world sent all =
     (λ d. ap (λ a. unwrap_or a [])
     (answer_same d (met_in d world) (met d (entries world)) (heard_by_devices f sent) (met_same setup world d all))))
 
--- and what befalls a device is the same
+-- and what happens to a device is the same
 coin_by : ℕ → ℕ → Bool → ℕ → Entry
 coin_by addr place takes path =
     if takes then entry.Accepted addr (record { place = place; path = path }) else entry.Inhibited addr place

@@ -1,4 +1,5 @@
--- A world of live hosts is what a bench tells: by its newest entry, which befell a device, or is the last of a step of a host.
+-- A world of live hosts is what a bench tells: by its newest entry, which happened to a device, or is the last of a step of a
+-- host.
 use Rattle.std.proofs.Common.{◌≡◌, inl, inr, ℕ, Bool, true, false, cond, List, [], ◌∷◌, ◌++◌, refl, sym, ap, ◌∙◌, subst, Option, Some, None, All, true≢false}
 use Rattle.std.specs.Prelude.{MatchBool, if◌then◌else◌, ⊤}
 use Rattle.std.proofs.lemmas.List.Elements.{All-append, All-head, All-tail, All-nil, All-cons}
@@ -80,7 +81,7 @@ plays_on capacity setup past news s range is plays = record {
   legal = legal_on capacity setup plays.steps (s ∷ []) [] past (news ++ past) plays.legal (news, is, refl);
 }
 
--- what befalls a device is a step
+-- what happens to a device is a step
 range_of : (addr : ℕ) (what : Happening) → IsPlaced what → IsInRange (step_of addr what)
 range_of addr (happening.Coin place) is = is
 range_of addr happening.Alien is = tt

@@ -223,7 +223,7 @@ pub world_right : EachLive (λ capacity setup transcript. (world : List Entry) �
 world_right capacity setup steps transcript sound range is world over =
     right_from capacity setup steps world (onto [] transcript) sound range is over
 
--- one life behind those before it
+-- one life after those before it
 pub life_whole : (capacity : ℕ) (setup : Setup) (found : List Record) (steps : List LiveStep) (past whole : List Entry) →
     IsLife capacity setup found steps past → IsWhole capacity setup found past whole →
     (all : List LiveStep) × All IsTellable all × LiveFrom capacity setup [] all whole
@@ -266,7 +266,7 @@ first_whole capacity setup steps past life =
       all = grown.1;
     }
 
--- a life that is behind another one with all before it
+-- a life that is after another one with all before it
 pub next_whole : (capacity : ℕ) (setup : Setup) (found left : List Record) (steps : List LiveStep)
     (past whole next news told : List Entry) (at : Option CrashAt) → IsLife capacity setup found steps past →
     IsWhole capacity setup found past whole → IsCrash at → EntriesOfRestart setup whole at news →

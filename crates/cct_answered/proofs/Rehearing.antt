@@ -23,7 +23,7 @@ use Rattle.cct_model.specs.Rows.{row, row_of_sale, end_of}
 use Rattle.cct_model.specs.Scan.{scan_row, end_of_scan}
 use Rattle.cct_model.specs.Transcript.{got_by, lines_of, sale_lines, scan_line, scan_lines}
 
--- what comes at once behind another entry
+-- what comes at once after another entry
 abbrev pub IsLate : Entry → Type 0
 IsLate (entry.Ended addr end) = ⊤
 IsLate (entry.Kept r) = ⊤

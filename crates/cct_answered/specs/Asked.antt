@@ -44,7 +44,7 @@ heard_by setup mets f sent =
     heard_by_host f sent
     (flat_map (λ d. unwrap_or (answer d (mets d) (heard_by_devices f sent)) []) (by_address setup.devices))
 
--- The entry of what befalls the device at an address that met all this.
+-- The entry of what happens to the device at an address that met all this.
 abbrev pub befalling : ℕ → DeviceSetup → List Met → Happening → Entry
 befalling addr d past (happening.Coin place) =
     if accepts past place

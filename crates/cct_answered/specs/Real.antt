@@ -1,4 +1,4 @@
--- What is promised of the money of what live hosts told, against what befell the devices of their world.
+-- What is promised of the money of what live hosts told, against what happened to the devices of their world.
 use Rattle.std.specs.Prelude.{◌≡◌, ◌⊎◌, ℕ, suc, ◌+◌, ◌==◌, List, [], ◌∷◌, ◌++◌, length, reverse, if◌then◌else◌, Option, Some, None, ⊤}
 use Rattle.cct_model.specs.terms.coin.Coin.{Coin}
 use Rattle.cct_model.specs.terms.device.DeviceSetup.{DeviceSetup}

@@ -1,4 +1,4 @@
--- A world: what live hosts and the devices on their line did, and what befell them. The hosts tell a part of it.
+-- A world: what live hosts and the devices on their line did, and what happened to them. The hosts tell a part of it.
 use Rattle.std.specs.Prelude.{◌≡◌, ◌⊎◌, ℕ, ◌==◌, Bool, true, false, cond, List, [], ◌∷◌, MatchBool, ⊤}
 use Rattle.cct_model.specs.terms.wire.TheConstants.{BROADCAST}
 use Rattle.cct_model.specs.terms.family.Happening.{Happening}
@@ -13,7 +13,7 @@ use Rattle.cct_model.specs.Script.{IsFault}
 use Rattle.cct_model.specs.Transcript.{heard_after}
 use Rattle.cct_laws.specs.Law.{EachEntry}
 
--- Whether a live host tells an entry: it sees neither what befalls the devices, nor a fault of the wire.
+-- Whether a live host tells an entry: it sees neither what happens to the devices, nor a fault of the wire.
 abbrev pub is_told : Entry → Bool
 is_told (entry.Accepted addr c) = false
 is_told (entry.Held addr place) = false
@@ -33,7 +33,7 @@ abbrev pub told : List Entry → List Entry
 told [] = []
 told (e ∷ past) = cond (is_told e) (e ∷ told past) (told past)
 
--- Something befalls a device of the setup, of a family that knows this, and it does what the model of such a device does.
+-- Something happens to a device of the setup, of a family that knows this, and it does what the model of such a device does.
 abbrev pub Befalls : Setup → List Entry → Entry → Type 0
 Befalls setup past e =
     (addr : ℕ) × (what : Happening) × IsPlaced what × EntriesOfHappening setup past addr what (e ∷ [])
@@ -43,7 +43,7 @@ abbrev pub IsJustTold : List Entry → Type 0
 IsJustTold [] = ⊥
 IsJustTold (e ∷ past) = is_told e ≡ true
 
--- There is no reply in what was heard: no message stands behind the whole echo.
+-- There is no reply in what was heard: no message stands after the whole echo.
 abbrev pub IsNoReply : List ℕ → List ℕ → Type 0
 IsNoReply sent piece = has_no_message (after_echo sent piece) ≡ true
 
@@ -54,7 +54,7 @@ HeardAs addr sent piece model =
     (piece ≡ model) ⊎ (((addr == BROADCAST) ≡ false) × IsNoReply sent piece × IsNoReply sent model)
 
 -- What the devices, and the wire to them, have to do with an entry, by all that came before. What a host hears in an exchange
--- is what the model of the devices answers to what it sent, by the fault that was set for this exchange. What befalls a
+-- is what the model of the devices answers to what it sent, by the fault that was set for this exchange. What happens to a
 -- device it takes as its model does. Of what the hosts do nothing is said, but that an end is told at once with what brought
 -- it, and so is a record that a start finds besides those that were put.
 abbrev pub AnswersAt : Setup → List Entry → Entry → Type 0

@@ -31,8 +31,8 @@ ghost use Rattle.cct_answered.specs.Real.{IsRightIn};
 ghost use Rattle.cct_answered.specs.Whole.{IsWhole};
 
 /// A world over which live hosts told a transcript, with devices that answer as the model's do, is what a bench tells that
-/// plays some script: their commands, and between them what befell the devices. So all that `cct_laws` promises of a bench's
-/// run holds of it.
+/// plays some script: their commands, and between them what happened to the devices. So all that `cct_laws` promises of a
+/// bench's run holds of it.
 pub fn a_world_of_live_hosts_is_a_run_of_a_bench()
     ensures { EachLive (λ capacity setup transcript. (world : List Entry) → OverDevices setup world (onto [] transcript)
         → IsPlayed capacity setup (mended setup world)) }
@@ -47,7 +47,7 @@ pub fn no_coin_is_posted_twice_on_a_real_line()
         → IsWhole capacity setup found past whole → OverDevices setup world whole → IsRightIn setup world whole) }
 {}
 
-/// The first life over a new journal is all that was told, and a further one stands behind that.
+/// The first life over a new journal is all that was told, and a further one stands after that.
 pub fn lives_stand_behind_one_another()
     ensures first { (capacity : ℕ) (setup : Setup) (steps : List LiveStep) (past : List Entry)
         → IsLife capacity setup [] steps past → IsWhole capacity setup [] past past }

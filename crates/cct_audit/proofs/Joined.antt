@@ -184,7 +184,7 @@ apart (made_watch w ∷ past) are =
     ap (λ came. made_watch w ∷ came) (apart past are.2 ∙ ap (λ ts. map made_tap ts ++ map made_watch (watches_in past)) are.0)
     ∙ sym (ap (λ ts. map made_tap ts ++ made_watch w ∷ map made_watch (watches_in past)) are.0)
 
--- what came of a capture are taps behind devices
+-- what came of a capture are taps after devices
 pub came_apart : (bytes : List ℕ) (past more : List Came) → (capture bytes).came ≡ reverse past ++ more →
     past ≡ map made_tap (taps_among past) ++ map made_watch (watches_in past)
 came_apart bytes past more is = apart past (ordered bytes past more is)

@@ -36,7 +36,7 @@ pub record Opens (left0 left : Option (List ℕ)) (standing : Standing) (number 
   pub same : tap_count monitor ≡ tap_count taps
   pub source : Source
 
--- What the reading of taps keeps, of any capture that goes so where it begins: it goes on, the monitor stands for what came,
+-- What the reading of taps keeps, of any capture that goes so where it begins: it goes on, the monitor represents what came,
 -- and what that made said was written.
 pub record Taps (first : ℕ) (left1 left : Option (List ℕ)) (standing1 standing : Standing) (number : ℕ)
     (monitor1 monitor : Monitor) (Written : List (List ℕ) → Type 0) (Source Sink : Type 0) : Type 0 where

@@ -12,7 +12,7 @@ use Rattle.cct_audit.specs.declared.reading.Tapped.{Tapped}
 use Rattle.cct_audit.specs.declared.reading.Tapped.TheVariants as tapped
 use Rattle.cct_audit.specs.Capture.{Read, addresses_in, comes, opens, over, tapping, watching}
 
--- A monitor watches what came, newest first: it stands for it, and the addresses are those of the devices that came.
+-- A monitor watches what came, newest first: it represents it, and the addresses are those of the devices that came.
 pub record Watches (monitor : Monitor) (past : List Came) : Type 0 where
   pub stands : StandsFor monitor past
   pub addresses : (addr : ℕ) → is_watched monitor addr ≡ list_any (λ a. a == addr) (addresses_in past)

@@ -20,7 +20,7 @@ const SIMPLE: &[u8] = b" simple";
 
 const CRC: &[u8] = b" crc";
 
-/// The first word of such a line, with the space behind it.
+/// The first word of such a line, with the space after it.
 const WATCH: &[u8] = b"watch ";
 
 /// How a device is watched that isn't watched plainly.
@@ -35,7 +35,7 @@ pub(crate) enum Manner {
 /// What a line before `begin` says.
 #[derive(Clone, Copy, Debug, PartialEq, Eq)]
 pub(crate) enum WatchLine {
-    /// `watch A CHECK KIND`, or with the word `quiet` or `premises` behind it, where KIND may be `bills` too.
+    /// `watch A CHECK KIND`, or with the word `quiet` or `premises` after it, where KIND may be `bills` too.
     Watch {
         addr: u8,
         kind: CheckKind,

@@ -298,7 +298,7 @@ said_in number (at_steps before) bytes setup is =
 said_in number (at_end before) bytes setup is =
     is ∙ setup_stays number before (at_end before) (slice_split is_line_feed bytes) refl
 
--- what is said beside of an end that the script or its source brought at a stage, where this stands for the past
+-- what is said beside of an end that the script or its source brought at a stage, where this represents the past
 abbrev pub EndsBeside : Stage → (List Step → List Entry → Type 0)
     → (Ending → Setup → List ℕ → List Step → List Step → List Entry → Type 0) → Type 0
 EndsBeside stage Stands Beside =

@@ -47,7 +47,7 @@ use Rattle.cct_text.specs.Writing.{Broke, Writes, Wrote}
 use Rattle.cct_bench.proofs.Going.{Carries, EndsBeside, IsSetupIn, played_broke, played_torn}
 use Rattle.cct_bench.proofs.Staying.{IsDone}
 
--- each image of a disk that keeps just one stands for what that one does
+-- each image of a disk that keeps just one represents what that one does
 pub stands_leaves : {D : Type 0} (setup : Setup) (honest : D → Bool) (seen : D → Option (List ℕ))
     (may_leave : D → List ℕ → Type 0) (disk : D) (place : Place) (rs : List Record)
     → KeepsRecords setup honest seen may_leave disk place rs → LeavesRecords setup honest seen may_leave disk None rs
@@ -93,7 +93,7 @@ module _ {D : Type 0} (size : D → ℕ) (honest : D → Bool) (seen : D → Opt
       absurd is
 
 module _ {D : Type 0} {g : Ghosts D} where
-  -- the disk of a machine that stands for a past has its records
+  -- the disk of a machine that represents a past has its records
   pub world_books : (world : World D g) (past : List Entry) → StandsFor world past
       → Books (setup_of world) g.honest g.seen g.may_leave (disk_of world) past
   world_books world past stands trusted =

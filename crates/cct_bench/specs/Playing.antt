@@ -31,7 +31,7 @@ pub record CanPlay (setup : Setup) (s : Step) : Type 0 where
   pub played : IsTrue (is_played s)
 
 -- A step gives these entries at the desk, oldest first, whatever is after it, where a record that it puts suits those
--- before it, and the disk is trusted if it is a power cut: one past stands for what was before, and the past with them
+-- before it, and the disk is trusted if it is a power cut: one past represents what was before, and the past with them
 -- for what is after.
 abbrev pub Plays : Type 0 → (List Entry → Type 0) → (List Entry → Type 0) → Setup → Desk → Step → List Entry → Type 0
 Plays trusted Before After setup now s report =

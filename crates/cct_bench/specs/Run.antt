@@ -137,7 +137,7 @@ module _ (disks : Disks) (bytes taken : List ℕ) (played unplayed : List Step) 
 -- The last line tells a fault of the source or of the disk only where this one failed, also where it was torn.
 -- Over any disk each step that is a power cut is told, and no other is, and after each of them a host started again
 -- rightly, by what the disk told right after that cut; on a trusted disk no power cut leaves another journal than
--- was there. The power was cut at least as often as is told, and just so often where the step that comes next is none.
+-- was there. The power was cut at least as often as is told, and exactly so often where the step that comes next is none.
 pub record Ran (bytes : List ℕ) (s : Status) (left : Option (List ℕ)) (Written : List Entry → Type 0)
     (Breaks : List Entry → List Entry → Type 0) (disks : Disks) (source_failed disk_failed : Type 0) : Type 0 where
   pub taken : List ℕ
@@ -229,7 +229,7 @@ Over disks how setup taken played unplayed past =
     IsReady disks.size disks.seen × (disks.trusted → disks.leaves setup None (reverse (records past)))
 
 -- Beside that, after each power cut a host started again; and the power of the disk was cut at least as often as the
--- past tells, and just so often where no power cut is the step that comes next.
+-- past tells, and exactly so often where no power cut is the step that comes next.
 pub record OverCut (disks : Disks) (how : Ending) (setup : Setup) (taken : List ℕ) (played unplayed : List Step)
     (past : List Entry) : Type 0 where
   pub over : Over disks how setup taken played unplayed past

@@ -67,7 +67,7 @@ module _ {D : Type 0} (honest : D → Bool) (seen : D → Option (List ℕ)) (ma
     (moment : D → ℕ) (left_since : D → ℕ → List ℕ → Type 0) where
   -- Where an upgrade is given an honest disk that keeps just one image, that of a journal of an earlier version, each image
   -- that a power cut may leave at any moment is that of this journal with the same carry and records, or one of today with
-  -- the carry of all of them. So it stands for the same records as before. Where the journal can't be brought forward,
+  -- the carry of all of them. So it represents the same records as before. Where the journal can't be brought forward,
   -- there is no new image.
   pub record AtMoments (given back : D) (setup : Setup) : Type 0 where
     pub each : (image : List ℕ) (base : ℕ) (carry : Carry) (rest : List Record)
@@ -80,7 +80,7 @@ module _ {D : Type 0} (honest : D → Bool) (seen : D → Option (List ℕ)) (ma
         → ((base : ℕ) (carry : Carry) (rest : List Record) → CanUpgrade setup image base carry rest → ⊥)
         → LeavesOnly moment left_since given back (λ c. c ≡ image)
 
-  -- Once it is brought forward, there is just one image, one of today with the carry of all records, which stands for them.
+  -- Once it is brought forward, there is just one image, one of today with the carry of all records, which represents them.
   pub record AtEnd (given back : D) (setup : Setup) : Type 0 where
     pub turned : (image : List ℕ) (base : ℕ) (carry : Carry) (rest : List Record)
         → Holds honest seen may_leave given image → HasOldFrom image base carry rest

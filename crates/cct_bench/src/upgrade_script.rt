@@ -1,4 +1,4 @@
-//! The script of an upgrade is read: its setup, the line `end`, and nothing behind it.
+//! The script of an upgrade is read: its setup, the line `end`, and nothing after it.
 ghost use Rattle.std.specs.Prelude.{◌≡◌, ℕ, ◌+◌, None, Err, OnOk, MatchResult};
 ghost use Rattle.std.specs.Result.{IfErr};
 ghost use Rattle.cct_edge.specs.Bytes.{Serves};
@@ -60,7 +60,7 @@ fn read_end<S: Source>(lines: &mut Lines, number: u32, script: &mut S) -> Result
     }
 }
 
-/// Reads what stands behind the line `end` of an upgrade's script, which may be nothing.
+/// Reads what stands after the line `end` of an upgrade's script, which may be nothing.
 fn read_nothing<S: Source>(lines: &mut Lines, script: &mut S) -> Result<(), ScriptStop>
     ensures closes { OnOk result ((number : ℕ) (setup : Setup) → WithMoreTaken (standing_of lines.old).held
         (S.left script.old) (S.left script.new) (IsClosedIn of_upgrade number (at_end setup) None (S.left script.new))) }

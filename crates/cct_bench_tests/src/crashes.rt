@@ -1,4 +1,4 @@
-//! Power cuts in the midst of a script: where a record is kept, and what the host knows after them.
+//! Power cuts within a script: where a record is kept, and what the host knows after them.
 
 use crate::runs::{POSTED, POSTED_TEXT, lines_and, run};
 use cct_bench::Status;

@@ -1,4 +1,4 @@
-//! As many devices as a setup takes, and one more: 32 acceptors that are at work at a time, and 31 hoppers beside one acceptor.
+//! As many devices as a setup takes, and one more: 32 acceptors that are running at a time, and 31 hoppers beside one acceptor.
 
 use crate::runs::{DISK, disk, play, run};
 use cct_bench::Status;
@@ -9,7 +9,7 @@ use std::test::Fail;
 /// The addresses of 32 devices.
 const ALL: Range<u8> = 2..34;
 
-/// The addresses of 31 hoppers, behind an acceptor.
+/// The addresses of 31 hoppers, after an acceptor.
 const HOPPERS: Range<u8> = 3..34;
 
 /// Appends a form for each address, with the address in the place of `@` and a check in that of `#`: every second device is
@@ -154,7 +154,7 @@ fn thirty_two_acceptors_post_a_coin_each(rt: HostRuntime) -> Result<(), Fail> {
     Ok(())
 }
 
-/// A coin of 1,000 is posted. Each hopper then gets an order of one coin of 10, with its address as the id; all are at work at
+/// A coin of 1,000 is posted. Each hopper then gets an order of one coin of 10, with its address as the id; all are running at
 /// a time.
 const PAYING: [(Range<u8>, &str); 20] = [
     (ONCE, "acceptor 2 simple 1 0\nvalue 2 5 1000 XX1K0A\n"),
@@ -179,7 +179,7 @@ const PAYING: [(Range<u8>, &str); 20] = [
     (ONCE, "end\n"),
 ];
 
-/// What is told beside exchanges: 31 orders reserve 310, and pay it. No coin is left to fall then, and no job is at work.
+/// What is told beside exchanges: 31 orders reserve 310, and pay it. No coin is left to fall then, and no job is running.
 const PAID: [(Range<u8>, &str); 9] = [
     (
         ONCE,

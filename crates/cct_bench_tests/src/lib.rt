@@ -1,4 +1,4 @@
-//! Tests of the bench: runs, as many devices as there may be, coins that are lost, power cuts in the midst of a script, disks
+//! Tests of the bench: runs, as many devices as there may be, coins that are lost, power cuts within a script, disks
 //! that fail, bytes that are damaged or forged, the words of the command line, reports, upgrades and loads.
 #![tactic(auto)]
 

@@ -105,7 +105,7 @@ const REFUSED: [(Written<'_>, Status, &[u8]); 7] = [
         b"upgrade epoch 2\n",
     ),
     (&[FIRST, EPOCH], Status::NotUpgraded, b"upgrade epoch 2\n"),
-    // its end stands behind a shut gate, and doesn't count
+    // its end stands after a shut gate, and doesn't count
     (
         &[FIRST, EPOCH, EPOCH_END],
         Status::NotUpgraded,

@@ -1,4 +1,4 @@
--- A bill acceptor that stands for all that it met.
+-- A bill acceptor that represents all that it met.
 use Rattle.std.specs.Prelude.{◌≡◌, ℕ, Bool, true, false, List, [], ◌∷◌}
 use Rattle.cct_terms.specs.declared.device.DeviceBody.{DeviceBody}
 use Rattle.cct_terms.specs.declared.device.DeviceBody.TheVariants as body
@@ -28,7 +28,7 @@ inhibits_in (master_set value ∷ past) = master_set value ∷ inhibits_in past
 inhibits_in (path_set place path ∷ past) = inhibits_in past
 inhibits_in (default_set path ∷ past) = inhibits_in past
 
--- A bill acceptor stands for one of this setup that met all this, newest first: its inhibits, its events, its accept counter
+-- A bill acceptor represents one of this setup that met all this, newest first: its inhibits, its events, its accept counter
 -- and the bill in its escrow are what that made them.
 pub record StandsFor (bills : BillAcceptor) (d : DeviceSetup) (past : List Met) : Type 0 where
   pub kind : IsBill d.body

@@ -1,5 +1,5 @@
 //! The bill acceptor as a device. From the standard (ccTalk Generic Specification 4, part 3) it takes that header 159 is
-//! answered with an event counter and five events, and that header 154 carries one byte. Which pair stands for which event,
+//! answered with an event counter and five events, and that header 154 carries one byte. Which pair represents which event,
 //! and the replies to header 154, are this project's own.
 ghost use Rattle.std.specs.Prelude.{◌≡◌, ◌<◌, ◌≤◌, ◌^◌, ◌&&◌, ℕ, List, [], ◌∷◌, ◌++◌, false, true, if◌then◌else◌, is_some, Some, IfOk, IfSome, MatchOption};
 ghost use Rattle.std.specs.Option.{option_map};

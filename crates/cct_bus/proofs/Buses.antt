@@ -1,4 +1,4 @@
--- What one step on a bus does to all that it stands for.
+-- What one step on a bus does to all that it represents.
 use Rattle.std.proofs.Common.{◌≡◌, ℕ, suc, ◌-◌, ◌≤◌, ◌==◌, Bool, true, false, cond, List, [], ◌∷◌, ◌++◌, length, set, take, drop, get_or, refl, sym, ap, subst, ◌∙◌, Option, Some, None, arith}
 use Rattle.std.specs.Prelude.{IsTrue, is_some, unwrap_or}
 use Rattle.std.specs.List.{All, flat_map, insert, position, position_or_len}
@@ -83,7 +83,7 @@ pub place_there : (devices : List Device) (setup : Setup) (addr : ℕ) → setup
 place_there devices setup addr order there =
     place_known (position (is_at addr) devices) devices setup addr order there refl
 
--- the device at an index stands for what the history tells
+-- the device at an index represents what the history tells
 pub one_lived : (devices : List Device) (i : ℕ) (y : Device) (addr : ℕ) (history : DeviceSetup → List Met) → position (is_at addr) devices ≡ Some i → y ≡ get_or devices i y
     → All (Stands history) devices → Lived y (history (setup_in y))
 one_lived devices i y addr history found is stand =
@@ -115,7 +115,7 @@ Tells past addr m e =
     ((d : DeviceSetup) → meets d past e ≡ at addr d m) × (pending (e ∷ past) ≡ pending past)
     × (was_forged (e ∷ past) ≡ was_forged past)
 
--- by the entry of what befell it, the device at that address met that
+-- by the entry of what happened to it, the device at that address met that
 pub happening_tells : (d : DeviceSetup) (addr : ℕ) (what : Happening) (past : List Entry) → d.addr ≡ addr
     → Tells past addr (met_by what) (happening_entry addr d past what)
 happening_tells d addr what past is =
@@ -133,7 +133,7 @@ happening_tells d addr what past is =
         either (remaining d.serial (met d past) == 0) (Tells past d.addr jam) _ _ ((λ e. refl), refl, refl) ((λ e. refl), refl, refl)
     tells happening.Reset = ((λ e. refl), refl, refl)
 
--- after what the device at an address met the devices stand for its entry
+-- after what the device at an address met the devices represent its entry
 pub entry_stands : (devices : List Device) (addr : ℕ) (m : Met) (e : Entry) (past : List Entry) → Tells past addr m e
     → All (Stands (marked addr m (λ d. met d past))) devices → All (Stands (λ d. met d (e ∷ past))) devices
 entry_stands devices addr m e past tells stand =
@@ -150,7 +150,7 @@ pub effect_back : (had_effect : Bool) → is_done (of_effect had_effect) ≡ had
 effect_back true = refl
 effect_back false = refl
 
--- what befell a device, with what became of it told in another form
+-- what happened to a device, with what became of it told in another form
 pub told_as : {B : Type 0} (setup : Setup) (past : List Entry) (addr : ℕ) (what : Happening) (outcome : Outcome)
     (new : Bus) (form : Outcome → B) (said : B) (is : DeviceSetup → B) → said ≡ form outcome
     → ((d : DeviceSetup) → form (becomes what d.serial (met d past)) ≡ is d) → Befalls setup past addr what outcome new
@@ -162,7 +162,7 @@ told_as setup past addr what outcome new form said is told same befalls =
     (λ d. (said ≡ is d) × StandsFor new (happening_entry addr d past what ∷ past)) (Unit {0})
     (λ d at goes. ((told ∙ ap form goes.0 ∙ same d, goes.1), tt)) befalls).0
 
--- what befell a device, where its entry is that of any
+-- what happened to a device, where its entry is that of any
 pub stands_by : (setup : Setup) (past : List Entry) (addr : ℕ) (what : Happening) (outcome : Outcome) (new : Bus)
     (e : Entry) → ((d : DeviceSetup) → happening_entry addr d past what ≡ e) → Befalls setup past addr what outcome new
     → StandsFor new (e ∷ past)
@@ -192,7 +192,7 @@ exchanged setup past fault old sent piece told heard same order reached says mak
     let told_is : told ≡ sent ++ all = says (λ d. met d past) stand ∙ ap (λ p. sent ++ flat_map (answer_of p (λ d. met d past)) (setups_in old)) reached in
     heard_is setup past fault (setups_in old) sent heard same order (makes all told_is)
 
--- after an exchange the devices stand for it
+-- after an exchange the devices represent it
 pub exchange_stands : (past : List Entry) (fault : WireFault) (devices : List Device) (addr : ℕ) (sent piece heard : List ℕ) → fault ≡ pending past → piece ≡ heard_by_devices fault sent
     → All (Stands (hearing piece (λ d. met d past))) devices → All (Stands (λ d. met d (entry.Wire addr sent heard ∷ past))) devices
 exchange_stands past fault devices addr sent piece heard same reached stand =

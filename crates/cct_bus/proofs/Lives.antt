@@ -19,7 +19,7 @@ use Rattle.cct_bus.specs.Body.{IsAtGap, KeepsGap, StandsFor, family_in}
 use Rattle.cct_bus.specs.Room.{most_said}
 use Rattle.cct_bus.proofs.Said.{said_room}
 
--- it stands for that and one thing more
+-- it represents that and one thing more
 pub lives_on : (a b : Body) (d : DeviceSetup) (m : Met) → ∥ ((past : List Met) × StandsFor a d past) ∥₁
     → ((past : List Met) → StandsFor a d past → StandsFor b d (m ∷ past)) → ∥ ((past : List Met) × StandsFor b d past) ∥₁
 lives_on a b d m lived step = ∥∥₁_map lived (λ h. (m ∷ h.0, step h.0 h.1))

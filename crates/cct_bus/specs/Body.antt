@@ -1,4 +1,4 @@
--- A coin acceptor, a bill acceptor or a hopper that stands for all that it met.
+-- A coin acceptor, a bill acceptor or a hopper that represents all that it met.
 use Rattle.std.specs.Prelude.{◌≡◌, ℕ, List, []}
 use Rattle.cct_model.specs.terms.device.DeviceSetup.{DeviceSetup}
 use Rattle.cct_model.specs.terms.family.Family.{Family}
@@ -19,7 +19,7 @@ family_in (Acceptor a) = family.Acceptor
 family_in (Hopper h) = family.Hopper
 family_in (Bill b) = family.Bill
 
--- It stands for one of a setup that met all this, newest first.
+-- It represents one of a setup that met all this, newest first.
 abbrev pub StandsFor : Body → DeviceSetup → List Met → Type 0
 StandsFor (Acceptor a) d past = acceptor.StandsFor a d past
 StandsFor (Hopper h) d past = hopper.StandsFor h d past

@@ -1,4 +1,4 @@
--- A bus that stands for all that happened on it.
+-- A bus that represents all that happened on it.
 use Rattle.std.specs.Prelude.{◌≡◌, ℕ, List, ◌∷◌}
 use Rattle.std.specs.List.{All}
 use Rattle.cct_model.specs.terms.device.Setup.{Setup}
@@ -19,7 +19,7 @@ use Rattle.cct_bus.specs.Outcome.{becomes}
 abbrev pub setup_of : Bus → Setup
 setup_of bus = bus.setup.now
 
--- A bus stands for a transcript, newest entry first: its setup is sound, its devices are those of its setup in rising
+-- A bus represents a transcript, newest entry first: its setup is sound, its devices are those of its setup in rising
 -- order of address, each met what the transcript tells of it, the fault that is set is the pending one, and whether the
 -- last exchange was forged is what the transcript tells.
 pub record StandsFor (bus : Bus) (past : List Entry) : Type 0 where
@@ -37,7 +37,7 @@ Exchanges old sent heard new =
     × ((past : List Entry) (addr : ℕ) → StandsFor old past
     → (heard ≡ heard_after (setup_of old) past sent) × StandsFor new (entry.Wire addr sent heard ∷ past))
 
--- What something that befalls the device at an address does on a bus: it becomes what it does of one that met what the
+-- What something that happens to the device at an address does on a bus: it becomes what it does of one that met what the
 -- transcript tells, and the transcript goes on by its entry.
 abbrev pub Befalls : Setup → List Entry → ℕ → Happening → Outcome → Bus → Type 0
 Befalls setup past addr what outcome new =

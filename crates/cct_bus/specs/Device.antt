@@ -13,7 +13,7 @@ setup_in device = device.setup.now
 abbrev pub setups_in : List Device → List DeviceSetup
 setups_in devices = map setup_in devices
 
--- A device on the wire stands for one of its setup that met all this, newest first.
+-- A device on the wire represents one of its setup that met all this, newest first.
 abbrev pub Lived : Device → List Met → Type 0
 Lived device past = StandsFor device.body (setup_in device) past
 

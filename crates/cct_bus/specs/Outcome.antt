@@ -1,4 +1,4 @@
--- What becomes of what befalls a device.
+-- What becomes of what happens to a device.
 use Rattle.std.specs.Prelude.{ℕ, ◌==◌, Bool, true, false, not, List, if◌then◌else◌}
 use Rattle.cct_model.specs.terms.family.Happening.{Happening}
 use Rattle.cct_model.specs.terms.family.Happening.TheVariants.{Coin, Alien, Bill, Fall, Jam, Reset}
@@ -33,7 +33,7 @@ is_done (Accepted c) = false
 is_done Done = true
 is_done Nothing = false
 
--- What becomes of what befalls a device with a serial number that met all this.
+-- What becomes of what happens to a device with a serial number that met all this.
 abbrev pub becomes : Happening → ℕ → List Met → Outcome
 becomes (Coin place) serial past = of_inserted (inserted past place)
 becomes Alien serial past = Nothing

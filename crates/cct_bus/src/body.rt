@@ -67,7 +67,7 @@ impl<'s> Body<'s> {
         }
     }
 
-    /// Something befalls it that its family knows.
+    /// Something happens to it that its family knows.
     pub(crate) fn befall(&mut self, what: Happening) -> Outcome
         requires known { known_to what (family_in self.old) ≡ true }
         requires placed { IsPlaced what }
@@ -85,7 +85,7 @@ impl<'s> Body<'s> {
     }
 }
 
-/// Something befalls a coin acceptor.
+/// Something happens to a coin acceptor.
 fn befall_acceptor(acceptor: &mut Acceptor<'_>, what: Happening) -> Outcome
     requires known { known_to what family.Acceptor ≡ true }
     requires placed { IsPlaced what }
@@ -111,7 +111,7 @@ fn befall_acceptor(acceptor: &mut Acceptor<'_>, what: Happening) -> Outcome
     }
 }
 
-/// Something befalls a hopper.
+/// Something happens to a hopper.
 fn befall_hopper(hopper: &mut Hopper<'_>, what: Happening) -> Outcome
     requires known { known_to what family.Hopper ≡ true }
     ensures stands { (d : DeviceSetup) (past : List Met) → hoppers.StandsFor hopper.old d past
@@ -133,7 +133,7 @@ fn befall_hopper(hopper: &mut Hopper<'_>, what: Happening) -> Outcome
     }
 }
 
-/// Something befalls a bill acceptor.
+/// Something happens to a bill acceptor.
 fn befall_bills(acceptor: &mut BillAcceptor<'_>, what: Happening) -> Outcome
     requires known { known_to what family.Bill ≡ true }
     requires placed { IsPlaced what }

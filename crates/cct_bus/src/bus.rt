@@ -109,7 +109,7 @@ impl<'s> Bus<'s> {
         self.setup.device_at(addr).is_some()
     }
 
-    /// Whether this can befall the device at an address: there is one, and its family knows it. A place is not looked
+    /// Whether this can happen to the device at an address: there is one, and its family knows it. A place is not looked
     /// at.
     pub fn knows(&self, addr: u8, what: Happening) -> bool
         ensures { result ≡ known_there what (device_at (setup_of self.now).devices addr) }
@@ -120,7 +120,7 @@ impl<'s> Bus<'s> {
         }
     }
 
-    /// Something befalls the device at an address that its family knows.
+    /// Something happens to the device at an address that its family knows.
     #[tactic(auto, using(cct_model::proofs::Knowing::is_there))]
     pub fn befall(&mut self, addr: u8, what: Happening) -> Outcome
         requires there { IsTrue (known_there what (device_at (setup_of self.old).devices addr)) }

@@ -50,7 +50,7 @@ impl<'s> Device<'s> {
         self.body.hear(piece, said);
     }
 
-    /// Something befalls the device that its family knows.
+    /// Something happens to the device that its family knows.
     pub(crate) fn befall(&mut self, what: Happening) -> Outcome
         requires known { known_to what (family_of (setup_in self.old).body) ≡ true }
         requires placed { IsPlaced what }

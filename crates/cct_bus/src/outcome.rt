@@ -1,11 +1,11 @@
-//! What becomes of what befalls a device.
+//! What becomes of what happens to a device.
 ghost use Rattle.std.specs.Prelude.{◌≡◌};
 ghost use Rattle.cct_bus.specs.Outcome.{inserted_of, is_done, of_effect, of_inserted};
 
 use cct_acceptor::Inserted;
 use cct_model::Coin;
 
-/// What became of something that befell a device.
+/// What became of something that happened to a device.
 #[derive(Clone, Copy, Debug, PartialEq, Eq)]
 pub enum Outcome {
     /// The coin was taken, by the sorter path of its place.

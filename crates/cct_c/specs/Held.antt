@@ -1,4 +1,4 @@
--- A device core that stands for all that it met, and what it answers to a program in another language.
+-- A device core that represents all that it met, and what it answers to a program in another language.
 use Rattle.std.specs.Prelude.{ℕ, ◌==◌, not, List, [], ◌∷◌, if◌then◌else◌, Option, Some, None}
 use Rattle.cct_terms.specs.Bill.{holds}
 use Rattle.cct_terms.specs.Hopper.{remaining}
@@ -13,7 +13,7 @@ use Rattle.cct_c.specs.declared.codes.TheConstants.{OK, BAD_HANDLE, NOTHING, SIL
 use Rattle.cct_c.specs.declared.held.Held.{Held}
 use Rattle.cct_c.specs.declared.held.Held.TheVariants.{Acceptor, Bill, Hopper, Settings}
 
--- It stands for a device of a setup that met all this, newest first. Settings alone are no device.
+-- It represents a device of a setup that met all this, newest first. Settings alone are no device.
 abbrev pub StandsFor : Held → DeviceSetup → List Met → Type 0
 StandsFor (Settings s) d past = ⊥
 StandsFor (Acceptor a) d past = acceptor.StandsFor a d past

@@ -194,7 +194,7 @@ settles_closed trays bound made rest addr paid unpaid p single left asked valued
         (λ n. cond-false (unpaid == 0) (n - paid) 0 test) in
         omega (arith, gone, few)
 
--- so is each that isn't at work, and whose order isn't open
+-- so is each that isn't running, and whose order isn't open
 settles_few : (rs : List Record) (trays : List Tray) (bound made rest : ℕ) (due : Due) (phase : Phase) → IsDone phase →
     AreSingle trays → FewDue rs trays bound made rest due.payment phase →
     made + (rest - paid_in_phase phase * value_in trays due.payment.addr)

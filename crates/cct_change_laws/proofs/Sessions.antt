@@ -428,7 +428,7 @@ settles_none : (setup : Setup) (trays : List Tray) (past : List Entry) (orders :
 settles_none setup trays past orders amount rest addr is =
     record { closed = is.closed; sums = let sums = is.sums in omega (arith, sums) }
 
--- the payment isn't at work, nor is its order open
+-- the payment isn't running, nor is its order open
 abbrev pub IsDone : Phase → Type 0
 IsDone (Closed paid unpaid) = ⊤
 IsDone Lost = ⊤

@@ -50,7 +50,7 @@ at_desk phase = record {
 opens : List Entry
 opens = entry.Put (record_of.Opened 60 3 2 0) ∷ []
 
--- the order is the session's where it is opened while its job is at work, kept in a power cut too
+-- the order is the session's where it is opened while its job is running, kept in a power cut too
 own_order : orders_after (step.Next 3) opens (at_desk Begun) [] ≡ asked ∷ []
 unfolding opens
 own_order = refl

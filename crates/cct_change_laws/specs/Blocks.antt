@@ -22,7 +22,7 @@ use Rattle.cct_change_laws.specs.Along.{AlongFrom}
 use Rattle.cct_change_laws.specs.Course.{AreLeftAlone, Course}
 use Rattle.cct_change_laws.specs.Tally.{Tally, is_whole_in}
 
--- A payment is waited for: its job is at work, or its order is open.
+-- A payment is waited for: its job is running, or its order is open.
 abbrev pub IsWaiting : Phase → Type 0
 IsWaiting Begun = ⊤
 IsWaiting Opened = ⊤

@@ -15,7 +15,7 @@ use Rattle.cct_model.specs.Change.{Desk, clear_desk, is_opening}
 use Rattle.cct_model.specs.Records.{records}
 use Rattle.cct_change_laws.specs.Along.{AlongFrom}
 
--- The payment whose order is opened among the entries of a step, or none: only one whose job was at work before it.
+-- The payment whose order is opened among the entries of a step, or none: only one whose job was running before it.
 abbrev pub opened_by : Payment → List Entry → Phase → List Payment
 opened_by p news Begun = if list_any (is_opening p) (records news) then p ∷ [] else []
 opened_by p news phase = []

@@ -4,7 +4,7 @@
 //! an honest wire; how many payments a session makes, that it ends, and where it is served, over any.
 //!
 //! An order is known by its id. The orders of a session are those of its payments that were opened, each by a record that
-//! was put or kept in a step before which the payment's own job was at work (`specs/Orders.antt`). So an order that the
+//! was put or kept in a step before which the payment's own job was running (`specs/Orders.antt`). So an order that the
 //! operator's own payment opens later with the same id is none of the session's.
 #![tactic(auto)]
 

@@ -8,7 +8,7 @@
 use crate::column::{ColumnKind, kind_of};
 use crate::row::Row;
 
-/// What stands for no value.
+/// What represents no value.
 pub(crate) const NONE: &str = "-";
 
 /// A form, and what a line of it says.

@@ -1,4 +1,4 @@
-//! What befalls the devices, line by line.
+//! What happens to the devices, line by line.
 ghost use Rattle.std.specs.Prelude.{IfOk, IfSome};
 ghost use Rattle.cct_model.specs.Family.{IsPlaced};
 ghost use Rattle.cct_model.specs.Script.{IsInRange};
@@ -9,7 +9,7 @@ use cct_edge::Source;
 use cct_model::{Happening, LineKind, Step};
 use cct_script::{Line, Lines, LinesNo, read_step_line};
 
-/// Something that befalls the device at an address.
+/// Something that happens to the device at an address.
 #[derive(Clone, Copy, Debug, PartialEq, Eq)]
 pub(crate) struct Event {
     pub(crate) addr: u8,
@@ -35,7 +35,7 @@ impl<S: Source> Events<S> {
         }
     }
 
-    /// Lets the next event befall its device: true then, and false where there is none left.
+    /// Lets the next event happen to its device: true then, and false where there is none left.
     pub(crate) fn befall_next(&mut self, machine: &mut Machine<'_>) -> Result<bool, Stop> {
         let number = self.number.saturating_add(1);
         let line = match next_line(number, self.lines.line(&mut self.source))? {

@@ -71,7 +71,7 @@ impl<'s> Machine<'s> {
         self.heard.clear();
     }
 
-    /// Something befalls the device at an address: true then, and false where there is none whose family knows it.
+    /// Something happens to the device at an address: true then, and false where there is none whose family knows it.
     pub fn befall(&mut self, addr: u8, what: Happening) -> bool
         requires placed { IsPlaced what }
         ensures setup { setup_of self.new ≡ setup_of self.old }

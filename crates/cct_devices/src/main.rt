@@ -1,5 +1,5 @@
 //! The program: devices on a line, which a host of others talks to. A setup file names them, an events file tells what
-//! befalls them, and the port is a terminal that is set up already.
+//! happens to them, and the port is a terminal that is set up already.
 #![tactic(auto)]
 
 mod answer;

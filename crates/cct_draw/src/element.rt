@@ -64,7 +64,7 @@ pub(crate) fn begin_path<K: Sink>(pen: &mut Pen<'_, K>, class: &[u8], left: u32,
     push_pair(pen, b"\" d=\"M", left, b" ", top, b"");
 }
 
-/// Ends an element with the bytes that it stands for.
+/// Ends an element with the bytes that it represents.
 fn end_bytes<K: Sink>(pen: &mut Pen<'_, K>, bytes: &[u8]) {
     match bytes.len() {
         0 => pen.push(b"><title>no byte"),
@@ -93,7 +93,7 @@ pub(crate) fn end_text<K: Sink>(pen: &mut Pen<'_, K>) {
     pen.push(b"</text>\n");
 }
 
-/// Ends a text of a row that stands for so many lines.
+/// Ends a text of a row that represents so many lines.
 pub(crate) fn end_times<K: Sink>(pen: &mut Pen<'_, K>, times: u64) {
     if times > 1 {
         push_numbered(pen, b", ", times, b" times");

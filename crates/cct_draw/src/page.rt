@@ -112,7 +112,7 @@ fn draw_title<K: Sink>(pen: &mut Pen<'_, K>, page: PageNumber, rows: &[Row]) {
     end_text(pen);
 }
 
-/// Writes which lines the rows of a page stand for, if it has any.
+/// Writes which lines the rows of a page represent, if it has any.
 fn write_lines<K: Sink>(pen: &mut Pen<'_, K>, rows: &[Row]) {
     if let [first, ..] = rows
         && let [.., last] = rows

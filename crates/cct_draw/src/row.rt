@@ -15,7 +15,7 @@ use cct_edge::Sink;
 use cct_lines::Record;
 use cct_pen::Pen;
 
-/// A mark, by the place of its first line, its last line, and how many equal lines or exchanges it stands for.
+/// A mark, by the place of its first line, its last line, and how many equal lines or exchanges it represents.
 #[derive(Drop)]
 pub(crate) struct Row {
     pub(crate) mark: Mark,
@@ -58,7 +58,7 @@ fn draw_number<K: Sink>(pen: &mut Pen<'_, K>, has_taps: bool, place: &Place) {
     }
 }
 
-/// Draws what a mark shows that stands for so many lines.
+/// Draws what a mark shows that represents so many lines.
 fn draw_mark<K: Sink>(pen: &mut Pen<'_, K>, scene: &Scene<'_>, mark: &Mark, times: u64) {
     let lanes = scene.lanes;
     match mark {
@@ -96,7 +96,7 @@ fn draw_of_host<K: Sink>(pen: &mut Pen<'_, K>, mark: &Mark, times: u64) {
     }
 }
 
-/// Draws an exchange, or one half of it, with the lane of a device. How many lines it stands for is written at its first
+/// Draws an exchange, or one half of it, with the lane of a device. How many lines it represents is written at its first
 /// half.
 fn draw_exchange<K: Sink>(
     pen: &mut Pen<'_, K>,

@@ -1,4 +1,4 @@
--- What befalls devices may come behind what hosts told: it says nothing of them, and it is the same after worlds in which the
+-- What happens to devices may come after what hosts told: it says nothing of them, and it is the same after worlds in which the
 -- devices are the same.
 use Rattle.std.proofs.Common.{◌≡◌, ℕ, ◌==◌, Bool, true, false, cond, List, [], ◌∷◌, ◌++◌, refl, sym, ap, ap₂, ◌∙◌, subst, Option, Some, None, suc}
 use Rattle.std.specs.Prelude.{if◌then◌else◌, MatchBool}
@@ -24,7 +24,7 @@ use Rattle.cct_answered.proofs.Asked.{befalling_same, of_found}
 use Rattle.cct_answered.proofs.Questions.{same_all}
 use Rattle.cct_honest_line.specs.Explained.{AllBefell, befallen, is_befalling}
 
--- an entry of what befell a device, wherever it stands
+-- an entry of what happened to a device, wherever it stands
 pub record IsUntold (e : Entry) : Type 0 where
   untold : is_told e ≡ false
   falls : is_befalling e ≡ true
@@ -76,7 +76,7 @@ befalls_known setup past e (addr, what, placed, is) =
         known_by true is = subst IsUntold (sym (first_same e _ is)) (happening_untold addr d past what)
         known_by false is = absurd is
 
--- the same befalls devices that are the same
+-- the same happens to devices that are the same
 happening_same : (addr : ℕ) (d : DeviceSetup) (one other : List Entry) (what : Happening) → Same (met d one) (met d other) →
     happening_entry addr d one what ≡ happening_entry addr d other what
 happening_same addr d one other what same =
@@ -105,7 +105,7 @@ befalls_from setup history past e same (addr, what, placed, is) = (
       (λ d at. at ∙ ap (λ x. x ∷ []) (befalling_same addr d (met_in d history) past what (same d))) is,
 )
 
--- what befell since an entry leaves all else as it was
+-- what happened since an entry leaves all else as it was
 pub since_pending : (setup : Setup) (past late : List Entry) → AllBefell setup past late → pending (late ++ past) ≡ pending past
 since_pending setup past [] all = refl
 since_pending setup past (e ∷ late) all =
@@ -136,7 +136,7 @@ since_over setup world past late all over = record {
   tells = since_told setup world late all ∙ over.tells;
 }
 
--- also behind another past in which the devices met the same
+-- also after another past in which the devices met the same
 pub since_met : (setup : Setup) (past other late : List Entry) → AllBefell setup past late → (d : DeviceSetup) →
     met d past ≡ met d other → met d (late ++ past) ≡ met d (late ++ other)
 since_met setup past other [] all d same = same
@@ -154,12 +154,12 @@ since_behind setup past other (e ∷ late) same all = (
   since_behind setup past other late same all.1,
 )
 
--- a device meets the same by what befell it, in a history too
+-- a device meets the same by what happened to it, in a history too
 pub befell_meets : (setup : Setup) (past : List Entry) (e : Entry) → Befalls setup past e → (d : DeviceSetup)
     (one other : List Entry) → meets d one e ≡ meets d other e
 befell_meets setup past e is d one other = (befalls_known setup past e is).meets_as d one other
 
--- what befell is all there, in its order
+-- what happened is all there, in its order
 pub befell_falls : (setup : Setup) (past : List Entry) (e : Entry) → Befalls setup past e → is_befalling e ≡ true
 befell_falls setup past e is = (befalls_known setup past e is).falls
 

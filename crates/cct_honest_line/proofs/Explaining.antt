@@ -1,4 +1,4 @@
--- A world goes on: by what hosts tell besides exchanges, by what befalls devices, and by exchanges.
+-- A world goes on: by what hosts tell besides exchanges, by what happens to devices, and by exchanges.
 use Rattle.std.proofs.Common.{◌≡◌, inl, ℕ, true, false, cond, List, [], ◌∷◌, ◌++◌, refl, sym, ap, ◌∙◌, subst}
 use Rattle.std.specs.Prelude.{flat_map, unwrap_or}
 use Rattle.cct_model.specs.terms.device.DeviceSetup.{DeviceSetup}
@@ -81,7 +81,7 @@ explained_besides setup history past e is x =
           ∙ sym (since_all setup x.world x.since x.befell) ∙ x.all;
     }
 
--- something befell devices
+-- something happened to devices
 pub explained_befell : (setup : Setup) (before after : List Moment) (past : List Entry) → Befell setup before after →
     IsExplained setup before past → IsExplained setup after past
 explained_befell setup before _ past nothing_befell x = x

@@ -122,7 +122,7 @@ said_fronts setup mets sent sound one =
     (λ d other. elsewhere d (mets d) (asker d.kind sent) (asks_of d sent) (asks_nothing d sent (λ same. other (sym same)) one))
     (λ d. answer_fronts d (mets d) (asker d.kind sent) (asks_of d sent))
 
--- what is heard is a front of the echo, or of the answer behind it
+-- what is heard is a front of the echo, or of the answer after it
 pub data Parts (sent said heard rest : List ℕ) : Type 0 where
   within_echo : (more : List ℕ) → more ≢ [] → heard ++ more ≡ sent → Parts sent said heard rest
   behind_echo : (front : List ℕ) → heard ≡ sent ++ front → front ++ rest ≡ said → Parts sent said heard rest

@@ -40,7 +40,7 @@ may_happen setup before after sent (heard_some at piece earlier honest later) = 
   later = later;
 }
 
--- things befell devices before and after
+-- things happened to devices before and after
 around : (setup : Setup) (before first last after : List Moment) (sent piece : List ℕ) → Befell setup before first →
     Exchanged setup first last sent piece → Befell setup last after → Exchanged setup before after sent piece
 around setup before first last after sent piece earlier one later = record {
@@ -54,7 +54,7 @@ around setup before first last after sent piece earlier one later = record {
 module _ {L : Type 0} (reads : L → Option (List ℕ) → L → Type 0) (writes : L → List ℕ → Result (Unit {0}) Failed → L → Type 0)
     (setup : Setup) (echoes : Bool) (answer : L → List ℕ → List ℕ) (history : L → List Moment)
     (modelled : IsModelled reads writes setup echoes answer history) where
-  -- while it reads, things befall devices
+  -- while it reads, things happen to devices
   reads_befell : (wants : List ℕ → ℕ → Type 0) (already : ℕ) (first last : L) (bytes : List ℕ) (silent made : ℕ) →
       Hearing reads writes wants already first bytes silent made last → Befell setup (history first) (history last)
   reads_befell wants already first _ _ _ _ unread = nothing_befell

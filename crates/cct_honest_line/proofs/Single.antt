@@ -1,4 +1,4 @@
--- Nothing comes behind a whole reply of devices that do what the model's do.
+-- Nothing comes after a whole reply of devices that do what the model's do.
 use Rattle.std.proofs.Common.{◌≡◌, ◌≢◌, ◌⊎◌, inl, inr, ℕ, ◌==◌, ◌||◌, Bool, true, false, cond, List, [], ◌∷◌, ◌++◌, slice_index, refl, sym, ap, ap₂, ◌∙◌, Option, Some, None, option_and_then, Result, append_assoc, eq-eqb, eqb-true, true≢false}
 use Rattle.std.specs.Prelude.{flat_map, is_none, unwrap_or}
 use Rattle.std.proofs.lemmas.Bool.{and_parts}

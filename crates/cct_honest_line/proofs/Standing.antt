@@ -1,4 +1,4 @@
--- An honest line stands for every setup.
+-- An honest line represents every setup.
 use Rattle.std.proofs.Common.{◌≡◌, inl, ℕ, suc, ◌<◌, true, List, [], ◌∷◌, ◌++◌, length, refl, sym, ap, ◌∙◌, subst, Option, Some, None, Ok, Err, arith, append-nil}
 use Rattle.std.specs.Prelude.{◌≢◌}
 use Rattle.cct_edge.specs.declared.fault.Failed.{Failed}

@@ -21,7 +21,7 @@ abbrev pub silent_on : AtOnce → ℕ
 silent_on (still silent history) = silent
 silent_on (under_way byte bytes history) = 0
 
--- What befell the devices and what bytes they heard.
+-- What happened to the devices and what bytes they heard.
 abbrev pub history_on : AtOnce → List Moment
 history_on (still silent history) = history
 history_on (under_way byte bytes history) = history
@@ -35,7 +35,7 @@ with_bytes (byte ∷ bytes) history = under_way byte bytes history
 abbrev pub answer_on : Setup → AtOnce → List ℕ → List ℕ
 answer_on setup line sent = heard_by setup (λ d. met_in d (history_on line)) fault.Clear sent
 
--- A read brings all that is under way; or it is silent, and meanwhile things befall the devices.
+-- A read brings all that is under way; or it is silent, and meanwhile things happen to the devices.
 abbrev pub reads_on : Setup → AtOnce → Option (List ℕ) → AtOnce → Type 0
 reads_on setup (still silent history) (Some []) next =
     (later : List Moment) × Befell setup history later × (next ≡ still (suc silent) later)

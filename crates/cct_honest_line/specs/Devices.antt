@@ -1,4 +1,4 @@
--- Devices on a line: what befalls them, what they hear, and what comes of it.
+-- Devices on a line: what happens to them, what they hear, and what comes of it.
 use Rattle.std.specs.Prelude.{◌≡◌, ◌⊎◌, ℕ, Bool, true, List, ◌∷◌, ◌++◌, Option, None, Result, Ok, Err}
 use Rattle.cct_edge.specs.declared.fault.Failed.{Failed}
 use Rattle.cct_model.specs.terms.device.Setup.{Setup}
@@ -11,14 +11,14 @@ use Rattle.cct_answered.specs.Asked.{BefallsIn, Moment, asks, did, heard_by, met
 use Rattle.cct_answered.specs.World.{IsNoReply}
 use Rattle.cct_port.specs.Port.{echo_of}
 
--- What befell devices and what bytes they heard goes on: something befell some of them, one after another, and each took it as
--- its model does.
+-- What happened to devices and what bytes they heard goes on: something happened to some of them, one after another, and each
+-- took it as its model does.
 pub data Befell (setup : Setup) (before : List Moment) : List Moment → Type 0 where
   nothing_befell : Befell setup before before
   befell_more : (past : List Moment) (e : Entry) → Befell setup before past → BefallsIn setup past e
       → Befell setup before (did e ∷ past)
 
--- There is no reply to what was sent in what was heard: no message stands behind the whole echo, and where the echo isn't
+-- There is no reply to what was sent in what was heard: no message stands after the whole echo, and where the echo isn't
 -- whole, what was heard is none.
 pub record IsUnanswered (sent heard : List ℕ) : Type 0 where
   pub none : IsNoReply sent heard
@@ -33,8 +33,8 @@ abbrev pub IsHeardFrom : List ℕ → List ℕ → Type 0
 IsHeardFrom sent piece = (piece ≡ sent) ⊎ IsNoMessage piece
 
 -- Bytes were sent over a wire that does no other damage than an honest one: the devices heard what was sent, or something that
--- is no message, and perhaps things befell them before and after. What comes of it is the echo and just what the devices answer,
--- or it was damaged.
+-- is no message, and perhaps things happened to them before and after. What comes of it is the echo and just what the devices
+-- answer, or it was damaged.
 pub record Reaches (setup : Setup) (before : List Moment) (sent came : List ℕ) (after : List Moment) : Type 0 where
   pub at : List Moment
   pub piece : List ℕ
@@ -50,10 +50,10 @@ pub data MayReach (setup : Setup) (before : List Moment) (sent : List ℕ) (afte
       → Befell setup (asks piece ∷ at) after → MayReach setup before sent after
 
 module _ {L : Type 0} (reads : L → Option (List ℕ) → L → Type 0) (writes : L → List ℕ → Result (Unit {0}) Failed → L → Type 0) where
-  -- The devices on a line do what the model's do, over an honest wire; and this is, for each state of the line, what befell
-  -- them and what bytes they heard, newest first.
+  -- The devices on a line do what the model's do, over an honest wire; and this is, for each state of the line, what happened
+  -- to them and what bytes they heard, newest first.
   pub record IsModelled (setup : Setup) (echoes : Bool) (answer : L → List ℕ → List ℕ) (history : L → List Moment) : Type 0 where
-    -- While the host reads, things befall the devices, whatever it reads.
+    -- While the host reads, things happen to the devices, whatever it reads.
     pub while_read : (old new : L) (piece : Option (List ℕ)) → reads old piece new → Befell setup (history old) (history new)
     -- What comes of what was written begins with the echo, from the line, or else from the port.
     pub written : (old new : L) (sent : List ℕ) → writes old sent (Ok tt) new

@@ -1,4 +1,4 @@
--- A world that explains what live hosts told, by what befell the devices and what bytes they heard.
+-- A world that explains what live hosts told, by what happened to the devices and what bytes they heard.
 use Rattle.std.specs.Prelude.{◌≡◌, Bool, true, false, cond, List, [], ◌∷◌, ◌++◌, ⊤}
 use Rattle.cct_model.specs.terms.device.DeviceSetup.{DeviceSetup}
 use Rattle.cct_model.specs.terms.device.Setup.{Setup}
@@ -10,12 +10,12 @@ use Rattle.cct_answered.specs.Asked.{Moment, entries, met_in}
 use Rattle.cct_answered.specs.Same.{Same}
 use Rattle.cct_answered.specs.World.{Befalls, IsJustTold, OverDevices}
 
--- All this befell devices, newest first, after a past.
+-- All this happened to devices, newest first, after a past.
 abbrev pub AllBefell : Setup → List Entry → List Entry → Type 0
 AllBefell setup past [] = ⊤
 AllBefell setup past (e ∷ late) = Befalls setup (late ++ past) e × AllBefell setup past late
 
--- An entry says that something befell a device.
+-- An entry says that something happened to a device.
 abbrev pub is_befalling : Entry → Bool
 is_befalling (entry.Accepted addr c) = true
 is_befalling (entry.Held addr place) = true
@@ -28,14 +28,14 @@ is_befalling (entry.NoJam addr) = true
 is_befalling (entry.Reset addr) = true
 is_befalling e = false
 
--- All that befell devices in a world, newest first.
+-- All that happened to devices in a world, newest first.
 abbrev pub befallen : List Entry → List Entry
 befallen [] = []
 befallen (e ∷ world) = cond (is_befalling e) (e ∷ befallen world) (befallen world)
 
 -- Live hosts told this past of a world in which the devices on their line answered as the model's do. The world goes up to the
--- newest entry told, and what befell the devices since stands behind it. What befell them in it is what befell them in the
--- history of the line, in its order, and each device is as after that.
+-- newest entry told, and what happened to the devices since stands after it. What happened to them in it is what happened to
+-- them in the history of the line, in its order, and each device is as after that.
 pub record IsExplained (setup : Setup) (history : List Moment) (past : List Entry) : Type 0 where
   pub world : List Entry
   pub since : List Entry

@@ -23,9 +23,9 @@ use Rattle.cct_prompt.specs.Prompt.{IsPrompt, IsQuiet}
 use Rattle.cct_honest_line.specs.Devices.{Befell, IsModelled, MayReach}
 use Rattle.cct_honest_line.specs.Explained.{befallen}
 
--- The money of what live hosts told is right over what befell the devices on their line, which are these entries, newest first:
--- there is a world with just these and with just what the hosts told, in which the devices answered as the model's do. So the
--- coins that were accepted and that fell in it are those on the line.
+-- The money of what live hosts told is right over what happened to the devices on their line, which are these entries, newest
+-- first: there is a world with just these and with just what the hosts told, in which the devices answered as the model's do.
+-- So the coins that were accepted and that fell in it are those on the line.
 pub record IsRightOver (setup : Setup) (fallen : List Entry) (past : List Entry) : Type 0 where
   pub world : List Entry
   pub befell : befallen world ≡ fallen
@@ -38,7 +38,7 @@ module _ {L : Type 0} (reads : L → Option (List ℕ) → L → Type 0) (writes
     (echoes : Bool) (longest : ℕ) (coming : L → List ℕ) (silent : L → ℕ) where
   -- A line, which gives the echo or not. Its devices do what the model's do, and each answers within the longest time or never;
   -- and the wire does no other damage than an honest one. This is what is under way on the line, for how long it was silent, and
-  -- what befell the devices and what bytes they heard.
+  -- what happened to the devices and what bytes they heard.
   pub record IsHonestLine (setup : Setup) (history : L → List Moment) : Type 0 where
     pub answer : L → List ℕ → List ℕ
     pub prompt : IsPrompt reads writes longest coming silent answer
@@ -52,12 +52,12 @@ module _ {L : Type 0} (reads : L → Option (List ℕ) → L → Type 0) (writes
     pub quiet : IsQuiet reads writes coming silent port
 
   -- Hosts lived one after another, each over what the one before it left in the journal and with a port over the same line, and
-  -- one has just started. This is what befell the devices so far and what bytes they heard, the records that this host found,
-  -- and all that was told, newest first, from a journal without records and devices that hadn't met anything on.
+  -- one has just started. This is what happened to the devices so far and what bytes they heard, the records that this host
+  -- found, and all that was told, newest first, from a journal without records and devices that hadn't met anything on.
   pub data HaveLived (capacity : ℕ) (setup : Setup) (history : L → List Moment) : List Moment → List Record → List Entry → Type 0
     where
       first_start : HaveLived capacity setup history [] [] (entry.Crash 0 ∷ [])
-      -- Meanwhile something befalls the devices.
+      -- Meanwhile something happens to the devices.
       meanwhile : (before after : List Moment) (found : List Record) (whole : List Entry)
           → HaveLived capacity setup history before found whole → Befell setup before after
           → HaveLived capacity setup history after found whole

@@ -1,4 +1,4 @@
--- A hopper that stands for all that it met (ccTalk Generic Specification 4, part 3).
+-- A hopper that represents all that it met (ccTalk Generic Specification 4, part 3).
 use Rattle.std.specs.Prelude.{◌≡◌, ℕ, ◌==◌, Bool, true, false, List, [], Option, Some, None, Result, Ok, Err, if◌then◌else◌, not}
 use Rattle.cct_terms.specs.declared.device.DeviceBody.{DeviceBody}
 use Rattle.cct_terms.specs.declared.device.DeviceBody.TheVariants as body
@@ -81,7 +81,7 @@ left_of (Off hopper) = 0
 left_of (Idle hopper) = 0
 left_of (Paying hopper) = hopper.remaining
 
--- A hopper stands for one of this setup that met all this, newest first: its state and what it remembers are what that
+-- A hopper represents one of this setup that met all this, newest first: its state and what it remembers are what that
 -- made them. It is paying exactly where coins are left to pay, and off exactly where it may not pay.
 pub record StandsFor (hopper : Hopper) (d : DeviceSetup) (past : List Met) : Type 0 where
   pub kind : IsHopper d.body

@@ -307,7 +307,7 @@ told_records : (past : List Entry) (many : ℕ) (kept : Option Record)
 told_records past many None = refl
 told_records past many (Some r) = refl
 
--- and the host that starts again stands for them
+-- and the host that starts again represents them
 module _ {D : Type 0} {g : Ghosts D} where
   restart_stands : (old new : Host D g) (past : List Entry) (at : Option CrashAt) (kept : Option Record) (many : ℕ)
       → EntriesOfRestart (setup_of old) past at (told_by many kept)

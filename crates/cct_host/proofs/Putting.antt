@@ -147,7 +147,7 @@ due_added setup due r before old new taken there sound tells goes follow is =
     (subst (λ d. IfSome d (λ r. all_follow setup (r ∷ before) ≡ true)) there follow) is
     ∙ ap (λ d. carry setup (put_by d ++ before)) (sym there)
 
--- where no call is made, a disk that keeps records leaves what stands for these
+-- where no call is made, a disk that keeps records leaves what represents these
 pub same_moments : {D : Type 0} {honest : D → Bool} {seen : D → Option (List ℕ)} {may_leave : D → List ℕ → Type 0}
     {moment : D → ℕ} {left_since : D → ℕ → List ℕ → Type 0} {disk : D} {place : Place} {records : List Record}
     (setup : Setup) → ((disk : D) (c : List ℕ) → left_since disk (moment disk) c → may_leave disk c)

@@ -216,7 +216,7 @@ module _ {D : Type 0} {g : Ghosts D} where
     used = starts.used ∙ ap length (sym same);
   }
 
-  -- and stands for it, where its disk, if that is trusted, keeps just these records
+  -- and represents it, where its disk, if that is trusted, keeps just these records
   pub started_stands : (host : Host D g) (past : List Entry) (before : List Record) → HasNoJob past
       → records past ≡ before → HasReplayed host before
       → (IsTrusted g.honest g.seen (disk_of host)

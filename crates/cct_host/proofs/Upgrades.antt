@@ -145,7 +145,7 @@ upgrade_has setup image base carry rest can =
       current = record { headed = has.headed; records_are = subst (AreSpelt rest) has.bodies_are can.has.spelt };
     }
 
--- what was turned stands for whole lists of records
+-- what was turned represents whole lists of records
 module _ (setup : Setup) (base : ℕ) (c : Carry) (rest records : List Record) (sound : IsSoundSetup setup)
     (continues : Continues (carry_of setup) base c rest records)
     (first : all_follow setup (reverse continues.first) ≡ true) where
@@ -198,7 +198,7 @@ only_image g first last image held reads =
     weaker g.moment g.left_since first last (g.may_leave first) (λ c. c ≡ image) held.only
     (reads.moments held.keeps_synced)
 
--- what an open journal stands for is what a read of it gives
+-- what an open journal represents is what a read of it gives
 pub read_there : {D : Type 0} {honest : D → Bool} {seen : D → Option (List ℕ)} {may_leave : D → List ℕ → Type 0}
     {disk : D} {old : OldPlace} {rest : List Record} → OldStands honest seen may_leave disk old rest
     → OldReadsFrom seen disk old rest

@@ -1,4 +1,4 @@
--- Desks that stand for all that happened.
+-- Desks that represent all that happened.
 use Rattle.std.specs.Prelude.{◌≡◌, ◌+◌, ◌-◌, ◌≤◌, ◌<◌, ◌==◌, ℕ, List, ◌∷◌, ◌++◌, if◌then◌else◌, Option, Some, None, Result, length, max, option_and_then, reverse, slice_get}
 use Rattle.std.specs.List.{position}
 use Rattle.std.specs.Option.{IfSome}
@@ -107,7 +107,7 @@ pub record FreesIn (addr : ℕ) (old new : Desks) : Type 0 where
   pub clears : IfSome (due_on old addr) (λ r. amount_on new addr ≡ 0)
   pub frees : reserved_of new + (amount_on old addr - amount_on new addr) ≡ reserved_of old
 
--- Desks stand for a transcript, newest entry first: their setup is sound, each has the job, the epoch and the open order
+-- Desks represent a transcript, newest entry first: their setup is sound, each has the job, the epoch and the open order
 -- that the lines of its device tell, the scan is that of the lines of address 0, the sale that of the lines of address
 -- 1, and the greatest id of the records is known.
 pub record StandsFor (desks : Desks) (past : List Entry) : Type 0 where

@@ -1,4 +1,4 @@
--- A host over its journal, that stands for all that happened.
+-- A host over its journal, that represents all that happened.
 use Rattle.std.specs.Prelude.{◌≡◌, ◌≤◌, ℕ, Bool, ◌+◌, ◌-◌, List, [], ◌∷◌, ◌++◌, Option, Some, None, Result, false, true, length, reverse}
 use Rattle.std.specs.Option.{IfSome}
 use Rattle.cct_model.specs.terms.device.Setup.{Setup}
@@ -72,7 +72,7 @@ module _ {D : Type 0} {g : Ghosts D} where
   abbrev pub capacity_in : Host D g → ℕ
   capacity_in host = MOST_RECORDS
 
-  -- A host has all of a transcript, newest entry first, whatever its disk keeps: its desks stand for it, its ledger for the
+  -- A host has all of a transcript, newest entry first, whatever its disk keeps: its desks represent it, its ledger for the
   -- records and what the running jobs reserve beside them, its carry is that of the records, and its journal counts so many
   -- of them.
   pub record Keeps (host : Host D g) (past : List Entry) : Type 0 where
@@ -81,7 +81,7 @@ module _ {D : Type 0} {g : Ghosts D} where
     pub carry_is : tallies.carry_in host.tally ≡ carry (setup_of host) (records past)
     pub used : journals.used_of host.journal ≡ length (records past)
 
-  -- A host stands for a transcript, newest entry first: it has all of it, and if its disk is trusted, that keeps just the
+  -- A host represents a transcript, newest entry first: it has all of it, and if its disk is trusted, that keeps just the
   -- records.
   pub record StandsFor (host : Host D g) (past : List Entry) : Type 0 where
     pub keeps : Keeps host past

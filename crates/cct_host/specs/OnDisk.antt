@@ -11,7 +11,7 @@ use Rattle.cct_journal.specs.PowerCuts.{LeavesWith}
 use Rattle.cct_journal.specs.Stands.{Reads, ReadsFrom, Stands}
 
 -- A journal keeps these records, oldest first: its disk is honest and keeps just one image, which
--- stands for them, and so many does the journal count.
+-- represents them, and so many does the journal count.
 abbrev pub KeepsRecords : {D : Type 0} → Setup → (D → Bool) → (D → Option (List ℕ)) → (D → List ℕ → Type 0) → D → Place
     → List Record → Type 0
 KeepsRecords setup honest seen may_leave disk place records =
@@ -29,7 +29,7 @@ abbrev pub StandsUpTo : Setup → Option Record → List Record → List ℕ →
 StandsUpTo setup None records image = StandsFor (carry_of setup) image records
 StandsUpTo setup (Some r) records image = StandsForOneOf (carry_of setup) records r image
 
--- What a read gives stands for these records, whatever a power cut may leave, and so many does the journal count.
+-- What a read gives represents these records, whatever a power cut may leave, and so many does the journal count.
 abbrev pub ReadsRecords : {D : Type 0} → Setup → (D → Option (List ℕ)) → D → Place → List Record → Type 0
 ReadsRecords setup seen disk place records = Reads (carry_of setup) seen disk place records
 

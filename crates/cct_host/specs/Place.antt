@@ -69,7 +69,7 @@ Asks scans c since state owed sent =
     (poll : CheckKind × ℕ) × (scan_row since ≡ Some poll) × (sent ≡ ask poll.0 poll.1 (poll_of poll.1))
 Asks sales c since state owed sent = ⊥
 
--- A job stands for the lines of a place since its command was taken.
+-- A job represents the lines of a place since its command was taken.
 abbrev pub StandsAt : Place → Job → Command → List Line → EpochState → Option OpenOrder → Type 0
 StandsAt (device d) job c since state owed = Stands d job c since state owed
 StandsAt scans job c since state owed = StandsScan job since

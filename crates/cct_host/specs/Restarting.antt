@@ -127,7 +127,7 @@ module _ {D : Type 0} {g : Ghosts D} where
   due_of host at = due_for host.desks at
 
   -- A power cut is told by its entries after whatever happened, where the disk is trusted and the records follow one
-  -- another, and the host that starts again stands for these.
+  -- another, and the host that starts again represents these.
   abbrev pub TellsRestart : Host D g → Host D g → Option CrashAt → Crashed → Type 0
   TellsRestart old new at crashed =
       (past : List Entry) → StandsFor old past → RestartSuits (setup_of old) past at → IsTrusted g.honest g.seen (disk_of old)
@@ -137,7 +137,7 @@ module _ {D : Type 0} {g : Ghosts D} where
   pub record Restarts (old : Host D g) (at : Option CrashAt) (choice : ℕ) (new : Host D g) (crashed : Crashed) : Type 0 where
     pub setup : setup_of new ≡ setup_of old
     pub whole : has_failed new ≡ false
-    -- what it tells, and what it then stands for:
+    -- what it tells, and what it then represents:
     -- On a trusted disk, after any past whose records follow one another: the entries are those of the definitions, with
     -- the record that was kept, if one was. No job is left, and nothing that only jobs reserved.
     pub tells : TellsRestart old new at crashed

@@ -150,7 +150,7 @@ abbrev pub OldFirstFollow : {image : List ℕ} {records : List Record} → (setu
     → OldStandsFor (carry_of setup) image records → Type 0
 OldFirstFollow setup stands = all_follow setup (reverse stands.continues.first) ≡ true
 
--- The same of whole lists of records: it stands for these, as a journal of an older version or as one of today.
+-- The same of whole lists of records: it represents these, as a journal of an older version or as one of today.
 abbrev pub StandsBrought : Setup → List Record → List ℕ → Type 0
 StandsBrought setup records image =
     OldStandsFor (carry_of setup) image records ⊎ StandsFor (carry_of setup) image records

@@ -29,7 +29,7 @@ use cct_model::{
 use cct_wire::Link;
 
 /// The desks of a host: the jobs at all addresses, the epochs of the acceptors, and the open orders of the hoppers.
-/// They stand for a transcript, newest entry first, by themselves; what is at the other end of the wire is any
+/// They represent a transcript, newest entry first, by themselves; what is at the other end of the wire is any
 /// [`Link`]. They take no memory.
 #[derive(Drop)]
 pub struct Desks<'s> {

@@ -40,7 +40,7 @@ pub fn upgrade<D: Disk>(setup: &Setup, disk: D) -> Result<(Journal<D>, u32), (D,
     ensures moments { (image : List ℕ) (base : ℕ) (carry : Carry) (rest : List Record)
         → Holds D.honest D.seen D.may_leave disk image → HasOldFrom image base carry rest
         → LeavesOnly D.moment D.left_since disk (disk_after result) (IsBrought setup.now base carry rest) }
-    // So it stands for the same records as before, as an old journal or as one of today.
+    // So it represents the same records as before, as an old journal or as one of today.
     ensures stands { (image : List ℕ) (records : List Record) → Holds D.honest D.seen D.may_leave disk image
         → (stands : OldStandsFor (carry_of setup.now) image records) → OldFirstFollow setup.now stands
         → LeavesOnly D.moment D.left_since disk (disk_after result) (StandsBrought setup.now records) }
@@ -55,7 +55,7 @@ pub fn upgrade<D: Disk>(setup: &Setup, disk: D) -> Result<(Journal<D>, u32), (D,
         → Holds D.honest D.seen D.may_leave disk image → HasOldFrom image base carry rest
         → IsTurned D.honest D.seen D.may_leave (journals.disk_of brought.0) (base + length rest)
         (carry_over setup.now carry rest)) }
-    // And the journal stands for them.
+    // And the journal represents them.
     ensures keeps { IfOk result (λ brought. (image : List ℕ) (records : List Record)
         → Holds D.honest D.seen D.may_leave disk image
         → (stands : OldStandsFor (carry_of setup.now) image records) → OldFirstFollow setup.now stands

@@ -96,7 +96,7 @@ no_price d job c since state owed n is at = is ∙ price_none d job c since stat
 
 -- what it has none of
 
--- what holds of a sale that is still to be put, and of a job that is done, holds of each job that stands for its lines
+-- what holds of a sale that is still to be put, and of a job that is done, holds of each job that represents its lines
 by_sale : (P : Job → Type 0) → ((id price : ℕ) → P (SalePuts id price)) → ((end : End) → P (Done end)) → (job : Job)
     (c : Command) (since : List Line) → StandsSale job c since → P job
 by_sale P to_put ended (SalePuts id price) c since at = to_put id price

@@ -1,4 +1,4 @@
--- What a job sends or puts, and the lines of a device that it stands for, newest first.
+-- What a job sends or puts, and the lines of a device that it represents, newest first.
 use Rattle.std.specs.Prelude.{◌≡◌, ◌<◌, ◌==◌, ◌^◌, nat_lt, ℕ, suc, ⊤, Bool, true, false, List, [], ◌∷◌, if◌then◌else◌, Option, Some, None, is_some, IsTrue, option_and_then, slice_get}
 use Rattle.std.specs.Option.{option_map}
 use Rattle.cct_model.specs.terms.wire.CheckKind.{CheckKind}
@@ -439,7 +439,7 @@ pub record Settling (d : DeviceSetup) (entry : Record) (end : End) (c : Command)
   pub closes : entry ≡ close order life
   pub at : Putting d (OrderCloses entry end) entry (Some end) c since state owed
 
--- A job stands for the lines of a device since its command was taken, beside the epoch and the open order: each variant
+-- A job represents the lines of a device since its command was taken, beside the epoch and the open order: each variant
 -- is at its row. A job that puts something and then goes on has just its own rows to come.
 abbrev pub Stands : DeviceSetup → Job → Command → List Line → EpochState → Option OpenOrder → Type 0
 Stands d (Asks device stage failed) c since state owed = Asking d device stage failed c since state owed

@@ -1,4 +1,4 @@
--- The lines of a sale, newest first, that a job stands for.
+-- The lines of a sale, newest first, that a job represents.
 use Rattle.std.specs.Prelude.{◌≡◌, ℕ, List, [], ◌∷◌, Option, Some, None}
 use Rattle.cct_model.specs.lines.record.Record.TheVariants as record_of
 use Rattle.cct_model.specs.lines.command.Command.{Command}
@@ -26,7 +26,7 @@ pub record HasSold (end : End) (c : Command) (since : List Line) : Type 0 where
   pub sold : since ≡ put (record_of.Sold id price) ∷ []
   pub end_is : end ≡ Sold
 
--- A job stands for the lines of a sale since its command was taken.
+-- A job represents the lines of a sale since its command was taken.
 abbrev pub StandsSale : Job → Command → List Line → Type 0
 StandsSale (SalePuts id price) c since = Sells id price c since
 StandsSale (Done end) c since = HasSold end c since

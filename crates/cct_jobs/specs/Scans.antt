@@ -1,4 +1,4 @@
--- The lines of a scan, newest first, that a job stands for.
+-- The lines of a scan, newest first, that a job represents.
 use Rattle.std.specs.Prelude.{◌≡◌, ◌<◌, nat_le, ℕ, true, false, List, [], length, Some}
 use Rattle.std.specs.List.{list_any}
 use Rattle.cct_model.specs.terms.wire.CheckKind.{CheckKind}
@@ -60,7 +60,7 @@ pub record Polls (check : CheckKind) (addr : ℕ) (due : DeviceSet) (listed : Li
   pub next : poll_after since ≡ Some (check, addr)
   pub device : nat_le 2 addr ≡ true
 
--- A job stands for the lines of a scan since its command was taken.
+-- A job represents the lines of a scan since its command was taken.
 abbrev pub StandsScan : Job → List Line → Type 0
 StandsScan (ScanCallsSimple failed) since = CallsSimple failed since
 StandsScan (ScanCallsCrc failed due) since = CallsCrc failed due since

@@ -37,7 +37,7 @@ impl Job {
         requires life { (o : OpenOrder) → option_map (λ o. o.now) order ≡ Some o → o.life < 2 ^ 24 }
         requires counts { accepts_of epoch.now < 2 ^ 24 }
 
-        // the lines that it stands for, none yet:
+        // the lines that it represents, none yet:
         // A round and a stop begin with what is recorded of the epoch, and a settlement with the open order, which it
         // never lets a hopper dispense again.
         ensures device { (d : DeviceSetup) → device_at setup.now.devices (address_of command.now) ≡ Some d

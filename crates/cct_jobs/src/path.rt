@@ -17,7 +17,7 @@ use crate::stage::Stage;
 use crate::target::Target;
 use cct_model::{End, Reply, Request};
 
-/// The place that stands for the default path.
+/// The place that represents the default path.
 const DEFAULT: u8 = 0;
 
 /// The stage of the setting of a path got the wanted reply, and the setting goes on.

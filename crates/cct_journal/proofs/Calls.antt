@@ -17,7 +17,7 @@ use Rattle.cct_journal.proofs.Moments.{weaker}
 use Rattle.cct_journal.proofs.Puts.{begun_has, body_torn, gate_in, written_has, written_other}
 use Rattle.cct_journal.proofs.Slotted.{PutBytes, gate_place}
 
--- An image whose current half has these records stands for them and those before.
+-- An image whose current half has these records represents them and those before.
 pub stands_for : {carry_of : List Record → Carry} {image : List ℕ} {second : Bool} {generation base : ℕ}
     {carry : Carry} {rest records : List Record} → HasHalf image second generation base carry rest
     → Continues carry_of base carry rest records → StandsFor carry_of image records
@@ -158,7 +158,7 @@ module _ {D : Type 0} (size : D → ℕ) (honest : D → Bool) (seen : D → Opt
         in_range (body_of entry) (take count spelt) refl bytes_are within c torn) stands.continues))
         (run stands.image stands.held)
 
-    -- At the end it stands for the latter, and the journal too.
+    -- At the end it represents the latter, and the journal too.
     pub slot_done : (new : D)
         → ((image : List ℕ) → Holds honest seen may_leave old image
         → Holds honest seen may_leave new (behind_open_gate (start + 32 * (FIRST_SLOT + index)) (take count spelt) image))

@@ -70,7 +70,7 @@ begins_at image current start long is begins = record {
   other_gate = is.other_gate;
 }
 
--- Where an image stands for records, the half that has others is theirs.
+-- Where an image represents records, the half that has others is theirs.
 pub continues_at : (image : List ℕ) (place : Place) (counted : List Record) (carry_of : List Record → Carry)
     (records : List Record) → HasPlace image place counted → StandsFor carry_of image records
     → Continues carry_of place.base place.carry counted records
@@ -88,7 +88,7 @@ pub found_reads : {D : Type 0} (seen : D → Option (List ℕ)) (disk : D) (plac
 found_reads seen disk place image counted told has count =
     record { image = image; tells = told; has = has; count = count }
 
--- Where that stands for records, they count.
+-- Where that represents records, they count.
 pub reads_records : {D : Type 0} (seen : D → Option (List ℕ)) (disk : D) (place : Place) (image : List ℕ)
     (counted : List Record) → seen disk ≡ Some image → HasPlace image place counted
     → place.used ≡ place.base + length counted → (carry_of : List Record → Carry) (records : List Record)
@@ -99,7 +99,7 @@ reads_records seen disk place image counted told has count carry_of records stan
   continues = continues_at image place counted carry_of records has stands;
 }
 
--- And where no power cut leaves anything else, the journal stands for them.
+-- And where no power cut leaves anything else, the journal represents them.
 pub place_stands : {D : Type 0} (honest : D → Bool) (seen : D → Option (List ℕ)) (may_leave : D → List ℕ → Type 0)
     (disk : D) (place : Place) (image : List ℕ) (counted : List Record) → Holds honest seen may_leave disk image
     → HasPlace image place counted → place.used ≡ place.base + length counted

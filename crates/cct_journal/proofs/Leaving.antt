@@ -72,7 +72,7 @@ module _ {D : Type 0} {size : D → ℕ} {honest : D → Bool} {seen : D → Opt
           cut.left is_honest found.0 found.1,
         )
 
-    -- So it stands for the records.
+    -- So it represents the records.
     pub cut_settled : (carry_of : List Record → Carry) (records : List Record)
         → Leaves carry_of honest seen may_leave old records → Settled carry_of honest seen may_leave new records
     cut_settled carry_of records leaves =

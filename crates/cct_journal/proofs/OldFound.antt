@@ -220,7 +220,7 @@ found_from seen before disk old image base carry rest was told counts from =
       },
     )
 
--- And where no power cut leaves anything else, the journal stands for them.
+-- And where no power cut leaves anything else, the journal represents them.
 pub found_stands : {D : Type 0} (honest : D → Bool) (seen : D → Option (List ℕ)) (may_leave : D → List ℕ → Type 0)
     (disk : D) (old : OldPlace) (image : List ℕ) (rest : List Record) → Holds honest seen may_leave disk image
     → has_open_gate (half image (not old.place.second)) ≡ old.place.other_open → OldReadsFrom seen disk old rest

@@ -220,7 +220,7 @@ pub on_place : {E Done : Type 0} (place : Place) (P : Place → Type 0) (result 
 on_place place P (Ok turned) is done makes = subst P (sym is) (makes done)
 on_place place P (Err e) is done makes = tt
 
--- At the place to which a turn led a journal stands for all records of its carry,
+-- At the place to which a turn led a journal represents all records of its carry,
 module _ {D : Type 0} {honest : D → Bool} {seen : D → Option (List ℕ)} {may_leave : D → List ℕ → Type 0} {disk : D}
     (place at : Place) (carry : Carry) (is : at ≡ after_turn place carry)
     (begins : BeginsEmpty honest seen may_leave disk at) where

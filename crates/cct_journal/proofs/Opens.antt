@@ -147,7 +147,7 @@ never_refused_from Alien image base carry rest alien has = absurd (alien_has_non
 never_refused_from (BadRecord index) image base carry rest bad has =
     absurd (bad_has_none image index base carry rest bad has)
 
--- So is one that stands for records.
+-- So is one that represents records.
 pub never_refused : (why : OpenNo) (carry_of : List Record → Carry) (image : List ℕ) (records : List Record)
     → RefusesOpen why image → StandsFor carry_of image records → why ≡ Disk
 never_refused why carry_of image records refuses stands =

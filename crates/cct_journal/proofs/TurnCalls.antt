@@ -107,7 +107,7 @@ module _ {D : Type 0} (size : D → ℕ) (honest : D → Bool) (seen : D → Opt
   kept : IsKept place.second place.generation (λ c. HasPlace c place with_carry.stands.rest)
   kept = half_kept place.second place.generation place.base place.carry with_carry.stands.rest
 
-  -- At each moment an image stands for the records.
+  -- At each moment an image represents the records.
   pub turn_moments : (new : D)
       → ((image : List ℕ) → Holds honest seen may_leave old image
       → LeavesOnly moment left_since old new (IsTurnedBy place carry image))

@@ -1,4 +1,4 @@
--- What the bytes of a disk stand for as a journal.
+-- What the bytes of a disk represent as a journal.
 use Rattle.std.specs.Prelude.{◌≡◌, ◌≢◌, ◌⊎◌, ℕ, suc, ◌+◌, ◌-◌, ◌*◌, ◌<◌, ◌≤◌, ◌==◌, min, Bool, if◌then◌else◌, List, []}
 use Rattle.std.specs.Prelude.{◌∷◌, ◌++◌, length, take, drop, map, All, slice_index}
 use Rattle.cct_lines.specs.declared.carry.Carry.{Carry}
@@ -51,7 +51,7 @@ pub record Continues (carry_of : List Record → Carry) (base : ℕ) (carry : Ca
   pub many : base ≡ length first
   pub carry_is : carry ≡ carry_of first
 
--- An image stands for records, where the carry of records is this one: it has the carry of the first ones, and just the
+-- An image represents records, where the carry of records is this one: it has the carry of the first ones, and just the
 -- others after it.
 pub record StandsFor (carry_of : List Record → Carry) (image : List ℕ) (records : List Record) : Type 0 where
   pub base : ℕ

@@ -31,24 +31,24 @@ used_of journal = journal.place.used
 abbrev pub has_failed : {D : Type 0} {ghosts : Ghosts D} → Journal D ghosts → Bool
 has_failed journal = journal.failed
 
--- A journal stands for records, where the carry of records is this one.
+-- A journal represents records, where the carry of records is this one.
 abbrev pub JournalStands : {D : Type 0} {ghosts : Ghosts D} → (List Record → Carry) → Journal D ghosts → List Record → Type 0
 JournalStands {D} {ghosts} carry_of journal =
     Stands carry_of ghosts.honest ghosts.seen ghosts.may_leave (disk_of journal) (place_of journal)
 
--- A journal stands for records, and this is their carry.
+-- A journal represents records, and this is their carry.
 abbrev pub JournalStandsWith : {D : Type 0} {ghosts : Ghosts D} → (List Record → Carry) → Journal D ghosts → Carry
     → List Record → Type 0
 JournalStandsWith {D} {ghosts} carry_of journal =
     StandsWith carry_of ghosts.honest ghosts.seen ghosts.may_leave (disk_of journal) (place_of journal)
 
--- A journal stands for records, and where a record is to be put after them, this is their carry.
+-- A journal represents records, and where a record is to be put after them, this is their carry.
 abbrev pub JournalStandsBefore : {D : Type 0} {ghosts : Ghosts D} → (List Record → Carry) → Journal D ghosts → Carry
     → Option Record → List Record → Type 0
 JournalStandsBefore {D} {ghosts} carry_of journal =
     StandsBefore carry_of ghosts.honest ghosts.seen ghosts.may_leave (disk_of journal) (place_of journal)
 
--- What a read gives of its disk stands for records, whatever a power cut may leave.
+-- What a read gives of its disk represents records, whatever a power cut may leave.
 abbrev pub JournalReads : {D : Type 0} {ghosts : Ghosts D} → (List Record → Carry) → Journal D ghosts → List Record → Type 0
 JournalReads {D} {ghosts} carry_of journal = Reads carry_of ghosts.seen (disk_of journal) (place_of journal)
 

@@ -1,4 +1,4 @@
--- What the bytes of a disk stand for as a journal of an older version, 1 or 2.
+-- What the bytes of a disk represent as a journal of an older version, 1 or 2.
 use Rattle.std.specs.Prelude.{◌≡◌, ◌⊎◌, ℕ, ◌+◌, ◌-◌, ◌*◌, ◌/◌, ◌<◌, ◌≤◌, min, Bool, false, List, [], ◌∷◌, ◌++◌, length}
 use Rattle.std.specs.Prelude.{take, drop, replicate, slice_index, ⊤}
 use Rattle.cct_lines.specs.Carried.{IsRightly, empty_carry}
@@ -25,7 +25,7 @@ abbrev pub old_room : OldVersion → ℕ → ℕ → ℕ
 old_room One size base = min (size / 32 - 1) (MOST_RECORDS - base)
 old_room Two size base = room_of size base
 
--- The bodies of its records: those of version 1 stand behind one slot, whatever half that is, and those of version 2 as
+-- The bodies of its records: those of version 1 stand after one slot, whatever half that is, and those of version 2 as
 -- they do today.
 abbrev pub old_bodies : OldVersion → List ℕ → Bool → ℕ → List (List ℕ)
 old_bodies One image second base = bodies (old_room One (length image) base) (drop 32 image)
@@ -94,7 +94,7 @@ pub record HasOldFrom (image : List ℕ) (base : ℕ) (carry : Carry) (rest : Li
   pub generation : ℕ
   pub current : HasOldHalf image version second generation base carry rest
 
--- An image of a journal of an older version stands for records, where the carry of records is this one: it has the carry of
+-- An image of a journal of an older version represents records, where the carry of records is this one: it has the carry of
 -- the first ones, and just the others after it.
 pub record OldStandsFor (carry_of : List Record → Carry) (image : List ℕ) (records : List Record) : Type 0 where
   pub base : ℕ

@@ -27,7 +27,7 @@ carry_before journal = journal.at.place.carry
 abbrev pub used_of : {D : Type 0} {ghosts : Ghosts D} → OldJournal D ghosts → ℕ
 used_of journal = journal.at.place.used
 
--- It stands for these records after those of its carry.
+-- It represents these records after those of its carry.
 abbrev pub OldJournalStands : {D : Type 0} {ghosts : Ghosts D} → OldJournal D ghosts → List Record → Type 0
 OldJournalStands {D} {ghosts} journal =
     OldStands ghosts.honest ghosts.seen ghosts.may_leave (disk_of journal) (place_of journal)

@@ -71,7 +71,7 @@ pub record OldReadsFrom {D : Type 0} (seen : D → Option (List ℕ)) (disk : D)
   pub has : HasOldPlace image old rest
   pub count : old.place.used ≡ old.place.base + length rest
 
--- A journal of an older version stands for these records after those of its carry: its disk is honest and keeps just one
+-- A journal of an older version represents these records after those of its carry: its disk is honest and keeps just one
 -- image, which has them at its place; and it knows whether the gate of the other half is open.
 pub record OldStands {D : Type 0} (honest : D → Bool) (seen : D → Option (List ℕ)) (may_leave : D → List ℕ → Type 0)
     (disk : D) (old : OldPlace) (rest : List Record) : Type 0 where
@@ -127,7 +127,7 @@ pub record GivesOld {D : Type 0} (seen : D → Option (List ℕ)) (disk : D) (ol
       → OldReadsUpTo seen disk old (index + 1) (before ++ entry ∷ [])
   pub fits : Encodable entry
 
--- Why the record of an index isn't read, and that what stands for records refuses none but where the disk failed.
+-- Why the record of an index isn't read, and that what represents records refuses none but where the disk failed.
 pub record RefusesOldRecord {D : Type 0} (seen : D → Option (List ℕ)) (disk : D) (old : OldPlace) (index : ℕ) (why : ReadNo)
     : Type 0 where
   pub reason : (image : List ℕ) → seen disk ≡ Some image → RefusesOldRead index (old_body_in old index image) why

@@ -80,7 +80,7 @@ pub record GivesRecord {D : Type 0} (seen : D → Option (List ℕ)) (disk : D) 
   pub spelt : (image : List ℕ) → seen disk ≡ Some image → Spells entry (body_in place index image)
   pub fits : Encodable entry
 
--- Why the record of an index isn't read, and that what stands for records refuses none but where the disk failed.
+-- Why the record of an index isn't read, and that what represents records refuses none but where the disk failed.
 pub record RefusesRecord {D : Type 0} (seen : D → Option (List ℕ)) (disk : D) (place : Place) (index : ℕ) (why : ReadNo)
     : Type 0 where
   pub reason : (image : List ℕ) → seen disk ≡ Some image → RefusesRead index (body_in place index image) why

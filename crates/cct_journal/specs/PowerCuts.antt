@@ -1,4 +1,4 @@
--- What a journal has after a power cut that came in the midst of a put, or in none.
+-- What a journal has after a power cut that came within a put, or in none.
 use Rattle.std.specs.Prelude.{◌≡◌, ◌⊎◌, ℕ, ◌<◌, Bool, true, Option, None, Some, is_some, List, [], ◌∷◌, ◌++◌}
 use Rattle.cct_lines.specs.declared.carry.Carry.{Carry}
 use Rattle.cct_lines.specs.declared.record.Record.{Record}
@@ -24,7 +24,7 @@ LeavesWith carry_of honest seen may_leave disk None records = Leaves carry_of ho
 LeavesWith carry_of honest seen may_leave disk (Some r) records =
     LeavesOneOf carry_of honest seen may_leave disk records r
 
--- Each image that a power cut may leave on this honest disk stands for what is left after so many calls of a put,
+-- Each image that a power cut may leave on this honest disk represents what is left after so many calls of a put,
 -- or of none.
 pub record LeavesBy (carry_of : List Record → Carry) {D : Type 0} (honest : D → Bool) (seen : D → Option (List ℕ))
     (may_leave : D → List ℕ → Type 0) (disk : D) (calls : ℕ) (put : Option Record) (records : List Record)

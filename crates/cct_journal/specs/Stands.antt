@@ -33,14 +33,14 @@ body_in place index image = body_at (half image place.second) (slot_of place ind
 abbrev pub HasPlace : List ℕ → Place → List Record → Type 0
 HasPlace image place rest = HasHalf image place.second place.generation place.base place.carry rest
 
--- An honest disk keeps just one image, which stands for records.
+-- An honest disk keeps just one image, which represents records.
 pub record Settled (carry_of : List Record → Carry) {D : Type 0} (honest : D → Bool) (seen : D → Option (List ℕ))
     (may_leave : D → List ℕ → Type 0) (disk : D) (records : List Record) : Type 0 where
   pub image : List ℕ
   pub held : Holds honest seen may_leave disk image
   pub stands : StandsFor carry_of image records
 
--- A journal stands for records, where the carry of records is this one: its disk is honest and keeps just one image,
+-- A journal represents records, where the carry of records is this one: its disk is honest and keeps just one image,
 -- whose current half is that of its place and has the records that aren't in its carry; so many does the journal count, and
 -- it knows whether the gate of the other half is open.
 pub record Stands (carry_of : List Record → Carry) {D : Type 0} (honest : D → Bool) (seen : D → Option (List ℕ))
@@ -53,13 +53,13 @@ pub record Stands (carry_of : List Record → Carry) {D : Type 0} (honest : D �
   pub count : place.used ≡ length records
   pub other_gate : has_open_gate (half image (not place.second)) ≡ place.other_open
 
--- A journal stands for records, and this is their carry.
+-- A journal represents records, and this is their carry.
 pub record StandsWith (carry_of : List Record → Carry) {D : Type 0} (honest : D → Bool) (seen : D → Option (List ℕ))
     (may_leave : D → List ℕ → Type 0) (disk : D) (place : Place) (carry : Carry) (records : List Record) : Type 0 where
   pub stands : Stands carry_of honest seen may_leave disk place records
   pub carry_is : carry ≡ carry_of records
 
--- A journal stands for records, and where a record is to be put after them, this is their carry.
+-- A journal represents records, and where a record is to be put after them, this is their carry.
 pub record StandsBefore (carry_of : List Record → Carry) {D : Type 0} (honest : D → Bool) (seen : D → Option (List ℕ))
     (may_leave : D → List ℕ → Type 0) (disk : D) (place : Place) (carry : Carry) (put : Option Record)
     (records : List Record) : Type 0 where
@@ -75,14 +75,14 @@ pub record ReadsFrom {D : Type 0} (seen : D → Option (List ℕ)) (disk : D) (p
   pub has : HasPlace image place rest
   pub count : place.used ≡ place.base + length rest
 
--- What a read gives stands for records, whatever a power cut may leave, and so many does the journal count.
+-- What a read gives represents records, whatever a power cut may leave, and so many does the journal count.
 pub record Reads (carry_of : List Record → Carry) {D : Type 0} (seen : D → Option (List ℕ)) (disk : D) (place : Place)
     (records : List Record) : Type 0 where
   pub rest : List Record
   pub reads : ReadsFrom seen disk place rest
   pub continues : Continues carry_of place.base place.carry rest records
 
--- Each image that a power cut may leave on this honest disk stands for records.
+-- Each image that a power cut may leave on this honest disk represents records.
 pub record Leaves (carry_of : List Record → Carry) {D : Type 0} (honest : D → Bool) (seen : D → Option (List ℕ))
     (may_leave : D → List ℕ → Type 0) (disk : D) (records : List Record) : Type 0 where
   pub keeps_synced : honest disk ≡ true

@@ -1,4 +1,4 @@
-//! The power is cut, in the midst of a put or in none.
+//! The power is cut, within a put or in none.
 ghost use Rattle.std.specs.Prelude.{◌≡◌, ◌<◌, ◌≤◌, List, IfSome, OnOk};
 ghost use Rattle.cct_edge.specs.Faults.{HasCause};
 ghost use Rattle.cct_lines.specs.Carried.{IsRightly};

@@ -103,7 +103,7 @@ impl<D: Disk> Journal<D> {
     /// record, where no shut gate stands before it.
     pub fn reopen(disk: D) -> Result<(Journal<D>, u32), (D, OpenNo)>
         ensures finds { IfOk result (λ opened. Finds D.seen disk (disk_of opened.0) (place_of opened.0)) }
-        // If the disk keeps exactly one image, the journal stands for it.
+        // If the disk keeps exactly one image, the journal represents it.
         ensures stands { IfOk result (λ opened. (carry_of : List Record → Carry) (records : List Record)
             → Settled carry_of D.honest D.seen D.may_leave disk records → JournalStands carry_of opened.0 records) }
         ensures counted { IfOk result (λ opened. opened.1 ≡ used_of opened.0) }
@@ -111,7 +111,7 @@ impl<D: Disk> Journal<D> {
 
         // why it is refused
         ensures refused { IfErr result (λ e. (image : List ℕ) → D.seen disk ≡ Some image → RefusesOpen e.1 image) }
-        // A disk that stands for records is refused only if it failed.
+        // A disk that represents records is refused only if it failed.
         ensures never { IfErr result (λ e. (carry_of : List Record → Carry) (image : List ℕ) (records : List Record)
             → D.seen disk ≡ Some image → StandsFor carry_of image records → e.1 ≡ OpenNo.Disk) }
         ensures short { D.size disk < least_size → IsErrAnd result (λ e. e.1 ≡ OpenNo.Alien) }
@@ -237,7 +237,7 @@ impl<D: Disk> Journal<D> {
             (StandsForOneOf carry_of records entry.now) }
 
         // at the end:
-        // At Ok each image stands for these and the new one.
+        // At Ok each image represents these and the new one.
         ensures done { OnOk result ((carry_of : List Record → Carry) (records : List Record)
             → JournalStandsWith carry_of self.old carry.now records
             → JournalStands carry_of self.new (records ++ entry.now ∷ [])) }
@@ -275,7 +275,7 @@ impl<D: Disk> Journal<D> {
         }
     }
 
-    /// Makes the first `calls` of the four disk calls of a put and gives the disk back, for a crash in the midst of a
+    /// Makes the first `calls` of the four disk calls of a put and gives the disk back, for a crash within a
     /// put. A turn that is due is made whole before them, also where `calls` is 0.
     pub fn put_calls(self, entry: &Record, carry: &Carry, calls: u8) -> Result<D, (D, Failed)>
         requires few { calls ≤ 4 }
@@ -351,7 +351,7 @@ impl<D: Disk> Journal<D> {
         }
     }
 
-    /// Cuts the power in the midst of a put or in none, opens what is left in place, and tells how many records it
+    /// Cuts the power within a put or in none, opens what is left in place, and tells how many records it
     /// has. Each is replayed as it is found, so each slot is read once.
     ///
     /// `put` is the record of the put that is interrupted, after the first `calls` of its four disk calls, 0 to 4, where a

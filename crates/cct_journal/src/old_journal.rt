@@ -51,7 +51,7 @@ impl<D: Disk> OldJournal<D> {
         ensures reads_from { IfOk result (λ journal. (image : List ℕ) (base : ℕ) (carry : Carry) (rest : List Record)
             → D.seen disk ≡ Some image → HasOldFrom image base carry rest → (base ≡ base_of journal)
             × (carry ≡ carry_before journal) × OldJournalReadsFrom journal rest) }
-        // If the disk keeps exactly one image, the journal stands for what it has.
+        // If the disk keeps exactly one image, the journal represents what it has.
         ensures stands { IfOk result (λ journal. (image : List ℕ) (rest : List Record)
             → Holds D.honest D.seen D.may_leave disk image → OldJournalReadsFrom journal rest
             → OldJournalStands journal rest) }
@@ -158,7 +158,7 @@ impl<D: Disk> OldJournal<D> {
         // At Ok each image has the new one.
         ensures done { IfOk result (λ journal. (rest : List Record) → OldJournalStands self rest
             → IsTurned D.honest D.seen D.may_leave (journals.disk_of journal) (used_of self) carry.now) }
-        // So the journal stands for all records of which that is the carry.
+        // So the journal represents all records of which that is the carry.
         ensures stands { IfOk result (λ journal. (rest : List Record) → OldJournalStands self rest
             → (carry_of : List Record → Carry) (records : List Record) → used_of self ≡ length records
             → carry.now ≡ carry_of records → JournalStands carry_of journal records) }

@@ -182,7 +182,7 @@ pub(crate) fn find_place<D: Disk, R: Replay>(disk: &mut D, replay: &mut R) -> Re
     ensures placed { IfOk result (λ place. IsPlaced (D.size disk.old) place) }
     ensures finds { IfOk result (λ place. Finds D.seen disk.old disk.new place) }
     ensures replayed { IfOk result (λ place. ReplaysAll D.seen R.replayed disk.new place replay.old replay.new) }
-    // If the disk keeps exactly one image, a journal at that place stands for it.
+    // If the disk keeps exactly one image, a journal at that place represents it.
     ensures stands { IfOk result (λ place. (carry_of : List Record → Carry) (records : List Record)
         → Settled carry_of D.honest D.seen D.may_leave disk.old records
         → Stands carry_of D.honest D.seen D.may_leave disk.new place records) }

@@ -112,7 +112,7 @@ kept_worth setup c orders distinct is =
     let same = ap (λ (os : List (Option OpenOrder)). sum_by (amount setup) os) is in
     omega arith
 
--- a ledger that begins with the carry of records that follow one another stands for them
+-- a ledger that begins with the carry of records that follow one another represents them
 
 any_same : (id : ℕ) (orders : List (Option OpenOrder)) →
     list_any (λ (owed : Option OpenOrder). option_map_or (λ (o : OpenOrder). o.id == id) owed false) orders

@@ -1,4 +1,4 @@
--- A ledger that stands for the records that it took.
+-- A ledger that represents the records that it took.
 use Rattle.std.specs.Prelude.{◌≡◌, ℕ, ◌+◌, Bool, List, ◌∷◌, length, Result, is_ok, OnOk, OnErr}
 use Rattle.cct_model.specs.terms.device.Setup.{Setup}
 use Rattle.cct_model.specs.lines.record.Record.{Record}
@@ -44,7 +44,7 @@ Judges ledger r taken =
     (before : List Record) (beside : ℕ) → StandsFor ledger before beside →
     taken ≡ is_allowed (setup_of ledger) before beside r
 
--- A ledger goes on by a record: it then stands for one record more.
+-- A ledger goes on by a record: it then represents one record more.
 abbrev pub GoesOn : Ledger → Ledger → Record → Type 0
 GoesOn old new r =
     (before : List Record) (beside : ℕ) → StandsFor old before beside → StandsFor new (r ∷ before) beside

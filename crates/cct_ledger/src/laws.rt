@@ -32,7 +32,7 @@ pub fn a_ledger_tells_what_the_operator_has()
         → totals_beside setup (records past) (reserved_at_work setup past) ≡ totals setup past }
 {}
 
-/// A ledger that begins with the carry of records that follow one another stands for these records, and nothing is
+/// A ledger that begins with the carry of records that follow one another represents these records, and nothing is
 /// reserved beside them.
 pub fn a_ledger_begins_where_its_records_end()
     ensures { (setup : Setup) (before : List Record) (ledger : Ledger) → IsSoundSetup setup

@@ -82,7 +82,7 @@ impl<'s> Ledger<'s> {
         requires rightly { IsRightly base carry.now }
         requires fits { Fits setup.now carry.now }
         ensures resumed { IsResumed setup.now base carry.now result }
-        // If each of the records followed those before it, the ledger stands for them.
+        // If each of the records followed those before it, the ledger represents them.
         ensures stands { (before : List Record) → length before ≡ base → all_follow setup.now before ≡ true
             → carry.now ≡ carries.carry setup.now before → StandsFor result before 0 }
     {

@@ -70,7 +70,7 @@ module _ {L : Type 0} (reads : L → Option (List ℕ) → L → Type 0) (writes
             left,
       )
 
--- where a life is cut, by what an image stands for
+-- where a life is cut, by what an image represents
 module _ {L : Type 0} (gives : L → List ℕ → List ℕ → L → Type 0) (setup : Setup) (found : List Record) (first last : L)
     (steps : List LiveStep) (told : List Entry) (life : IsLife MOST_RECORDS setup found steps (told ++ started found))
     (chain : Chain gives first told last) (image : List ℕ) where

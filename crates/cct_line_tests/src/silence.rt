@@ -24,7 +24,7 @@ struct Event {
     bytes: &'static [u8],
 }
 
-/// What befalls a line, and what was done on it. Its time is the number of silent reads.
+/// What happens to a line, and what was done on it. Its time is the number of silent reads.
 #[derive(Drop)]
 struct Counted {
     events: &'static [Event],
@@ -94,7 +94,7 @@ impl Line for Watched<'_> {
     }
 }
 
-/// At which times a port sends so many messages, one after another, where this befalls its line.
+/// At which times a port sends so many messages, one after another, where this happens to its line.
 fn sends(
     events: &'static [Event],
     gap: u16,

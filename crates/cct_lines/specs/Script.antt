@@ -59,7 +59,7 @@ read_setup_line setup (Err why) = refuses why
 read_setup_line setup (Ok says.Begin) = opens (at_steps setup)
 read_setup_line setup (Ok line) = opened (added setup line)
 
--- Where a step befalls a device, the setup has that device, and its family knows this; and where it tells a stock, that
+-- Where a step happens to a device, the setup has that device, and its family knows this; and where it tells a stock, that
 -- device is a hopper.
 abbrev pub is_known : Setup → Step → Bool
 is_known setup (step.Coin addr place) = known_there (happening.Coin place) (device_at setup.devices addr)

@@ -34,7 +34,7 @@ last_digits (suc more) n = if nat_lt n 10 then (48 + n) ∷ [] else last_digits 
 unfoldable pub number_text : ℕ → List ℕ
 number_text n = last_digits (n / 10 ^ 64 + 63) n
 
--- A hyphen, which stands for nothing.
+-- A hyphen, which represents nothing.
 abbrev pub hyphen : List ℕ
 hyphen = 45 ∷ []
 

@@ -75,7 +75,7 @@ first_sent P addr means p (asks_once x behind without ∷ rows) q is once holds 
 first_sent P addr means p (waits_for_coins ∷ rows) q is once holds = absurd cc
 first_sent P addr means p (puts_due due behind ∷ rows) q is once holds = absurd cc
 
--- a request dispenses nothing, or just so many coins of the device
+-- a request dispenses nothing, or exactly so many coins of the device
 abbrev DosesNone : Request → Type 0
 DosesNone (Dispense serial count) = ⊥
 DosesNone q = ⊤

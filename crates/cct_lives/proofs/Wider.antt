@@ -129,7 +129,7 @@ books_wider small large less setup past _ _ sound range ids (as_ended c why paid
 books_wider small large less setup past _ _ sound range ids (as_brought s news told) books =
     books_step large setup past news s sound range ids told books
 
--- behind any past in which ids are in order and the books are kept for a journal that takes at least as many
+-- after any past in which ids are in order and the books are kept for a journal that takes at least as many
 pub books_behind : (small large : ℕ) (setup : Setup) (past : List Entry) (steps : List Step) (end : List Entry) →
     small ≤ large → IsSoundSetup setup → All IsInRange steps → Ids setup past → Books large setup past →
     LegalFrom small setup past steps end → Ids setup end × Books large setup end

@@ -58,7 +58,7 @@ pub record GoesOnAs (capacity : ℕ) (setup : Setup) (past : List Entry) (steps 
   pub ends : end ≡ told ++ past
   pub goes : LiveFrom capacity setup other steps (told ++ other)
 
--- What a life told behind a start over the records that earlier lives left, in these steps, is together with all that they
+-- What a life told after a start over the records that earlier lives left, in these steps, is together with all that they
 -- told what live hosts tell in the steps of all.
 pub record IsOneWith (capacity : ℕ) (setup : Setup) (lived : List LiveStep) (past news : List Entry) (at : Option CrashAt)
     (steps : List LiveStep) (end : List Entry) : Type 0 where

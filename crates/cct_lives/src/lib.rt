@@ -59,7 +59,7 @@ pub fn a_live_transcript_is_what_a_legal_one_shows()
 
 /// All lives are one. A host that starts over a journal knows its records alone. What it then does, it also does after all
 /// that the earlier hosts told, in the same steps and with the same entries. Its start may be after any past, within a put
-/// or not. So what it tells behind all that they told is live with it, and the laws below hold over all lives together.
+/// or not. So what it tells after all that they told is live with it, and the laws below hold over all lives together.
 pub fn all_lives_are_one()
     ensures goes_on { (capacity : ℕ) (setup : Setup) (past news : List Entry) (at : Option CrashAt)
         (steps : List LiveStep) (end : List Entry)
@@ -164,7 +164,7 @@ pub fn each_order_is_sent_once()
 /// legal transcript, over all lives and any power cuts. A second request 154 would stack the next customer's bill. Since a
 /// `route` was last taken for a bill acceptor, at most one request to route a bill was sent to it. Each one that is sent, by
 /// whatever job, is an exchange of the bill acceptor's own job; that is the job of a `route`, the way is the one that was
-/// given with it, and none was sent since it was taken. A loss of power ends that job, so nothing is sent for it again. So it
+/// given with it, and none was sent since it was taken. A power cut ends that job, so nothing is sent for it again. So it
 /// is in one life over any journal, too. It doesn't say what the bill acceptor hears, nor that a bill is held.
 pub fn each_route_is_sent_once()
     ensures each { (capacity : ℕ) (setup : Setup) (steps : List Step) (transcript : List Entry) (d : DeviceSetup)
@@ -255,7 +255,7 @@ pub fn the_third_failed_try_ends_a_job_in_any_life()
 
 /// Where two live transcripts of one setup have the same text, they are the same, whatever their journals take: so whoever
 /// reads what the hosts printed knows all that they sent, heard, recorded and told. So it is with what two lives tell, each
-/// behind its start over any journal. They are in bytes: the address of each `next`, the address and the mask of each
+/// after its start over any journal. They are in bytes: the address of each `next`, the address and the mask of each
 /// command, and all that is heard. It says nothing of the steps, nor of two setups.
 pub fn a_text_tells_its_live_transcript()
     ensures live { (capacity room : ℕ) (setup : Setup) (steps others : List LiveStep) (first second : List Entry)

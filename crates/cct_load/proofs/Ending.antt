@@ -37,7 +37,7 @@ use Rattle.cct_load.specs.Played.{end_of, first_line}
 use Rattle.cct_load.proofs.Lines.{lines_behind}
 
 module _ {D : Type 0} {g : Ghosts D} where
-  -- the disk of a world that stands for a past has its records
+  -- the disk of a world that represents a past has its records
   world_leaves : (world : World D g) (left : D) (past : List Entry) → left ≡ disk_of world → StandsFor world past
       → IsTrusted g.honest g.seen (disk_of world)
       → LeavesRecords (setup_of world) g.honest g.seen g.may_leave left None (reverse (records past))

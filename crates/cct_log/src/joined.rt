@@ -293,7 +293,7 @@ impl Joined {
         }
     }
 
-    /// Takes a good message, and what stands behind it: where it begins an exchange, with all that is heard of that.
+    /// Takes a good message, and what stands after it: where it begins an exchange, with all that is heard of that.
     fn good(&mut self, message: &[u8], rest: &[u8], is_joined: bool) -> Option<Said> {
         self.is_synced = true;
         self.is_stream |= is_joined;
@@ -319,7 +319,7 @@ impl Joined {
         self.again(None, tail, Some(said))
     }
 
-    /// Takes a message of a line by itself that is damaged, and what stands behind it.
+    /// Takes a message of a line by itself that is damaged, and what stands after it.
     fn damaged(&mut self, message: &[u8], rest: &[u8]) -> Said {
         if rest.is_empty() {
             return Said::Either(bytes_of(message));
@@ -328,7 +328,7 @@ impl Joined {
         exchange(message, rest)
     }
 
-    /// Whether a message of a line by itself may be taken for a damaged one, by what stands behind it.
+    /// Whether a message of a line by itself may be taken for a damaged one, by what stands after it.
     fn may_be_damaged(&self, rest: &[u8]) -> bool {
         !self.is_stream && (are_whole(rest) || rest.is_empty() && self.is_synced)
     }
@@ -365,7 +365,7 @@ impl Joined {
     }
 }
 
-/// Bytes that are held, and more behind them, as many as there is room for.
+/// Bytes that are held, and more after them, as many as there is room for.
 fn put_behind(held: &LogBytes, more: &[u8]) -> LogBytes {
     let mut bytes = bytes_of(held.as_slice());
     for byte in more {

@@ -3,7 +3,7 @@
 use crate::byte::Base;
 use crate::run::run_in;
 
-/// The place at which the column of characters begins in a line: between strokes or angle brackets, behind two spaces. Where
+/// The place at which the column of characters begins in a line: between strokes or angle brackets, after two spaces. Where
 /// there is none, the end of the line. Its characters may look like the words of a log. `offset` is where the last line of a
 /// dump ended.
 pub(crate) fn column_at(line: &[u8], offset: Option<u64>) -> usize {

@@ -74,7 +74,7 @@ fn octal_in(text: &[u8]) -> Option<(u8, &[u8])> {
     Some((number, rest))
 }
 
-/// The byte that a letter behind a backslash stands for.
+/// The byte that a letter after a backslash represents.
 fn letter_byte(letter: u8) -> Option<u8> {
     match letter {
         b'a' => Some(7),

@@ -16,7 +16,7 @@ const COLUMN_NAMES: &[u8] =
 /// Names of columns that say that their numbers are decimal.
 const DECIMAL_NAMES: &[u8] = b"dec decimal";
 
-/// Whether a word says nothing of the bytes behind it: a time, a number, marks, a key with its value, or one of a few
+/// Whether a word says nothing of the bytes after it: a time, a number, marks, a key with its value, or one of a few
 /// names.
 pub(crate) fn is_known(word: &[u8]) -> bool {
     let name = word.strip_suffix(b":").unwrap_or(word);
@@ -103,7 +103,7 @@ pub(crate) fn head_in(line: &[u8]) -> Option<Option<Base>> {
     if names >= 2 { Some(base) } else { None }
 }
 
-/// Whether a line has only marks, as between the parts of a log; an asterisk alone stands for lines that a dump leaves
+/// Whether a line has only marks, as between the parts of a log; an asterisk alone represents lines that a dump leaves
 /// out.
 pub(crate) fn is_rule(line: &[u8]) -> bool {
     let text = line.trim_ascii();

@@ -21,7 +21,7 @@ pub enum Guess {
     /// That the numbers are decimal, or that a hexadecimal number may have one digit.
     Decimal,
     ShortHex,
-    /// That the first number counts the bytes behind it.
+    /// That the first number counts the bytes after it.
     Count,
 }
 
@@ -120,7 +120,7 @@ fn field_in(field: &[u8]) -> Option<LogBytes> {
     }
 }
 
-/// What a line has that says a way; it says another one behind the bytes where it is an exchange.
+/// What a line has that says a way; it says another one after the bytes where it is an exchange.
 fn way_line(line: &[u8], way: WayAt, habit: &mut Habit) -> Option<Has> {
     let (front, _) = line.split_at_checked(way.from)?;
     let after = line.get(way.to..)?;
@@ -157,7 +157,7 @@ fn way_line(line: &[u8], way: WayAt, habit: &mut Habit) -> Option<Has> {
     }
 }
 
-/// What a line has that says one way; the bytes stand behind it, or before it.
+/// What a line has that says one way; the bytes stand after it, or before it.
 fn one_way(front: &[u8], way: WayAt, after: &[u8], habit: &mut Habit) -> Option<Has> {
     let run = chosen(after, habit);
     let before = chosen(front, habit);
@@ -200,7 +200,7 @@ fn between(before: Run, behind: Run) -> Option<Has> {
     Some(Has::Exchange { sent, heard })
 }
 
-/// What a line has whose bytes stand behind a way. Where that may say something else, only whole messages are taken, and
+/// What a line has whose bytes stand after a way. Where that may say something else, only whole messages are taken, and
 /// without a way.
 fn behind_way(front: &[u8], way: &WayAt, run: Run, habit: &mut Habit) -> Option<Has> {
     let is_whole = are_whole(run.bytes.as_slice()) && run.other < LEAST_MESSAGE;

@@ -10,7 +10,7 @@ use crate::word::{Word, next_word};
 /// Keys of bytes.
 const KEYS: &[u8] = b"data hex bytes raw msg message frame payload";
 
-/// Bytes in words that stand one behind the other.
+/// Bytes in words that stand one after the other.
 #[derive(Drop)]
 pub(crate) struct Run {
     pub(crate) bytes: LogBytes,
@@ -22,7 +22,7 @@ pub(crate) struct Run {
     pub(crate) from: usize,
     /// How many words of no known meaning stand before them.
     pub(crate) strange: u32,
-    /// Whether they stand behind a name with a colon.
+    /// Whether they stand after a name with a colon.
     pub(crate) is_labelled: bool,
     /// Whether the first of them says that it is hexadecimal.
     pub(crate) is_marked: bool,
@@ -36,7 +36,7 @@ pub(crate) struct Run {
     pub(crate) is_double: bool,
     /// Whether each word is one of eight bits.
     are_bits: bool,
-    /// Whether nothing but a column of characters or a remark stands behind them.
+    /// Whether nothing but a column of characters or a remark stands after them.
     pub(crate) is_last: bool,
 }
 
@@ -142,7 +142,7 @@ fn longer(earlier: Run, later: Run) -> Run {
     best
 }
 
-/// What stands behind a key that says that it is bytes; nothing where there is none.
+/// What stands after a key that says that it is bytes; nothing where there is none.
 fn value_in(word: &[u8]) -> &[u8] {
     match word.iter().position(|byte| *byte == b'=') {
         Some(place) if is_among(KEYS, word.get(..place).unwrap_or(b"")) => {
@@ -168,7 +168,7 @@ fn is_count(line: &[u8], word: &Word<'_>, run: &Run) -> bool {
     }
 }
 
-/// Whether a column of the characters of the bytes begins at a word, behind a gap that ends at it.
+/// Whether a column of the characters of the bytes begins at a word, after a gap that ends at it.
 fn is_column_at(line: &[u8], at: usize, word: &Word<'_>, run: &Run) -> bool {
     let is_wide = word.from > at.saturating_add(1) || line.get(at) == Some(&b'\t');
     match line.get(at..) {

@@ -39,7 +39,7 @@ pub(crate) fn time_in(word: &[u8]) -> Option<Time<'_>> {
     })
 }
 
-/// The time that stands in a line before a place: the first word that spells one, with a fraction behind a comma, AM or
+/// The time that stands in a line before a place: the first word that spells one, with a fraction after a comma, AM or
 /// PM, or else, where `is_number_time`, the last word that is a number, which counts milliseconds.
 pub(crate) fn time_at(line: &[u8], end: usize, is_number_time: bool) -> Option<Time<'_>> {
     let mut number = None;
@@ -65,7 +65,7 @@ pub(crate) fn time_at(line: &[u8], end: usize, is_number_time: bool) -> Option<T
     if is_number_time { number } else { None }
 }
 
-/// A time with what stands behind it, at a place in its line: milliseconds or millionths behind a comma, AM or PM.
+/// A time with what stands after it, at a place in its line: milliseconds or millionths after a comma, AM or PM.
 fn completed<'l>(line: &'l [u8], time: Time<'l>, place: usize) -> Time<'l> {
     let mut time = time;
     let Some(next) = next_word(line, place) else {

@@ -152,7 +152,7 @@ fn cut_arrow(word: &[u8]) -> (&[u8], &[u8]) {
     word.split_at_checked(len).unwrap_or((b"", word))
 }
 
-/// The way that a word names, with marks behind it or without. A part of a longer word may name it too.
+/// The way that a word names, with marks after it or without. A part of a longer word may name it too.
 fn named_at(word: &Word<'_>) -> Option<WayAt> {
     let mut from = 0usize;
     for part in word.text.split(|byte| !byte.is_ascii_alphabetic()) {
@@ -181,7 +181,7 @@ fn named_at(word: &Word<'_>) -> Option<WayAt> {
 }
 
 /// The way that a part of a word names, which begins at this place of it, and whether it may say something else. Such a
-/// part begins the word, or stands behind a low line.
+/// part begins the word, or stands after a low line.
 fn part_way(word: &[u8], from: usize, part: &[u8]) -> Option<(Way, bool)> {
     if let Some(way) = named_way(part) {
         return Some((way, false));

@@ -1,4 +1,4 @@
--- A device of a family that knows what befalls it.
+-- A device of a family that knows what happens to it.
 use Rattle.std.proofs.Common.{◌≡◌, Bool, true, false, Option, Some, None, refl, subst, sym}
 use Rattle.std.specs.Prelude.{IsTrue, MatchBool, is_some}
 use Rattle.cct_model.specs.terms.device.DeviceSetup.{DeviceSetup}

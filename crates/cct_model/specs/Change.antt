@@ -76,7 +76,7 @@ closed_in id (record_of.Odd closed before after ∷ rs) = if closed == id then O
 closed_in id (r ∷ rs) = closed_in id rs
 
 -- What became of a payment after the entries of a step, newest first. Its order is opened by a record that is put or kept
--- in a step before which its job was at work; and it never is where that job ended in another step.
+-- in a step before which its job was running; and it never is where that job ended in another step.
 abbrev pub phase_after : Payment → List Entry → Phase → Phase
 phase_after p news Begun =
     if list_any (is_opening p) (records news) then Opened else if list_any (is_end_at p.addr) news then Lost else Begun

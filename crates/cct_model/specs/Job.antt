@@ -80,7 +80,7 @@ abbrev pub credits_reply : Option Reply → Option Credits
 credits_reply (Some (reply.credits c)) = Some c
 credits_reply got = None
 
--- An event of a bill acceptor as it is judged: that of a held bill, which isn't accepted yet, stands for error 1, as that of
+-- An event of a bill acceptor as it is judged: that of a held bill, which isn't accepted yet, represents error 1, as that of
 -- a bill which is given back does.
 abbrev pub settled : Pair → Pair
 settled pair = if pair.b == 1 then record { a = 0; b = 1 } else pair

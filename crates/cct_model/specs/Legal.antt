@@ -53,7 +53,7 @@ fall_entry d past = if remaining d.serial (met d past) == 0 then entry.NoFall d.
 abbrev pub jam_entry : DeviceSetup → List Entry → Entry
 jam_entry d past = if remaining d.serial (met d past) == 0 then entry.NoJam d.addr else entry.Jammed d.addr
 
--- The step by which something befalls the device at an address.
+-- The step by which something happens to the device at an address.
 abbrev pub step_of : ℕ → Happening → Step
 step_of addr (happening.Coin place) = step.Coin addr place
 step_of addr happening.Alien = step.Alien addr
@@ -62,7 +62,7 @@ step_of addr happening.Fall = step.Fall addr
 step_of addr happening.Jam = step.Jam addr
 step_of addr happening.Reset = step.Reset addr
 
--- The entry of what befalls the device at an address.
+-- The entry of what happens to the device at an address.
 abbrev pub happening_entry : ℕ → DeviceSetup → List Entry → Happening → Entry
 happening_entry addr d past (happening.Coin place) = coin_entry d past place
 happening_entry addr d past happening.Alien = entry.Alien addr
@@ -197,7 +197,7 @@ abbrev pub EntriesOfRestart : Setup → List Entry → Option CrashAt → List E
 EntriesOfRestart setup past None news = news ≡ bare_restart past
 EntriesOfRestart setup past (Some at) news = RestartEntries past at.calls (due_at setup past at.addr) news
 
--- The entries of what befalls the device at an address: one.
+-- The entries of what happens to the device at an address: one.
 abbrev pub EntriesOfHappening : Setup → List Entry → ℕ → Happening → List Entry → Type 0
 EntriesOfHappening setup past addr what news =
     OfKnowing what (device_at setup.devices addr) (λ d. news ≡ happening_entry addr d past what ∷ [])

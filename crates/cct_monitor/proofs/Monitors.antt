@@ -1,4 +1,4 @@
--- A monitor stands for one thing more that came to it.
+-- A monitor represents one thing more that came to it.
 use Rattle.std.proofs.Common.{◌≡◌, ℕ, zero, suc, ◌+◌, ◌==◌, ◌||◌, Bool, true, false, cond, List, [], ◌∷◌, map, flat_map, length, replicate, refl, sym, ap, ap₂, ◌∙◌, None, arith}
 use Rattle.std.specs.Prelude.{Option, slice_get}
 use Rattle.std.specs.List.{list_any}

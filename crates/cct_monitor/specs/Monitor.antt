@@ -1,4 +1,4 @@
--- A monitor that stands for all that came to it.
+-- A monitor that represents all that came to it.
 use Rattle.std.specs.Prelude.{◌≡◌, ℕ, Bool, List, map, length}
 use Rattle.std.specs.List.{list_any}
 use Rattle.cct_monitor.specs.declared.watched.Kept.{Kept}
@@ -54,7 +54,7 @@ heard_of a = record {
   tally = tally_of a.watch.family a.watch.kind a.watch.addr a.taps;
 }
 
--- A monitor stands for all that came to it, newest first: it counted the taps, and keeps what it has to of each watched
+-- A monitor represents all that came to it, newest first: it counted the taps, and keeps what it has to of each watched
 -- device, in rising order of address.
 pub record StandsFor (monitor : Monitor) (past : List Came) : Type 0 where
   pub counted : tap_count monitor ≡ taps_in past

@@ -34,7 +34,7 @@ pub(crate) struct Job {
     pub(crate) lost: u64,
     /// The coins that fell, and that did not, of the order that it closed.
     pub(crate) closed: Option<(u8, u8)>,
-    /// How many rounds that found nothing new it stands for, and the last line of the last one.
+    /// How many rounds that found nothing new it represents, and the last line of the last one.
     pub(crate) times: u64,
     pub(crate) until: u64,
 }

@@ -54,13 +54,13 @@ pub(crate) struct Row {
     pub(crate) is_record: bool,
     /// The job in whose fold it stands, by its index.
     pub(crate) job: Option<usize>,
-    /// Of polls that say what they said before: the requests; there are several only where the row stands for several.
+    /// Of polls that say what they said before: the requests; there are several only where the row represents several.
     pub(crate) polls: Vec<Poll>,
     pub(crate) body: Body,
 }
 
 impl Row {
-    /// How many exchanges a row of polls stands for.
+    /// How many exchanges a row of polls represents.
     pub(crate) fn poll_count(&self) -> u64 {
         let mut count = 0u64;
         for poll in &self.polls {

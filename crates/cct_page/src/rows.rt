@@ -189,7 +189,7 @@ fn push_address<K: Sink>(pen: &mut Pen<'_, K>, addr: Option<u8>) {
     }
 }
 
-/// Begins the cells of a row that stands for several polls: their numbers, and their times.
+/// Begins the cells of a row that represents several polls: their numbers, and their times.
 fn write_run_cells<K: Sink>(pen: &mut Pen<'_, K>, page: &Page, row: &Row) {
     pen.push(b"<b>");
     push_number(pen, page, &row.place);
@@ -203,7 +203,7 @@ fn write_run_cells<K: Sink>(pen: &mut Pen<'_, K>, page: &Page, row: &Row) {
     pen.push(b"\t");
 }
 
-/// Writes which polls a row stands for.
+/// Writes which polls a row represents.
 fn write_run<K: Sink>(pen: &mut Pen<'_, K>, row: &Row) {
     push_count(
         pen,

@@ -12,7 +12,7 @@ use cct_pen::Pen;
 const MANY_ROWS: usize = 1000;
 
 /// What every page needs. A row is a paragraph: its number and its device, each up to a tab, and its words, in which a line
-/// feed stands for itself.
+/// feed represents itself.
 const ALWAYS: &[u8] = b"\
 :root{color-scheme:light dark}\
 body{font:14px system-ui;margin:6px}\

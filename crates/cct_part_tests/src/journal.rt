@@ -147,7 +147,7 @@ fn cut_short(rt: &impl Abort, journal: Journal<MemDisk>, calls: u8) -> Result<Me
         .map_err(|(_, failed)| failed)
 }
 
-// How many records a journal has after a power cut in the midst of a put.
+// How many records a journal has after a power cut within a put.
 fn restarted(
     rt: &impl Abort,
     journal: Journal<MemDisk>,

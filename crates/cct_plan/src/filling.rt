@@ -9,7 +9,7 @@ use cct_model::Tray;
 /// The amounts of a row: 0 to 10,000.
 pub(crate) const ROW: usize = 10_001;
 
-/// What stands in the table where there is no plan. A plan has 32 times 255 coins at the most.
+/// What stands in the table where there is no plan. A plan has 32 times 255 coins at most.
 pub(crate) const FAR: u16 = 65_535;
 
 /// Fills the table for these trays and each amount up to this one, from the last tray to the first.

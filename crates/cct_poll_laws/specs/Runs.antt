@@ -40,7 +40,7 @@ module _ {D : Type 0} {g : Ghosts D} where
       × Does deed before between first × Runs deeds between after rest × (told ≡ first ++ rest)
 
   -- A life of these steps and this past goes on: the entries that are told, oldest first, are those of further steps of a live
-  -- host, and the host stands for all of them.
+  -- host, and the host represents all of them.
   pub record LivesOn (setup : Setup) (found : List Record) (steps : List LiveStep) (past : List Entry) (after : Host D g)
       (told : List Entry) : Type 0 where
     pub more : List LiveStep

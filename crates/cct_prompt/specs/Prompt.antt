@@ -26,7 +26,8 @@ module _ {L : Type 0} (reads : L → Option (List ℕ) → L → Type 0) (writes
     -- Where nothing is under way, what is sent brings its answer: the echo, where the line gives it, and what the devices say.
     pub brought : (old new : L) (sent : List ℕ) → writes old sent (Ok tt) new → coming old ≡ [] → coming new ≡ answer old sent
 
-  -- Of what was sent nothing comes behind a whole reply: the other devices are silent. The line gives the echo, or the port does.
+  -- Of what was sent nothing comes after a whole reply: the other devices are silent. The line gives the echo, or the port
+  -- does.
   abbrev pub OneReplies : Bool → (L → List ℕ → List ℕ) → Type 0
   OneReplies echoes answer =
       (old new : L) (sent front rest : List ℕ) → writes old sent (Ok tt) new → answer old sent ≡ front ++ rest
@@ -37,7 +38,7 @@ module _ {L : Type 0} (reads : L → Option (List ℕ) → L → Type 0) (writes
     pub nothing : settled port ≡ true → coming (line_of port) ≡ []
     pub counted : silent_of port ≤ silent (line_of port)
 
-  -- What is heard in an exchange is a front of what was answered to what was sent in it, behind the echo; or nothing, where
+  -- What is heard in an exchange is a front of what was answered to what was sent in it, after the echo; or nothing, where
   -- the port failed.
   pub record IsOwnAnswer (coming : L → List ℕ) (answer : L → List ℕ → List ℕ) (old : Port L) (sent heard : List ℕ) : Type 0 where
     pub quiet : L

@@ -14,7 +14,7 @@ ghost use Rattle.cct_prompt.specs.Prompt.{InSomeWorld, IsOwnAnswer, IsPrompt, Is
 
 use cct_port::Line;
 
-/// Silence makes a line prompt. Where each device answers within the longest time or never, and nothing comes behind a whole
+/// Silence makes a line prompt. Where each device answers within the longest time or never, and nothing comes after a whole
 /// reply, what a port hears in an exchange is the echo and what was answered to just what it sent, or a front of that; or the
 /// exchange failed, and nothing is heard. Then nothing late is under way either, if the port was answered.
 pub fn what_is_heard_was_answered_to_what_was_sent<L: Line>()

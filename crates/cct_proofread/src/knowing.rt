@@ -29,7 +29,7 @@ pub(crate) fn knows(setup: &Setup, step: &Step) -> bool
     }
 }
 
-/// Whether this can befall the device at an address.
+/// Whether this can happen to the device at an address.
 fn befalls(setup: &Setup, addr: u8, what: Happening) -> bool
     ensures { result ≡ known_there what (device_at setup.now.devices addr) }
 {

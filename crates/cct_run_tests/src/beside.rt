@@ -29,7 +29,7 @@ fn an_id_or_a_hopper_is_taken_before_the_session_comes_to_it(rt: HostRuntime) ->
                 &["vend 60 1\nnext 1\nchange 60 10\nserve\n"],
                 "ok vend 60 1\nput sold 60 1\nsold\nchange ok 60 10\nno pay 3 60 1 oldid 60\nshort 0 10\n",
             ),
-            // Its second hopper is at work for the operator.
+            // Its second hopper is running for the operator.
             (
                 &[BEGUN, OPENED, FALLEN, CLOSED, "pay 5 70 1\nserve\nserve\n"],
                 "change ok 60 70\nok pay 3 60 2\nput opened 60 3 2 16777214\nfell 3\nfell 3\nput closed 60 2 0\n\

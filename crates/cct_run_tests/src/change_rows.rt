@@ -31,7 +31,7 @@ const SESSION: [&str; 21] = [
     "serve\n",
 ];
 
-/// A payment that is at work is brought to its end. Else an open order is settled. Then the session goes on.
+/// A payment that is running is brought to its end. Else an open order is settled. Then the session goes on.
 const ON: &str =
     "next 3\nnext 3\nnext 3\nnext 3\nfall 3\nfall 3\nfall 3\nfall 3\nfall 3\nnext 3\nnext 3\nnext 3\n\
      settle 3\nnext 3\nnext 3\nnext 3\n\

@@ -109,7 +109,7 @@ gives_on held between kept first second third (Err no.Cut) fills other gives =
 gives_on held between kept first second third (Err no.TooMany) fills other gives =
     (gives.0, gives.1, gives.2, fills-trans held between _ first second third fills gives.3)
 
--- the input ended behind these bytes
+-- the input ended after these bytes
 pub gives_end : (held rest kept : List ℕ) (first second : Option (List ℕ)) (what : Found) → Fills held rest first second →
     position is_line_feed rest ≡ None → IsAtEnd second → kept ≡ [] → EndsWith rest what →
     GivesNext held kept first second (found_given kept (Ok what))

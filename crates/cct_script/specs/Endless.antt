@@ -30,7 +30,7 @@ DropsLine old new true = (line : List ℕ) × IsOneLine line × (old ≡ line ++
 DropsLine old new false = IsOneLine old × (new ≡ [])
 
 -- What comes next after the bytes held, and what is held then. A line ends with its line feed, and has 1,200 bytes at most
--- or is too long. The input was cut within one, or ended behind one. Or the source failed, or a line goes on for so long,
+-- or is too long. The input was cut within one, or ended after one. Or the source failed, or a line goes on for so long,
 -- and nothing is said of what is held.
 abbrev pub GivesNext : List ℕ → List ℕ → Option (List ℕ) → Option (List ℕ) → Result Given LinesNo → Type 0
 GivesNext held kept left_before left (Ok (text line)) =

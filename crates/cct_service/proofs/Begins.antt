@@ -1,4 +1,4 @@
--- A host that has just started stands for the records that were found.
+-- A host that has just started represents the records that were found.
 use Rattle.std.proofs.Common.{◌≡◌, ℕ, Bool, true, false, List, [], ◌∷◌, map, reverse, refl, sym, ap, ◌∙◌, subst, inl, inr, is_some, Option, Some, None, Result, true≢false}
 use Rattle.std.proofs.lemmas.List.{reverse-reverse}
 use Rattle.cct_model.specs.terms.device.Setup.{Setup}
@@ -156,7 +156,7 @@ module _ {D : Type 0} {g : Ghosts D} where
       subst (HasReplayed host) (reverse-reverse found)
       (resumed_replayed host base c rest (reverse found) ends.continues ends.follow resumed)
 
-  -- and stands for them
+  -- and represents them
   ends_stand : (disk : D) (journal : Journal D g) (host : Host D g) (base : ℕ) (c : Carry) (rest found : List Record) →
       HasResumed host base c rest → EndsIn g.honest g.seen g.may_leave disk (setup_of host) base c rest found →
       ((of : List Record → Carry) (rs : List Record) → Settled of g.honest g.seen g.may_leave disk rs →

@@ -34,7 +34,7 @@ pub command_records : (c : Command) (why : Option CommandNo) (past : List Entry)
 command_records c None past = refl
 command_records c (Some why) past = refl
 
--- an image that stands for the first ones of records
+-- an image that represents the first ones of records
 module _ (setup : Setup) (found : List Record) (c : List ℕ) where
   first_more : (more all : List Record) → StandsForFirst setup found all c → StandsForFirst setup found (more ++ all) c
   first_more more all h = record {

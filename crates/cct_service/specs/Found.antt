@@ -14,7 +14,7 @@ use Rattle.cct_journal.specs.Journal as journals
 use Rattle.cct_host.specs.OnDisk.{KeepsRecords, ReadsRecords}
 use Rattle.cct_host.specs.Starting.{FirstFollow}
 
--- A disk tells records, newest first: what a read gives stands for them by a setup, and each follows those before it. If it
+-- A disk tells records, newest first: what a read gives represents them by a setup, and each follows those before it. If it
 -- is trusted, it keeps just that.
 pub record Tells {D : Type 0} (honest : D → Bool) (seen : D → Option (List ℕ)) (may_leave : D → List ℕ → Type 0) (disk : D)
     (setup : Setup) (found : List Record) : Type 0 where

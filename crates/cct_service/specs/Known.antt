@@ -24,7 +24,7 @@ use Rattle.cct_service.specs.Told.{Told, news_of}
 abbrev pub Knows : Type 1
 Knows = List Told → (Desk → List Entry → Type 0) → Type 0
 
--- The address of a payment that isn't settled: its job is at work, or its order is open.
+-- The address of a payment that isn't settled: its job is running, or its order is open.
 abbrev pub waits_in : Due → Phase → Option ℕ
 waits_in due Begun = Some due.payment.addr
 waits_in due Opened = Some due.payment.addr

@@ -46,7 +46,7 @@ module _ {K : Type 0} (written : K → Option (List ℕ)) (puts : K → List ℕ
     pub does : Doing steps told
     pub linked : Linked told
 
--- A life of a host goes on so, which stands for the past before and after.
+-- A life of a host goes on so, which represents the past before and after.
 abbrev pub HostGoes : {D : Type 0} → {g : Ghosts D} → Host D g → List LiveStep → List Told → Host D g → Type 0
 HostGoes {D} {g} old steps told new = LifeGoes g (setup_of old) (StandsSince old) steps told (StandsSince new)
 

@@ -33,12 +33,12 @@ IsMaking true old image = ⊥
 IsMaking false old image = IsCreated old image
 
 -- What a power cut may leave while a service runs: an image on which the journal is being made, if it was made, or one that
--- stands for the first ones of these records.
+-- represents the first ones of these records.
 abbrev pub MayStand : Setup → Bool → List ℕ → List Record → List Record → List ℕ → Type 0
 MayStand setup there old found all image = IsMaking there old image ⊎ StandsForFirst setup found all image
 
 module _ {D : Type 0} {g : Ghosts D} where
-  -- A host stands for a past since a disk was given, whose records are those that were found, and then those that were put.
+  -- A host represents a past since a disk was given, whose records are those that were found, and then those that were put.
   pub record StandsSince (host : Host D g) (given : Given D) (found : List Record) (past : List Entry) : Type 0 where
     pub stands : hosts.StandsFor host past
     pub trusted : IsTrusted g.honest g.seen given.disk → IsTrusted g.honest g.seen (disk_of host)

@@ -23,7 +23,7 @@ pub record IsStateOf (setup : Setup) (all : List Record) (lines : List (List ℕ
   pub lines_are : lines ≡ state_lines (Some setup) (carry setup first) since
 
 module _ {D : Type 0} {g : Ghosts D} where
-  -- These lines are the state of the records of each past that a host stands for, where its disk is trusted.
+  -- These lines are the state of the records of each past that a host represents, where its disk is trusted.
   abbrev pub IsStateFor : Host D g → List (List ℕ) → Type 0
   IsStateFor host lines =
       (past : List Entry) → StandsFor host past → IsTrusted g.honest g.seen (disk_of host)

@@ -17,7 +17,7 @@ use cct_wire::Link;
 use std::alloc::Global;
 use std::test::Fail;
 
-/// What befalls a line.
+/// What happens to a line.
 #[derive(Clone, Copy)]
 pub(crate) struct Trouble {
     /// These devices don't answer any more,
@@ -54,7 +54,7 @@ struct Troubled<'s> {
 }
 
 impl Troubled<'_> {
-    /// What befalls the devices before an exchange with one of them.
+    /// What happens to the devices before an exchange with one of them.
     fn befall(&mut self, addr: u8) {
         let coin_each = self.trouble.coin_each;
         let is_due = coin_each != 0 && self.exchanges % coin_each == 0;

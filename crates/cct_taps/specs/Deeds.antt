@@ -80,7 +80,7 @@ shut_on number s found = found
 abbrev pub greater : ℕ → ℕ → ℕ
 greater a b = if nat_le a b then b else a
 
--- How many coins it has left to pay at the most.
+-- How many coins it has left to pay at most.
 abbrev pub rest_on : Deed → ℕ → ℕ
 rest_on Shut rest = 0
 rest_on (Dispensed serial count) rest = count
@@ -119,7 +119,7 @@ paid_since paid (Some k) = Some (record {
   has_begun = k.has_begun;
 })
 
--- The last life count, and what came since, after a tap of a number before which at the most so many coins were left to pay.
+-- The last life count, and what came since, after a tap of a number before which at most so many coins were left to pay.
 abbrev pub life_known : ℕ → Deed → ℕ → Option KnownLife → Option KnownLife
 life_known number (Life count) rest found =
     Some (record { number = number; count = count; most = rest; least = 0; has_begun = false })

@@ -1,5 +1,5 @@
 //! Whether a hopper does what is taken for granted of it, as far as taps show that: it pays under its own serial number alone, and not
-//! before it is enabled; and its life count rises by the coins that fall, also over a reset and over a loss of power.
+//! before it is enabled; and its life count rises by the coins that fall, also over a reset and over a power cut.
 ghost use Rattle.std.specs.Prelude.{◌≡◌, ◌≤◌, ◌++◌, [], length};
 ghost use Rattle.cct_model.specs.Order.{life_between};
 ghost use Rattle.cct_taps.specs.Deeds.{asked_since, broken_enable, broken_life, broken_serial, greater, hopper_broken_by, hopper_on, least_of, life_known, more_coins, no_hopper, paid_since, rest_on, rise_fits, serial_first, serial_on, shut_on};
@@ -40,7 +40,7 @@ pub struct KnownHopper {
     pub serial: Option<KnownSerial>,
     /// The tap since which it may not pay, where there is one.
     pub shut: Option<u32>,
-    /// How many coins it has left to pay, at the most.
+    /// How many coins it has left to pay, at most.
     pub rest: u8,
     pub life: Option<KnownLife>,
 }
@@ -113,7 +113,7 @@ fn shut_on(number: u32, deed: Deed, known: Option<u32>) -> Option<u32>
     }
 }
 
-/// How many coins it has left to pay at the most.
+/// How many coins it has left to pay at most.
 fn rest_on(deed: Deed, rest: u8) -> u8
     ensures { result ≡ rest_on deed rest }
 {

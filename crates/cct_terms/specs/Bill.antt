@@ -1,5 +1,5 @@
 -- A bill acceptor with an escrow, read off all that it met, newest first (ccTalk Generic Specification 4, part 3). Its
--- settings, its event counter and its buffer are those of a coin acceptor; which pair stands for which event, and what header
+-- settings, its event counter and its buffer are those of a coin acceptor; which pair represents which event, and what header
 -- 154 does, is this project's own.
 use Rattle.std.specs.Prelude.{ℕ, suc, ◌==◌, ◌&&◌, ◌||◌, Bool, true, List, [], ◌∷◌, if◌then◌else◌, Option, Some, None, is_none, is_some}
 use Rattle.cct_terms.specs.declared.coin.Pair.{Pair}

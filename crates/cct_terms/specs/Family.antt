@@ -1,4 +1,4 @@
--- The families of devices, and what befalls a device.
+-- The families of devices, and what happens to a device.
 use Rattle.std.specs.Prelude.{◌≤◌, Bool, true, false, ⊤}
 use Rattle.cct_terms.specs.declared.coin.TheConstants.{COIN_PLACES}
 use Rattle.cct_terms.specs.declared.device.DeviceBody.{DeviceBody}
@@ -34,7 +34,7 @@ takes_money Acceptor = true
 takes_money Hopper = false
 takes_money Bill = true
 
--- Whether a family knows this, so that it can befall a device of it: coins and other objects fall into an acceptor,
+-- Whether a family knows this, so that it can happen to a device of it: coins and other objects fall into an acceptor,
 -- bills are put into a bill acceptor, coins fall out of a hopper or get stuck there, and any device is reset.
 abbrev pub known_to : Happening → Family → Bool
 known_to (what.Coin place) family = is_same Acceptor family
@@ -50,7 +50,7 @@ IsPlaced (what.Coin place) = (1 ≤ place) × (place ≤ COIN_PLACES)
 IsPlaced (what.Bill place) = (1 ≤ place) × (place ≤ COIN_PLACES)
 IsPlaced happened = ⊤
 
--- What a device met that this befell.
+-- What a device met that this happened to.
 abbrev pub met_by : Happening → Met
 met_by (what.Coin place) = met.coin place
 met_by what.Alien = met.alien

@@ -1,9 +1,9 @@
-//! The families of devices, and what befalls a device.
+//! The families of devices, and what happens to a device.
 ghost use Rattle.std.specs.Prelude.{◌≡◌};
 ghost use Rattle.cct_terms.specs.declared.family.Family.TheVariants as family;
 ghost use Rattle.cct_terms.specs.Family.{is_same, known_to, takes_money};
 
-/// What befalls a device besides the bytes that it hears.
+/// What happens to a device besides the bytes that it hears.
 #[derive(Clone, Copy, Debug, PartialEq, Eq)]
 pub enum Happening {
     /// A coin of this coin place, 1 to 16, falls in.
@@ -20,7 +20,7 @@ pub enum Happening {
     Reset,
 }
 
-/// A family of devices: they have the same requests of their own, and the same things befall them.
+/// A family of devices: they have the same requests of their own, and the same things happen to them.
 #[derive(Clone, Copy, Debug, PartialEq, Eq)]
 pub enum Family {
     /// Coin acceptors (ccTalk Generic Specification 4, part 2).
@@ -32,7 +32,7 @@ pub enum Family {
 }
 
 impl Family {
-    /// Whether the family knows this, so that it can befall a device of it. A place is not looked at.
+    /// Whether the family knows this, so that it can happen to a device of it. A place is not looked at.
     pub fn knows(self, what: Happening) -> bool
         ensures { result ≡ known_to what self }
     {

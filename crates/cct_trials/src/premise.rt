@@ -43,7 +43,7 @@ pub enum Common {
     Form,
     /// What is no message under its check asks nothing of it (`message` of `Message`).
     Check,
-    /// Nor does a message that is cut off, or that stands behind noise; the next one does (`asks_of` of `Exchange`).
+    /// Nor does a message that is cut off, or that stands after noise; the next one does (`asks_of` of `Exchange`).
     Cut,
     /// A header that isn't known asks nothing (`request_of` of `Request`).
     Unknown,
@@ -79,7 +79,7 @@ pub enum OfTaker {
     Wrap,
     /// The accept counter rises with each accepted coin, and outlives a reset (`accept_count` of `Acceptor`).
     Count,
-    /// Loss of power is a reset (`Met.reset` of `History`).
+    /// A power cut is a reset (`Met.reset` of `History`).
     Power,
     /// The coins of its places are the setup's (`id_at` of `Acceptor`).
     Places,
@@ -94,7 +94,7 @@ pub enum OfHopper {
     Rises,
     /// It outlives a reset (`life_count` of `Hopper`).
     Life,
-    /// It outlives the loss of power (`life_count` of `Hopper`).
+    /// It outlives a power cut (`life_count` of `Hopper`).
     Lasts,
     /// A dispense under another serial number pays nothing (`taken_count` of `Hopper`).
     Serial,

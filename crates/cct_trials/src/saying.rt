@@ -161,7 +161,7 @@ fn write_cut(device: &DeviceSetup, round: u16, sent: &mut ArrayVec<u8, MOST_SENT
     sent.truncate(usize::from(round % 4) + 1);
 }
 
-/// A poll behind a byte of noise.
+/// A poll after a byte of noise.
 fn write_noisy(device: &DeviceSetup, sent: &mut ArrayVec<u8, MOST_SENT>)
     ensures { sent.new.items ≡ 85 ∷ poll device.now.kind device.now.addr }
 {

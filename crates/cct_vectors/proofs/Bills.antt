@@ -1,4 +1,4 @@
--- A bill acceptor at address 4 under the simple checksum, whose accept count starts at its highest number: what befalls
+-- A bill acceptor at address 4 under the simple checksum, whose accept count starts at its highest number: what happens to
 -- it and what it is asked, one after the other, with what it is to say.
 use Rattle.std.proofs.Common.{◌≡◌, ℕ, zero, suc, ◌+◌, ◌-◌, ◌%◌, List, [], ◌∷◌, map, replicate, true, false, Option, Some, refl}
 use Rattle.std.specs.Prelude.{codes}

@@ -23,7 +23,7 @@ bytes_of (high ∷ low ∷ more) = (16 * digit high + digit low) ∷ bytes_of mo
 abbrev pub texts : Texts
 texts = record { maker = codes "MMM"; product = codes "PPP"; software = codes "SSS"; build = codes "BBB" }
 
--- what befalls a device, and what it is to say: the answer to a piece, none where it is silent; whether a bill of a place
+-- what happens to a device, and what it is to say: the answer to a piece, none where it is silent; whether a bill of a place
 -- is held; and whether a coin that falls or sticks is anything to it
 pub data Row : Type 0 where
   hears : (piece said : String) → Row

@@ -1,5 +1,5 @@
--- An acceptor over a wild run: what the taps show of it is what it was, and where some coin is let in all that came to it
--- since is an event.
+-- An acceptor over a run of any host: what the taps show of it is what it was, and where some coin is let in all that came to
+-- it since is an event.
 use Rattle.std.proofs.Common.{◌≡◌, ℕ, suc, ◌≤◌, ◌==◌, cond, true, false, Bool, List, [], ◌∷◌, ◌++◌, length, map, refl, ap, ap₂, sym, ◌∙◌, subst, arith, Option, Some, None}
 use Rattle.std.proofs.lemmas.Bool.Decides.{nat_tests}
 use Rattle.std.proofs.lemmas.List.{length-map}
@@ -230,7 +230,7 @@ module _ (setup : Setup) (d : DeviceSetup) (sound : IsSoundSetup setup) (own_one
   all_runs [] all honest = tt
   all_runs (e ∷ past) all honest = one_runs past e all.0 honest (all_runs past all.1 honest.1)
 
--- the taps of a wild run show what the acceptor was, and all that came to it since is an event where some coin is let in
+-- the taps of a run of any host show what the acceptor was, and all that came to it since is an event where some coin is let in
 pub acceptor_runs : (setup : Setup) (steps : List WildStep) (past : List Entry) (d : DeviceSetup) → IsSoundSetup setup →
     IsOf setup d → IsAcceptor d.body → WildFrom setup [] steps past → HonestPast past →
     Runs (λ n. world_of d (before_tap n past)) (looks d past) (world_of d past)

@@ -98,7 +98,7 @@ few_where_near : (new old : ℕ) → new < 255 → are_near (counter old) (count
 unfolding distance
 few_where_near new old less near = grind (arith, nat_tests)
 
--- the event counters of a span behind whose last reading all that came are events
+-- the event counters of a span after whose last reading all that came are events
 pub counters_are : (first last : Credits) (w v : World) (is : Behind w v) → first ≡ credits_in w.events →
     last ≡ credits_in v.events →
     are_near first.counter last.counter

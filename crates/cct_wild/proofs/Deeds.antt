@@ -1,5 +1,5 @@
--- No premise is told to be broken of a hopper, over a wild run: what is known of its serial number, of whether it may pay, of
--- what it has left to pay and of its life count is so.
+-- No premise is told to be broken of a hopper, over a run of any host: what is known of its serial number, of whether it may
+-- pay, of what it has left to pay and of its life count is so.
 use Rattle.std.proofs.Common.{◌≡◌, ◌⊎◌, inl, inr, ℕ, zero, suc, ◌+◌, ◌-◌, ◌%◌, ◌^◌, ◌<◌, ◌≤◌, ◌==◌, ◌&&◌, not, nat_le, Bool, true, false, cond, List, [], ◌∷◌, ◌++◌, length, map, refl, ap, ap₂, sym, ◌∙◌, subst, arith, eq-eqb, le_refl, Option, Some, None}
 use Rattle.std.specs.Prelude.{⊤}
 use Rattle.std.proofs.lemmas.Bool.Decides.{nat_tests}

@@ -1,4 +1,4 @@
--- A hopper over a wild run: the life counts that the taps show are the one at which it started and the coins that fell.
+-- A hopper over a run of any host: the life counts that the taps show are the one at which it started and the coins that fell.
 use Rattle.std.proofs.Common.{◌≡◌, ℕ, suc, ◌+◌, ◌≤◌, ◌==◌, cond, true, false, Bool, List, [], ◌∷◌, ◌++◌, length, map, refl, ap, sym, ◌∙◌, subst, arith, Option, Some, None}
 use Rattle.std.specs.Prelude.{◌%◌, ◌^◌}
 use Rattle.std.proofs.lemmas.List.{length-map}
@@ -193,7 +193,7 @@ module _ (setup : Setup) (d : DeviceSetup) (sound : IsSoundSetup setup) (own_one
   all_lives (e ∷ past) all honest =
       one_lives past e all.0 honest (all_fits past all.1) (all_lives past all.1 honest.1)
 
--- the taps of a wild run show the coins that fell
+-- the taps of a run of any host show the coins that fell
 pub hopper_runs : (setup : Setup) (steps : List WildStep) (past : List Entry) (d : DeviceSetup) → IsSoundSetup setup →
     IsOf setup d → IsHopper d.body → WildFrom setup [] steps past → HonestPast past →
     LifeRuns (fallen_before d past) (start_of d.body) (lives d past) (all_fallen (lines_of d past))

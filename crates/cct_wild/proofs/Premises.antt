@@ -1,5 +1,5 @@
--- No premise is told to be broken of an acceptor of coins or of bills, over a wild run: what is known of its mask is so, and after
--- a reset nothing is let in before a mask is asked for.
+-- No premise is told to be broken of an acceptor of coins or of bills, over a run of any host: what is known of its mask is so,
+-- and after a reset nothing is let in before a mask is asked for.
 use Rattle.std.proofs.Common.{◌≡◌, ◌⊎◌, inl, inr, ℕ, zero, suc, ◌==◌, ◌||◌, ◌&&◌, Bool, true, false, cond, List, [], ◌∷◌, ◌++◌, length, map, take, replicate, refl, ap, ap₂, sym, ◌∙◌, subst, arith, eq-eqb, Option, Some, None}
 use Rattle.std.specs.Prelude.{⊤, is_none}
 use Rattle.std.specs.List.{list_any}

@@ -1,5 +1,5 @@
--- An acceptor of coins or of bills that is watched for resets alone, over a wild run: its resets are counted, and all that came
--- to it with none between are events.
+-- An acceptor of coins or of bills that is watched for resets alone, over a run of any host: its resets are counted, and all
+-- that came to it with none between are events.
 use Rattle.std.proofs.Common.{◌≡◌, ◌≢◌, ℕ, suc, ◌≤◌, ◌==◌, ◌||◌, Bool, true, false, cond, List, [], ◌∷◌, ◌++◌, length, map, refl, ap, ap₂, sym, ◌∙◌, subst, arith, append_assoc, Option, Some, None}
 use Rattle.std.proofs.lemmas.Bool.Decides.{nat_tests}
 use Rattle.std.proofs.lemmas.List.{length-map}

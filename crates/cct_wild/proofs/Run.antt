@@ -1,4 +1,5 @@
--- Each entry of a wild run: something came to a device, the host did nothing that a device hears, or any bytes were sent.
+-- Each entry of a run of any host: something came to a device, the host did nothing that a device hears, or any bytes were
+-- sent.
 use Rattle.std.proofs.Common.{◌≡◌, ◌≢◌, ℕ, suc, ◌≤◌, ◌==◌, cond, length, arith, false, List, [], ◌∷◌, ◌++◌, refl, sym, subst, eq-eqb, inl, inr}
 use Rattle.std.specs.Prelude.{⊤}
 use Rattle.std.proofs.lemmas.Bool.{ne_eqb}
@@ -82,7 +83,7 @@ step_wild setup past (outside s) news told all =
 step_wild setup past (exchange sent) news told all =
     subst (λ ns. AllWild setup (ns ++ past)) (sym told.1) (sends told.0 sent, all)
 
--- a wild run
+-- a run of any host
 pub wild_all : (setup : Setup) (steps : List WildStep) (past end : List Entry) → WildFrom setup past steps end →
     AllWild setup past → AllWild setup end
 wild_all setup [] past end goes all = subst (AllWild setup) (sym goes) all

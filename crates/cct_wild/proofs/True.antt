@@ -1,4 +1,4 @@
--- All that a monitor says at the taps of a wild run is true.
+-- All that a monitor says at the taps of a run of any host is true.
 use Rattle.std.proofs.Common.{◌≡◌, ℕ, Bool, true, false, cond, List, [], ◌∷◌, ◌++◌, map, flat_map, sym, subst, subst₂, append-nil, All, nat_le}
 use Rattle.std.specs.Prelude.{⊤}
 use Rattle.std.proofs.lemmas.List.Elements.{All-append, All-cons, All-head, All-nil, All-tail, All-weaker}

@@ -1,4 +1,5 @@
--- A worked wild run: a host that keeps no journal sets a mask, reads the credits before and after a coin, and reads the mask.
+-- A worked run of any host: a host that keeps no journal sets a mask, reads the credits before and after a coin, and reads the
+-- mask.
 use Rattle.std.proofs.Common.{◌≡◌, ℕ, List, [], ◌∷◌, ◌++◌, map, replicate, refl, false, arith}
 use Rattle.std.specs.Prelude.{codes}
 use Rattle.cct_model.specs.terms.coin.Coin.{Coin}
@@ -88,7 +89,7 @@ shows_mask = entry.Wire 2 asks_mask (asks_mask ++ all_let_in)
 abbrev past : List Entry
 past = shows_mask ∷ read_last ∷ came_in ∷ read_first ∷ masked ∷ []
 
--- it is a wild run over an honest wire
+-- it is a run of any host over an honest wire
 run : WildFrom setup [] steps past
 unfolding message spelling crc data_of request_of requests_with form_of reply_data reply_in has_place acceptor_reply
     common_reply reply_of ask asked asks_of asker after_echo heard_after

@@ -105,7 +105,7 @@ abbrev pub resets_by : Option Request → ℕ → ℕ
 resets_by (Some ResetDevice) n = suc n
 resets_by asked n = n
 
--- How often a device was reset: by itself, by a loss of power, or by what it heard.
+-- How often a device was reset: by itself, by a power cut, or by what it heard.
 abbrev pub resets : List Met → ℕ
 resets [] = 0
 resets (history.coin place ∷ past) = resets past

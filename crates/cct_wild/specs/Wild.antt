@@ -10,7 +10,7 @@ use Rattle.cct_model.specs.Script.{IsInRange}
 use Rattle.cct_model.specs.Transcript.{heard_after}
 use Rattle.cct_taps.specs.Taps.{Tap, tap_of}
 
--- A step of a wild run: something outside the host, as a step of a script plays it, or an exchange of any host.
+-- A step of a run of any host: something outside the host, as a step of a script plays it, or an exchange of any host.
 pub data WildStep : Type 0 where
   outside : (played : Step) → WildStep
   exchange : (sent : List ℕ) → WildStep
@@ -26,14 +26,14 @@ IsOutside (step.Reset addr) = ⊤
 IsOutside (step.Fault f) = ⊤
 IsOutside s = ⊥
 
--- The entries of a wild step after all that came before: those of a step of a script; or the exchange, with what the host
--- then hears. An exchange may stand at any address, since no job makes it.
+-- The entries of a step of any host after all that came before: those of a step of a script; or the exchange, with what the
+-- host then hears. An exchange may stand at any address, since no job makes it.
 abbrev pub WildEntries : Setup → List Entry → WildStep → List Entry → Type 0
 WildEntries setup past (outside s) news = IsOutside s × IsInRange s × Entries 0 setup past s news
 WildEntries setup past (exchange sent) news =
     (addr : ℕ) × (news ≡ entry.Wire addr sent (heard_after setup past sent) ∷ [])
 
--- A past goes on by the entries of these wild steps, and ends as this one.
+-- A past goes on by the entries of these steps of any host, and ends as this one.
 abbrev pub WildFrom : Setup → List Entry → List WildStep → List Entry → Type 0
 WildFrom setup past [] end = end ≡ past
 WildFrom setup past (s ∷ steps) end =

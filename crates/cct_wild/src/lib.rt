@@ -1,7 +1,7 @@
 //! What a monitor says of any host's wire is true (`docs/AUDIT.md`): a law over the definitions of `cct_model` and
 //! `cct_monitor`, the clauses of a function without parameters, whose body is empty.
 //!
-//! A wild run (`specs/Wild.antt`) is a list of what comes to the devices from outside, with faults of the wire, and of
+//! A run of any host (`specs/Wild.antt`) is a list of what comes to the devices from outside, with faults of the wire, and of
 //! exchanges in which a host sends whatever bytes it likes, to whomever. Nothing is asked of the host: not that it makes the
 //! jobs of ours, that it spells a message or names itself as the source, nor that it is alone. Asked are a sound setup, steps
 //! in their ranges, and a wire whose damage fails its check.
@@ -32,11 +32,11 @@ ghost use Rattle.cct_monitor.specs.Watches.{Watch, all_told, finally_of_all, mad
 ghost use Rattle.cct_wild.specs.Claims.{AreApart, IsPlain, IsQuietSpan, IsSureWherePlain, IsToldQuiet, IsToldWhole, IsTrue, IsWatchOf, IsWatched, after_round, came_before, looks, pieces, quiet_looks, span_of_round};
 ghost use Rattle.cct_wild.specs.Wild.{WildStep, WildFrom, taps};
 
-/// All that a monitor says at the taps of a wild run and at their end is true, where each device that it watches is one of the
-/// setup, watched as what it is. What is said of an acceptor, of coins or of bills, that is watched for resets alone is true if
-/// no reset came between the two readings. The coins of a span that is sure are the newest of those that the acceptor accepted between
-/// its readings, in their order; where fewer than 255 pieces came between them, they are all of these. As many coins fell out
-/// of a hopper between two life counts as is said, where that number is below 2 ^ 24.
+/// All that a monitor says at the taps of a run of any host and at their end is true, where each device that it watches is one
+/// of the setup, watched as what it is. What is said of an acceptor, of coins or of bills, that is watched for resets alone is
+/// true if no reset came between the two readings. The coins of a span that is sure are the newest of those that the acceptor
+/// accepted between its readings, in their order; where fewer than 255 pieces came between them, they are all of these. As many
+/// coins fell out of a hopper between two life counts as is said, where that number is below 2 ^ 24.
 ///
 /// No coin stands in two spans of an acceptor: a span begins no earlier than each older one ends. And each span is said once,
 /// at a tap or at the end of the taps. These two hold over any wire; so over an honest wire no coin is said to be sure twice.

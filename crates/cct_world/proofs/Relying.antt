@@ -34,7 +34,7 @@ reliable_survives given trusted on news past (step.Crash at choice) told (inr no
     absurd (omega (arith, none, told, crashes-append news past))
 reliable_survives given trusted on news past s told sure = tt
 
--- a count that went up by just so many
+-- a count that went up by exactly so many
 pub rose_just : (many before now : ℕ) → now ≡ count_after many before → RoseBy many before now
 rose_just many before now is = le_of_eq (sym is)
 

@@ -49,7 +49,7 @@ use Rattle.cct_world.proofs.Wires.{balance_wire, command_wire, linked, told_wire
 pub one_entry : (before after : List Entry) (e : Entry) → before ≡ [] → after ≡ before ++ e ∷ [] → after ≡ e ∷ []
 one_entry before after e none is = is ∙ ap (λ es. es ++ e ∷ []) none
 
--- the entries of what befalls a device are those of its step
+-- the entries of what happens to a device are those of its step
 pub entries_are : (capacity : ℕ) (setup : Setup) (past : List Entry) (desk : Desk) (addr : ℕ) (what : Happening)
     (news : List Entry) → EntriesOfHappening setup past addr what news
     → EntriesAtDesk capacity setup past desk (step_of addr what) news
@@ -218,7 +218,7 @@ module _ {D : Type 0} {g : Ghosts D} where
       subst (λ r. (reverse r ≡ command_entry c (refusal capacity setup past c) ∷ []) × Left host bus past r) (sym is)
       (ap (λ n. command_entry c n ∷ []) answer, (stands, command_wire bus past c refused wired))
 
-  -- what something that befalls a device gives and leaves
+  -- what something that happens to a device gives and leaves
   abbrev pub HappeningGoes : Setup → Happening → ℕ → Host D g → Bus → List Entry → List Entry → Type 0
   HappeningGoes setup what addr host bus past report =
       EntriesOfHappening setup past addr what (reverse report) × Left host bus past report

@@ -12,7 +12,7 @@ use Rattle.cct_world.specs.Step.{count_after, crashes}
 use Rattle.cct_world.specs.Relying.{IsReliable}
 use Rattle.cct_world.specs.World.{StandsFor, disk_of, setup_of, used_of}
 
--- What is so after these steps and their past, where one disk was given and became another: what stands for the past does
+-- What is so after these steps and their past, where one disk was given and became another: what represents the past does
 -- so where that may be relied on; so many records are counted as the past has; after each power cut among the steps a
 -- host started again; and the power of the disk was cut just as often as the past tells.
 pub record Holds {D : Type 0} (size : D → ℕ) (honest : D → Bool) (seen : D → Option (List ℕ)) (cuts : D → ℕ)
@@ -25,7 +25,7 @@ pub record Holds {D : Type 0} (size : D → ℕ) (honest : D → Bool) (seen : D
   pub cut : cuts now ≡ count_after (crashes past) (cuts given)
 
 module _ {D : Type 0} {g : Ghosts D} where
-  -- That is so of a world, which stands for the past.
+  -- That is so of a world, which represents the past.
   abbrev pub WorldHolds : D → World D g → List Step → List Entry → Type 0
   WorldHolds given world =
       Holds g.size g.honest g.seen g.cuts g.cut_to (StandsFor world) (setup_of world) given (disk_of world)

@@ -1,4 +1,4 @@
--- A host and a bus that stand for all that happened on them, and the operator's desk beside them.
+-- A host and a bus that represent all that happened on them, and the operator's desk beside them.
 use Rattle.std.specs.Prelude.{◌≡◌, ◌≢◌, ◌≤◌, ◌+◌, Bool, false, ℕ, List, [], ◌++◌, length, Option, Some, reverse, ⊤}
 use Rattle.cct_model.specs.terms.device.Setup.{Setup}
 use Rattle.cct_model.specs.lines.command.CrashAt.{CrashAt}
@@ -68,7 +68,7 @@ module _ {D : Type 0} {g : Ghosts D} where
   abbrev pub desk_of : Machine D g → Desk
   desk_of machine = machine.desk
 
-  -- A machine stands for a transcript, newest entry first: its host and its bus do.
+  -- A machine represents a transcript, newest entry first: its host and its bus do.
   pub record StandsFor (machine : Machine D g) (past : List Entry) : Type 0 where
     pub host : hosts.StandsFor machine.host past
     pub bus : wires.StandsFor machine.bus past
@@ -102,7 +102,7 @@ module _ {D : Type 0} {g : Ghosts D} where
   abbrev pub due_of : Machine D g → Option CrashAt → Option Record
   due_of machine at = restarting.due_of machine.host at
 
-  -- That is the one that any past tells that the machine stands for.
+  -- That is the one that any past tells that the machine represents.
   abbrev pub DueAsTold : Machine D g → Option CrashAt → Type 0
   DueAsTold machine at =
       (past : List Entry) → StandsFor machine past → due_of machine at ≡ due_in (setup_of machine) past at

@@ -39,7 +39,7 @@ IsWhole setup seen many = (image : List ℕ) → seen ≡ Some image → FindsWh
 
 -- A host starts again after a power cut, where so many records were put and this one was due, if one was: these are
 -- its entries, newest first; none of the records is missing; so many does its journal then count; and a read of the
--- disk gives just so many, over which a host starts.
+-- disk gives exactly so many, over which a host starts.
 pub record Restarts (setup : Setup) (due : Option Record) (put many : ℕ) (seen : Option (List ℕ)) (news : List Entry)
     : Type 0 where
   pub all : HasAll due many put

@@ -1,4 +1,4 @@
--- Steps, the entries of what befalls devices, and power cuts.
+-- Steps, the entries of what happens to devices, and power cuts.
 use Rattle.std.specs.Prelude.{◌≡◌, ℕ, zero, suc, ◌+◌, ◌≤◌, Bool, true, false, List, [], ◌∷◌, Option}
 use Rattle.cct_model.specs.terms.family.Happening.{Happening}
 use Rattle.cct_model.specs.terms.family.Happening.TheVariants as happening
@@ -14,7 +14,7 @@ use Rattle.cct_edge.specs.Faults.{next_count}
 use Rattle.cct_disk.specs.Disk.{GoesOn, Outlasts}
 use Rattle.cct_journal.specs.Stands.{CutOnce}
 
--- The entry of what befell the device at an address, by what became of it.
+-- The entry of what happened to the device at an address, by what became of it.
 abbrev pub entry_told : ℕ → Happening → Outcome → Entry
 entry_told addr (happening.Coin place) (outcome.Accepted c) = entry.Accepted addr c
 entry_told addr (happening.Coin place) became = entry.Inhibited addr place

@@ -1,4 +1,4 @@
--- A whole machine that stands for all that happened on it.
+-- A whole machine that represents all that happened on it.
 use Rattle.std.specs.Prelude.{ℕ, List}
 use Rattle.cct_model.specs.terms.device.Setup.{Setup}
 use Rattle.cct_model.specs.lines.command.Step.{Step}
@@ -30,7 +30,7 @@ module _ {D : Type 0} {g : Ghosts D} where
   abbrev pub capacity_in : World D g → ℕ
   capacity_in world = machines.capacity_in world.machine.value
 
-  -- A world stands for a transcript, newest entry first: the machine in its box does.
+  -- A world represents a transcript, newest entry first: the machine in its box does.
   abbrev pub StandsFor : World D g → List Entry → Type 0
   StandsFor world past = machines.StandsFor world.machine.value past
 

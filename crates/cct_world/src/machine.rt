@@ -172,7 +172,7 @@ impl<D: Disk> Machine<'_, D> {
         }
     }
 
-    /// Something befalls a device of a family that knows it.
+    /// Something happens to a device of a family that knows it.
     fn befall(&mut self, addr: u8, what: Happening, report: &mut ArrayVec<Entry, 8>)
         requires known { IsTrue (known_there what (device_at (setup_of self.old).devices addr)) }
         requires placed { IsPlaced what }
@@ -433,7 +433,7 @@ fn add_short(shortfall: Shortfall, report: &mut ArrayVec<Entry, 8>)
     });
 }
 
-/// Tells what befell the device at an address, by what became of it. An entry is wide, so it is made where it is told.
+/// Tells what happened to the device at an address, by what became of it. An entry is wide, so it is made where it is told.
 #[tactic(auto, using(crate::proofs::Steps::one_entry))]
 fn tell(addr: u8, what: Happening, outcome: Outcome, report: &mut ArrayVec<Entry, 8>)
     requires { report.old.items ≡ [] }

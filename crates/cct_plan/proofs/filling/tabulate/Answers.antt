@@ -3,7 +3,7 @@ use Rattle.cct_model.specs.declared.change.Tray.{Tray}
 use Rattle.cct_plan.proofs.Stepping.{tells_more}
 use Rattle.cct_plan.proofs.filling.tabulate.Goals as goal
 
--- The tray before the last ones stands first, with them behind it.
+-- The tray before the last ones stands first, with them after it.
 before_last : (trays : List Tray) (many : ℕ) (d : Tray) → many < length trays
     → drop (length trays - suc many) trays ≡ get_or trays (length trays - 1 - many) d ∷ drop (length trays - many) trays
 before_last trays many d some =
