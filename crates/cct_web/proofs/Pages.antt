@@ -1,5 +1,6 @@
 -- What an audit leaves on a page.
-use Rattle.std.proofs.Common.{◌≡◌, ◌∙◌, arith, inl, inr, ap, subst, sym, List, [], ◌∷◌, ◌++◌, ℕ, Option, None, Result, Ok, Err}
+use Rattle.std.proofs.Common.{◌≡◌, ◌∙◌, ◌+◌, ◌<◌, ◌≤◌, arith, length, refl, inl, inr, ap, subst, sym, List, [], ◌∷◌, ◌++◌, ℕ, Option, None, Result, Ok, Err}
+use Rattle.std.proofs.lemmas.List.{append_assoc, append-nil, length-append, length-take-le}
 use Rattle.cct_edge.specs.declared.fault.Failed.{Failed}
 use Rattle.cct_edge.specs.Faults.{Rose}
 use Rattle.cct_text.specs.Writing.{Puts}
@@ -12,7 +13,7 @@ use Rattle.cct_bench.specs.declared.outcome.Status.{Status}
 use Rattle.cct_bench.specs.declared.outcome.Status.TheVariants as status
 use Rattle.cct_bench.specs.Audit.{AuditCloses, AuditEnds, AuditRan}
 use Rattle.cct_slices.specs.declared.page.Page.{Page}
-use Rattle.cct_slices.specs.Slices.{PageStays, page_puts, page_written, written_on}
+use Rattle.cct_slices.specs.Slices.{PageStays, page_bytes, page_puts, page_room, page_written, written_count, written_on}
 use Rattle.cct_slices.proofs.Stays.{stays_refl, stays_trans}
 use Rattle.cct_web.specs.Audits.{AreFront, AreLines}
 
@@ -25,12 +26,6 @@ pub wrote : (before now : Page) → written_on before ≡ [] → (lines : List (
     → WroteLines page_written page_puts before now lines → AreLines (written_on now) lines
 wrote before now empty lines w = w.told ∙ ap (λ x. x ++ bytes_of lines) empty
 
-pub broke : (before now : Page) → written_on before ≡ [] → (whole cut : List (List ℕ))
-    → BrokeLines page_written page_puts before now whole cut → AreFront (written_on now) whole cut
-broke before now empty whole cut b =
-    let told = b.3.told in
-    (told.0, told.1, told.3 ∙ ap (λ x. x ++ told.0) (wrote before b.0 empty whole b.2), told.2)
-
 -- a page stays over puts
 pub puts_stay : (before now : Page) (lines : List (List ℕ)) (answer : Result (Unit {0}) Failed)
     → Puts page_puts before lines answer now → PageStays before now
@@ -42,6 +37,42 @@ puts_stay before now (piece ∷ pieces) answer (inr p) = p.2.0
 pub wrote_stays : (before now : Page) (lines : List (List ℕ)) → WroteLines page_written page_puts before now lines
     → PageStays before now
 wrote_stays before now lines w = puts_stay before now lines (Ok tt) w.put
+
+-- where a put within these lines failed, a front of them was written, and there is no room for the rest
+cut_short : (before now : Page) (cut : List (List ℕ)) (failed : Failed) → written_count before ≤ page_room before
+    → Puts page_puts before cut (Err failed) now
+    → (front : List ℕ) × (rest : List ℕ) × (written_on now ≡ written_on before ++ front) × (bytes_of cut ≡ front ++ rest)
+    × (page_room before < length (written_on now) + length rest)
+cut_short before now [] failed fits p = cc p.0
+cut_short before now (piece ∷ pieces) failed fits (inl p) =
+    let more = cut_short p.0 now pieces failed (p.1.0.3 fits) p.2 in (
+      piece ++ more.0,
+      more.1,
+      more.2 ∙ ap (λ x. x ++ more.0) p.1.1 ∙ append_assoc (written_on before) piece more.0,
+      ap (λ x. piece ++ x) more.3 ∙ sym (append_assoc piece more.0 more.1),
+      subst (λ room. room < length (written_on now) + length more.1) p.1.0.1 more.4,
+    )
+cut_short before now (piece ∷ pieces) failed fits (inr p) =
+    let held : length (written_on now) ≡ written_count before =
+    ap length p.2.1 ∙ length-take-le (written_count before) (page_bytes before) fits in (
+      [],
+      piece ++ bytes_of pieces,
+      p.2.1 ∙ sym (append-nil (written_on before)),
+      refl,
+      omega (arith, p.2.2, held, length-append piece (bytes_of pieces)),
+    )
+
+broke : (before now : Page) → written_on before ≡ [] → written_count before ≤ page_room before → (whole cut : List (List ℕ))
+    → BrokeLines page_written page_puts before now whole cut → AreFront (page_room before) (written_on now) whole cut
+broke before now empty fits whole cut b =
+    let stays = wrote_stays before b.0 whole b.2 in
+    let told = cut_short b.0 now cut b.1 (stays.3 fits) b.3.put in (
+      told.0,
+      told.1,
+      told.2 ∙ ap (λ x. x ++ told.0) (wrote before b.0 empty whole b.2),
+      told.3,
+      subst (λ room. room < length (written_on now) + length told.1) stays.1 told.4,
+    )
 
 pub broke_stays : (before now : Page) (whole cut : List (List ℕ)) → BrokeLines page_written page_puts before now whole cut
     → PageStays before now
@@ -129,10 +160,11 @@ audit_stays bytes s monitor left F before now ran =
 
 -- an audit onto an empty page
 pub audited_page : (bytes : List ℕ) (s : Status) (monitor : Option Monitor) (left : Option (List ℕ)) (before now : Page)
-    → written_on before ≡ [] → AuditRan bytes s monitor left (Rose 0 0) (WroteLines page_written page_puts before now)
+    → written_on before ≡ [] → written_count before ≤ page_room before
+    → AuditRan bytes s monitor left (Rose 0 0) (WroteLines page_written page_puts before now)
     (BrokeLines page_written page_puts before now)
-    → AuditRan bytes s None left ⊥ (AreLines (written_on now)) (AreFront (written_on now))
-audited_page bytes s monitor left before now empty =
+    → AuditRan bytes s None left ⊥ (AreLines (written_on now)) (AreFront (page_room before) (written_on now))
+audited_page bytes s monitor left before now empty fits =
     mapped bytes (Rose 0 0) ⊥ (WroteLines page_written page_puts before now) (AreLines (written_on now))
-    (BrokeLines page_written page_puts before now) (AreFront (written_on now)) never_rose (wrote before now empty)
-    (broke before now empty) s monitor left
+    (BrokeLines page_written page_puts before now) (AreFront (page_room before) (written_on now)) never_rose
+    (wrote before now empty) (broke before now empty fits) s monitor left

@@ -1,23 +1,26 @@
 -- What an audit onto a page answers and writes.
-use Rattle.std.specs.Prelude.{◌≡◌, ℕ, List, ◌++◌, Option, None}
+use Rattle.std.specs.Prelude.{◌≡◌, ◌+◌, ◌<◌, ℕ, List, ◌++◌, Option, None, length}
 use Rattle.cct_audit.specs.Writing.{bytes_of}
 use Rattle.cct_bench.specs.declared.outcome.Status.{Status}
-use Rattle.cct_bench.specs.Audit.{AuditRan}
+use Rattle.cct_bench.specs.Audit.{AuditRan, IsOfAudit}
 use Rattle.cct_bench.specs.Status.{code_of}
 
 -- These bytes are those of these lines.
 abbrev pub AreLines : List ℕ → List (List ℕ) → Type 0
 AreLines page lines = page ≡ bytes_of lines
 
--- These bytes are those of the first of these lines, and of the others a front, since no more found room.
-abbrev pub AreFront : List ℕ → List (List ℕ) → List (List ℕ) → Type 0
-AreFront page whole cut =
+-- These bytes are those of the first of these lines, and of the others a front: in so much room there is none for the rest.
+abbrev pub AreFront : ℕ → List ℕ → List (List ℕ) → List (List ℕ) → Type 0
+AreFront room page whole cut =
     (front : List ℕ) × (rest : List ℕ) × (page ≡ bytes_of whole ++ front) × (bytes_of cut ≡ front ++ rest)
+    × (room < length page + length rest)
 
--- An audit of this capture answered this code and wrote these bytes: what an audit by the bench says of it, which is right, since
+-- An audit of this capture, with so much room, answered this code and wrote these bytes: what an audit by the bench says of it, which is right, since
 -- reading it can't fail.
-pub record Audits (capture : List ℕ) (code : ℕ) (page : List ℕ) : Type 0 where
+pub record Audits (capture : List ℕ) (code room : ℕ) (page : List ℕ) : Type 0 where
   pub status : Status
   pub coded : code ≡ code_of status
+  -- It never lacks memory.
+  pub one : IsOfAudit status
   pub left : Option (List ℕ)
-  pub ran : AuditRan capture status None left ⊥ (AreLines page) (AreFront page)
+  pub ran : AuditRan capture status None left ⊥ (AreLines page) (AreFront room page)

@@ -9,7 +9,7 @@ use cct_slices::{Given, Page};
 /// status of `cct_main audit`, and in `wrote` how many bytes were written: after them the page is as it was.
 #[unsafe(no_mangle)]
 pub extern "C" fn cct_audit(capture: &[u8], page: &mut [u8], wrote: &mut u64) -> u32
-    ensures audited { Audits capture.now result (take wrote.new page.new) }
+    ensures audited { Audits capture.now result (length page.old) (take wrote.new page.new) }
     ensures within { wrote.new ≤ length page.new }
     ensures rest { drop wrote.new page.new ≡ drop wrote.new page.old }
 {
