@@ -5,23 +5,23 @@ use cct_advice::advise_line;
 use cct_disk::FileDisk;
 use cct_lines::LineKind;
 use cct_service::{Beside, OrderTold, Outside};
-use std::fs;
+use std::fs::{self, Files};
 
 /// The program around a service over the journal of this path.
 #[derive(Drop)]
-pub(crate) struct Around<'r> {
-    rt: &'r HostRuntime,
+pub(crate) struct Around<'r, R> {
+    rt: &'r R,
     journal: &'r str,
 }
 
-impl<'r> Around<'r> {
+impl<'r, R: Files + Eprint> Around<'r, R> {
     /// Around a service over the journal of a path.
-    pub(crate) fn new(rt: &'r HostRuntime, journal: &'r str) -> Around<'r> {
+    pub(crate) fn new(rt: &'r R, journal: &'r str) -> Around<'r, R> {
         Around { rt, journal }
     }
 
     /// The disk of the journal once more, to be read alone; none where its file is gone.
-    fn open_again(&self) -> Option<FileDisk<HostRuntime>> {
+    fn open_again(&self) -> Option<FileDisk<R>> {
         // A disk over a file that is gone would make it anew.
         match fs::metadata(self.rt, self.journal) {
             Ok(_) => Some(FileDisk::open_file(self.rt, self.journal)),
@@ -30,7 +30,7 @@ impl<'r> Around<'r> {
     }
 }
 
-impl Outside for Around<'_> {
+impl<R: Files + Eprint> Outside for Around<'_, R> {
     fn refused(&mut self, number: u32, kind: LineKind, line: &[u8]) {
         let _ = self.rt.eprintln(advise_line(number, kind, line));
     }
@@ -43,8 +43,8 @@ impl Outside for Around<'_> {
     }
 }
 
-impl<'r> Beside<FileDisk<HostRuntime>> for Around<'r> {
-    fn beside(&mut self, _: &FileDisk<HostRuntime>) -> Option<FileDisk<HostRuntime>> {
+impl<R: Files + Eprint> Beside<FileDisk<R>> for Around<'_, R> {
+    fn beside(&mut self, _: &FileDisk<R>) -> Option<FileDisk<R>> {
         self.open_again()
     }
 }
