@@ -51,7 +51,7 @@ async function fitting(bytes, asked) {
 const audit = bytes => fitting(bytes, room => call('audit', 'cct_audit', bytes, { room }, COUNT));
 const captured = (bytes, devices) => fitting(bytes, room =>
   call('show', 'cct_capture', bytes, devices, { room }, { room }, { room }, COUNT, COUNT));
-const inWords = bytes => fitting(bytes, room => call('show', 'cct_words', bytes, { room }, COUNT));
+const inWords = bytes => fitting(bytes, room => call('show', 'cct_bench_words', bytes, { room }, COUNT));
 const played = bytes => fitting(bytes, room => call('bench', 'cct_play', bytes, { room }, COUNT));
 const drawn = bytes => fitting(bytes, room => call('draw', 'cct_picture', bytes, { room }, COUNT));
 const paged = bytes => fitting(bytes, room => call('draw', 'cct_html', bytes, { room }, COUNT));

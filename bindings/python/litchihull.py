@@ -1,6 +1,6 @@
 """The parts of litchihull.h for Python, by ctypes, without further packages.
 
-The library is one shared object, which bench/check_c builds as docs/EMBED.md says: pass its path to `Library`. Each call gives
+The library is one shared object, which tools/check_c builds as docs/EMBED.md says: pass its path to `Library`. Each call gives
 what it read or wrote, or raises `Refused` with the code of litchihull.h.
 """
 

@@ -10,9 +10,9 @@ from pathlib import Path
 import markdown
 
 # The files that cite pages.
-CITING = ("crates/*/src/**/*.rt", "crates/*/specs/**/*.antt", "crates/*/proofs/**/*.antt", "bench/*", "bench/*/*.py", "docs/*",
+CITING = ("crates/*/src/**/*.rt", "crates/*/specs/**/*.antt", "crates/*/proofs/**/*.antt", "tools/*", "tools/*/*.py", "docs/*",
           "docs/checks/*.py", "examples/*", "examples/*/*", ".ci/*")
-PAGE = re.compile(r"\b((?:docs|bench|examples)/[A-Z]+\.md)\b")
+PAGE = re.compile(r"\b((?:docs|tools|examples)/[A-Z]+\.md)\b")
 HEADING = re.compile(PAGE.pattern + r"[\])`]*, \\?\"([^\"\\]+)\\?\"")
 
 

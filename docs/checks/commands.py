@@ -33,19 +33,19 @@ SHOWING = ("docs/AUDIT.md",)
 
 # What isn't played: the page, the lines, and why not.
 WITHOUT = [
-    ("docs/LIVE.md", r"stty -F /dev/ttyUSB0 .*", "there is no such port; bench/check_live sets its own so"),
+    ("docs/LIVE.md", r"stty -F /dev/ttyUSB0 .*", "there is no such port; tools/check_live sets its own so"),
     ("docs/LIVE.md", r"cct_(?:live|devices) (?:setup|adopt)?[A-Z ]* (?:SETUP|PORT|EVENTS|\[).*|\[--quiet\].*",
      "these are forms of words; the programs name the same ones"),
-    ("docs/SHOW.md", r"cct_show json .*\| jq .*", "jq may be missing; bench/check_show plays it where it is there"),
+    ("docs/SHOW.md", r"cct_show json .*\| jq .*", "jq may be missing; tools/check_show plays it where it is there"),
     ("docs/PROBE.md", r"stty -F /dev/ttyUSB0 .*|cct_probe machine /dev/ttyUSB0 .*",
-     "there is no such port; bench/check_probe plays it over another one"),
+     "there is no such port; tools/check_probe plays it over another one"),
     ("docs/CALLERS.md", r"stty -F /dev/ttyS0 .*|cct_devices setup events /dev/ttyS0",
-     "there is no such port; bench/check_devices plays it over another one"),
-    ("docs/PROBE.md", r"cct_live setup /dev/ttyUSB0 > machine", "there is no such port; bench/check_live plays it over another one"),
+     "there is no such port; tools/check_devices plays it over another one"),
+    ("docs/PROBE.md", r"cct_live setup /dev/ttyUSB0 > machine", "there is no such port; tools/check_live plays it over another one"),
     ("docs/OPERATING.md", r"cct_main upgrade < SETUP", "it wants a journal of an older program; examples/older_journal.play plays it"),
     ("docs/EMBED.md", r"\(cd crates/cct_c && rt lib\)|gcc -I.*|\./one_coin|\./read_coins .*",
-     "the library isn't one of the programs; bench/check_c builds and plays it"),
-    ("docs/WEB.md", r"web/build|bench/check_web", "they take the kit and Chromium"),
+     "the library isn't one of the programs; tools/check_c builds and plays it"),
+    ("docs/WEB.md", r"web/build|tools/check_web", "they take the kit and Chromium"),
     *((f"docs/{page}.md", r"cct_live \.\. \| ts(?: '[^']*')?", "it is a form of words, and `ts` need not be there")
       for page in ("SHOW", "LIVE", "OPERATING")),
 ]
@@ -61,7 +61,7 @@ PREPARED = {
 }
 
 # How a line begins that is a command.
-COMMAND = re.compile(r"\(?(?:cd|rt|stty|printf|mkdir|\$|\.?\.?/?(?:crates|bench|docs|examples)/\S+|cct_\w+ [a-z].*<) ")
+COMMAND = re.compile(r"\(?(?:cd|rt|stty|printf|mkdir|\$|\.?\.?/?(?:crates|tools|docs|examples)/\S+|cct_\w+ [a-z].*<) ")
 
 # What takes the place of the kit's command.
 KIT = """#!/bin/sh
@@ -131,7 +131,7 @@ class Clone:
     def __init__(self, root: Path, folder: Path, programs: dict[str, Path]):
         self.folder = folder / "clone"
         shutil.copytree(root / "examples", self.folder / "examples")
-        for name in ("bench", "docs"):
+        for name in ("tools", "docs"):
             (self.folder / name).symlink_to(root / name)
         tools = folder / "tools"
         tools.mkdir()

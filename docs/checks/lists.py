@@ -93,7 +93,7 @@ def paths(root: Path):
     count, faults = 0, []
     for path in [root / "README.md", *sorted(root.glob("*/*.md"))]:
         for number, line in enumerate(path.read_text().splitlines(), 1):
-            for word, name in re.findall(r"(?:`(\w+)` in )?`((?:bench|crates|docs|examples)/[^` ]*[^` .])`", line):
+            for word, name in re.findall(r"(?:`(\w+)` in )?`((?:crates|docs|tools|examples)/[^` ]*[^` .])`", line):
                 # those that represent any name, and what is built
                 if re.search(r"NAME|EDIT|\*|/out\b", name):
                     continue
@@ -174,7 +174,7 @@ def first_pages(root: Path):
 def names(root: Path):
     """Each name of code in back quotes stands in the source: a word with a low line, or with a capital and a small letter;
     it may also be that of an edit, an example, a measure or a crate."""
-    known = {path.stem for pattern in ("crates/*/must-fail/*.*", "crates/*", "examples/*", "bench/*", "docs/*")
+    known = {path.stem for pattern in ("crates/*/must-fail/*.*", "crates/*", "examples/*", "tools/*", "docs/*")
              for path in root.glob(pattern)}
     for pattern in ("src/**/*.rt", "specs/**/*.antt", "proofs/**/*.antt", "*.h"):
         for path in root.glob(f"crates/*/{pattern}"):

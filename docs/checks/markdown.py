@@ -35,7 +35,7 @@ class Block:
 
 
 def pages(root: Path) -> list[Path]:
-    """All documents: README, and those of bench/, crates/, docs/ and examples/."""
+    """All documents: README, and those of tools/, crates/, docs/ and examples/."""
     return [root / "README.md", *sorted(root.glob("*/*.md"))]
 
 

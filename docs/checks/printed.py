@@ -11,20 +11,22 @@ import lists
 import markdown
 import source
 
-# The families of crates, in the order of their layers, and their crates without `cct_`. One that isn't named is of the laws
-# or the tests by its name.
+# The families of crates, in the order of their layers. A crate belongs to the family that names it, without `cct_`, or else to
+# the one that has the first words of its name.
 FAMILIES = {
-    "Definitions": "terms lines model vectors",
+    "Definitions": "model",
     "The wire": "check frame wire msg",
-    "Devices": "device ident ring sorter intake acceptor bill life hopper bus",
-    "Disk and journal": "disk queue record journal",
-    "The host": "epoch order jobs carry ledger host poll",
-    "The bench": "edge slices script text plan change world gen load report state proofread taps monitor audit words bench near advice main",
-    "Laws": "laws change_laws lives answered wild",
-    "On a line": "port prompt honest_line line_laws terminal survey worth draft setup_copy service live devices trials trial_run probe",
-    "Shown to people": "tell log_line log captured columns pen draw marks page forms show",
-    "Callers and measures": "callers c web web_bench web_show web_draw speed plan_speed",
-    "Tests alone": "",
+    "Devices": "device ident ring sorter acceptor bill life hopper bus",
+    "Disk and journal": "disk record journal",
+    "The host": "epoch order jobs plan ledger host poll",
+    "Laws": "laws",
+    "Text": "edge script text gen advice",
+    "The bench": "world monitor audit bench main",
+    "On a line": "live devices probe",
+    "Shown to people": "show",
+    "In other languages": "c web",
+    "Examples and measures": "example measure",
+    "Tests alone": "test",
 }
 
 # By its test in `tests_of` of cct_model, the reason for which a command is refused where the test fails.
@@ -93,22 +95,21 @@ def script_head(path: Path) -> str:
 
 
 def family_of(name: str) -> str:
-    """The family of a crate that FAMILIES doesn't name."""
-    endings = {"laws": "Laws", "tests": "Tests alone", "runs": "Tests alone"}
-    return endings.get(name.rsplit("_")[-1], "")
+    """The family of a crate: the one that names it or the longest front of its words."""
+    words = name.removeprefix("cct_").split("_")
+    fronts = ["_".join(words[:length]) for length in range(len(words), 0, -1)]
+    for front in fronts:
+        for family, named in FAMILIES.items():
+            if front in named.split():
+                return family
+    raise ValueError(f"in no family of docs/checks/printed.py: {name}")
 
 
 def families(names: list[str]) -> dict[str, list[str]]:
-    """By each family its crates, of these."""
-    found = {family: [f"cct_{name}" for name in named.split()] for family, named in FAMILIES.items()}
-    known = [name for named in found.values() for name in named]
+    """By each family its crates, of these, in their order."""
+    found: dict[str, list[str]] = {family: [] for family in FAMILIES}
     for name in names:
-        if name not in known and family_of(name):
-            found[family_of(name)].append(name)
-            known.append(name)
-    wrong = sorted(set(known) ^ set(names)) + sorted({name for name in known if known.count(name) > 1})
-    if wrong:
-        raise ValueError(f"not once in FAMILIES of docs/checks/printed.py and in crates.txt: {', '.join(wrong)}")
+        found[family_of(name)].append(name)
     return found
 
 
@@ -137,21 +138,21 @@ def edits(root: Path) -> list[str]:
 
 
 def scripts(root: Path) -> list[str]:
-    """Each script of bench/, and the one that plays the examples, with the first sentence of its head."""
-    paths = [root / "examples/check", *(path for path in sorted(root.glob("bench/*")) if path.is_file() and not path.suffix)]
+    """Each script of tools/, and the one that plays the examples, with the first sentence of its head."""
+    paths = [root / "examples/check", *(path for path in sorted(root.glob("tools/*")) if path.is_file() and not path.suffix)]
     rows = [[f"`{path.relative_to(root)}`", first_sentence(script_head(path))] for path in paths]
     return table(["Script", "What it does"], rows)
 
 
 def results(root: Path) -> list[str]:
-    """The first table that bench/measure printed, with the sentence before it."""
-    sentence, table, *_ = (root / "bench/results/measure.md").read_text().strip().split("\n\n")
+    """The first table that tools/measure printed, with the sentence before it."""
+    sentence, table, *_ = (root / "tools/results/measure.md").read_text().strip().split("\n\n")
     return [sentence, "", *table.split("\n")]
 
 
 def gate(root: Path) -> list[str]:
-    """What `bench/gate_times` wrote of the gate: the DEAREST crates, and the sums."""
-    path = root / "bench/results/gate.md"
+    """What `tools/gate_times` wrote of the gate: the DEAREST crates, and the sums."""
+    path = root / "tools/results/gate.md"
     if not path.exists():
         return ["The gate wasn't timed since the newest crates came."]
     head, line, *rows = path.read_text().split("\n\n")[0].strip().split("\n")
@@ -165,9 +166,9 @@ def gate(root: Path) -> list[str]:
 
 
 def constants(root: Path) -> dict[str, int]:
-    """The numbers that the public constants of cct_terms and cct_lines, and those of the table of forms, are."""
+    """The numbers that the public constants of cct_model_wire and cct_model_lines, and those of the table of forms, are."""
     found = {"u64::MAX": 2 ** 64 - 1}
-    texts = [path.read_text() for name in ("cct_terms", "cct_lines", "cct_advice")
+    texts = [path.read_text() for name in ("cct_model_wire", "cct_model_lines", "cct_advice")
              for path in sorted((root / f"crates/{name}/src").glob("**/*.rt"))]
     for _ in range(2):
         for text in texts:

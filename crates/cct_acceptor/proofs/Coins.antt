@@ -1,9 +1,9 @@
 -- What a coin makes of what an acceptor holds.
 use Rattle.std.proofs.Common.{◌≡◌, ℕ, suc, true, false, List, ◌∷◌}
-use Rattle.cct_terms.specs.Acceptor.{accepted_coins, accepts, events, path_of, settings}
-use Rattle.cct_terms.specs.History.{Met, coin}
-use Rattle.cct_intake.specs.declared.intake.Intake.{Intake}
-use Rattle.cct_intake.specs.Intake.{Holds}
+use Rattle.cct_model_wire.specs.Acceptor.{accepted_coins, accepts, events, path_of, settings}
+use Rattle.cct_model_wire.specs.History.{Met, coin}
+use Rattle.cct_device_intake.specs.declared.intake.Intake.{Intake}
+use Rattle.cct_device_intake.specs.Intake.{Holds}
 
 -- an inhibited coin is error 2, and the accept counter stays
 pub inhibited_holds : (intake : Intake) (start : ℕ) (past : List Met) (place : ℕ) → accepts past place ≡ false

@@ -1,14 +1,14 @@
 -- The replies of an acceptor.
 use Rattle.std.proofs.Common.{◌≡◌, ℕ, ◌-◌, Bool, true, false, List, [], get_or, refl}
 use Rattle.std.proofs.lemmas.Option.{unwrap_or-slice_get}
-use Rattle.cct_terms.specs.declared.device.DeviceBody.{DeviceBody}
-use Rattle.cct_terms.specs.declared.device.DeviceBody.TheVariants as body
-use Rattle.cct_terms.specs.declared.request.Request.{Request}
-use Rattle.cct_terms.specs.declared.request.Request.TheVariants.{SetMask, SetMaster, ReadCredits, SetPath, GetPath, SetDefault, GetDefault, CoinId}
-use Rattle.cct_terms.specs.Acceptor.{accept_count, acceptor_reply, id_at, inhibit_reply, settings}
-use Rattle.cct_terms.specs.Device.{IsAcceptor, own_reply}
-use Rattle.cct_terms.specs.History.{Met}
-use Rattle.cct_intake.specs.Intake.{IsInhibits, is_setting}
+use Rattle.cct_model_wire.specs.declared.device.DeviceBody.{DeviceBody}
+use Rattle.cct_model_wire.specs.declared.device.DeviceBody.TheVariants as body
+use Rattle.cct_model_wire.specs.declared.request.Request.{Request}
+use Rattle.cct_model_wire.specs.declared.request.Request.TheVariants.{SetMask, SetMaster, ReadCredits, SetPath, GetPath, SetDefault, GetDefault, CoinId}
+use Rattle.cct_model_wire.specs.Acceptor.{accept_count, acceptor_reply, id_at, inhibit_reply, settings}
+use Rattle.cct_model_wire.specs.Device.{IsAcceptor, own_reply}
+use Rattle.cct_model_wire.specs.History.{Met}
+use Rattle.cct_device_intake.specs.Intake.{IsInhibits, is_setting}
 use Rattle.cct_acceptor.specs.Acceptor.{ids_of, is_change, start_of}
 
 -- What an acceptor's kind alone answers, it answers by its start and its identifications.

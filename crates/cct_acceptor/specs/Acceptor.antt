@@ -1,15 +1,15 @@
 -- A coin acceptor that represents all that it met (ccTalk Generic Specification 4, part 2).
 use Rattle.std.specs.Prelude.{◌≡◌, ℕ, Bool, true, false, List, [], if◌then◌else◌}
-use Rattle.cct_terms.specs.declared.device.DeviceBody.{DeviceBody}
-use Rattle.cct_terms.specs.declared.device.DeviceBody.TheVariants as body
-use Rattle.cct_terms.specs.declared.device.DeviceSetup.{DeviceSetup}
-use Rattle.cct_terms.specs.declared.request.Request.{Request}
-use Rattle.cct_terms.specs.declared.request.Request.TheVariants.{ResetDevice, SetMask, SetMaster, SetPath, SetDefault}
-use Rattle.cct_terms.specs.Acceptor.{accepted_coins, accepts, events, path_of, settings}
-use Rattle.cct_terms.specs.Device.{IsAcceptor}
-use Rattle.cct_terms.specs.History.{Met}
-use Rattle.cct_device.specs.Listening.{HeardSince}
-use Rattle.cct_intake.specs.Intake.{Holds}
+use Rattle.cct_model_wire.specs.declared.device.DeviceBody.{DeviceBody}
+use Rattle.cct_model_wire.specs.declared.device.DeviceBody.TheVariants as body
+use Rattle.cct_model_wire.specs.declared.device.DeviceSetup.{DeviceSetup}
+use Rattle.cct_model_wire.specs.declared.request.Request.{Request}
+use Rattle.cct_model_wire.specs.declared.request.Request.TheVariants.{ResetDevice, SetMask, SetMaster, SetPath, SetDefault}
+use Rattle.cct_model_wire.specs.Acceptor.{accepted_coins, accepts, events, path_of, settings}
+use Rattle.cct_model_wire.specs.Device.{IsAcceptor}
+use Rattle.cct_model_wire.specs.History.{Met}
+use Rattle.cct_device_core.specs.Listening.{HeardSince}
+use Rattle.cct_device_intake.specs.Intake.{Holds}
 use Rattle.cct_acceptor.specs.declared.acceptor.Acceptor.{Acceptor}
 use Rattle.cct_acceptor.specs.declared.acceptor.Inserted.{Inserted}
 use Rattle.cct_acceptor.specs.declared.acceptor.Inserted.TheVariants.{Accepted, Inhibited}

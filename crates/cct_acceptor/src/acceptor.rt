@@ -1,22 +1,22 @@
 //! The coin acceptor as a device (ccTalk Generic Specification 4, part 2).
 ghost use Rattle.std.specs.Prelude.{◌≡◌, ◌<◌, ◌≤◌, ◌^◌, ◌&&◌, ℕ, List, [], ◌∷◌, ◌++◌, false, true, if◌then◌else◌, Some, IfOk, IfSome, MatchOption};
 ghost use Rattle.std.specs.Option.{option_map};
-ghost use Rattle.cct_terms.specs.declared.coin.Pair.{Pair};
-ghost use Rattle.cct_terms.specs.declared.device.DeviceSetup.{DeviceSetup};
-ghost use Rattle.cct_terms.specs.Device.{IsAcceptor, IsSound, reply_of};
-ghost use Rattle.cct_terms.specs.Acceptor.{acceptor_reply, id_at, path_of};
-ghost use Rattle.cct_terms.specs.Exchange.{answer, asks_of};
-ghost use Rattle.cct_terms.specs.History.{Met, alien, coin, heard, reset};
-ghost use Rattle.cct_terms.specs.Reply.{IsSayable, ack, coin_id, nak, path, reply_shown};
-ghost use Rattle.cct_terms.specs.Setting.{Setting, default_set, is_path, is_place, path_set};
-ghost use Rattle.cct_device.specs.Listening.{kind_of};
-ghost use Rattle.cct_intake.specs.Intake.{Holds};
+ghost use Rattle.cct_model_wire.specs.declared.coin.Pair.{Pair};
+ghost use Rattle.cct_model_wire.specs.declared.device.DeviceSetup.{DeviceSetup};
+ghost use Rattle.cct_model_wire.specs.Device.{IsAcceptor, IsSound, reply_of};
+ghost use Rattle.cct_model_wire.specs.Acceptor.{acceptor_reply, id_at, path_of};
+ghost use Rattle.cct_model_wire.specs.Exchange.{answer, asks_of};
+ghost use Rattle.cct_model_wire.specs.History.{Met, alien, coin, heard, reset};
+ghost use Rattle.cct_model_wire.specs.Reply.{IsSayable, ack, coin_id, nak, path, reply_shown};
+ghost use Rattle.cct_model_wire.specs.Setting.{Setting, default_set, is_path, is_place, path_set};
+ghost use Rattle.cct_device_core.specs.Listening.{kind_of};
+ghost use Rattle.cct_device_intake.specs.Intake.{Holds};
 
 use arrayvec::ArrayVec;
-use cct_device::{Asked, Listener, asked_whole, common_reply, give};
-use cct_intake::Intake;
+use cct_device_core::{Asked, Listener, asked_whole, common_reply, give};
+use cct_device_intake::Intake;
+use cct_model_wire::{COIN_PLACES, Coin, DeviceBody, DeviceSetup, MOST_SENT, Pair, Reply, Request};
 use cct_sorter::is_place;
-use cct_terms::{COIN_PLACES, Coin, DeviceBody, DeviceSetup, MOST_SENT, Pair, Reply, Request};
 use std::alloc::{AllocError, Global};
 
 /// The error event of a piece that is no coin.
@@ -173,7 +173,7 @@ impl<'s> Acceptor<'s> {
     }
 
     /// Acts on a request, and gives the reply, or none where no acceptor knows the request.
-    #[tactic(auto, unfolding(cct_terms::specs::Device::reply_of, cct_terms::specs::Device::common_reply, cct_terms::specs::Acceptor::acceptor_reply), using(crate::proofs::Replies::own_is))]
+    #[tactic(auto, unfolding(cct_model_wire::specs::Device::reply_of, cct_model_wire::specs::Device::common_reply, cct_model_wire::specs::Acceptor::acceptor_reply), using(crate::proofs::Replies::own_is))]
     fn act(&mut self, request: Request) -> Option<Reply<'s>>
         ensures stands { (d : DeviceSetup) (past : List Met) → StandsFor self.old d past
             → StandsFor self.new d (heard (Some request) ∷ past) }
@@ -196,7 +196,7 @@ impl<'s> Acceptor<'s> {
     }
 
     /// The reply to a request that changes nothing.
-    #[tactic(auto, unfolding(cct_terms::specs::Device::reply_of, cct_terms::specs::Device::common_reply), using(crate::proofs::Replies::own_is))]
+    #[tactic(auto, unfolding(cct_model_wire::specs::Device::reply_of, cct_model_wire::specs::Device::common_reply), using(crate::proofs::Replies::own_is))]
     fn tell(&self, request: Request) -> Option<Reply<'s>>
         ensures answer { (d : DeviceSetup) (past : List Met) → StandsFor self.now d past → is_change request ≡ false
             → option_map reply_shown result ≡ reply_of d past request }
@@ -209,7 +209,7 @@ impl<'s> Acceptor<'s> {
     }
 
     /// The reply to a request for the acceptor's coins that changes nothing.
-    #[tactic(auto, unfolding(cct_terms::specs::Acceptor::acceptor_reply))]
+    #[tactic(auto, unfolding(cct_model_wire::specs::Acceptor::acceptor_reply))]
     fn tell_coins(&self, request: Request) -> Option<Reply<'s>>
         ensures answer { (d : DeviceSetup) (past : List Met) → StandsFor self.now d past → is_change request ≡ false
             → option_map reply_shown result ≡ acceptor_reply (start_of d.body) (ids_of d.body) past request }

@@ -5,7 +5,7 @@ use crate::fields::first_field;
 use crate::forms::Part;
 use crate::refusal::{Refusal, addr_in};
 use crate::window::Window;
-use cct_lines::LineKind;
+use cct_model_lines::LineKind;
 use cct_script::ranged;
 use std::fmt;
 

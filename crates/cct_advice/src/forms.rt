@@ -2,7 +2,7 @@
 //! `docs/LIVE.md`.
 
 use crate::rule::Rule;
-use cct_lines::{
+use cct_model_lines::{
     COIN_PLACES, GREATEST_AMOUNT, GREATEST_FIRST, MOST_HEARD, MOST_SENT, PATHS, RETURN_CODE,
     STACK_CODE,
 };

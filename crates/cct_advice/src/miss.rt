@@ -5,7 +5,7 @@ use crate::forms::{FORMS, Field, Form, FormsOf, Part, Text};
 use crate::gaps::is_remark;
 use crate::rule::{Rule, misspelling};
 use crate::shown::Shown;
-use cct_near::is_near;
+use cct_advice_near::is_near;
 use std::fmt;
 
 /// What is wrong after a word.

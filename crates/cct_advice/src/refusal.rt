@@ -6,7 +6,7 @@ use crate::gaps::gap_in;
 use crate::miss::miss_in;
 use crate::shown::Shown;
 use crate::word::BadWord;
-use cct_lines::{DEVICES, MOST_LINE, MOST_LINES};
+use cct_model_lines::{DEVICES, MOST_LINE, MOST_LINES};
 use std::fmt;
 
 /// A refused line, as far as it was taken, without its line feed.

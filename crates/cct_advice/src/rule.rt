@@ -1,6 +1,6 @@
 //! What a field may be.
 
-use cct_lines::MOST_NAME;
+use cct_model_lines::MOST_NAME;
 use cct_script::ranged;
 use std::fmt;
 

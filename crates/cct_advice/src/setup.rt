@@ -1,11 +1,11 @@
 //! A setup that is read from a file, with what is wrong with it.
 ghost use Rattle.std.specs.Prelude.{IfOk};
-ghost use Rattle.cct_lines.specs.Setup.{IsSoundSetup};
+ghost use Rattle.cct_model_lines.specs.Setup.{IsSoundSetup};
 
 use crate::advice::setup_advice;
 use crate::kept::KeptSource;
 use cct_edge::Source;
-use cct_lines::Setup;
+use cct_model_lines::Setup;
 use cct_script::{SetupNo, read_setup};
 
 /// Reads a setup for this program, and says on standard error what is wrong with its refused line, if it has one.

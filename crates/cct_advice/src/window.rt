@@ -4,7 +4,7 @@ ghost use Rattle.cct_advice.specs.declared.window.TheConstants.{LONGEST, ROOM};
 
 use crate::forms::{Part, Text};
 use crate::given::Given;
-use cct_lines::MOST_LINE;
+use cct_model_lines::MOST_LINE;
 
 /// The most bytes that the reader of lines holds: a line, and one byte.
 const LONGEST: usize = MOST_LINE + 1;

@@ -4,7 +4,7 @@ use crate::fields::first_field;
 use crate::forms::{FORMS, Form, Part, Text, WordsOf};
 use crate::gaps::is_remark;
 use crate::shown::Shown;
-use cct_near::is_near;
+use cct_advice_near::is_near;
 use std::fmt;
 
 /// A line whose word its part of the script or of the capture doesn't have.

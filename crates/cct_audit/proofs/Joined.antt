@@ -8,7 +8,7 @@ use Rattle.std.proofs.lemmas.List.{map-append, reverse-reverse}
 use Rattle.std.proofs.lemmas.List.Elements.{All-cons, All-head, All-nil, All-tail}
 use Rattle.cct_model.specs.lines.entry.LineKind.{LineKind}
 use Rattle.cct_model.specs.lines.entry.LineKind.TheVariants as kind
-use Rattle.cct_taps.specs.declared.said.Said.{Said}
+use Rattle.cct_audit_taps.specs.declared.said.Said.{Said}
 use Rattle.cct_model.specs.Script.{is_line_feed, most_bytes, most_lines}
 use Rattle.cct_script.specs.declared.capture.CaptureLine.{CaptureLine}
 use Rattle.cct_script.specs.declared.capture.CaptureLine.TheVariants as says
@@ -17,14 +17,14 @@ use Rattle.cct_script.specs.Scripts.{tested}
 use Rattle.cct_monitor.specs.declared.places.TheConstants.{WATCHED}
 use Rattle.cct_monitor.specs.Once.{is_between, is_of_at}
 use Rattle.cct_monitor.specs.Spans.{spans}
-use Rattle.cct_taps.specs.Taps.{quiet_shown, shown}
+use Rattle.cct_audit_taps.specs.Taps.{quiet_shown, shown}
 use Rattle.cct_monitor.specs.Watches.{Came, Watch, all_told, finally_of_all, made_tap, made_watch, said_of_all}
 use Rattle.cct_monitor.proofs.Among.{IsOnly, NoneAt, once_among_all, quiet_among_all}
 use Rattle.cct_monitor.proofs.Reported.{has_none, head_or_rest}
 use Rattle.cct_audit.specs.Capture.{Capture, Read, Stage, addresses_in, capture, capture_form, capture_from, capture_read, comes, goes_on, is_over, is_refused, opens, over, refuses, stage_after, tap_read, tapping, watch_line, watch_read, watching}
 use Rattle.cct_audit.specs.declared.opening.WatchLine.{WatchLine}
 use Rattle.cct_audit.specs.declared.opening.WatchLine.TheVariants as opens_by
-use Rattle.cct_taps.specs.declared.money.Money.{Money}
+use Rattle.cct_audit_taps.specs.declared.money.Money.{Money}
 use Rattle.cct_monitor.specs.declared.watched.Family.TheVariants as family
 use Rattle.cct_audit.specs.Telling.{said_line, told, told_last}
 use Rattle.cct_audit.specs.Joined.{taps_among, watches_in}

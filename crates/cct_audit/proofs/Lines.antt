@@ -1,7 +1,7 @@
 -- Captures by their lines.
 use Rattle.std.proofs.Common.{◌≡◌, ◌<◌, ◌≤◌, ℕ, List, get_or, length, map, take, refl, ap, sym, ◌∙◌, subst}
 use Rattle.std.proofs.lemmas.List.{get_or-map, length-map, take_all}
-use Rattle.cct_taps.specs.declared.said.Said.{Said}
+use Rattle.cct_audit_taps.specs.declared.said.Said.{Said}
 use Rattle.cct_monitor.specs.declared.monitor.Monitor.{Monitor}
 use Rattle.cct_monitor.specs.Watches.{Came}
 use Rattle.cct_script.proofs.Continuing.{Lawful}

@@ -12,12 +12,12 @@ use Rattle.cct_script.specs.declared.capture.CaptureLine.{CaptureLine}
 use Rattle.cct_script.specs.declared.capture.CaptureLine.TheVariants as says
 use Rattle.cct_script.specs.Capture.{capture_line}
 use Rattle.cct_script.specs.Scripts.{Kind, tested, unfinished_by}
-use Rattle.cct_taps.specs.declared.money.Money.{Money}
-use Rattle.cct_taps.specs.declared.money.Money.TheVariants.{Coins, Bills}
+use Rattle.cct_audit_taps.specs.declared.money.Money.{Money}
+use Rattle.cct_audit_taps.specs.declared.money.Money.TheVariants.{Coins, Bills}
 use Rattle.cct_monitor.specs.declared.watched.Family.{Family}
 use Rattle.cct_monitor.specs.declared.watched.Family.TheVariants as family
 use Rattle.cct_monitor.specs.declared.places.TheConstants.{WATCHED}
-use Rattle.cct_taps.specs.Taps.{tap_of}
+use Rattle.cct_audit_taps.specs.Taps.{tap_of}
 use Rattle.cct_monitor.specs.Watches.{Came, made_tap, made_watch}
 use Rattle.cct_audit.specs.declared.opening.Manner.{Manner}
 use Rattle.cct_audit.specs.declared.opening.Manner.TheVariants as manner

@@ -1,6 +1,6 @@
 -- What came of a capture: its devices and its taps.
 use Rattle.std.specs.Prelude.{List, [], ◌∷◌}
-use Rattle.cct_taps.specs.Taps.{Tap}
+use Rattle.cct_audit_taps.specs.Taps.{Tap}
 use Rattle.cct_monitor.specs.Watches.{Came, Watch, made_tap, made_watch}
 
 -- The devices among what came, newest first.

@@ -1,10 +1,10 @@
 -- What the lines of a capture do to the monitor.
 use Rattle.std.specs.Prelude.{◌≡◌, ℕ, ◌==◌, List, ◌∷◌, length}
 use Rattle.std.specs.List.{list_any}
-use Rattle.cct_taps.specs.declared.said.Said.{Said}
+use Rattle.cct_audit_taps.specs.declared.said.Said.{Said}
 use Rattle.cct_monitor.specs.declared.monitor.Monitor.{Monitor}
 use Rattle.cct_monitor.specs.Monitor.{StandsFor, is_watched, watch_count}
-use Rattle.cct_taps.specs.Taps.{Tap}
+use Rattle.cct_audit_taps.specs.Taps.{Tap}
 use Rattle.cct_monitor.specs.Watches.{Came, Watch, made_tap, made_watch, said_of_all}
 use Rattle.cct_audit.specs.declared.reading.Opened.{Opened}
 use Rattle.cct_audit.specs.declared.reading.Opened.TheVariants as opened

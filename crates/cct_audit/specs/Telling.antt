@@ -4,10 +4,10 @@ use Rattle.cct_model.specs.terms.coin.Coin.{Coin}
 use Rattle.cct_model.specs.lines.entry.Entry.TheVariants as entry
 use Rattle.cct_model.specs.lines.entry.Said.TheVariants as spoken
 use Rattle.cct_model.specs.Text.{coins_field, line_of, number_text}
-use Rattle.cct_taps.specs.declared.said.Premise.{Premise}
-use Rattle.cct_taps.specs.declared.said.Premise.TheVariants as premise
-use Rattle.cct_taps.specs.declared.said.Said.{Said}
-use Rattle.cct_taps.specs.declared.said.Said.TheVariants.{Sure, Quiet, Doubt, Fell, Broken}
+use Rattle.cct_audit_taps.specs.declared.said.Premise.{Premise}
+use Rattle.cct_audit_taps.specs.declared.said.Premise.TheVariants as premise
+use Rattle.cct_audit_taps.specs.declared.said.Said.{Said}
+use Rattle.cct_audit_taps.specs.declared.said.Said.TheVariants.{Sure, Quiet, Doubt, Fell, Broken}
 use Rattle.cct_monitor.specs.Watches.{Came, finally_of_all, made_tap, made_watch, said_of_all}
 
 -- The line of a span of an acceptor that is watched for resets alone: `quiet A FIRST LAST COINS`, spelt as `sure` is.

@@ -3,8 +3,8 @@ ghost use Rattle.std.specs.Prelude.{◌≡◌, ◌++◌, ℕ, List, length, map,
 ghost use Rattle.std.specs.List.{Contains, filter};
 ghost use Rattle.cct_monitor.specs.Once.{is_between, is_of_at};
 ghost use Rattle.cct_monitor.specs.Spans.{spans};
-ghost use Rattle.cct_taps.specs.Taps.{quiet_shown, shown};
-ghost use Rattle.cct_taps.specs.declared.money.Money.{Money};
+ghost use Rattle.cct_audit_taps.specs.Taps.{quiet_shown, shown};
+ghost use Rattle.cct_audit_taps.specs.declared.money.Money.{Money};
 ghost use Rattle.cct_monitor.specs.declared.watched.Family.TheVariants as Family;
 ghost use Rattle.cct_monitor.specs.Watches.{Came, Watch, all_told, finally_of_all, made_tap, made_watch};
 ghost use Rattle.cct_audit.specs.Capture.{capture};

@@ -8,10 +8,10 @@ use Rattle.cct_model.specs.lines.entry.LineKind.{LineKind}
 use Rattle.cct_monitor.specs.declared.monitor.Monitor.{Monitor}
 use Rattle.cct_monitor.specs.Watches.{Came, all_told, finally_of_all, made_tap, made_watch}
 use Rattle.cct_monitor.specs.Spans.{spans}
-use Rattle.cct_wild.specs.Claims.{IsPlain, IsQuietSpan, IsToldQuiet, IsToldWhole, IsTrue, looks, quiet_looks}
-use Rattle.cct_wild.proofs.Complete.{plain_told}
-use Rattle.cct_wild.proofs.QuietTold.{quiet_told}
-use Rattle.cct_wild.proofs.True.{all_true}
+use Rattle.cct_laws_any_host.specs.Claims.{IsPlain, IsQuietSpan, IsToldQuiet, IsToldWhole, IsTrue, looks, quiet_looks}
+use Rattle.cct_laws_any_host.proofs.Complete.{plain_told}
+use Rattle.cct_laws_any_host.proofs.QuietTold.{quiet_told}
+use Rattle.cct_laws_any_host.proofs.True.{all_true}
 use Rattle.cct_model.specs.Script.{Refusal}
 use Rattle.cct_script.specs.Source.{OfBytes, to_come}
 use Rattle.cct_script.specs.declared.stops.ScriptStop.TheVariants as stop

@@ -4,8 +4,8 @@ use Rattle.cct_edge.proofs.Chains.{Consumes-nil}
 use Rattle.cct_edge.specs.declared.fault.Failed.{Failed}
 use Rattle.cct_model.specs.lines.entry.Entry.{Entry}
 use Rattle.cct_model.specs.lines.entry.Entry.TheVariants as entry
-use Rattle.cct_proofread.specs.Proof.{Proofread, refusal_line}
-use Rattle.cct_proofread.specs.declared.proofreading.ProofEnd.TheVariants as proof
+use Rattle.cct_script_check.specs.Proof.{Proofread, refusal_line}
+use Rattle.cct_script_check.specs.declared.proofreading.ProofEnd.TheVariants as proof
 use Rattle.cct_script.specs.Source.{OfBytes, to_come}
 use Rattle.cct_script.proofs.Sources.{told_by}
 use Rattle.cct_text.specs.Writing.{Writes}

@@ -14,8 +14,8 @@ use Rattle.cct_model.specs.lines.entry.Entry.TheVariants as entry
 use Rattle.cct_model.specs.Script.{script, Refusal}
 use Rattle.cct_model.specs.Transcript.{onto}
 use Rattle.cct_model.specs.Honest.{Honest}
-use Rattle.cct_change_laws.specs.Change.{ChangeIsPaid}
-use Rattle.cct_change_laws.proofs.Runs.{change_paid}
+use Rattle.cct_laws_change.specs.Change.{ChangeIsPaid}
+use Rattle.cct_laws_change.proofs.Runs.{change_paid}
 use Rattle.cct_laws.proofs.text.Scripts.{front_legal, front_of_today, played_right, setup_sound}
 use Rattle.cct_journal.specs.Image.{IsBlank, IsFirstByteFrom}
 use Rattle.cct_bench.specs.declared.outcome.Status.{Status}

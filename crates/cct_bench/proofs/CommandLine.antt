@@ -5,9 +5,9 @@ use Rattle.std.specs.Prelude.{if◌then◌else◌, nat_le}
 use Rattle.std.specs.Str.{bytes_eq}
 use Rattle.std.proofs.lemmas.Bool.{leb-true}
 use Rattle.cct_model.specs.Grammar.{◌>>=◌, alone, number_in, ranged, within}
-use Rattle.cct_words.specs.Grammar.{load_words, words_said}
-use Rattle.cct_words.specs.declared.words.Words.{Words}
-use Rattle.cct_words.specs.declared.words.Words.TheVariants as words
+use Rattle.cct_bench_words.specs.Grammar.{load_words, words_said}
+use Rattle.cct_bench_words.specs.declared.words.Words.{Words}
+use Rattle.cct_bench_words.specs.declared.words.Words.TheVariants as words
 
 -- a number within a range is no greater than its end
 picked_most : (a b : Bool) (n most r : ℕ) → (b ≡ true → n ≤ most) → (if a && b then Some n else None) ≡ Some r

@@ -18,8 +18,8 @@ use Rattle.cct_model.specs.Script.{is_line_feed, Stage, at_setup, at_steps, at_e
 use Rattle.cct_model.specs.Script.{Script, script, closed_script, unfinished}
 use Rattle.cct_model.specs.Setup.{IsSoundSetup}
 use Rattle.cct_model.specs.Transcript.{onto}
-use Rattle.cct_laws.proofs.Desks.{leaves_more}
-use Rattle.cct_laws.proofs.Onto.{transcript_on}
+use Rattle.cct_laws.proofs.steps.AtTheDesk.{leaves_more}
+use Rattle.cct_laws.proofs.steps.OneMore.{transcript_on}
 use Rattle.cct_laws.proofs.text.Scripts.{setup_sound, front_legal, front_of_today}
 use Rattle.cct_script.specs.Giving.{Standing}
 use Rattle.cct_world.specs.Early.{LegalBeforeLoss}

@@ -12,7 +12,7 @@ use Rattle.cct_model.specs.AtDesk.{LegalAtDesk}
 use Rattle.cct_model.specs.Change.{clear_desk}
 use Rattle.cct_model.specs.Script.{IsInRange}
 use Rattle.cct_model.specs.Transcript.{onto}
-use Rattle.cct_laws.proofs.Desks.{legal_at_desk}
+use Rattle.cct_laws.proofs.steps.AtTheDesk.{legal_at_desk}
 use Rattle.cct_laws.proofs.text.Scripts.{legal_right}
 use Rattle.cct_journal.specs.Image.{IsBlank}
 use Rattle.cct_disk.specs.Disk.{GoesOn, Outlasts}
@@ -34,12 +34,12 @@ use Rattle.cct_world.proofs.Surviving.{loses_by, survived_by}
 use Rattle.cct_gen.specs.Load.{load_setup, load_steps}
 use Rattle.cct_gen.proofs.LoadSetup.{setup_sound}
 use Rattle.cct_gen.proofs.Lines.{lines_in_range}
-use Rattle.cct_load.specs.declared.load.Load.{Load}
-use Rattle.cct_load.specs.declared.load.LoadEnd.{LoadEnd}
-use Rattle.cct_load.specs.declared.load.LoadEnd.TheVariants as load_end
+use Rattle.cct_bench_load.specs.declared.load.Load.{Load}
+use Rattle.cct_bench_load.specs.declared.load.LoadEnd.{LoadEnd}
+use Rattle.cct_bench_load.specs.declared.load.LoadEnd.TheVariants as load_end
 use Rattle.cct_world.specs.Serving.{DiskServes}
-use Rattle.cct_load.specs.Played.{LosesJournal, PlaysLoad, Relies, first_line}
-use Rattle.cct_load.specs.Played as loads
+use Rattle.cct_bench_load.specs.Played.{LosesJournal, PlaysLoad, Relies, first_line}
+use Rattle.cct_bench_load.specs.Played as loads
 use Rattle.cct_bench.specs.declared.outcome.Status.{Status}
 use Rattle.cct_bench.specs.declared.outcome.Status.TheVariants as status
 use Rattle.cct_bench.specs.declared.ending.Ending.{Ending}
@@ -50,8 +50,8 @@ use Rattle.cct_bench.specs.Load.{LoadCloses, LoadEnds, LoadPlayed, LoadStops, Lo
 use Rattle.cct_bench.specs.Report.{IsOrMemory}
 use Rattle.cct_bench.specs.Run.{EndsLost, IsUnopened, RecordsLeftByLine, TellsLoss, last_entry, listed, status_by, status_of}
 use Rattle.cct_model.specs.Honest.{Honest}
-use Rattle.cct_change_laws.specs.Change.{ChangeIsPaid}
-use Rattle.cct_change_laws.proofs.Runs.{change_paid}
+use Rattle.cct_laws_change.specs.Change.{ChangeIsPaid}
+use Rattle.cct_laws_change.proofs.Runs.{change_paid}
 use Rattle.cct_laws.specs.Right.{IsRight}
 use Rattle.cct_bench.proofs.Closing.{LastLine, blank_first, early_right, failed_tail, kept_by, last_line, lost_next, no_line, none_next, tells_loss}
 

@@ -16,7 +16,7 @@ use Rattle.cct_model.specs.lines.command.Step.TheVariants as step
 use Rattle.cct_bench.specs.declared.opening.Opened.{Opened}
 use Rattle.cct_bench.specs.Setup.{stage_of, opened_by}
 use Rattle.cct_bench.specs.Playing.{is_end, read_as, CanPlay}
-use Rattle.cct_laws.proofs.text.Said.{IfSaid, IsToday, step_said}
+use Rattle.cct_laws.proofs.text.LinesInRange.{IfSaid, IsToday, step_said}
 use Rattle.cct_text.proofs.Writing.{passes_up}
 
 -- a setup line is what it says

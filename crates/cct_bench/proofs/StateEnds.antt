@@ -18,10 +18,10 @@ use Rattle.cct_model.specs.Script.{Refusal}
 use Rattle.cct_model.specs.terms.device.Setup.{Setup}
 use Rattle.cct_script.specs.Source.{OfBytes, to_come}
 use Rattle.cct_script.proofs.Sources.{told_by}
-use Rattle.cct_state.specs.Books.{state_lines}
-use Rattle.cct_state.specs.Telling.{Tells}
-use Rattle.cct_state.specs.declared.telling.StateEnd.{StateEnd}
-use Rattle.cct_state.specs.declared.telling.StateEnd.TheVariants as telling
+use Rattle.cct_bench_state.specs.Books.{state_lines}
+use Rattle.cct_bench_state.specs.Telling.{Tells}
+use Rattle.cct_bench_state.specs.declared.telling.StateEnd.{StateEnd}
+use Rattle.cct_bench_state.specs.declared.telling.StateEnd.TheVariants as telling
 use Rattle.cct_text.specs.Writing.{Writes}
 use Rattle.cct_bench.specs.Run.{last_entry, listed, status_by, status_of}
 use Rattle.cct_bench.specs.State.{Gives, StateDisk, StateEnds, StateIs, Stated, TellsBy, gives_none, line_behind_state, stated_by}

@@ -10,16 +10,16 @@ use Rattle.cct_model.specs.Script.{Refusal}
 use Rattle.cct_model.specs.Setup.{IsSoundSetup}
 use Rattle.cct_model.specs.Text.{line_of}
 use Rattle.cct_monitor.specs.declared.monitor.Monitor.{Monitor}
-use Rattle.cct_taps.specs.declared.money.Money.{Money}
+use Rattle.cct_audit_taps.specs.declared.money.Money.{Money}
 use Rattle.cct_monitor.specs.declared.watched.Family.TheVariants.{Acceptor, QuietAcceptor}
 use Rattle.cct_monitor.specs.Monitor.{StandsFor}
 use Rattle.cct_monitor.specs.Once.{is_between, is_of_at}
 use Rattle.cct_monitor.specs.Spans.{spans}
-use Rattle.cct_taps.specs.Taps.{quiet_shown, shown}
+use Rattle.cct_audit_taps.specs.Taps.{quiet_shown, shown}
 use Rattle.cct_monitor.specs.Watches.{Came, Watch, all_told, finally_of_all}
 use Rattle.cct_laws.specs.Law.{IsOf}
-use Rattle.cct_wild.specs.Claims.{IsPlain, IsQuietSpan, IsToldQuiet, IsToldWhole, IsTrue, IsWatchOf, IsWatched, looks, quiet_looks}
-use Rattle.cct_wild.specs.Wild.{WildFrom, WildStep, taps}
+use Rattle.cct_laws_any_host.specs.Claims.{IsPlain, IsQuietSpan, IsToldQuiet, IsToldWhole, IsTrue, IsWatchOf, IsWatched, looks, quiet_looks}
+use Rattle.cct_laws_any_host.specs.Wild.{WildFrom, WildStep, taps}
 use Rattle.cct_script.specs.Source.{to_come}
 use Rattle.cct_audit.specs.Audit.{BreaksOff}
 use Rattle.cct_audit.specs.Capture.{capture}

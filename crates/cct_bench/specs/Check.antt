@@ -4,7 +4,7 @@ use Rattle.cct_edge.specs.declared.fault.Failed.{Failed}
 use Rattle.cct_model.specs.lines.entry.Entry.{Entry}
 use Rattle.cct_model.specs.lines.entry.Entry.TheVariants as entry
 use Rattle.cct_model.specs.Script.{Refusal}
-use Rattle.cct_proofread.specs.Proof.{AreOfWhole, refusal_line, refusals}
+use Rattle.cct_script_check.specs.Proof.{AreOfWhole, refusal_line, refusals}
 use Rattle.cct_script.specs.Source.{to_come}
 use Rattle.cct_bench.specs.declared.outcome.Status.{Status}
 use Rattle.cct_bench.specs.declared.outcome.Status.TheVariants as status

@@ -14,9 +14,9 @@ use Rattle.cct_world.specs.Restarts.{Survived}
 use Rattle.cct_world.specs.Step.{RoseBy, count_after, crashes}
 use Rattle.cct_world.specs.Relying.{First, IsCrash, MayFail, IsReliable}
 use Rattle.cct_gen.specs.Load.{load_setup, load_steps}
-use Rattle.cct_load.specs.Sums.{sums_of}
-use Rattle.cct_load.specs.declared.load.LoadEnd.{LoadEnd}
-use Rattle.cct_load.specs.declared.load.LoadEnd.TheVariants as load_end
+use Rattle.cct_bench_load.specs.Sums.{sums_of}
+use Rattle.cct_bench_load.specs.declared.load.LoadEnd.{LoadEnd}
+use Rattle.cct_bench_load.specs.declared.load.LoadEnd.TheVariants as load_end
 use Rattle.cct_bench.specs.declared.outcome.Status.{Status}
 use Rattle.cct_bench.specs.declared.outcome.Status.TheVariants as status
 use Rattle.cct_bench.specs.declared.ending.Ending.{Ending}

@@ -5,7 +5,7 @@ use Rattle.cct_model.specs.lines.command.Step.{Step}
 use Rattle.cct_model.specs.lines.entry.Entry.{Entry}
 use Rattle.cct_model.specs.AtDesk.{LegalAtDesk}
 use Rattle.cct_model.specs.Honest.{Honest}
-use Rattle.cct_change_laws.specs.Change.{ChangeIsPaid}
+use Rattle.cct_laws_change.specs.Change.{ChangeIsPaid}
 use Rattle.cct_laws.specs.Right.{IsRight}
 use Rattle.cct_world.specs.Early.{BeforeLoss}
 use Rattle.cct_bench.specs.Disks.{most_records}

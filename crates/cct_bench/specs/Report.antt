@@ -7,10 +7,10 @@ use Rattle.cct_model.specs.lines.entry.Entry.{Entry}
 use Rattle.cct_model.specs.lines.entry.Entry.TheVariants as entry
 use Rattle.cct_journal.specs.Image.{HasFrom, IsAlien, IsBadAt}
 use Rattle.cct_journal.specs.declared.refusal.OpenNo.TheVariants as opening
-use Rattle.cct_report.specs.Listing.{listed, listing_from}
-use Rattle.cct_report.specs.Sums.{sums_in}
-use Rattle.cct_report.specs.declared.listing.ReportEnd.{ReportEnd}
-use Rattle.cct_report.specs.declared.listing.ReportEnd.TheVariants as listing
+use Rattle.cct_bench_report.specs.Listing.{listed, listing_from}
+use Rattle.cct_bench_report.specs.Sums.{sums_in}
+use Rattle.cct_bench_report.specs.declared.listing.ReportEnd.{ReportEnd}
+use Rattle.cct_bench_report.specs.declared.listing.ReportEnd.TheVariants as listing
 use Rattle.cct_bench.specs.declared.outcome.Status.{Status}
 use Rattle.cct_bench.specs.declared.outcome.Status.TheVariants as status
 use Rattle.cct_bench.specs.declared.play.TheConstants.{JOURNAL_BYTES}

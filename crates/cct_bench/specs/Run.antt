@@ -33,7 +33,7 @@ use Rattle.cct_host.specs.declared.refusal.CrashNo.TheVariants as crash_no
 use Rattle.cct_bench.specs.Disks.{Disks, IsReady, most_records}
 use Rattle.cct_bench.specs.Going.{IsUnbegun}
 use Rattle.cct_model.specs.Honest.{Honest}
-use Rattle.cct_change_laws.specs.Change.{ChangeIsPaid}
+use Rattle.cct_laws_change.specs.Change.{ChangeIsPaid}
 use Rattle.cct_laws.specs.Right.{IsRight}
 use Rattle.cct_bench.specs.Money.{RightBeforeLoss}
 use Rattle.cct_script.specs.Source.{to_come}

@@ -11,10 +11,10 @@ use Rattle.cct_model.specs.lines.entry.LineKind.TheVariants as kind
 use Rattle.cct_model.specs.lines.record.Record.{Record}
 use Rattle.cct_model.specs.terms.device.Setup.{Setup}
 use Rattle.cct_script.specs.Source.{to_come}
-use Rattle.cct_state.specs.Books.{SuitsSetup, state_lines}
-use Rattle.cct_state.specs.Telling.{IsBad, Known}
-use Rattle.cct_state.specs.declared.telling.StateEnd.{StateEnd}
-use Rattle.cct_state.specs.declared.telling.StateEnd.TheVariants as telling
+use Rattle.cct_bench_state.specs.Books.{SuitsSetup, state_lines}
+use Rattle.cct_bench_state.specs.Telling.{IsBad, Known}
+use Rattle.cct_bench_state.specs.declared.telling.StateEnd.{StateEnd}
+use Rattle.cct_bench_state.specs.declared.telling.StateEnd.TheVariants as telling
 use Rattle.cct_bench.specs.UpgradeScript.{IsUnfinished, ScriptSays, upgrade_script}
 use Rattle.cct_bench.specs.declared.ending.Ending.{Ending}
 use Rattle.cct_bench.specs.declared.ending.Ending.TheVariants as ending

@@ -27,15 +27,15 @@ ghost use Rattle.cct_bench.specs.Load.{Loaded};
 ghost use Rattle.cct_bench.specs.Report.{IsDecided, IsOrMemory, Reported, image_known, records_known, size_known};
 ghost use Rattle.cct_bench.specs.Run.{Ran, status_by, Completes};
 ghost use Rattle.cct_bench.specs.State.{Stated, told_disk};
-ghost use Rattle.cct_state.specs.Known.{any_disk, of_image};
+ghost use Rattle.cct_bench_state.specs.Known.{any_disk, of_image};
 ghost use Rattle.cct_bench.specs.Upgrade.{MayGoForward, Upgraded, old_disk};
 ghost use Rattle.cct_bench.specs.UpgradeScript.{upgrade_script};
 ghost use Rattle.cct_bench.specs.CommandLine.{AreRefused, said_in};
 
 use auditing::run_audit;
+use cct_bench_load::Load;
 use cct_disk::Disk;
 use cct_edge::{Sink, Source};
-use cct_load::Load;
 use cct_model::Entry;
 use cct_text::TextLine;
 use ending::close;
@@ -61,8 +61,8 @@ mod upgrade_script;
 mod upgrading;
 
 pub use auditing::audit_capture;
+pub use cct_bench_words::{Words, WordsNo, read_words};
 pub use cct_monitor::{Family, Heard, Money, Monitor, Tally};
-pub use cct_words::{Words, WordsNo, read_words};
 pub use outcome::Status;
 
 /// Runs the program: by the words of the command line, without its name, plays a script and writes the transcript

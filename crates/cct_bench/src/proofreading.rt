@@ -10,7 +10,7 @@ use crate::ending::close;
 use crate::outcome::Status;
 use cct_edge::{Sink, Source};
 use cct_model::Entry;
-use cct_proofread::{ProofEnd, proofread};
+use cct_script_check::{ProofEnd, proofread};
 use cct_text::TextLine;
 
 /// Proofreads a script, and writes the last line where reading it failed.

@@ -15,11 +15,11 @@ ghost use Rattle.cct_bench.specs.Run.{status_by};
 use crate::ending::close;
 use crate::outcome::Status;
 use crate::play::JOURNAL_BYTES;
+use cct_bench_report::{ReportEnd, list_journal};
 use cct_disk::Disk;
 use cct_edge::Sink;
 use cct_journal::OpenNo;
 use cct_model::Entry;
-use cct_report::{ReportEnd, list_journal};
 use cct_text::TextLine;
 
 /// Lists the journal on a disk, which it gives back, and writes the last line where the status has one.

@@ -7,7 +7,7 @@ ghost use Rattle.cct_edge.specs.Faults.{Caused, Rose};
 ghost use Rattle.cct_disk.specs.Disk.{OnlyReads};
 ghost use Rattle.cct_model.specs.Setup.{IsSoundSetup};
 ghost use Rattle.cct_script.specs.Source.{OfBytes};
-ghost use Rattle.cct_state.specs.Known.{any_disk, of_image};
+ghost use Rattle.cct_bench_state.specs.Known.{any_disk, of_image};
 ghost use Rattle.cct_text.specs.Writing.{Writes};
 ghost use Rattle.cct_bench.specs.State.{IsOfState, IsToldState, Stated, StopsBy, TellsBy, gives_none, line_behind_state, stated_by};
 ghost use Rattle.cct_bench.specs.State.{told_disk};
@@ -17,12 +17,12 @@ use crate::ending::{Ending, close, finish_run};
 use crate::outcome::Status;
 use crate::play::JOURNAL_BYTES;
 use crate::upgrade_script::read_upgrade;
+use cct_bench_state::{StateEnd, tell_state};
 use cct_disk::Disk;
 use cct_edge::{Sink, Source};
 use cct_journal::OpenNo;
 use cct_model::{Devices, Entry, LineKind, Setup};
 use cct_script::Lines;
-use cct_state::{StateEnd, tell_state};
 use cct_text::TextLine;
 
 /// Reads a setup, where one is given, and tells what the journal on a disk knows now; the disk is given back. No call of it

@@ -1,14 +1,14 @@
 -- What a bill makes of what a bill acceptor holds.
 use Rattle.std.proofs.Common.{◌≡◌, ℕ, suc, ◌&&◌, Bool, true, false, List, [], ◌∷◌, refl, ap, ◌∙◌, Option, Some, None}
 use Rattle.std.specs.Prelude.{is_none}
-use Rattle.cct_terms.specs.declared.request.TheConstants.{RETURN_CODE, STACK_CODE}
-use Rattle.cct_terms.specs.declared.request.Request.TheVariants.{RouteBill}
-use Rattle.cct_terms.specs.Acceptor.{accepts, settings}
-use Rattle.cct_terms.specs.Bill.{bill_events, bill_held, held_with, holds, is_way, stacked_bills}
-use Rattle.cct_terms.specs.History.{Met, coin, heard}
-use Rattle.cct_terms.specs.Setting.{Setting, mask_set, master_set, path_set, default_set, mask_in, is_normal_in, has_place, accepts_in}
-use Rattle.cct_intake.specs.declared.intake.Intake.{Intake}
-use Rattle.cct_intake.specs.Intake.{Holds, IsInhibits}
+use Rattle.cct_model_wire.specs.declared.request.TheConstants.{RETURN_CODE, STACK_CODE}
+use Rattle.cct_model_wire.specs.declared.request.Request.TheVariants.{RouteBill}
+use Rattle.cct_model_wire.specs.Acceptor.{accepts, settings}
+use Rattle.cct_model_wire.specs.Bill.{bill_events, bill_held, held_with, holds, is_way, stacked_bills}
+use Rattle.cct_model_wire.specs.History.{Met, coin, heard}
+use Rattle.cct_model_wire.specs.Setting.{Setting, mask_set, master_set, path_set, default_set, mask_in, is_normal_in, has_place, accepts_in}
+use Rattle.cct_device_intake.specs.declared.intake.Intake.{Intake}
+use Rattle.cct_device_intake.specs.Intake.{Holds, IsInhibits}
 use Rattle.cct_bill.specs.Bill.{inhibits_in}
 
 -- the settings of the inhibits have the mask of all

@@ -1,14 +1,14 @@
 -- The replies of a bill acceptor.
 use Rattle.std.proofs.Common.{◌≡◌, ℕ, Bool, true, false, List, refl}
-use Rattle.cct_terms.specs.declared.device.DeviceBody.{DeviceBody}
-use Rattle.cct_terms.specs.declared.device.DeviceBody.TheVariants as body
-use Rattle.cct_terms.specs.declared.request.Request.{Request}
-use Rattle.cct_terms.specs.declared.request.Request.TheVariants.{ReadBills, RouteBill, SetMask, SetMaster}
-use Rattle.cct_terms.specs.Acceptor.{inhibit_reply}
-use Rattle.cct_terms.specs.Bill.{bill_reply, stack_count}
-use Rattle.cct_terms.specs.Device.{IsBill, own_reply}
-use Rattle.cct_terms.specs.History.{Met}
-use Rattle.cct_intake.specs.Intake.{is_setting}
+use Rattle.cct_model_wire.specs.declared.device.DeviceBody.{DeviceBody}
+use Rattle.cct_model_wire.specs.declared.device.DeviceBody.TheVariants as body
+use Rattle.cct_model_wire.specs.declared.request.Request.{Request}
+use Rattle.cct_model_wire.specs.declared.request.Request.TheVariants.{ReadBills, RouteBill, SetMask, SetMaster}
+use Rattle.cct_model_wire.specs.Acceptor.{inhibit_reply}
+use Rattle.cct_model_wire.specs.Bill.{bill_reply, stack_count}
+use Rattle.cct_model_wire.specs.Device.{IsBill, own_reply}
+use Rattle.cct_model_wire.specs.History.{Met}
+use Rattle.cct_device_intake.specs.Intake.{is_setting}
 use Rattle.cct_bill.specs.Bill.{is_change, start_of}
 
 -- What a bill acceptor's kind alone answers, it answers by its start.

@@ -1,17 +1,17 @@
 -- A bill acceptor that represents all that it met.
 use Rattle.std.specs.Prelude.{◌≡◌, ℕ, Bool, true, false, List, [], ◌∷◌}
-use Rattle.cct_terms.specs.declared.device.DeviceBody.{DeviceBody}
-use Rattle.cct_terms.specs.declared.device.DeviceBody.TheVariants as body
-use Rattle.cct_terms.specs.declared.device.DeviceSetup.{DeviceSetup}
-use Rattle.cct_terms.specs.declared.request.Request.{Request}
-use Rattle.cct_terms.specs.declared.request.Request.TheVariants.{ResetDevice, SetMask, SetMaster, RouteBill}
-use Rattle.cct_terms.specs.Acceptor.{settings}
-use Rattle.cct_terms.specs.Bill.{bill_events, bill_held, stacked_bills}
-use Rattle.cct_terms.specs.Device.{IsBill}
-use Rattle.cct_terms.specs.History.{Met}
-use Rattle.cct_terms.specs.Setting.{Setting, mask_set, master_set, path_set, default_set}
-use Rattle.cct_device.specs.Listening.{HeardSince}
-use Rattle.cct_intake.specs.Intake.{Holds}
+use Rattle.cct_model_wire.specs.declared.device.DeviceBody.{DeviceBody}
+use Rattle.cct_model_wire.specs.declared.device.DeviceBody.TheVariants as body
+use Rattle.cct_model_wire.specs.declared.device.DeviceSetup.{DeviceSetup}
+use Rattle.cct_model_wire.specs.declared.request.Request.{Request}
+use Rattle.cct_model_wire.specs.declared.request.Request.TheVariants.{ResetDevice, SetMask, SetMaster, RouteBill}
+use Rattle.cct_model_wire.specs.Acceptor.{settings}
+use Rattle.cct_model_wire.specs.Bill.{bill_events, bill_held, stacked_bills}
+use Rattle.cct_model_wire.specs.Device.{IsBill}
+use Rattle.cct_model_wire.specs.History.{Met}
+use Rattle.cct_model_wire.specs.Setting.{Setting, mask_set, master_set, path_set, default_set}
+use Rattle.cct_device_core.specs.Listening.{HeardSince}
+use Rattle.cct_device_intake.specs.Intake.{Holds}
 use Rattle.cct_bill.specs.declared.bill.BillAcceptor.{BillAcceptor}
 
 -- The number at which the accept counter of a bill acceptor starts.

@@ -3,19 +3,19 @@
 //! and the replies to header 154, are this project's own.
 ghost use Rattle.std.specs.Prelude.{◌≡◌, ◌<◌, ◌≤◌, ◌^◌, ◌&&◌, ℕ, List, [], ◌∷◌, ◌++◌, false, true, if◌then◌else◌, is_some, Some, IfOk, IfSome, MatchOption};
 ghost use Rattle.std.specs.Option.{option_map};
-ghost use Rattle.cct_terms.specs.declared.device.DeviceSetup.{DeviceSetup};
-ghost use Rattle.cct_terms.specs.declared.request.Request.TheVariants.{RouteBill};
-ghost use Rattle.cct_terms.specs.Bill.{bill_held, bill_reply, holds, is_way};
-ghost use Rattle.cct_terms.specs.Device.{IsBill, IsSound, reply_of};
-ghost use Rattle.cct_terms.specs.Exchange.{answer, asks_of};
-ghost use Rattle.cct_terms.specs.History.{Met, coin, heard, reset};
-ghost use Rattle.cct_terms.specs.Reply.{IsSayable, ack, nak, reply_shown};
-ghost use Rattle.cct_device.specs.Listening.{kind_of};
+ghost use Rattle.cct_model_wire.specs.declared.device.DeviceSetup.{DeviceSetup};
+ghost use Rattle.cct_model_wire.specs.declared.request.Request.TheVariants.{RouteBill};
+ghost use Rattle.cct_model_wire.specs.Bill.{bill_held, bill_reply, holds, is_way};
+ghost use Rattle.cct_model_wire.specs.Device.{IsBill, IsSound, reply_of};
+ghost use Rattle.cct_model_wire.specs.Exchange.{answer, asks_of};
+ghost use Rattle.cct_model_wire.specs.History.{Met, coin, heard, reset};
+ghost use Rattle.cct_model_wire.specs.Reply.{IsSayable, ack, nak, reply_shown};
+ghost use Rattle.cct_device_core.specs.Listening.{kind_of};
 
 use arrayvec::ArrayVec;
-use cct_device::{Asked, Listener, asked_whole, common_reply, give};
-use cct_intake::Intake;
-use cct_terms::{
+use cct_device_core::{Asked, Listener, asked_whole, common_reply, give};
+use cct_device_intake::Intake;
+use cct_model_wire::{
     COIN_PLACES, DeviceBody, DeviceSetup, MOST_SENT, Pair, RETURN_CODE, Reply, Request, STACK_CODE,
 };
 use std::alloc::{AllocError, Global};
@@ -177,7 +177,7 @@ impl<'s> BillAcceptor<'s> {
     }
 
     /// Acts on a request, and gives the reply, or none where no bill acceptor knows the request.
-    #[tactic(auto, unfolding(cct_terms::specs::Device::reply_of, cct_terms::specs::Device::common_reply, cct_terms::specs::Bill::bill_reply), using(crate::proofs::Replies::own_is))]
+    #[tactic(auto, unfolding(cct_model_wire::specs::Device::reply_of, cct_model_wire::specs::Device::common_reply, cct_model_wire::specs::Bill::bill_reply), using(crate::proofs::Replies::own_is))]
     fn act(&mut self, request: Request) -> Option<Reply<'s>>
         ensures stands { (d : DeviceSetup) (past : List Met) → StandsFor self.old d past
             → StandsFor self.new d (heard (Some request) ∷ past) }
@@ -242,7 +242,7 @@ impl<'s> BillAcceptor<'s> {
     }
 
     /// The reply to a request that changes nothing.
-    #[tactic(auto, unfolding(cct_terms::specs::Device::reply_of, cct_terms::specs::Device::common_reply), using(crate::proofs::Replies::own_is))]
+    #[tactic(auto, unfolding(cct_model_wire::specs::Device::reply_of, cct_model_wire::specs::Device::common_reply), using(crate::proofs::Replies::own_is))]
     fn tell(&self, request: Request) -> Option<Reply<'s>>
         ensures answer { (d : DeviceSetup) (past : List Met) → StandsFor self.now d past → is_change request ≡ false
             → option_map reply_shown result ≡ reply_of d past request }
@@ -255,7 +255,7 @@ impl<'s> BillAcceptor<'s> {
     }
 
     /// The reply to a request for the acceptor's bills that changes nothing.
-    #[tactic(auto, unfolding(cct_terms::specs::Bill::bill_reply))]
+    #[tactic(auto, unfolding(cct_model_wire::specs::Bill::bill_reply))]
     fn tell_bills(&self, request: Request) -> Option<Reply<'s>>
         ensures answer { (d : DeviceSetup) (past : List Met) → StandsFor self.now d past → is_change request ≡ false
             → option_map reply_shown result ≡ bill_reply (start_of d.body) past request }

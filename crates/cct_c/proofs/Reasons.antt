@@ -1,9 +1,9 @@
 -- What a call answers to what follows an echo.
 use Rattle.std.proofs.Common.{◌≡◌, ℕ, List, [], ◌∷◌, Option, Some, None, option_and_then, refl}
-use Rattle.cct_terms.specs.declared.request.ReplyForm.{ReplyForm}
-use Rattle.cct_terms.specs.declared.wire.CheckKind.{CheckKind}
-use Rattle.cct_terms.specs.declared.wire.CheckKind.TheVariants.{Simple, Crc}
-use Rattle.cct_terms.specs.Message.{Message, message}
+use Rattle.cct_model_wire.specs.declared.request.ReplyForm.{ReplyForm}
+use Rattle.cct_model_wire.specs.declared.wire.CheckKind.{CheckKind}
+use Rattle.cct_model_wire.specs.declared.wire.CheckKind.TheVariants.{Simple, Crc}
+use Rattle.cct_model_wire.specs.Message.{Message, message}
 use Rattle.cct_frame.specs.declared.reading.FrameFault.{FrameFault}
 use Rattle.cct_wire.specs.Heard.{fault_in_rest}
 use Rattle.cct_msg.specs.Wanted.{reason_in}

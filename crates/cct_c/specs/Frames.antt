@@ -1,9 +1,9 @@
 -- Messages that are written and read for a program in another language.
 use Rattle.std.specs.Prelude.{◌≡◌, ℕ, ◌==◌, nat_le, List, length, if◌then◌else◌, Option, Some, None}
-use Rattle.cct_terms.specs.Exchange.{ask}
-use Rattle.cct_terms.specs.Message.{Message, spelling}
-use Rattle.cct_terms.specs.declared.request.Request.{Request}
-use Rattle.cct_terms.specs.declared.wire.CheckKind.{CheckKind}
+use Rattle.cct_model_wire.specs.Exchange.{ask}
+use Rattle.cct_model_wire.specs.Message.{Message, spelling}
+use Rattle.cct_model_wire.specs.declared.request.Request.{Request}
+use Rattle.cct_model_wire.specs.declared.wire.CheckKind.{CheckKind}
 use Rattle.cct_c.specs.declared.codes.TheConstants.{OK, BAD_CHECK, NO_REQUEST, NO_ROOM, TOO_LONG}
 use Rattle.cct_c.specs.declared.frames.LhFrame.{LhFrame}
 

@@ -1,9 +1,9 @@
 -- A device core that represents all that it met, and what it answers to a program in another language.
 use Rattle.std.specs.Prelude.{ℕ, ◌==◌, not, List, [], ◌∷◌, if◌then◌else◌, Option, Some, None}
-use Rattle.cct_terms.specs.Bill.{holds}
-use Rattle.cct_terms.specs.Hopper.{remaining}
-use Rattle.cct_terms.specs.declared.device.DeviceSetup.{DeviceSetup}
-use Rattle.cct_terms.specs.History.{Met, coin, alien}
+use Rattle.cct_model_wire.specs.Bill.{holds}
+use Rattle.cct_model_wire.specs.Hopper.{remaining}
+use Rattle.cct_model_wire.specs.declared.device.DeviceSetup.{DeviceSetup}
+use Rattle.cct_model_wire.specs.History.{Met, coin, alien}
 use Rattle.cct_acceptor.specs.Acceptor as acceptor
 use Rattle.cct_acceptor.specs.declared.acceptor.Inserted.{Inserted}
 use Rattle.cct_acceptor.specs.declared.acceptor.Inserted.TheVariants.{Accepted, Inhibited}

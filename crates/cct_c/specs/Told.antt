@@ -1,16 +1,16 @@
 -- What a program in another language is told of a reply.
 use Rattle.std.specs.Prelude.{◌≡◌, ℕ, ◌≤◌, List, [], ◌∷◌, flat_map, length, take, Option, Some, None, ⊤}
-use Rattle.cct_terms.specs.Exchange.{after_echo, got}
-use Rattle.cct_terms.specs.Message.{Message, message}
+use Rattle.cct_model_wire.specs.Exchange.{after_echo, got}
+use Rattle.cct_model_wire.specs.Message.{Message, message}
 use Rattle.cct_frame.specs.Frame.{fault_in}
 use Rattle.cct_frame.specs.declared.reading.FrameFault.{FrameFault}
 use Rattle.cct_msg.specs.Wanted.{reason_in}
 use Rattle.cct_msg.specs.declared.reply_reading.NotWanted.{NotWanted}
 use Rattle.cct_c.specs.declared.codes.TheConstants.{OK, BAD_CHECK, BAD_ECHO, BAD_FORM, SILENCE}
 use Rattle.cct_c.specs.Codes.{answer_to, reason_code}
-use Rattle.cct_terms.specs.Reply.{Reply, pair_bytes, ack, nak, busy, credits, mask, master, path, coin_id, status, life, remaining, register, text, serial, revision, accepts}
-use Rattle.cct_terms.specs.declared.request.ReplyForm.{ReplyForm}
-use Rattle.cct_terms.specs.declared.wire.CheckKind.{CheckKind}
+use Rattle.cct_model_wire.specs.Reply.{Reply, pair_bytes, ack, nak, busy, credits, mask, master, path, coin_id, status, life, remaining, register, text, serial, revision, accepts}
+use Rattle.cct_model_wire.specs.declared.request.ReplyForm.{ReplyForm}
+use Rattle.cct_model_wire.specs.declared.wire.CheckKind.{CheckKind}
 use Rattle.cct_c.specs.declared.replies.LhReply.{LhReply}
 use Rattle.cct_c.specs.declared.replies.TheConstants.{MOST_TEXT}
 

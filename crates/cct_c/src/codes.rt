@@ -4,8 +4,8 @@ ghost use Rattle.std.specs.Prelude.{◌≡◌, ◌≢◌, slice_get};
 ghost use Rattle.cct_c.specs.Codes.{fault_code, forms, kind_of, reason_code};
 
 use cct_frame::FrameFault;
+use cct_model_wire::{CheckKind, ReplyForm};
 use cct_msg::NotWanted;
-use cct_terms::{CheckKind, ReplyForm};
 
 /// The call did what it says.
 pub const OK: u32 = 0;

@@ -1,7 +1,7 @@
 //! Frames are written into the caller's bytes, and read where they stand.
 ghost use Rattle.std.specs.Prelude.{◌≡◌, ◌≢◌, ◌-◌, ◌≤◌, Some, length, slice_range, take};
-ghost use Rattle.cct_terms.specs.declared.wire.CheckKind.{CheckKind};
-ghost use Rattle.cct_terms.specs.Message.{Message, message, spelling};
+ghost use Rattle.cct_model_wire.specs.declared.wire.CheckKind.{CheckKind};
+ghost use Rattle.cct_model_wire.specs.Message.{Message, message, spelling};
 ghost use Rattle.cct_frame.specs.Frame.{message_of};
 ghost use Rattle.cct_c.specs.Codes.{kind_of, read_under};
 ghost use Rattle.cct_c.specs.Frames.{Shows, put_answer, write_answer};
@@ -9,7 +9,7 @@ ghost use Rattle.cct_c.specs.Frames.{Shows, put_answer, write_answer};
 use crate::codes::{BAD_CHECK, NO_ROOM, OK, TOO_LONG, fault_code, kind_of};
 use arrayvec::ArrayVec;
 use cct_frame::{FrameView, read, write};
-use cct_terms::MOST_SENT;
+use cct_model_wire::MOST_SENT;
 
 /// A message that was read. Its data bytes are those of the piece from the fifth on.
 #[repr(C)]

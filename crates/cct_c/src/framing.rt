@@ -1,14 +1,14 @@
 //! A message whose bytes come one by one, in the caller's memory.
 ghost use Rattle.std.specs.Prelude.{◌≡◌, ◌≢◌, ◌+◌, ◌<◌, ◌≤◌, ◌↔◌, ℕ, [], ◌∷◌, ◌++◌, IsSome, None, Some, length};
-ghost use Rattle.cct_terms.specs.declared.wire.CheckKind.{CheckKind};
-ghost use Rattle.cct_terms.specs.declared.wire.TheConstants.{MOST_SENT};
-ghost use Rattle.cct_terms.specs.Message.{message};
+ghost use Rattle.cct_model_wire.specs.declared.wire.CheckKind.{CheckKind};
+ghost use Rattle.cct_model_wire.specs.declared.wire.TheConstants.{MOST_SENT};
+ghost use Rattle.cct_model_wire.specs.Message.{message};
 ghost use Rattle.cct_c.specs.Codes.{kind_of};
 ghost use Rattle.cct_c.specs.Fed.{held_by};
 
 use crate::codes::{BAD_CHECK, DAMAGED, MORE, OK, TOO_LONG, kind_of};
 use cct_frame::read;
-use cct_terms::{CheckKind, MOST_SENT};
+use cct_model_wire::{CheckKind, MOST_SENT};
 
 /// The bytes of a message without data.
 const SHORTEST: usize = 5;

@@ -1,10 +1,10 @@
 //! What a handle holds: the settings of a device, or a device core. A core borrows its settings for as long as it is there.
 ghost use Rattle.std.specs.Prelude.{◌≡◌, ◌≢◌, ◌≤◌, ℕ, List, [], ◌∷◌, ◌++◌, if◌then◌else◌, IfOk, length, take, unwrap_or};
-ghost use Rattle.cct_terms.specs.declared.device.DeviceSetup.{DeviceSetup};
-ghost use Rattle.cct_terms.specs.declared.wire.TheConstants.{MOST_SENT};
-ghost use Rattle.cct_terms.specs.Device.{IsSound};
-ghost use Rattle.cct_terms.specs.Exchange.{answer, asks_of};
-ghost use Rattle.cct_terms.specs.History.{Met, fall, heard, jam, reset};
+ghost use Rattle.cct_model_wire.specs.declared.device.DeviceSetup.{DeviceSetup};
+ghost use Rattle.cct_model_wire.specs.declared.wire.TheConstants.{MOST_SENT};
+ghost use Rattle.cct_model_wire.specs.Device.{IsSound};
+ghost use Rattle.cct_model_wire.specs.Exchange.{answer, asks_of};
+ghost use Rattle.cct_model_wire.specs.History.{Met, fall, heard, jam, reset};
 ghost use Rattle.cct_c.specs.Held.{answer_code, inserted_code, inserted_path};
 
 use crate::codes::{BAD_HANDLE, BAD_PLACE, NO_ROOM, NOTHING, OK, SILENCE, WRONG_FAMILY};
@@ -13,7 +13,7 @@ use arrayvec::ArrayVec;
 use cct_acceptor::{Acceptor, Inserted};
 use cct_bill::BillAcceptor;
 use cct_hopper::Hopper;
-use cct_terms::{COIN_PLACES, DeviceBody, DeviceSetup, MOST_SENT};
+use cct_model_wire::{COIN_PLACES, DeviceBody, DeviceSetup, MOST_SENT};
 use std::alloc::{AllocError, Global};
 
 /// Settings, or a coin acceptor, a hopper or a bill acceptor. Its contracts tell a device by all that it met, newest first.

@@ -8,10 +8,10 @@ use crate::codes::{
 };
 use crate::frames::put;
 use crate::machine::Machine;
+use cct_disk_queue::Call;
 use cct_edge::{Failed, Sink};
-use cct_lines::{MOST_HEARD, MOST_TEXT};
+use cct_model_lines::{MOST_HEARD, MOST_TEXT};
 use cct_poll::{Ask, NotNow, Poll, PollNo};
-use cct_queue::Call;
 use cct_script::{LiveLine, read_live_line};
 use cct_text::{TextLine, write_entry};
 use std::alloc::Global;

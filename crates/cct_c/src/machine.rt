@@ -1,10 +1,10 @@
 //! The devices of a machine, as the lines of a setup say them.
 ghost use Rattle.cct_model.specs.Setup.{IsSoundSetup};
-ghost use Rattle.cct_carry.specs.Sound.{IsSoundSetup-prop};
+ghost use Rattle.cct_journal_carry.specs.Sound.{IsSoundSetup-prop};
 
 use crate::codes::{BAD_SETUP, NO_MEMORY};
 use cct_edge::MemSource;
-use cct_lines::Setup;
+use cct_model_lines::Setup;
 use cct_script::{SetupNo, read_setup};
 use std::alloc::Global;
 

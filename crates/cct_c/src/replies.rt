@@ -1,16 +1,16 @@
 //! Replies are read out of what was heard after what was sent.
 ghost use Rattle.std.specs.Prelude.{◌≡◌, ◌≢◌, ◌≤◌, MatchOption, MatchResult, None, Some, length, slice_get, take};
-ghost use Rattle.cct_terms.specs.Exchange.{after_echo, got};
+ghost use Rattle.cct_model_wire.specs.Exchange.{after_echo, got};
 ghost use Rattle.std.specs.List.{flat_map};
-ghost use Rattle.cct_terms.specs.Reply.{pair_bytes, reply_shown};
+ghost use Rattle.cct_model_wire.specs.Reply.{pair_bytes, reply_shown};
 ghost use Rattle.cct_c.specs.Codes.{forms, kind_of};
 ghost use Rattle.cct_c.specs.Told.{Tells, got_by, reply_answer, rest_answer};
 
 use crate::codes::{
     BAD_CHECK, BAD_ECHO, BAD_FORM, OK, SILENCE, fault_code, form_of, kind_of, reason_code,
 };
+use cct_model_wire::{CheckKind, EVENTS, Pair, Reply, ReplyForm};
 use cct_msg::read_reply;
-use cct_terms::{CheckKind, EVENTS, Pair, Reply, ReplyForm};
 use cct_wire::{Heard, hear};
 
 /// The most bytes of a text.
@@ -87,7 +87,7 @@ pub extern "C" fn lh_raw_reply_read(
 }
 
 /// The reply in a form, or what a call answers where there is none.
-#[tactic(auto, unfolding(cct_terms::specs::Exchange::got), using(crate::proofs::Reasons::broken_answer, crate::proofs::Reasons::message_answer))]
+#[tactic(auto, unfolding(cct_model_wire::specs::Exchange::got), using(crate::proofs::Reasons::broken_answer, crate::proofs::Reasons::message_answer))]
 fn reply_in<'h>(
     kind: CheckKind,
     addr: u8,

@@ -1,9 +1,9 @@
 //! Requests are written as the messages by which the host asks them.
 ghost use Rattle.std.specs.Prelude.{◌≡◌, ◌≢◌, Some, length, take};
-ghost use Rattle.cct_terms.specs.Exchange.{ask};
-ghost use Rattle.cct_terms.specs.Request.{request_of};
-ghost use Rattle.cct_terms.specs.declared.request.Request.{Request};
-ghost use Rattle.cct_terms.specs.declared.wire.CheckKind.{CheckKind};
+ghost use Rattle.cct_model_wire.specs.Exchange.{ask};
+ghost use Rattle.cct_model_wire.specs.Request.{request_of};
+ghost use Rattle.cct_model_wire.specs.declared.request.Request.{Request};
+ghost use Rattle.cct_model_wire.specs.declared.wire.CheckKind.{CheckKind};
 ghost use Rattle.cct_c.specs.Asking.{in_clear};
 ghost use Rattle.cct_c.specs.Codes.{kind_of};
 ghost use Rattle.cct_c.specs.Frames.{request_answer};
@@ -12,8 +12,8 @@ use crate::codes::{BAD_CHECK, NO_REQUEST, OK, kind_of};
 use crate::frames::put;
 use arrayvec::ArrayVec;
 use cct_frame::FrameView;
+use cct_model_wire::{MOST_SENT, Request};
 use cct_msg::{encode_request, read_request};
-use cct_terms::{MOST_SENT, Request};
 
 /// Writes the request with a header and data bytes, from the host to an address, to the front of `out`.
 #[unsafe(no_mangle)]

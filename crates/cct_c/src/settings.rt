@@ -1,12 +1,12 @@
 //! What a device is, as a program in another language says it.
 ghost use Rattle.std.specs.Prelude.{◌≡◌, All, IfOk, IsTrue};
-ghost use Rattle.cct_terms.specs.Device.{AreSoundPlaces, IsId, IsPrinting, IsSound, IsSoundBody, IsWord};
-ghost use Rattle.cct_terms.specs.declared.device.DeviceBody.TheVariants.{Hopper};
+ghost use Rattle.cct_model_wire.specs.Device.{AreSoundPlaces, IsId, IsPrinting, IsSound, IsSoundBody, IsWord};
+ghost use Rattle.cct_model_wire.specs.declared.device.DeviceBody.TheVariants.{Hopper};
 
 use crate::codes::{
     BAD_ADDRESS, BAD_CHECK, BAD_COUNT, BAD_FAMILY, BAD_ID, BAD_SERIAL, BAD_TEXT, OK, kind_of,
 };
-use cct_terms::{COIN_PLACES, DeviceBody, DeviceSetup, MOST_NAME, Name, Texts};
+use cct_model_wire::{COIN_PLACES, DeviceBody, DeviceSetup, MOST_NAME, Name, Texts};
 
 /// The first number that three bytes can't tell.
 const OVER: u32 = 1 << 24;

@@ -1,7 +1,7 @@
 //! The devices hear the line, and answer.
 ghost use Rattle.std.specs.Prelude.{◌≡◌, ◌≤◌, ℕ, List, [], ◌∷◌, ◌++◌, IfOk, Ok, OnOk, false, true};
 ghost use Rattle.cct_model.specs.lines.entry.Entry.{Entry};
-ghost use Rattle.cct_port.specs.Answer.{is_complete};
+ghost use Rattle.cct_live_port.specs.Answer.{is_complete};
 ghost use Rattle.cct_devices.specs.Machine.{HasActed, StandsFor, answered_to, setup_of};
 ghost use Rattle.cct_devices.specs.Line.{Says};
 
@@ -10,7 +10,7 @@ use crate::machine::Machine;
 use crate::status::Stop;
 use arrayvec::ArrayVec;
 use cct_edge::{Failed, Source};
-use cct_port::Line;
+use cct_live_port::Line;
 
 /// How many bytes are heard in one call at most.
 const ROOM: usize = 256;

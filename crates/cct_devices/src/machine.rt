@@ -9,7 +9,7 @@ ghost use Rattle.cct_model.specs.Legal.{OfKnowing, happening_entry};
 ghost use Rattle.cct_model.specs.Setup.{IsSoundSetup};
 ghost use Rattle.cct_model.specs.Transcript.{heard_after};
 ghost use Rattle.cct_bus.specs.Bus as buses;
-ghost use Rattle.cct_port.specs.Answer.{is_complete};
+ghost use Rattle.cct_live_port.specs.Answer.{is_complete};
 
 use arrayvec::ArrayVec;
 use cct_bus::Bus;

@@ -15,7 +15,7 @@ use crate::machine::Machine;
 use crate::status::{Refused, Status, Stop, Text};
 use cct_advice::{read_advised_setup, words_of};
 use cct_edge::StdSource;
-use cct_port::StdLine;
+use cct_live_port::StdLine;
 use std::fs::{File, Files, OpenOptions};
 use std::process::ExitCode;
 

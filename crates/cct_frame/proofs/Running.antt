@@ -1,9 +1,9 @@
 -- What a check makes of bytes that come one by one.
 use Rattle.std.proofs.Common.{◌≡◌, ◌≢◌, ℕ, suc, ◌+◌, ◌-◌, ◌%◌, ◌≤◌, List, [], ◌∷◌, ◌++◌, length, take, drop, sum, refl, sym, ap, ◌∙◌, arith}
 use Rattle.std.proofs.lemmas.List.Sums.{sum_by_push}
-use Rattle.cct_terms.specs.declared.wire.CheckKind.{CheckKind}
-use Rattle.cct_terms.specs.declared.wire.CheckKind.TheVariants.{Simple, Crc}
-use Rattle.cct_terms.specs.Message.{closing_byte, crc}
+use Rattle.cct_model_wire.specs.declared.wire.CheckKind.{CheckKind}
+use Rattle.cct_model_wire.specs.declared.wire.CheckKind.TheVariants.{Simple, Crc}
+use Rattle.cct_model_wire.specs.Message.{closing_byte, crc}
 use Rattle.cct_check.specs.Check.{crc as crc_computed}
 use Rattle.cct_frame.specs.Frame.{before_last, run_over, under_crc}
 use Rattle.cct_frame.proofs.Words.{same_crc}

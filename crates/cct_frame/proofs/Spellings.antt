@@ -6,10 +6,10 @@ use Rattle.std.proofs.lemmas.Bool.Decides.{nat_tests}
 use Rattle.std.proofs.lemmas.List.{take_all, take_at, take_more, length-take-le, get_or_append_left, get_or_at, length-append, nil_from_length}
 use Rattle.std.proofs.lemmas.List.Elements.{All-get_or}
 use Rattle.std.proofs.lemmas.List.Sums.{sum_by_push}
-use Rattle.cct_terms.specs.declared.wire.CheckKind.{CheckKind}
-use Rattle.cct_terms.specs.declared.wire.CheckKind.TheVariants.{Simple, Crc}
-use Rattle.cct_terms.specs.Message.{Message, message, spelling, crc, length_agrees}
-use Rattle.cct_terms.proofs.Messages.{simple_read_back}
+use Rattle.cct_model_wire.specs.declared.wire.CheckKind.{CheckKind}
+use Rattle.cct_model_wire.specs.declared.wire.CheckKind.TheVariants.{Simple, Crc}
+use Rattle.cct_model_wire.specs.Message.{Message, message, spelling, crc, length_agrees}
+use Rattle.cct_model_wire.proofs.Messages.{simple_read_back}
 use Rattle.cct_frame.specs.Frame.{carried}
 use Rattle.cct_frame.proofs.Places.{agrees, both, none_short, none_length}
 

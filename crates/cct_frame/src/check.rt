@@ -1,10 +1,10 @@
 //! The bytes by which a message is checked.
 ghost use Rattle.std.specs.Prelude.{◌≡◌, List, ℕ, [], ◌∷◌, ◌++◌, drop, length, take};
-ghost use Rattle.cct_terms.specs.Message.{crc};
+ghost use Rattle.cct_model_wire.specs.Message.{crc};
 ghost use Rattle.cct_frame.specs.Frame.{run_over};
 
 use cct_check::{crc16, crc16_step, simple_sum};
-use cct_terms::CheckKind;
+use cct_model_wire::CheckKind;
 
 /// The place of the byte that the CRC passes over, since it is its own low byte.
 const LOW_BYTE: usize = 2;

@@ -1,10 +1,10 @@
 //! What holds of messages and the pieces that spell them.
 ghost use Rattle.std.specs.Prelude.{◌≡◌, ◌≢◌, ◌↔◌, ◌<◌, ◌≤◌, List, ℕ, [], ◌++◌, All, IsSome, length};
-ghost use Rattle.cct_terms.specs.Message.{Message, message, spelling};
-ghost use Rattle.cct_terms.specs.declared.wire.CheckKind.{CheckKind};
+ghost use Rattle.cct_model_wire.specs.Message.{Message, message, spelling};
+ghost use Rattle.cct_model_wire.specs.declared.wire.CheckKind.{CheckKind};
 ghost use Rattle.cct_frame.specs.Frame.{carried};
 
-use cct_terms::CheckKind;
+use cct_model_wire::CheckKind;
 
 /// A piece of bytes that is a message under a check is the one spelling of that message, which has 255 data bytes at
 /// the most. It names its source under the simple check, and nobody under the CRC.

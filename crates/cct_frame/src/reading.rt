@@ -1,10 +1,10 @@
 //! A message is read where it stands.
 ghost use Rattle.std.specs.Prelude.{◌≡◌, ◌≢◌, ◌↔◌, ◌+◌, ◌-◌, ◌<◌, ◌≤◌, IfOk, IfErr, OnOk, OnErr, length, slice_index, slice_range, take};
-ghost use Rattle.cct_terms.specs.Message.{closing_byte, crc, message};
+ghost use Rattle.cct_model_wire.specs.Message.{closing_byte, crc, message};
 ghost use Rattle.cct_frame.specs.Frame.{before_last, check_fault, crc_fault, crc_in, fault_in, message_of, run_over, source_in, sum_fault, under_crc};
 
 use crate::check::check_of;
-use cct_terms::CheckKind;
+use cct_model_wire::CheckKind;
 use thiserror::Error;
 
 /// A view of a message in the piece that carries it.

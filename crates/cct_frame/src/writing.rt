@@ -1,10 +1,10 @@
 //! A message is written into the bytes to be sent.
 ghost use Rattle.std.specs.Prelude.{◌≡◌, ◌≤◌, Option, ℕ, length};
-ghost use Rattle.cct_terms.specs.Message.{spelling};
+ghost use Rattle.cct_model_wire.specs.Message.{spelling};
 
 use crate::check::crc_of;
 use arrayvec::ArrayVec;
-use cct_terms::{CheckKind, MOST_SENT};
+use cct_model_wire::{CheckKind, MOST_SENT};
 
 /// Writes one message in the place of what `out` holds. Under the CRC a message has no source, and `from` isn't used.
 pub fn write(
@@ -26,7 +26,7 @@ pub fn write(
 
 /// Writes a message under the simple check. Its bytes are summed as they are written, and few as they are, they are pushed
 /// one by one: a copy costs more.
-#[tactic(auto, unfolding(cct_terms::specs::Message::spelling))]
+#[tactic(auto, unfolding(cct_model_wire::specs::Message::spelling))]
 fn write_simple(to: u8, from: u8, header: u8, body: &[u8], out: &mut ArrayVec<u8, MOST_SENT>)
     requires { length body.now ≤ 255 }
     ensures { out.new.items
@@ -50,7 +50,7 @@ fn write_simple(to: u8, from: u8, header: u8, body: &[u8], out: &mut ArrayVec<u8
 }
 
 /// Writes a message under the CRC.
-#[tactic(auto, unfolding(cct_terms::specs::Message::spelling))]
+#[tactic(auto, unfolding(cct_model_wire::specs::Message::spelling))]
 fn write_crc(to: u8, header: u8, body: &[u8], out: &mut ArrayVec<u8, MOST_SENT>)
     requires { length body.now ≤ 255 }
     ensures { (from : Option ℕ) → out.new.items

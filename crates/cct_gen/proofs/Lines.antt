@@ -3,11 +3,11 @@ use Rattle.std.proofs.Common.{◌≡◌, ℕ, zero, suc, ◌+◌, ◌-◌, ◌%�
 use Rattle.std.proofs.Common.{if◌then◌else◌, [], ◌∷◌, ◌++◌, All, refl, subst, sym, lit≤, arith}
 use Rattle.std.specs.Prelude.{IsTrue}
 use Rattle.std.proofs.lemmas.List.Elements.{All-append, All-cons, All-nil}
-use Rattle.cct_lines.specs.declared.command.Command.TheVariants as command
-use Rattle.cct_lines.specs.declared.command.WireFault.TheVariants as fault
-use Rattle.cct_lines.specs.declared.command.Step.{Step}
-use Rattle.cct_lines.specs.declared.command.Step.TheVariants as step
-use Rattle.cct_lines.specs.Script.{IsInRange, is_known}
+use Rattle.cct_model_lines.specs.declared.command.Command.TheVariants as command
+use Rattle.cct_model_lines.specs.declared.command.WireFault.TheVariants as fault
+use Rattle.cct_model_lines.specs.declared.command.Step.{Step}
+use Rattle.cct_model_lines.specs.declared.command.Step.TheVariants as step
+use Rattle.cct_model_lines.specs.Script.{IsInRange, is_known}
 use Rattle.cct_gen.specs.Load.{load_setup, drawn, coin_of, coin_or_alien, coin_or_loss, crash_or_balance}
 use Rattle.cct_gen.specs.Load.{opening_line, round_line, line_at, lines_before}
 use Rattle.cct_gen.proofs.LoadSetup.{load_devices, setup_is}

@@ -1,16 +1,16 @@
 -- What the setup lines of a load say, and that its setup is sound.
 use Rattle.std.proofs.Common.{◌≡◌, ◌≤◌, [], ◌∷◌, replicate, codes, refl, ap, subst, sym, ◌∙◌, lit≤}
 use Rattle.std.proofs.lemmas.List.Elements.{All-cons, All-nil, All-replicate}
-use Rattle.cct_lines.specs.terms.wire.CheckKind.TheVariants.{Simple}
-use Rattle.cct_lines.specs.terms.device.DeviceBody.TheVariants.{Acceptor, Hopper}
-use Rattle.cct_lines.specs.terms.device.DeviceSetup.{DeviceSetup}
-use Rattle.cct_lines.specs.terms.device.Setup.{Setup}
-use Rattle.cct_lines.specs.Device.{IsId, IsSound}
-use Rattle.cct_lines.specs.Setup.{IsSoundSetup}
-use Rattle.cct_lines.specs.Text.{number_text}
-use Rattle.cct_lines.specs.Grammar.{added, id_in, plain_device, ranged, setup_line}
-use Rattle.cct_lines.specs.Script.{most_lines, read_form, script}
-use Rattle.cct_lines.proofs.Sound.{plain_device_sound, printing_all}
+use Rattle.cct_model_lines.specs.terms.wire.CheckKind.TheVariants.{Simple}
+use Rattle.cct_model_lines.specs.terms.device.DeviceBody.TheVariants.{Acceptor, Hopper}
+use Rattle.cct_model_lines.specs.terms.device.DeviceSetup.{DeviceSetup}
+use Rattle.cct_model_lines.specs.terms.device.Setup.{Setup}
+use Rattle.cct_model_lines.specs.Device.{IsId, IsSound}
+use Rattle.cct_model_lines.specs.Setup.{IsSoundSetup}
+use Rattle.cct_model_lines.specs.Text.{number_text}
+use Rattle.cct_model_lines.specs.Grammar.{added, id_in, plain_device, ranged, setup_line}
+use Rattle.cct_model_lines.specs.Script.{most_lines, read_form, script}
+use Rattle.cct_model_lines.proofs.Sound.{plain_device_sound, printing_all}
 use Rattle.cct_gen.specs.Load.{load_setup}
 
 -- the acceptor of a load, written out

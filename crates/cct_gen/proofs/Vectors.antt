@@ -1,12 +1,12 @@
 -- Lines of a load at worked values.
 use Rattle.std.proofs.Common.{◌≡◌, [], ◌∷◌, None, Some, map, refl}
-use Rattle.cct_lines.specs.declared.command.Command.TheVariants as command
-use Rattle.cct_lines.specs.declared.command.WireFault.TheVariants as fault
-use Rattle.cct_lines.specs.declared.command.Step.TheVariants as step
-use Rattle.cct_lines.specs.declared.entry.LineKind.TheVariants as kind
-use Rattle.cct_lines.specs.Text.{number_text}
-use Rattle.cct_lines.specs.Grammar.{added, id_in, ranged, setup_line}
-use Rattle.cct_lines.specs.Script.{most_lines, read_form, script}
+use Rattle.cct_model_lines.specs.declared.command.Command.TheVariants as command
+use Rattle.cct_model_lines.specs.declared.command.WireFault.TheVariants as fault
+use Rattle.cct_model_lines.specs.declared.command.Step.TheVariants as step
+use Rattle.cct_model_lines.specs.declared.entry.LineKind.TheVariants as kind
+use Rattle.cct_model_lines.specs.Text.{number_text}
+use Rattle.cct_model_lines.specs.Grammar.{added, id_in, ranged, setup_line}
+use Rattle.cct_model_lines.specs.Script.{most_lines, read_form, script}
 use Rattle.cct_gen.specs.Load.{setup_script, drawn, line_at, lines_before, load_steps}
 
 -- each setup line is taken, and the script is cut after the last

@@ -2,14 +2,14 @@
 use Rattle.std.specs.Prelude.{ℕ, zero, suc, ◌+◌, ◌-◌, ◌*◌, ◌/◌, ◌%◌, ◌^◌, ◌==◌, nat_lt, List, [], ◌∷◌, ◌++◌, map}
 use Rattle.std.specs.Prelude.{if◌then◌else◌, None, codes}
 use Rattle.std.specs.List.{flat_map, range_with_len}
-use Rattle.cct_lines.specs.terms.coin.TheConstants.{COIN_PLACES}
-use Rattle.cct_lines.specs.terms.device.Setup.{Setup}
-use Rattle.cct_lines.specs.declared.command.Command.TheVariants as command
-use Rattle.cct_lines.specs.declared.command.WireFault.TheVariants as fault
-use Rattle.cct_lines.specs.declared.command.Step.{Step}
-use Rattle.cct_lines.specs.declared.command.Step.TheVariants as step
-use Rattle.cct_lines.specs.Text.{number_text}
-use Rattle.cct_lines.specs.Script.{Script, script}
+use Rattle.cct_model_lines.specs.terms.coin.TheConstants.{COIN_PLACES}
+use Rattle.cct_model_lines.specs.terms.device.Setup.{Setup}
+use Rattle.cct_model_lines.specs.declared.command.Command.TheVariants as command
+use Rattle.cct_model_lines.specs.declared.command.WireFault.TheVariants as fault
+use Rattle.cct_model_lines.specs.declared.command.Step.{Step}
+use Rattle.cct_model_lines.specs.declared.command.Step.TheVariants as step
+use Rattle.cct_model_lines.specs.Text.{number_text}
+use Rattle.cct_model_lines.specs.Script.{Script, script}
 
 -- The setup line that gives the coin of a place its value.
 abbrev pub value_line : ℕ → List ℕ

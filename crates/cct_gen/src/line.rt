@@ -1,10 +1,10 @@
 //! The lines of a load.
 ghost use Rattle.std.specs.Prelude.{◌≡◌, ◌<◌, ◌+◌, ◌*◌, IsTrue};
-ghost use Rattle.cct_lines.specs.Script.{IsInRange, is_known};
+ghost use Rattle.cct_model_lines.specs.Script.{IsInRange, is_known};
 ghost use Rattle.cct_gen.specs.Load.{load_setup, drawn, coin_of, coin_or_alien, coin_or_loss, crash_or_balance};
 ghost use Rattle.cct_gen.specs.Load.{opening_line, round_line, line_at};
 
-use cct_lines::{COIN_PLACES, Command, Piece, Step, WireFault};
+use cct_model_lines::{COIN_PLACES, Command, Piece, Step, WireFault};
 
 /// The address of the coin acceptor.
 const ACCEPTOR: u8 = 2;

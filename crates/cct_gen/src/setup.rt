@@ -1,11 +1,13 @@
 //! The setup that a load is played on.
 ghost use Rattle.std.specs.Prelude.{◌≡◌, ◌≤◌, [], length};
-ghost use Rattle.cct_lines.specs.terms.wire.CheckKind.TheVariants.{Simple};
-ghost use Rattle.cct_lines.specs.Setup.{IsSoundSetup};
-ghost use Rattle.cct_lines.specs.Grammar.{plain_device};
+ghost use Rattle.cct_model_lines.specs.terms.wire.CheckKind.TheVariants.{Simple};
+ghost use Rattle.cct_model_lines.specs.Setup.{IsSoundSetup};
+ghost use Rattle.cct_model_lines.specs.Grammar.{plain_device};
 ghost use Rattle.cct_gen.specs.Load.{load_setup};
 
-use cct_lines::{COIN_PLACES, CheckKind, DeviceBody, DeviceSetup, MOST_NAME, Name, Setup, Texts};
+use cct_model_lines::{
+    COIN_PLACES, CheckKind, DeviceBody, DeviceSetup, MOST_NAME, Name, Setup, Texts,
+};
 
 /// Puts into an empty setup the devices that a load is played on: a coin acceptor at address 2 whose 16 coins are worth
 /// 10 each, and a hopper at address 3 whose coins are worth 10.

@@ -1,11 +1,11 @@
 -- The replies of a hopper.
 use Rattle.std.proofs.Common.{◌≡◌, ℕ, List, refl}
-use Rattle.cct_terms.specs.declared.device.DeviceBody.{DeviceBody}
-use Rattle.cct_terms.specs.declared.device.DeviceBody.TheVariants as body
-use Rattle.cct_terms.specs.declared.request.Request.{Request}
-use Rattle.cct_terms.specs.Device.{IsHopper, own_reply}
-use Rattle.cct_terms.specs.History.{Met}
-use Rattle.cct_terms.specs.Hopper.{hopper_reply}
+use Rattle.cct_model_wire.specs.declared.device.DeviceBody.{DeviceBody}
+use Rattle.cct_model_wire.specs.declared.device.DeviceBody.TheVariants as body
+use Rattle.cct_model_wire.specs.declared.request.Request.{Request}
+use Rattle.cct_model_wire.specs.Device.{IsHopper, own_reply}
+use Rattle.cct_model_wire.specs.History.{Met}
+use Rattle.cct_model_wire.specs.Hopper.{hopper_reply}
 use Rattle.cct_hopper.specs.Hopper.{start_of}
 
 -- What a hopper's kind alone answers, it answers by its serial number and its start.

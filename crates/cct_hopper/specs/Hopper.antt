@@ -1,15 +1,15 @@
 -- A hopper that represents all that it met (ccTalk Generic Specification 4, part 3).
 use Rattle.std.specs.Prelude.{◌≡◌, ℕ, ◌==◌, Bool, true, false, List, [], Option, Some, None, Result, Ok, Err, if◌then◌else◌, not}
-use Rattle.cct_terms.specs.declared.device.DeviceBody.{DeviceBody}
-use Rattle.cct_terms.specs.declared.device.DeviceBody.TheVariants as body
-use Rattle.cct_terms.specs.declared.device.DeviceSetup.{DeviceSetup}
-use Rattle.cct_terms.specs.declared.request.Request.{Request}
-use Rattle.cct_terms.specs.declared.request.Request.TheVariants.{ResetDevice, Enable, Dispense, StopNow, TestHopper}
-use Rattle.cct_terms.specs.Acceptor as acceptor
-use Rattle.cct_terms.specs.Device.{IsHopper}
-use Rattle.cct_terms.specs.History.{Met}
-use Rattle.cct_terms.specs.Hopper.{enabled, remaining, payouts, last_paid, last_unpaid, has_timeout, is_tested, life_count}
-use Rattle.cct_device.specs.Listening.{HeardSince}
+use Rattle.cct_model_wire.specs.declared.device.DeviceBody.{DeviceBody}
+use Rattle.cct_model_wire.specs.declared.device.DeviceBody.TheVariants as body
+use Rattle.cct_model_wire.specs.declared.device.DeviceSetup.{DeviceSetup}
+use Rattle.cct_model_wire.specs.declared.request.Request.{Request}
+use Rattle.cct_model_wire.specs.declared.request.Request.TheVariants.{ResetDevice, Enable, Dispense, StopNow, TestHopper}
+use Rattle.cct_model_wire.specs.Acceptor as acceptor
+use Rattle.cct_model_wire.specs.Device.{IsHopper}
+use Rattle.cct_model_wire.specs.History.{Met}
+use Rattle.cct_model_wire.specs.Hopper.{enabled, remaining, payouts, last_paid, last_unpaid, has_timeout, is_tested, life_count}
+use Rattle.cct_device_core.specs.Listening.{HeardSince}
 use Rattle.cct_life.specs.Life.{count_of}
 use Rattle.cct_hopper.specs.declared.device.Device.{Device}
 use Rattle.cct_hopper.specs.declared.hopper.Hopper.{Hopper}

@@ -1,10 +1,10 @@
 //! What a hopper holds in whatever state it is (ccTalk Generic Specification 4, part 3).
 ghost use Rattle.std.specs.Prelude.{◌≡◌, ◌<◌, ◌==◌, ◌+◌, ◌^◌, ℕ, List, [], ◌∷◌, ◌++◌, if◌then◌else◌};
-ghost use Rattle.cct_device.specs.Listening.{kind_of};
+ghost use Rattle.cct_device_core.specs.Listening.{kind_of};
 
-use cct_device::Listener;
+use cct_device_core::Listener;
 use cct_life::LifeCount;
-use cct_terms::DeviceSetup;
+use cct_model_wire::DeviceSetup;
 
 /// The hopper itself, without what its state tells: whether it may pay, and how many coins are left to fall.
 #[derive(Clone, Copy, Debug)]

@@ -1,23 +1,23 @@
 //! The hopper as a device (ccTalk Generic Specification 4, part 3).
 ghost use Rattle.std.specs.Prelude.{◌≡◌, ◌≢◌, ◌==◌, ℕ, List, [], ◌∷◌, ◌++◌, false, true, not, Some, IfSome, MatchOption};
 ghost use Rattle.std.specs.Option.{option_map};
-ghost use Rattle.cct_terms.specs.declared.device.DeviceSetup.{DeviceSetup};
-ghost use Rattle.cct_terms.specs.declared.request.TheConstants.{ENABLE_CODE};
-ghost use Rattle.cct_terms.specs.declared.request.Request.TheVariants.{Dispense, Enable, StopNow, TestHopper};
-ghost use Rattle.cct_terms.specs.Device.{IsHopper, IsSound, reply_of};
-ghost use Rattle.cct_terms.specs.Exchange.{answer, asks_of};
-ghost use Rattle.cct_terms.specs.History.{Met, fall, heard, jam, reset};
-ghost use Rattle.cct_terms.specs.Hopper.{dispense_reply, hopper_reply, register_of, remaining, taken_of};
-ghost use Rattle.cct_terms.specs.Reply.{IsSayable, reply_shown};
+ghost use Rattle.cct_model_wire.specs.declared.device.DeviceSetup.{DeviceSetup};
+ghost use Rattle.cct_model_wire.specs.declared.request.TheConstants.{ENABLE_CODE};
+ghost use Rattle.cct_model_wire.specs.declared.request.Request.TheVariants.{Dispense, Enable, StopNow, TestHopper};
+ghost use Rattle.cct_model_wire.specs.Device.{IsHopper, IsSound, reply_of};
+ghost use Rattle.cct_model_wire.specs.Exchange.{answer, asks_of};
+ghost use Rattle.cct_model_wire.specs.History.{Met, fall, heard, jam, reset};
+ghost use Rattle.cct_model_wire.specs.Hopper.{dispense_reply, hopper_reply, register_of, remaining, taken_of};
+ghost use Rattle.cct_model_wire.specs.Reply.{IsSayable, reply_shown};
 
 use crate::device::Device;
 use crate::register::Register;
 use crate::states::{AfterFall, HopperIdle, HopperOff, HopperPaying};
 use arrayvec::ArrayVec;
 use bitflags::Flags;
-use cct_device::{Asked, asked_whole, common_reply, give};
+use cct_device_core::{Asked, asked_whole, common_reply, give};
 use cct_life::LifeCount;
-use cct_terms::{DeviceBody, DeviceSetup, ENABLE_CODE, MOST_SENT, Reply, Request};
+use cct_model_wire::{DeviceBody, DeviceSetup, ENABLE_CODE, MOST_SENT, Reply, Request};
 
 /// A hopper of a setup, in one of its three states. Its contracts tell it by all that it met, newest first.
 #[derive(Debug, Drop)]
@@ -180,7 +180,7 @@ impl<'s> Hopper<'s> {
     }
 
     /// Acts on a request, and gives the reply, or none where no hopper knows the request.
-    #[tactic(auto, unfolding(cct_terms::specs::Device::reply_of, cct_terms::specs::Device::common_reply, cct_terms::specs::Hopper::hopper_reply), using(crate::proofs::Replies::own_is))]
+    #[tactic(auto, unfolding(cct_model_wire::specs::Device::reply_of, cct_model_wire::specs::Device::common_reply, cct_model_wire::specs::Hopper::hopper_reply), using(crate::proofs::Replies::own_is))]
     fn act(&mut self, request: Request) -> Option<Reply<'s>>
         ensures stands { (d : DeviceSetup) (past : List Met) → StandsFor self.old d past
             → StandsFor self.new d (heard (Some request) ∷ past) }
@@ -210,7 +210,7 @@ impl<'s> Hopper<'s> {
     }
 
     /// The reply to a request that changes nothing.
-    #[tactic(auto, unfolding(cct_terms::specs::Device::reply_of, cct_terms::specs::Device::common_reply), using(crate::proofs::Replies::own_is))]
+    #[tactic(auto, unfolding(cct_model_wire::specs::Device::reply_of, cct_model_wire::specs::Device::common_reply), using(crate::proofs::Replies::own_is))]
     fn tell(&self, request: Request) -> Option<Reply<'s>>
         ensures stands { (d : DeviceSetup) (past : List Met) → StandsFor self.now d past → is_change request ≡ false
             → StandsFor self.now d (heard (Some request) ∷ past) }
@@ -225,7 +225,7 @@ impl<'s> Hopper<'s> {
     }
 
     /// The reply to a request for the hopper's payouts that changes nothing.
-    #[tactic(auto, unfolding(cct_terms::specs::Hopper::hopper_reply))]
+    #[tactic(auto, unfolding(cct_model_wire::specs::Hopper::hopper_reply))]
     fn tell_payout(&self, request: Request) -> Option<Reply<'s>>
         ensures answer { (d : DeviceSetup) (past : List Met) → StandsFor self.now d past → is_change request ≡ false
             → option_map reply_shown result ≡ hopper_reply d.serial (start_of d.body) past request }

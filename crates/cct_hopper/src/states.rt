@@ -3,9 +3,9 @@
 ghost use Rattle.std.specs.Prelude.{◌≡◌, ◌≢◌, ◌==◌, ◌≤◌, ◌<◌, ◌+◌, ◌^◌, ⊤, false, Some, None, List, ℕ, [], ◌∷◌, IfSome, MatchOption, MatchResult};
 
 use crate::device::{Device, next_event};
-use cct_device::Listener;
+use cct_device_core::Listener;
 use cct_life::LifeCount;
-use cct_terms::DeviceSetup;
+use cct_model_wire::DeviceSetup;
 use thiserror::Error;
 
 /// A hopper that may not pay, as it is after power-up.
@@ -51,11 +51,11 @@ pub enum DispenseNo {
 }
 
 impl<'s> HopperOff<'s> {
-    ghost use Rattle.cct_terms.specs.declared.device.DeviceSetup.{DeviceSetup};
-    ghost use Rattle.cct_terms.specs.declared.request.TheConstants.{ENABLE_CODE};
-    ghost use Rattle.cct_terms.specs.declared.request.Request.TheVariants.{Enable};
-    ghost use Rattle.cct_terms.specs.Device.{IsHopper};
-    ghost use Rattle.cct_terms.specs.History.{Met, heard, reset};
+    ghost use Rattle.cct_model_wire.specs.declared.device.DeviceSetup.{DeviceSetup};
+    ghost use Rattle.cct_model_wire.specs.declared.request.TheConstants.{ENABLE_CODE};
+    ghost use Rattle.cct_model_wire.specs.declared.request.Request.TheVariants.{Enable};
+    ghost use Rattle.cct_model_wire.specs.Device.{IsHopper};
+    ghost use Rattle.cct_model_wire.specs.History.{Met, heard, reset};
     ghost use Rattle.cct_life.specs.Life.{count_of};
     ghost use Rattle.cct_hopper.specs.Hopper.{HasHeard, IsAtGap, StandsFor, start_of};
     ghost use Rattle.cct_hopper.specs.declared.hopper.Hopper.TheVariants.{Idle, Off};
@@ -106,10 +106,10 @@ impl<'s> HopperOff<'s> {
 }
 
 impl<'s> HopperIdle<'s> {
-    ghost use Rattle.cct_terms.specs.declared.device.DeviceSetup.{DeviceSetup};
-    ghost use Rattle.cct_terms.specs.declared.request.TheConstants.{ENABLE_CODE};
-    ghost use Rattle.cct_terms.specs.declared.request.Request.TheVariants.{Dispense, Enable};
-    ghost use Rattle.cct_terms.specs.History.{Met, heard, reset};
+    ghost use Rattle.cct_model_wire.specs.declared.device.DeviceSetup.{DeviceSetup};
+    ghost use Rattle.cct_model_wire.specs.declared.request.TheConstants.{ENABLE_CODE};
+    ghost use Rattle.cct_model_wire.specs.declared.request.Request.TheVariants.{Dispense, Enable};
+    ghost use Rattle.cct_model_wire.specs.History.{Met, heard, reset};
     ghost use Rattle.cct_hopper.specs.Hopper.{HasHeard, StandsFor, after_dispense, refusal, serial_of};
     ghost use Rattle.cct_hopper.specs.declared.hopper.Hopper.TheVariants.{Idle, Off};
 
@@ -191,11 +191,11 @@ impl<'s> HopperIdle<'s> {
 }
 
 impl<'s> HopperPaying<'s> {
-    ghost use Rattle.cct_terms.specs.declared.device.DeviceSetup.{DeviceSetup};
-    ghost use Rattle.cct_terms.specs.declared.request.TheConstants.{ENABLE_CODE};
-    ghost use Rattle.cct_terms.specs.declared.request.Request.TheVariants.{Enable, StopNow};
-    ghost use Rattle.cct_terms.specs.History.{Met, fall, heard, jam, reset};
-    ghost use Rattle.cct_terms.specs.Hopper.{remaining};
+    ghost use Rattle.cct_model_wire.specs.declared.device.DeviceSetup.{DeviceSetup};
+    ghost use Rattle.cct_model_wire.specs.declared.request.TheConstants.{ENABLE_CODE};
+    ghost use Rattle.cct_model_wire.specs.declared.request.Request.TheVariants.{Enable, StopNow};
+    ghost use Rattle.cct_model_wire.specs.History.{Met, fall, heard, jam, reset};
+    ghost use Rattle.cct_model_wire.specs.Hopper.{remaining};
     ghost use Rattle.cct_hopper.specs.Hopper.{HasHeard, StandsFor, after_fall};
     ghost use Rattle.cct_hopper.specs.declared.hopper.Hopper.TheVariants.{Idle, Off, Paying};
 

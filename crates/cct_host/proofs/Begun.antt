@@ -7,9 +7,9 @@ use Rattle.cct_model.specs.Carried.{IsRightly, empty_carry}
 use Rattle.cct_disk.specs.declared.disk.Disk.{Ghosts}
 use Rattle.cct_journal.specs.Journal as journals
 use Rattle.cct_journal.specs.declared.place.Place.{Place}
-use Rattle.cct_carry.specs.Tally as tallies
-use Rattle.cct_carry.proofs.Resumed.{carry_first}
-use Rattle.cct_carry.proofs.Small.{none_empty}
+use Rattle.cct_journal_carry.specs.Tally as tallies
+use Rattle.cct_journal_carry.proofs.Resumed.{carry_first}
+use Rattle.cct_journal_carry.proofs.Small.{none_empty}
 use Rattle.cct_ledger.specs.declared.ledger.Ledger.{Ledger}
 use Rattle.cct_ledger.specs.Resumed.{IsResumed}
 use Rattle.cct_host.specs.declared.desks.Desks.{Desks}

@@ -6,7 +6,7 @@ use Rattle.cct_model.specs.lines.carry.CarryEpoch.{CarryEpoch}
 use Rattle.cct_model.specs.Carried.{Rise, addr_of_epoch, first_with}
 use Rattle.cct_model.specs.Carry.{epoch_from}
 use Rattle.cct_jobs.specs.Jobs.{IsRunning}
-use Rattle.cct_carry.proofs.Sets.{first_above, first_here}
+use Rattle.cct_journal_carry.proofs.Sets.{first_above, first_here}
 use Rattle.cct_host.specs.Upgrading.{IsLeastRunning, NoneRuns}
 
 abbrev Runs : List CarryEpoch → ℕ → Type 0

@@ -17,8 +17,8 @@ use Rattle.cct_disk.specs.declared.disk.Disk.{Ghosts}
 use Rattle.cct_disk.specs.Disk.{IsTrusted, LeavesOnly}
 use Rattle.cct_journal.specs.declared.journal.Journal.{Journal}
 use Rattle.cct_journal.specs.declared.place.Place.{Place}
-use Rattle.cct_carry.specs.declared.tally.Tally.{Tally}
-use Rattle.cct_carry.specs.Tally as tallies
+use Rattle.cct_journal_carry.specs.declared.tally.Tally.{Tally}
+use Rattle.cct_journal_carry.specs.Tally as tallies
 use Rattle.cct_journal.specs.Journal as journals
 use Rattle.cct_journal.specs.declared.format.TheConstants.{MOST_RECORDS}
 use Rattle.cct_disk.specs.Disk.{GoesOn}

@@ -21,11 +21,11 @@ use Rattle.cct_journal.specs.declared.place.Place.{Place}
 use Rattle.cct_journal.specs.Image.{HasFrom}
 use Rattle.cct_journal.specs.Image as images
 use Rattle.cct_journal.specs.Journal as journals
-use Rattle.cct_carry.specs.Tally as tallies
+use Rattle.cct_journal_carry.specs.Tally as tallies
 use Rattle.cct_journal.specs.PowerCuts.{LeavesWith, LeftBy}
 use Rattle.cct_laws.specs.Restart.{RestartSuits, calls_in, due_in}
 use Rattle.cct_laws.proofs.money.Restarts.{restart_bare, entries_free, restart_keeps}
-use Rattle.cct_laws.proofs.Setups.{same_some}
+use Rattle.cct_laws.proofs.setups.DeviceAt.{same_some}
 use Rattle.cct_host.specs.declared.host.Host.{Host}
 use Rattle.cct_host.specs.declared.refusal.CrashNo.{CrashNo}
 use Rattle.cct_host.specs.declared.refusal.CrashNo.TheVariants as crash_no

@@ -25,8 +25,8 @@ use Rattle.cct_model.specs.Records.{records}
 use Rattle.cct_model.specs.Setup.{IsSoundSetup}
 use Rattle.cct_model.specs.Scan.{scan_row}
 use Rattle.cct_model.specs.Transcript.{lines_of, sale_lines, scan_lines}
-use Rattle.cct_carry.proofs.Follows.{follows_carried}
-use Rattle.cct_carry.proofs.Steps.{carry_next}
+use Rattle.cct_journal_carry.proofs.Follows.{follows_carried}
+use Rattle.cct_journal_carry.proofs.Steps.{carry_next}
 use Rattle.cct_disk.specs.Disk.{LeavesOnly}
 use Rattle.cct_journal.specs.Image.{StandsFor}
 use Rattle.cct_journal.specs.declared.place.Place.{Place}

@@ -11,14 +11,14 @@ use Rattle.cct_model.specs.Setup.{IsSoundSetup}
 use Rattle.cct_journal.specs.Image.{Continues}
 use Rattle.cct_journal.specs.declared.refusal.ReadNo.{ReadNo}
 use Rattle.cct_journal.specs.declared.refusal.ReadNo.TheVariants.{Disk, BadRecord}
-use Rattle.cct_carry.specs.Tally as tallies
-use Rattle.cct_carry.proofs.Over.{carry_followed, follow_after, follows_after}
-use Rattle.cct_laws.proofs.money.Replaying.{follow_at, follow_front}
+use Rattle.cct_journal_carry.specs.Tally as tallies
+use Rattle.cct_journal_carry.proofs.Over.{carry_followed, follow_after, follows_after}
+use Rattle.cct_laws.proofs.money.EpochsReplayed.{follow_at, follow_front}
 use Rattle.cct_host.specs.declared.replay.ReplayState.{ReplayState}
 use Rattle.cct_host.specs.OnDisk.{IsFirstBad, StopsAt}
 use Rattle.cct_host.specs.Replaying.{GoesOver, ReplaysTo}
 use Rattle.cct_host.specs.Starting.{IsFirstUnfollowing, RefusesResume, RefusesStart}
-use Rattle.cct_carry.proofs.FitsSetup.{carry_fits}
+use Rattle.cct_journal_carry.proofs.FitsSetup.{carry_fits}
 
 next_before : (before : List Record) (r : Record) (later : List Record)
     → reverse (r ∷ later) ++ before ≡ reverse later ++ r ∷ before

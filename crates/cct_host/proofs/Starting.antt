@@ -25,14 +25,14 @@ use Rattle.cct_journal.specs.Image.{Continues}
 use Rattle.cct_journal.specs.declared.journal.Journal.{Journal}
 use Rattle.cct_journal.specs.Journal as journals
 use Rattle.cct_journal.specs.declared.format.TheConstants.{MOST_RECORDS}
-use Rattle.cct_carry.specs.declared.tally.Tally.{Tally}
-use Rattle.cct_carry.specs.Tally as tallies
-use Rattle.cct_carry.proofs.Carried.{epoch_carried, order_carried}
+use Rattle.cct_journal_carry.specs.declared.tally.Tally.{Tally}
+use Rattle.cct_journal_carry.specs.Tally as tallies
+use Rattle.cct_journal_carry.proofs.Carried.{epoch_carried, order_carried}
 use Rattle.cct_ledger.specs.declared.ledger.Ledger.{Ledger}
 use Rattle.cct_ledger.specs.Ledger as ledgers
 use Rattle.cct_ledger.proofs.OverCarry.{resumed_stands}
 use Rattle.cct_laws.specs.Recorded.{HasNoJob}
-use Rattle.cct_laws.proofs.money.Recorded.{epoch_recorded, order_recorded}
+use Rattle.cct_laws.proofs.money.FromRecordsAlone.{epoch_recorded, order_recorded}
 use Rattle.cct_host.specs.declared.desk.JobDesk.{JobDesk}
 use Rattle.cct_host.specs.declared.desks.Desks.{Desks}
 use Rattle.cct_host.specs.declared.orders.OrderState.{OrderState}

@@ -9,8 +9,8 @@ use Rattle.cct_model.specs.lines.record.Record.{Record}
 use Rattle.cct_model.specs.Carry.{Fits, carry_with, follows_carry}
 use Rattle.cct_journal.specs.declared.refusal.ReadNo.{ReadNo}
 use Rattle.cct_journal.specs.declared.refusal.ReadNo.TheVariants.{Disk}
-use Rattle.cct_carry.specs.Tally as tallies
-use Rattle.cct_carry.proofs.Over.{follow_append, over_append}
+use Rattle.cct_journal_carry.specs.Tally as tallies
+use Rattle.cct_journal_carry.proofs.Over.{follow_append, over_append}
 use Rattle.cct_host.specs.declared.replay.ReplayState.{ReplayState}
 use Rattle.cct_host.specs.OnDisk.{StopsAt}
 use Rattle.cct_host.specs.Replaying.{GoesOver, ReplaysTo}

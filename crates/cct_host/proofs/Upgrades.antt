@@ -19,7 +19,7 @@ use Rattle.cct_journal.specs.declared.refusal.OldNo.TheVariants as opening
 use Rattle.cct_journal.specs.declared.refusal.ReadNo.{ReadNo}
 use Rattle.cct_journal.specs.declared.refusal.ReadNo.TheVariants as reading
 use Rattle.cct_journal.proofs.Moments.{then, weaker}
-use Rattle.cct_carry.proofs.Over.{follow_append}
+use Rattle.cct_journal_carry.proofs.Over.{follow_append}
 use Rattle.cct_host.specs.declared.refusal.UpgradeNo.{UpgradeNo}
 use Rattle.cct_host.specs.declared.refusal.UpgradeNo.TheVariants.{Disk, Alien, Current, NoRoom, BadRecord, EpochRuns}
 use Rattle.cct_host.specs.OnDisk.{StopsAt}

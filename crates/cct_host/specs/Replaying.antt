@@ -3,7 +3,7 @@ use Rattle.std.specs.Prelude.{◌≡◌, ℕ, ◌+◌, Option, Some, None, List,
 use Rattle.cct_model.specs.terms.device.Setup.{Setup}
 use Rattle.cct_model.specs.lines.carry.Carry.{Carry}
 use Rattle.cct_model.specs.lines.record.Record.{Record}
-use Rattle.cct_carry.specs.Tally as tallies
+use Rattle.cct_journal_carry.specs.Tally as tallies
 use Rattle.cct_host.specs.declared.replay.ReplayState.{ReplayState}
 use Rattle.cct_host.specs.OnDisk.{StopsAt}
 use Rattle.cct_host.specs.Starting.{TalliesOver}

@@ -12,7 +12,7 @@ use Rattle.cct_disk.specs.declared.disk.Disk.{Ghosts}
 use Rattle.cct_disk.specs.Disk.{OnlyReads}
 use Rattle.cct_journal.specs.declared.journal.Journal.{Journal}
 use Rattle.cct_journal.specs.Journal as journals
-use Rattle.cct_carry.specs.Tally as tallies
+use Rattle.cct_journal_carry.specs.Tally as tallies
 use Rattle.cct_ledger.specs.declared.ledger.Ledger.{Ledger}
 use Rattle.cct_ledger.specs.Ledger as ledgers
 use Rattle.cct_ledger.specs.Resumed.{IsResumed}

@@ -16,8 +16,8 @@ ghost use Rattle.cct_host.specs.Running.{is_halt, is_running, orders_left};
 use crate::exchange::{exchange, put};
 use crate::orders::OrderState;
 use arrayvec::ArrayVec;
-use cct_carry::{epoch_by, id_of};
 use cct_jobs::{Job, Need, Owed, Sending};
+use cct_journal_carry::{epoch_by, id_of};
 use cct_model::{Command, CommandNo, DeviceSetup, Entry, EpochState, OpenOrder, Record, Setup};
 use cct_wire::Link;
 

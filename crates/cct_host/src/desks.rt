@@ -16,13 +16,13 @@ ghost use Rattle.cct_jobs.specs.Jobs.{is_of_device};
 ghost use Rattle.cct_host.specs.Desk.{IsFree, puts_at};
 ghost use Rattle.cct_host.specs.Held.{sells_only};
 ghost use Rattle.cct_host.specs.Running.{begins_id};
-ghost use Rattle.cct_carry.specs.Sound.{IsSoundSetup-prop};
+ghost use Rattle.cct_journal_carry.specs.Sound.{IsSoundSetup-prop};
 
 use crate::desk::JobDesk;
 use crate::recorded::resumed_desks;
 use arrayvec::ArrayVec;
-use cct_carry::coins_of;
 use cct_jobs::Sending;
+use cct_journal_carry::coins_of;
 use cct_model::{
     BROADCAST, Carry, Command, CommandNo, DEVICES, DeviceSetup, Entry, HOST, Record, Setup,
 };

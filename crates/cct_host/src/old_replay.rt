@@ -4,7 +4,7 @@ ghost use Rattle.cct_model.specs.lines.record.Record.{Record};
 ghost use Rattle.cct_model.specs.lines.carry.Carry.{Carry};
 ghost use Rattle.cct_model.specs.Carry.{Fits};
 ghost use Rattle.cct_model.specs.Setup.{IsSoundSetup};
-ghost use Rattle.cct_carry.specs.Tally as tallies;
+ghost use Rattle.cct_journal_carry.specs.Tally as tallies;
 ghost use Rattle.cct_journal.specs.OldImage.{bodies_at};
 ghost use Rattle.cct_journal.specs.declared.format.TheConstants.{MOST_RECORDS};
 ghost use Rattle.cct_journal.specs.OldJournal as olds;
@@ -12,9 +12,9 @@ ghost use Rattle.cct_journal.specs.OldStands.{OldCounts, OldReadsFrom};
 ghost use Rattle.cct_host.specs.OldTally.{OnlyReadOld, RefusesBodies, TalliesUpTo};
 ghost use Rattle.cct_host.specs.Starting.{RefusesResume, TalliesFirst, TalliesOver};
 
-use cct_carry::Tally;
 use cct_disk::Disk;
 use cct_journal::{OldJournal, ReadNo};
+use cct_journal_carry::Tally;
 use cct_model::Setup;
 
 /// A tally of all records of a journal of an older version: it begins with the carry of those before the current half, and

@@ -11,7 +11,7 @@ ghost use Rattle.cct_host.specs.Place as places;
 ghost use Rattle.cct_host.specs.Running.{busy_by, halting_refusal, halts_in, kind_refusal, refusal_beside, sale_refusal};
 
 use crate::desk::JobDesk;
-use cct_carry::valueless;
+use cct_journal_carry::valueless;
 use cct_model::{Command, CommandNo, DeviceSetup, EpochState};
 
 impl JobDesk {

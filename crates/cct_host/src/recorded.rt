@@ -11,8 +11,8 @@ ghost use Rattle.cct_host.specs.Replayed.{AllReplay, IsUnused};
 use crate::desk::JobDesk;
 use crate::orders::OrderState;
 use arrayvec::ArrayVec;
-use cct_carry::{epoch_held, order_held};
 use cct_jobs::Owed;
+use cct_journal_carry::{epoch_held, order_held};
 use cct_model::{Carry, DEVICES, DeviceSetup};
 
 /// The desk of each device by a carry: no job is there.

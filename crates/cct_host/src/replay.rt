@@ -6,15 +6,15 @@ ghost use Rattle.cct_model.specs.lines.carry.Carry.{Carry};
 ghost use Rattle.cct_model.specs.Carried.{empty_carry};
 ghost use Rattle.cct_model.specs.Carry.{Fits};
 ghost use Rattle.cct_model.specs.Setup.{IsSoundSetup};
-ghost use Rattle.cct_carry.specs.Tally as tallies;
+ghost use Rattle.cct_journal_carry.specs.Tally as tallies;
 ghost use Rattle.cct_journal.specs.Journal as journals;
 ghost use Rattle.cct_host.specs.OnDisk.{ReadsRest};
 ghost use Rattle.cct_host.specs.Starting.{OnlyReadIn, RefusesResume, TalliesFirst, TalliesOver, TalliesSome};
 
 use crate::refusal::StartNo;
-use cct_carry::Tally;
 use cct_disk::Disk;
 use cct_journal::{Journal, Replay};
+use cct_journal_carry::Tally;
 use cct_model::{Carry, Record, Setup};
 
 /// A tally of all records of a journal: it begins with the carry of those before the current half, and goes over the

@@ -13,7 +13,7 @@ ghost use Rattle.cct_journal.specs.OldImage.{HasOldFrom, IsTurning, OldStandsFor
 ghost use Rattle.cct_journal.specs.OldJournal as olds;
 ghost use Rattle.cct_journal.specs.OldJournal.{OldJournalStands};
 ghost use Rattle.cct_journal.specs.OldStands.{IsTurned, OldCounts, OldReadsFrom};
-ghost use Rattle.cct_carry.specs.Tally as tallies;
+ghost use Rattle.cct_journal_carry.specs.Tally as tallies;
 ghost use Rattle.cct_host.specs.OldTally.{CountsAll, OnlyReadOld, RefusesOpened, TurnsBy};
 ghost use Rattle.cct_host.specs.OnDisk.{KeepsRecords};
 ghost use Rattle.cct_host.specs.Upgrading.{CanTurn, CanUpgrade, Counts, IsBrought, IsLeastRunning, NoneRuns, OldFirstFollow};
@@ -21,10 +21,10 @@ ghost use Rattle.cct_host.specs.Upgrading.{RefusesUpgrade, StandsBrought, disk_a
 
 use crate::old_replay::tally_old;
 use crate::refusal::UpgradeNo;
-use cct_carry::Tally;
 use cct_disk::Disk;
 use cct_edge::Failed;
 use cct_journal::{Journal, OldJournal};
+use cct_journal_carry::Tally;
 use cct_model::{Carry, Setup};
 
 /// Brings the journal of an older version on a disk forward: the other half gets the carry of all its records, by one turn,

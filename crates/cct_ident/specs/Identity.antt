@@ -1,7 +1,7 @@
 -- The identity of a device, as its setup gives it (ccTalk Generic Specification 4, part 2).
 use Rattle.std.specs.Prelude.{ℕ, List}
-use Rattle.cct_terms.specs.declared.device.DeviceSetup.{DeviceSetup}
-use Rattle.cct_terms.specs.Device.{category_of}
+use Rattle.cct_model_wire.specs.declared.device.DeviceSetup.{DeviceSetup}
+use Rattle.cct_model_wire.specs.Device.{category_of}
 use Rattle.cct_ident.specs.declared.identity.IdentText.{IdentText}
 use Rattle.cct_ident.specs.declared.identity.IdentText.TheVariants.{Maker, Category, Product, Software, Build}
 use Rattle.cct_ident.specs.declared.identity.Identity.{Identity}

@@ -1,10 +1,10 @@
 //! What a device tells of itself (ccTalk Generic Specification 4, part 2): headers 246, 245, 244, 241 and 192 read its
 //! texts, and 242 its serial number.
 ghost use Rattle.std.specs.Prelude.{◌≡◌, ◌≤◌, codes, length};
-ghost use Rattle.cct_terms.specs.Device.{category_of};
+ghost use Rattle.cct_model_wire.specs.Device.{category_of};
 ghost use Rattle.cct_ident.specs.Identity.{setup_of, text_of};
 
-use cct_terms::{DeviceBody, DeviceSetup, MOST_NAME};
+use cct_model_wire::{DeviceBody, DeviceSetup, MOST_NAME};
 
 /// The texts by which a device names itself.
 #[derive(Clone, Copy, Debug, PartialEq, Eq)]

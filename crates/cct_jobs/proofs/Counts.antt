@@ -8,7 +8,7 @@ use Rattle.cct_model.specs.Message.{message}
 use Rattle.cct_model.specs.Request.{form_of, from_three}
 use Rattle.cct_model.specs.Reply.{Reply, accepts, life, reply_in, three_in}
 use Rattle.cct_model.specs.Exchange.{after_echo, got, is_for_host, reply_from}
-use Rattle.cct_terms.proofs.OfBytes.{Bytes, IfThere, IsOfBytes, are_bytes, message_bytes, rest_bytes, there_then, there_when}
+use Rattle.cct_model_wire.proofs.OfBytes.{Bytes, IfThere, IsOfBytes, are_bytes, message_bytes, rest_bytes, there_then, there_when}
 use Rattle.cct_msg.specs.Forms.{form_shown}
 use Rattle.cct_jobs.specs.Jobs.{FitsAccepts, FitsLife, replied, reply_wanted}
 use Rattle.cct_jobs.proofs.Heard.{form_heard}

@@ -74,7 +74,7 @@ impl Payout {
     }
 
     /// The form of the reply that is wanted to it.
-    #[tactic(auto, unfolding(cct_terms::specs::Request::form_of))]
+    #[tactic(auto, unfolding(cct_model_wire::specs::Request::form_of))]
     pub(crate) fn wanted(&self) -> ReplyForm
         ensures { Some result ≡ form_of (payout_request self.now) }
     {

@@ -118,7 +118,7 @@ pub(crate) fn crc_poll_heard(
 }
 
 /// Whether the device at an address acknowledged a poll.
-#[tactic(auto, unfolding(cct_terms::specs::Exchange::got))]
+#[tactic(auto, unfolding(cct_model_wire::specs::Exchange::got))]
 fn is_acknowledged(kind: CheckKind, addr: u8, sent: &[u8], heard: &[u8]) -> bool
     ensures { result ≡ is_acknowledged kind addr (after_echo sent.now heard.now) }
 {

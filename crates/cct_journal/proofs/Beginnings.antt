@@ -1,7 +1,7 @@
 -- What a half that begins with a generation, a base and a carry says.
 use Rattle.std.proofs.Common.{◌≡◌, inr, ℕ, ◌≤◌, Bool, List, cond, ◌∙◌, ap, arith}
 use Rattle.std.proofs.lemmas.Bool.{ne_eqb}
-use Rattle.cct_lines.specs.declared.carry.Carry.{Carry}
+use Rattle.cct_model_lines.specs.declared.carry.Carry.{Carry}
 use Rattle.cct_record.specs.CarryBody.{bodies_of}
 use Rattle.cct_journal.specs.Half.{IsOpen, generation_in, turns_in, version_in}
 use Rattle.cct_journal.specs.Start.{Begins}

@@ -3,7 +3,7 @@ use Rattle.std.proofs.Common.{◌≡◌, ℕ, ◌+◌, ◌*◌, ◌≤◌, Bool,
 use Rattle.std.proofs.Common.{slice_index, refl, sym, ◌∙◌, ap, arith, append_assoc, length-append, length-drop}
 use Rattle.std.proofs.lemmas.List.{drop_at, drop_more, take_at}
 use Rattle.std.proofs.lemmas.List.Elements.{All-nil}
-use Rattle.cct_lines.specs.declared.carry.Carry.{Carry}
+use Rattle.cct_model_lines.specs.declared.carry.Carry.{Carry}
 use Rattle.cct_record.specs.Body.{InRange}
 use Rattle.cct_disk.specs.Disk.{SameOutside}
 use Rattle.cct_journal.specs.Half.{Wins, half, open_gate, slots_in, start_at}

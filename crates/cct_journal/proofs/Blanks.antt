@@ -5,9 +5,9 @@ use Rattle.std.specs.Option.{MatchOption, is_some}
 use Rattle.std.proofs.lemmas.Bool.{cases_eq, cases_lt, ne_eqb}
 use Rattle.std.proofs.lemmas.List.{get_or-take, get_or-drop}
 use Rattle.std.proofs.lemmas.List.Elements.{All-nil}
-use Rattle.cct_lines.specs.Carried.{EpochFits, IsRightly, OrderFits, empty_carry}
-use Rattle.cct_lines.specs.declared.carry.Carry.{Carry}
-use Rattle.cct_lines.specs.declared.record.Record.{Record}
+use Rattle.cct_model_lines.specs.Carried.{EpochFits, IsRightly, OrderFits, empty_carry}
+use Rattle.cct_model_lines.specs.declared.carry.Carry.{Carry}
+use Rattle.cct_model_lines.specs.declared.record.Record.{Record}
 use Rattle.cct_disk.specs.Disk.{Holds, SameOutside}
 use Rattle.cct_disk.proofs.Ranges.{outside, put_outside}
 use Rattle.cct_journal.specs.Half.{half, has_open_gate, open_gate, slots_in, start_at}

@@ -1,6 +1,6 @@
 -- An image has one current half at most, which begins in one way.
 use Rattle.std.proofs.Common.{◌≡◌, ℕ, Bool, true, false, List, refl, sym, ◌∙◌, subst, arith}
-use Rattle.cct_lines.specs.declared.carry.Carry.{Carry}
+use Rattle.cct_model_lines.specs.declared.carry.Carry.{Carry}
 use Rattle.cct_journal.specs.Half.{IsCurrent, half}
 use Rattle.cct_journal.specs.Start.{Begins}
 use Rattle.cct_journal.specs.Image.{IsHeaded}

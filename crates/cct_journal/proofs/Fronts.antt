@@ -4,7 +4,7 @@ use Rattle.std.proofs.Common.{sym, ◌∙◌, ap, ap₂, cond, subst, arith, get
 use Rattle.std.proofs.Common.{Option, Some, None, IfSome, IfNone, MatchOption}
 use Rattle.std.specs.Int.{w32, from_le_bytes}
 use Rattle.std.proofs.lemmas.List.{drop-take, drop_more, take-take}
-use Rattle.cct_lines.specs.declared.carry.Carry.{Carry}
+use Rattle.cct_model_lines.specs.declared.carry.Carry.{Carry}
 use Rattle.cct_journal.specs.Half.{IsVersionOf, open_gate, turns_in, version_in, window}
 use Rattle.cct_journal.specs.Start.{Begins}
 use Rattle.cct_journal.specs.Fronts.{IsFront}

@@ -5,10 +5,10 @@ use Rattle.std.specs.Prelude.{flat_map}
 use Rattle.std.specs.Int.{w32, to_le_bytes, from_le_bytes}
 use Rattle.std.proofs.lemmas.Nat.{from_le_bytes-to_le_bytes_4}
 use Rattle.std.proofs.lemmas.List.{drop-drop, drop-take, drop_at, length-map, length-replicate, take-take, take_all, take_at, take_more}
-use Rattle.cct_lines.specs.Carried.{IsRightly}
-use Rattle.cct_lines.specs.declared.carry.Carry.{Carry}
-use Rattle.cct_lines.specs.declared.carry.CarryEpoch.{CarryEpoch}
-use Rattle.cct_lines.specs.declared.carry.CarryOrder.{CarryOrder}
+use Rattle.cct_model_lines.specs.Carried.{IsRightly}
+use Rattle.cct_model_lines.specs.declared.carry.Carry.{Carry}
+use Rattle.cct_model_lines.specs.declared.carry.CarryEpoch.{CarryEpoch}
+use Rattle.cct_model_lines.specs.declared.carry.CarryOrder.{CarryOrder}
 use Rattle.cct_record.specs.CarryBody.{SpellsCarry, SpellsNone, bodies_of, epoch_body, first_sums, order_body, second_sums, third_sums}
 use Rattle.cct_record.proofs.CarryBack.{one_carry}
 use Rattle.cct_journal.specs.Half.{open_gate, title, turns_in, version_in, window}

@@ -4,7 +4,7 @@ use Rattle.std.proofs.Common.{length, take, drop, slice_index, refl, sym, ◌∙
 use Rattle.std.specs.List.{slice_get}
 use Rattle.std.proofs.lemmas.Bool.{cases_eq}
 use Rattle.std.proofs.lemmas.List.{drop-drop, drop-take, drop_more, get_or-drop, take-take}
-use Rattle.cct_lines.specs.declared.record.Record.{Record}
+use Rattle.cct_model_lines.specs.declared.record.Record.{Record}
 use Rattle.cct_record.specs.OldBody.{IsRefusedOld, OldSpells}
 use Rattle.cct_record.proofs.OldBack.{one_old_spelling}
 use Rattle.cct_record.specs.Body.{Encodable}

@@ -2,9 +2,9 @@
 use Rattle.std.proofs.Common.{◌≡◌, ◌≢◌, ⊎_elim, ℕ, ◌+◌, ◌≤◌, Bool, false, not, Option, Some, None, List, length, take}
 use Rattle.std.proofs.Common.{refl, sym, ◌∙◌, ap, subst, arith, MatchOption, IfSome, IfNone}
 use Rattle.std.proofs.lemmas.Bool.{cases_lt}
-use Rattle.cct_lines.specs.Carried.{empty_carry}
-use Rattle.cct_lines.specs.declared.carry.Carry.{Carry}
-use Rattle.cct_lines.specs.declared.record.Record.{Record}
+use Rattle.cct_model_lines.specs.Carried.{empty_carry}
+use Rattle.cct_model_lines.specs.declared.carry.Carry.{Carry}
+use Rattle.cct_model_lines.specs.declared.record.Record.{Record}
 use Rattle.cct_disk.specs.Disk.{Holds}
 use Rattle.cct_journal.specs.Fronts.{IsCurrentHalf, before_records}
 use Rattle.cct_journal.specs.Half.{IsCurrent, half, has_open_gate, slots_in, version_in, window}

@@ -2,8 +2,8 @@
 use Rattle.std.proofs.Common.{◌≡◌, ℕ, ◌^◌, ◌<◌, ◌≤◌, Bool, List, [], ◌∷◌, length, map, take, slice_index}
 use Rattle.std.proofs.Common.{cond, ◌==◌, refl, sym, ◌∙◌, ap, subst, arith, get_or-take}
 use Rattle.std.proofs.lemmas.List.{length-take-le, take-take, take_all}
-use Rattle.cct_lines.specs.declared.carry.Carry.{Carry}
-use Rattle.cct_lines.specs.declared.carry.CarryEpoch.{CarryEpoch}
+use Rattle.cct_model_lines.specs.declared.carry.Carry.{Carry}
+use Rattle.cct_model_lines.specs.declared.carry.CarryEpoch.{CarryEpoch}
 use Rattle.cct_record.specs.CarryBody.{bodies_of, order_body}
 use Rattle.cct_record.specs.OldCarryBody.{OldSpellsCarry, OldSpellsNone, old_bodies_of, old_epoch_body}
 use Rattle.cct_record.proofs.OldCarryBack.{old_bodies_few, one_old_carry}

@@ -4,8 +4,8 @@ use Rattle.std.proofs.Common.{length, drop, map, slice_index, refl, sym, ◌∙�
 use Rattle.std.proofs.lemmas.Bool.{cases_eq}
 use Rattle.std.proofs.lemmas.List.{length-map, map-append}
 use Rattle.std.proofs.lemmas.List.Elements.{All-append, All-cons, All-nil}
-use Rattle.cct_lines.specs.declared.carry.Carry.{Carry}
-use Rattle.cct_lines.specs.declared.record.Record.{Record}
+use Rattle.cct_model_lines.specs.declared.carry.Carry.{Carry}
+use Rattle.cct_model_lines.specs.declared.record.Record.{Record}
 use Rattle.cct_record.specs.Body.{InRange, body_of}
 use Rattle.cct_disk.specs.Disk.{SameOutside}
 use Rattle.cct_journal.specs.Half.{half, open_gate, slots_in, start_at}

@@ -4,8 +4,8 @@ use Rattle.std.proofs.Common.{length, take, drop, map, slice_index, refl, sym, �
 use Rattle.std.proofs.Common.{All, ◌==◌, ap₂, cond}
 use Rattle.std.specs.Int.{w32, from_le_bytes}
 use Rattle.std.proofs.lemmas.List.{get_or-drop, get_or-take, take-take}
-use Rattle.cct_lines.specs.declared.carry.Carry.{Carry}
-use Rattle.cct_lines.specs.declared.record.Record.{Record}
+use Rattle.cct_model_lines.specs.declared.carry.Carry.{Carry}
+use Rattle.cct_model_lines.specs.declared.record.Record.{Record}
 use Rattle.cct_record.specs.Body.{InRange, body_of}
 use Rattle.cct_disk.specs.Disk.{SameOutside}
 use Rattle.cct_journal.specs.Half.{IsOpen, IsVersionOf, Wins, generation_in, half, open_gate, slots_in, start_at, turns_in, version_in, window}

@@ -2,9 +2,9 @@
 use Rattle.std.proofs.Common.{◌≡◌, inl, ⊎_elim, true, false, ℕ, ◌+◌, ◌<◌, ◌≤◌, Bool, not, Option, Some}
 use Rattle.std.proofs.Common.{List, [], ◌∷◌, length, cond, refl, sym, ◌∙◌, ap, subst, arith}
 use Rattle.std.proofs.lemmas.List.{append-nil}
-use Rattle.cct_lines.specs.Carried.{IsRightly}
-use Rattle.cct_lines.specs.declared.carry.Carry.{Carry}
-use Rattle.cct_lines.specs.declared.record.Record.{Record}
+use Rattle.cct_model_lines.specs.Carried.{IsRightly}
+use Rattle.cct_model_lines.specs.declared.carry.Carry.{Carry}
+use Rattle.cct_model_lines.specs.declared.record.Record.{Record}
 use Rattle.cct_disk.specs.Disk.{Holds, LeavesOnly, SameOutside, put_at}
 use Rattle.cct_journal.specs.declared.format.TheConstants.{MOST_RECORDS, START}
 use Rattle.cct_journal.specs.declared.place.Place.{Place}

@@ -4,8 +4,8 @@ use Rattle.std.proofs.Common.{List, [], ◌∷◌, length, take, drop, slice_ind
 use Rattle.std.proofs.Common.{eq-eqb}
 use Rattle.std.proofs.lemmas.Bool.{cases_eq, eqb-true, ne_eqb, true≢false}
 use Rattle.std.proofs.lemmas.List.{drop_more}
-use Rattle.cct_lines.specs.declared.carry.Carry.{Carry}
-use Rattle.cct_lines.specs.declared.record.Record.{Record}
+use Rattle.cct_model_lines.specs.declared.carry.Carry.{Carry}
+use Rattle.cct_model_lines.specs.declared.record.Record.{Record}
 use Rattle.cct_disk.specs.Disk.{SameOutside, put_at}
 use Rattle.cct_disk.proofs.Ranges.{outside, put_outside}
 use Rattle.cct_journal.specs.Half.{IsOpen, generation_in, half, has_open_gate, open_gate, slots_in, start_at}

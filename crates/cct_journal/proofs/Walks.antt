@@ -5,8 +5,8 @@ use Rattle.std.proofs.Common.{length-append, length-drop}
 use Rattle.std.proofs.lemmas.List.{drop-drop, drop-take, drop_more, length-take-le, take-take, map-append, reverse-append}
 use Rattle.std.proofs.lemmas.List.{append-nil}
 use Rattle.std.proofs.lemmas.List.Elements.{All-append, All-cons, All-nil}
-use Rattle.cct_lines.specs.declared.carry.Carry.{Carry}
-use Rattle.cct_lines.specs.declared.record.Record.{Record}
+use Rattle.cct_model_lines.specs.declared.carry.Carry.{Carry}
+use Rattle.cct_model_lines.specs.declared.record.Record.{Record}
 use Rattle.cct_record.specs.Body.{InRange, IsRefused, Spells, body_of}
 use Rattle.cct_journal.specs.Half.{half, open_gate, slots_in, start_at, window}
 use Rattle.cct_journal.specs.Image.{IsRefusedIn, bodies, body_at, gate_at, room_of}

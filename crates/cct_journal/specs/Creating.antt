@@ -1,8 +1,8 @@
 -- What an image is to a journal that is created on it.
 use Rattle.std.specs.Prelude.{◌≡◌, ◌⊎◌, ℕ, ◌<◌, ◌≤◌, Bool, true, false, Option, Some, is_some, List, [], ⊤}
-use Rattle.cct_lines.specs.Carried.{empty_carry}
-use Rattle.cct_lines.specs.declared.carry.Carry.{Carry}
-use Rattle.cct_lines.specs.declared.record.Record.{Record}
+use Rattle.cct_model_lines.specs.Carried.{empty_carry}
+use Rattle.cct_model_lines.specs.declared.carry.Carry.{Carry}
+use Rattle.cct_model_lines.specs.declared.record.Record.{Record}
 use Rattle.cct_journal.specs.Image.{HasHalf, IsAlien, IsBlank, IsFirstByteFrom, least_size}
 use Rattle.cct_journal.specs.Stands.{Stands}
 use Rattle.cct_journal.specs.declared.place.Place.{Place}

@@ -1,8 +1,8 @@
 -- What contracts see of a journal.
 use Rattle.std.specs.Prelude.{ℕ, Bool, List, Option, Result, Ok, Err}
-use Rattle.cct_lines.specs.declared.record.Record.{Record}
+use Rattle.cct_model_lines.specs.declared.record.Record.{Record}
 use Rattle.cct_disk.specs.declared.disk.Disk.{Ghosts}
-use Rattle.cct_lines.specs.declared.carry.Carry.{Carry}
+use Rattle.cct_model_lines.specs.declared.carry.Carry.{Carry}
 use Rattle.cct_journal.specs.Stands.{Reads, ReadsFrom, Stands, StandsBefore, StandsWith}
 use Rattle.cct_journal.specs.declared.journal.Journal.{Journal}
 use Rattle.cct_journal.specs.declared.place.Place.{Place}

@@ -1,9 +1,9 @@
 -- What the bytes of a disk represent as a journal of an older version, 1 or 2.
 use Rattle.std.specs.Prelude.{◌≡◌, ◌⊎◌, ℕ, ◌+◌, ◌-◌, ◌*◌, ◌/◌, ◌<◌, ◌≤◌, min, Bool, false, List, [], ◌∷◌, ◌++◌, length}
 use Rattle.std.specs.Prelude.{take, drop, replicate, slice_index, ⊤}
-use Rattle.cct_lines.specs.Carried.{IsRightly, empty_carry}
-use Rattle.cct_lines.specs.declared.carry.Carry.{Carry}
-use Rattle.cct_lines.specs.declared.record.Record.{Record}
+use Rattle.cct_model_lines.specs.Carried.{IsRightly, empty_carry}
+use Rattle.cct_model_lines.specs.declared.carry.Carry.{Carry}
+use Rattle.cct_model_lines.specs.declared.record.Record.{Record}
 use Rattle.cct_record.specs.OldBody.{OldSpells}
 use Rattle.cct_record.specs.OldCarryBody.{OldSpellsCarry}
 use Rattle.cct_journal.specs.Half.{IsCurrent, half, start_at, title_of}

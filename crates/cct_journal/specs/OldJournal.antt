@@ -1,7 +1,7 @@
 -- What contracts see of a journal of an older version.
 use Rattle.std.specs.Prelude.{ℕ, List}
-use Rattle.cct_lines.specs.declared.carry.Carry.{Carry}
-use Rattle.cct_lines.specs.declared.record.Record.{Record}
+use Rattle.cct_model_lines.specs.declared.carry.Carry.{Carry}
+use Rattle.cct_model_lines.specs.declared.record.Record.{Record}
 use Rattle.cct_disk.specs.declared.disk.Disk.{Ghosts}
 use Rattle.cct_journal.specs.OldStands.{OldCounts, OldReadsFrom, OldReadsUpTo, OldStands}
 use Rattle.cct_journal.specs.declared.old_journal.OldJournal.{OldJournal}

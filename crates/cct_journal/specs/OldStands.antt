@@ -2,9 +2,9 @@
 use Rattle.std.specs.Prelude.{◌≡◌, ℕ, ◌+◌, ◌-◌, ◌<◌, ◌≤◌, Bool, false, not, Option, Some, List, [], ◌∷◌, ◌++◌, length, take, ⊤}
 use Rattle.std.specs.Prelude.{slice_get}
 use Rattle.std.proofs.Props.{props}
-use Rattle.cct_lines.specs.Carried.{IsRightly-prop, empty_carry}
-use Rattle.cct_lines.specs.declared.carry.Carry.{Carry}
-use Rattle.cct_lines.specs.declared.record.Record.{Record}
+use Rattle.cct_model_lines.specs.Carried.{IsRightly-prop, empty_carry}
+use Rattle.cct_model_lines.specs.declared.carry.Carry.{Carry}
+use Rattle.cct_model_lines.specs.declared.record.Record.{Record}
 use Rattle.cct_record.specs.Body.{Encodable}
 use Rattle.cct_record.specs.OldBody.{IsRefusedOld, OldSpells}
 use Rattle.cct_disk.specs.Disk.{Holds}

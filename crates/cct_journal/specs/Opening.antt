@@ -1,8 +1,8 @@
 -- What an image is to a journal that is opened on it.
 use Rattle.std.specs.Prelude.{◌≡◌, ℕ, ◌+◌, ◌-◌, ◌*◌, Bool, Option, Some, List, ◌++◌, length, drop, map, reverse, All, ⊤}
 use Rattle.std.specs.Prelude.{slice_get}
-use Rattle.cct_lines.specs.declared.carry.Carry.{Carry}
-use Rattle.cct_lines.specs.declared.record.Record.{Record}
+use Rattle.cct_model_lines.specs.declared.carry.Carry.{Carry}
+use Rattle.cct_model_lines.specs.declared.record.Record.{Record}
 use Rattle.cct_record.specs.Body.{Encodable, InRange, IsRefused, Spells, body_of}
 use Rattle.cct_journal.specs.Half.{half}
 use Rattle.cct_journal.specs.Image.{IsAlien, IsBadAt, IsRefusedIn, StandsFor, bodies, bodies_in, room_of}

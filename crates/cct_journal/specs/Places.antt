@@ -1,6 +1,6 @@
 -- The places to which a put and a turn lead, and the bytes that begin a half.
 use Rattle.std.specs.Prelude.{ℕ, ◌+◌, true, not, Option, None, Some, List, [], ◌∷◌, ◌++◌, drop}
-use Rattle.cct_lines.specs.declared.carry.Carry.{Carry}
+use Rattle.cct_model_lines.specs.declared.carry.Carry.{Carry}
 use Rattle.cct_journal.specs.Start.{start_of}
 use Rattle.cct_journal.specs.declared.place.Place.{Place}
 

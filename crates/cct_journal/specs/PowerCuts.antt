@@ -1,7 +1,7 @@
 -- What a journal has after a power cut that came within a put, or in none.
 use Rattle.std.specs.Prelude.{◌≡◌, ◌⊎◌, ℕ, ◌<◌, Bool, true, Option, None, Some, is_some, List, [], ◌∷◌, ◌++◌}
-use Rattle.cct_lines.specs.declared.carry.Carry.{Carry}
-use Rattle.cct_lines.specs.declared.record.Record.{Record}
+use Rattle.cct_model_lines.specs.declared.carry.Carry.{Carry}
+use Rattle.cct_model_lines.specs.declared.record.Record.{Record}
 use Rattle.cct_journal.specs.Image.{StandsFor, StandsForOneOf}
 use Rattle.cct_journal.specs.Stands.{Leaves, LeavesOneOf}
 

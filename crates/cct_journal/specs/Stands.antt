@@ -2,8 +2,8 @@
 use Rattle.std.specs.Prelude.{◌≡◌, ℕ, ◌+◌, ◌-◌, ◌≤◌, Bool, true, not, Option, Some, IfSome, is_some, List, length}
 use Rattle.std.proofs.Props.{props}
 use Rattle.cct_edge.specs.Faults.{next_count}
-use Rattle.cct_lines.specs.declared.carry.Carry.{Carry}
-use Rattle.cct_lines.specs.declared.record.Record.{Record}
+use Rattle.cct_model_lines.specs.declared.carry.Carry.{Carry}
+use Rattle.cct_model_lines.specs.declared.record.Record.{Record}
 use Rattle.cct_disk.specs.Disk.{GoesOn, Holds, LeavesOnly}
 use Rattle.cct_journal.specs.Half.{half, has_open_gate}
 use Rattle.cct_journal.specs.Start.{MayBegin, MayBegin-prop}

@@ -3,8 +3,8 @@ use Rattle.std.specs.Prelude.{◌≡◌, ℕ, ◌+◌, ◌-◌, ◌*◌, ◌%◌
 use Rattle.std.specs.Prelude.{flat_map, replicate}
 use Rattle.std.specs.Int.{w32, to_le_bytes}
 use Rattle.std.proofs.Props.{props}
-use Rattle.cct_lines.specs.Carried.{IsRightly, IsRightly-prop}
-use Rattle.cct_lines.specs.declared.carry.Carry.{Carry}
+use Rattle.cct_model_lines.specs.Carried.{IsRightly, IsRightly-prop}
+use Rattle.cct_model_lines.specs.declared.carry.Carry.{Carry}
 use Rattle.cct_record.specs.CarryBody.{bodies_of}
 use Rattle.cct_journal.specs.Half.{title_of, version_now}
 use Rattle.cct_journal.specs.declared.format.TheConstants.{MOST_RECORDS, START}

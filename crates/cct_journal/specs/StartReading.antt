@@ -1,7 +1,7 @@
 -- What stands at the places of the fields of a header and of its carry, whether or not a half begins so.
 use Rattle.std.specs.Prelude.{◌≡◌, ℕ, zero, suc, ◌+◌, ◌*◌, List, [], ◌∷◌, ◌++◌, slice_index}
 use Rattle.std.specs.Int.{w32, from_le_bytes}
-use Rattle.cct_lines.specs.declared.carry.Carry.{Carry}
+use Rattle.cct_model_lines.specs.declared.carry.Carry.{Carry}
 use Rattle.cct_record.specs.CarryBody.{SpellsCarry}
 use Rattle.cct_journal.specs.Half.{turns_in, window}
 

@@ -1,6 +1,6 @@
 -- What the writes of a turn make of an image, whatever stands on it.
 use Rattle.std.specs.Prelude.{◌⊎◌, ℕ, ◌+◌, not, if◌then◌else◌, List, [], ◌∷◌, length}
-use Rattle.cct_lines.specs.declared.carry.Carry.{Carry}
+use Rattle.cct_model_lines.specs.declared.carry.Carry.{Carry}
 use Rattle.cct_disk.specs.Disk.{SameOutside, put_at}
 use Rattle.cct_journal.specs.Half.{start_at}
 use Rattle.cct_journal.specs.Gated.{IsBegun, behind_open_gate}

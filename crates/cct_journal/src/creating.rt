@@ -13,7 +13,7 @@ use crate::place::Place;
 use crate::turning::write_start;
 use cct_disk::Disk;
 use cct_edge::Failed;
-use cct_lines::Carry;
+use cct_model_lines::Carry;
 
 /// The first byte that isn't 0.
 fn first_byte(bytes: &[u8]) -> Option<usize>

@@ -1,9 +1,9 @@
 //! The power is cut, within a put or in none.
 ghost use Rattle.std.specs.Prelude.{◌≡◌, ◌<◌, ◌≤◌, List, IfSome, OnOk};
 ghost use Rattle.cct_edge.specs.Faults.{HasCause};
-ghost use Rattle.cct_lines.specs.Carried.{IsRightly};
-ghost use Rattle.cct_lines.specs.declared.carry.Carry.{Carry};
-ghost use Rattle.cct_lines.specs.declared.record.Record.{Record};
+ghost use Rattle.cct_model_lines.specs.Carried.{IsRightly};
+ghost use Rattle.cct_model_lines.specs.declared.carry.Carry.{Carry};
+ghost use Rattle.cct_model_lines.specs.declared.record.Record.{Record};
 ghost use Rattle.cct_record.specs.Body.{Encodable};
 ghost use Rattle.cct_disk.specs.Disk.{GoesOn, LeavesOnly, Outlasts};
 ghost use Rattle.cct_journal.specs.PowerCuts.{LeavesBy, LeftBy, StandsForWith};
@@ -15,7 +15,7 @@ use crate::putting::put_record;
 use crate::range::GATED_CALLS;
 use cct_disk::Disk;
 use cct_edge::Failed;
-use cct_lines::{Carry, Record};
+use cct_model_lines::{Carry, Record};
 
 /// Makes the first `calls` of the four disk calls of a put, where there is one, and before them a turn that is due.
 fn begin_put<D: Disk>(

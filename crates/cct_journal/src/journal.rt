@@ -2,9 +2,9 @@
 ghost use Rattle.std.specs.Prelude.{◌≡◌, ◌≢◌, ◌⊎◌, ◌↔◌, ◌<◌, ◌≤◌, ◌+◌, ℕ, true, false, Err, Some, List, []};
 ghost use Rattle.std.specs.Prelude.{◌∷◌, ◌++◌, IfErr, IfOk, IfSome, IsErrAnd, MatchResult, OnErr, OnOk};
 ghost use Rattle.cct_edge.specs.Faults.{Caused, HasCause};
-ghost use Rattle.cct_lines.specs.Carried.{IsRightly};
-ghost use Rattle.cct_lines.specs.declared.carry.Carry.{Carry};
-ghost use Rattle.cct_lines.specs.declared.record.Record.{Record};
+ghost use Rattle.cct_model_lines.specs.Carried.{IsRightly};
+ghost use Rattle.cct_model_lines.specs.declared.carry.Carry.{Carry};
+ghost use Rattle.cct_model_lines.specs.declared.record.Record.{Record};
 ghost use Rattle.cct_record.specs.Body.{Encodable};
 ghost use Rattle.cct_disk.specs.Settle.{Settles};
 ghost use Rattle.cct_disk.specs.Disk.{CountsCut, GoesOn, Holds, IsCutBy, IsWithin, LeavesOnly, OnlyReads, Outlasts};
@@ -26,7 +26,7 @@ use crate::replay::OnlyCounted;
 use crate::{CreateNo, JournalNo, OpenNo, ReadNo, Replay};
 use cct_disk::{Disk, Settle};
 use cct_edge::Failed;
-use cct_lines::{Carry, Record};
+use cct_model_lines::{Carry, Record};
 
 /// A journal of records on a disk (`docs/JOURNAL.md`).
 ///

@@ -1,9 +1,9 @@
 //! A journal of an older version, which is brought forward.
 ghost use Rattle.std.specs.Prelude.{◌≡◌, ℕ, ◌+◌, ◌<◌, ◌≤◌, false, Bool, Err, Some, List, IfErr, IfOk, IsErrAnd, MatchResult, length};
 ghost use Rattle.cct_edge.specs.Faults.{Caused, HasCause};
-ghost use Rattle.cct_lines.specs.Carried.{IsRightly};
-ghost use Rattle.cct_lines.specs.declared.carry.Carry.{Carry};
-ghost use Rattle.cct_lines.specs.declared.record.Record.{Record};
+ghost use Rattle.cct_model_lines.specs.Carried.{IsRightly};
+ghost use Rattle.cct_model_lines.specs.declared.carry.Carry.{Carry};
+ghost use Rattle.cct_model_lines.specs.declared.record.Record.{Record};
 ghost use Rattle.cct_disk.specs.Disk.{GoesOn, Holds, LeavesOnly, OnlyReads};
 ghost use Rattle.cct_journal.specs.Image.{least_size};
 ghost use Rattle.cct_journal.specs.Places.{after_turn};
@@ -21,7 +21,7 @@ use crate::old_turning::turn_old;
 use crate::{OldNo, ReadNo};
 use cct_disk::Disk;
 use cct_edge::Failed;
-use cct_lines::{Carry, Record};
+use cct_model_lines::{Carry, Record};
 
 /// A journal of version 1 or 2, which is only read until it is brought forward (`docs/JOURNAL.md`, "Old versions").
 #[derive(Drop)]

@@ -2,7 +2,7 @@
 ghost use Rattle.std.specs.Prelude.{◌≡◌, ℕ, ◌+◌, ◌<◌, ◌≤◌, ◌↔◌, true, false, Err, Some, List, length, IfErr, IfNone, IfOk};
 ghost use Rattle.std.specs.Prelude.{IfSome, IsTrue, MatchOption, take};
 ghost use Rattle.cct_edge.specs.Faults.{Caused, HasCause};
-ghost use Rattle.cct_lines.specs.declared.carry.Carry.{Carry};
+ghost use Rattle.cct_model_lines.specs.declared.carry.Carry.{Carry};
 ghost use Rattle.cct_disk.specs.Disk.{OnlyReads};
 ghost use Rattle.cct_journal.specs.Half.{half, has_open_gate};
 ghost use Rattle.cct_journal.specs.Fronts.{IsCurrentHalf};
@@ -21,7 +21,7 @@ use crate::place::Place;
 use crate::reading::{read_in, slots_on};
 use cct_disk::Disk;
 use cct_edge::Failed;
-use cct_lines::Carry;
+use cct_model_lines::Carry;
 
 /// The bytes of the header of version 1.
 const FIRST_HEADER: usize = 32;

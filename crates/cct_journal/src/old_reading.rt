@@ -1,7 +1,7 @@
 //! The records of a journal of an older version are read.
 ghost use Rattle.std.specs.Prelude.{◌≡◌, ℕ, ◌+◌, ◌-◌, ◌*◌, ◌<◌, ◌≤◌, Err, Some, List, length, IfErr, IfOk};
 ghost use Rattle.cct_edge.specs.Faults.{Caused, HasCause};
-ghost use Rattle.cct_lines.specs.declared.record.Record.{Record};
+ghost use Rattle.cct_model_lines.specs.declared.record.Record.{Record};
 ghost use Rattle.cct_disk.specs.Disk.{OnlyReads};
 ghost use Rattle.cct_journal.specs.Image.{least_size};
 ghost use Rattle.cct_journal.specs.OldImage.{bodies_at, old_body_in, old_gate_in, old_room, old_slot};
@@ -13,7 +13,7 @@ use crate::old_place::{OldPlace, OldVersion};
 use crate::reading::{Slot, room_on, slot_of, start_on};
 use cct_disk::Disk;
 use cct_edge::Failed;
-use cct_lines::Record;
+use cct_model_lines::Record;
 use cct_record::read_old;
 
 /// How many records a journal of an older version takes on so many bytes, after so many before its half.

@@ -1,9 +1,9 @@
 //! A journal of an older version is turned into one of today.
 ghost use Rattle.std.specs.Prelude.{◌≡◌, ℕ, IfOk, List};
 ghost use Rattle.cct_edge.specs.Faults.{HasCause};
-ghost use Rattle.cct_lines.specs.Carried.{IsRightly};
-ghost use Rattle.cct_lines.specs.declared.carry.Carry.{Carry};
-ghost use Rattle.cct_lines.specs.declared.record.Record.{Record};
+ghost use Rattle.cct_model_lines.specs.Carried.{IsRightly};
+ghost use Rattle.cct_model_lines.specs.declared.carry.Carry.{Carry};
+ghost use Rattle.cct_model_lines.specs.declared.record.Record.{Record};
 ghost use Rattle.cct_disk.specs.Disk.{GoesOn, LeavesOnly};
 ghost use Rattle.cct_journal.specs.OldImage.{IsTurning};
 ghost use Rattle.cct_journal.specs.OldStands.{BeginsEmpty, IsOldPlaced, OldStands};
@@ -15,7 +15,7 @@ use crate::place::Place;
 use crate::turning::turn_half;
 use cct_disk::Disk;
 use cct_edge::Failed;
-use cct_lines::Carry;
+use cct_model_lines::Carry;
 
 /// Begins the other half of a journal of an older version as one of today, with the carry of all its records, by six disk
 /// calls.

@@ -2,8 +2,8 @@
 ghost use Rattle.std.specs.Prelude.{◌≡◌, ◌↔◌, ℕ, ◌<◌, ◌≤◌, ◌==◌, true, false, Bool, Err, Some, List, IsTrue, if◌then◌else◌};
 ghost use Rattle.std.specs.Prelude.{IfErr, IfOk, IfSome, MatchOption};
 ghost use Rattle.cct_edge.specs.Faults.{Caused, HasCause};
-ghost use Rattle.cct_lines.specs.declared.carry.Carry.{Carry};
-ghost use Rattle.cct_lines.specs.declared.record.Record.{Record};
+ghost use Rattle.cct_model_lines.specs.declared.carry.Carry.{Carry};
+ghost use Rattle.cct_model_lines.specs.declared.record.Record.{Record};
 ghost use Rattle.cct_disk.specs.Disk.{OnlyReads};
 ghost use Rattle.cct_journal.specs.Half.{IsCurrent, IsOpen, IsVersionOf, half};
 ghost use Rattle.cct_journal.specs.Start.{Begins, MayBegin};

@@ -1,5 +1,5 @@
 //! Where a journal stands on its disk.
-use cct_lines::Carry;
+use cct_model_lines::Carry;
 
 /// Where a journal stands on its disk: in which half, and what that half begins with.
 #[derive(Clone, Debug, Drop)]

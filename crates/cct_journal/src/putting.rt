@@ -1,9 +1,9 @@
 //! A record is put after the others, in the other half where the current one is full.
 ghost use Rattle.std.specs.Prelude.{◌≡◌, ◌+◌, ◌<◌, ◌≤◌, List, [], ◌∷◌, ◌++◌, IfOk, OnErr, OnOk};
 ghost use Rattle.cct_edge.specs.Faults.{HasCause};
-ghost use Rattle.cct_lines.specs.Carried.{IsRightly};
-ghost use Rattle.cct_lines.specs.declared.carry.Carry.{Carry};
-ghost use Rattle.cct_lines.specs.declared.record.Record.{Record};
+ghost use Rattle.cct_model_lines.specs.Carried.{IsRightly};
+ghost use Rattle.cct_model_lines.specs.declared.carry.Carry.{Carry};
+ghost use Rattle.cct_model_lines.specs.declared.record.Record.{Record};
 ghost use Rattle.cct_record.specs.Body.{Encodable};
 ghost use Rattle.cct_disk.specs.Disk.{GoesOn, LeavesOnly};
 ghost use Rattle.cct_journal.specs.Image.{StandsForOneOf};
@@ -17,7 +17,7 @@ use crate::slot::put_slot;
 use crate::turning::{is_full, turn_if_full};
 use cct_disk::Disk;
 use cct_edge::Failed;
-use cct_lines::{Carry, Record};
+use cct_model_lines::{Carry, Record};
 
 /// The place that a turn led to, or that before, where there was none.
 fn place_after<'a>(turned: &'a Option<Place>, place: &'a Place) -> &'a Place

@@ -1,7 +1,7 @@
 //! What stands on the disk is read: bytes of a half, single slots of it, and its records.
 ghost use Rattle.std.specs.Prelude.{◌≡◌, ℕ, ◌+◌, ◌*◌, ◌<◌, ◌≤◌, Err, Some, List, length, IfErr, IfOk, OnOk, drop, slice_index, take};
 ghost use Rattle.cct_edge.specs.Faults.{Caused, HasCause};
-ghost use Rattle.cct_lines.specs.declared.record.Record.{Record};
+ghost use Rattle.cct_model_lines.specs.declared.record.Record.{Record};
 ghost use Rattle.cct_disk.specs.Disk.{OnlyReads};
 ghost use Rattle.cct_journal.specs.Half.{half, slots_in, start_at, window};
 ghost use Rattle.cct_journal.specs.Image.{body_at, gate_at, least_size, room_of};
@@ -13,7 +13,7 @@ use crate::place::Place;
 use crate::{OpenNo, ReadNo, Replay};
 use cct_disk::Disk;
 use cct_edge::Failed;
-use cct_lines::Record;
+use cct_model_lines::Record;
 use cct_record::read;
 
 /// What stands in a slot.

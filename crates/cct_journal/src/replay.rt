@@ -1,12 +1,12 @@
 //! The records of a journal are replayed as they are found.
 ghost use Rattle.std.specs.Prelude.{◌≡◌, ℕ, ◌<◌, ◌≤◌, ◌+◌, List, [], ◌∷◌, length};
-ghost use Rattle.cct_lines.specs.Carried.{IsRightly};
-ghost use Rattle.cct_lines.specs.declared.carry.Carry.{Carry};
-ghost use Rattle.cct_lines.specs.declared.record.Record.{Record};
+ghost use Rattle.cct_model_lines.specs.Carried.{IsRightly};
+ghost use Rattle.cct_model_lines.specs.declared.carry.Carry.{Carry};
+ghost use Rattle.cct_model_lines.specs.declared.record.Record.{Record};
 ghost use Rattle.cct_record.specs.Body.{Encodable};
 
 use crate::format::MOST_RECORDS;
-use cct_lines::{Carry, Record};
+use cct_model_lines::{Carry, Record};
 
 /// Whatever goes over the records of a journal as they are found: first the carry of those before the current half, then
 /// each of its records, oldest first, so that each slot is read once.

@@ -1,8 +1,8 @@
 //! A record is put into the slot after the others.
 ghost use Rattle.std.specs.Prelude.{◌≡◌, ◌⊎◌, ◌+◌, ◌<◌, ◌≤◌, List, [], ◌∷◌, ◌++◌, OnOk};
 ghost use Rattle.cct_edge.specs.Faults.{HasCause};
-ghost use Rattle.cct_lines.specs.declared.carry.Carry.{Carry};
-ghost use Rattle.cct_lines.specs.declared.record.Record.{Record};
+ghost use Rattle.cct_model_lines.specs.declared.carry.Carry.{Carry};
+ghost use Rattle.cct_model_lines.specs.declared.record.Record.{Record};
 ghost use Rattle.cct_record.specs.Body.{Encodable, InRange, body_of};
 ghost use Rattle.cct_disk.specs.Disk.{GoesOn, LeavesOnly};
 ghost use Rattle.cct_journal.specs.Image.{StandsFor, StandsForOneOf, room_of};
@@ -15,7 +15,7 @@ use crate::range::{GATED_CALLS, write_gated};
 use crate::reading::{slots_on, start_on};
 use cct_disk::Disk;
 use cct_edge::Failed;
-use cct_lines::Record;
+use cct_model_lines::Record;
 use cct_record::encode;
 
 /// The body of a record, and a shut gate after it.

@@ -1,8 +1,8 @@
 //! What a half begins with, as bytes: its header and its carry.
 ghost use Rattle.std.specs.Prelude.{◌≡◌, ℕ, ◌+◌, ◌-◌, ◌*◌, ◌<◌, ◌≤◌, ◌↔◌, ◌++◌, IfNone, IfSome, IsTrue, flat_map, length, replicate};
 ghost use Rattle.std.specs.Int.{from_le_bytes, w32};
-ghost use Rattle.cct_lines.specs.Carried.{IsRightly};
-ghost use Rattle.cct_lines.specs.declared.carry.Carry.{Carry};
+ghost use Rattle.cct_model_lines.specs.Carried.{IsRightly};
+ghost use Rattle.cct_model_lines.specs.declared.carry.Carry.{Carry};
 ghost use Rattle.cct_record.specs.CarryBody.{SpellsNone};
 ghost use Rattle.cct_journal.specs.Half.{window};
 ghost use Rattle.cct_journal.specs.Start.{Begins, HasParity, MayBegin, carry_slot, header_with, start_of, start_with};
@@ -10,7 +10,7 @@ ghost use Rattle.cct_journal.specs.StartReading.{TellsStart, base_in, bodies_in,
 
 use crate::format::{CARRY_BODIES, START, TITLE, VERSION};
 use arrayvec::ArrayVec;
-use cct_lines::Carry;
+use cct_model_lines::Carry;
 use cct_record::{encode_carry, read_carry};
 
 /// The bytes of a header.

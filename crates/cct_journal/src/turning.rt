@@ -1,9 +1,9 @@
 //! The other half is begun where the current one is full.
 ghost use Rattle.std.specs.Prelude.{◌≡◌, ℕ, ◌+◌, ◌^◌, ◌<◌, ◌≤◌, true, false, Some, List, IfOk, OnOk, length};
 ghost use Rattle.cct_edge.specs.Faults.{HasCause};
-ghost use Rattle.cct_lines.specs.Carried.{IsRightly};
-ghost use Rattle.cct_lines.specs.declared.carry.Carry.{Carry};
-ghost use Rattle.cct_lines.specs.declared.record.Record.{Record};
+ghost use Rattle.cct_model_lines.specs.Carried.{IsRightly};
+ghost use Rattle.cct_model_lines.specs.declared.carry.Carry.{Carry};
+ghost use Rattle.cct_model_lines.specs.declared.record.Record.{Record};
 ghost use Rattle.cct_disk.specs.Disk.{GoesOn, Holds, LeavesOnly};
 ghost use Rattle.cct_journal.specs.Gated.{IsBegun, behind_open_gate};
 ghost use Rattle.cct_journal.specs.Image.{StandsFor, least_size, room_of};
@@ -19,7 +19,7 @@ use crate::reading::{room_on, start_on};
 use crate::start::spell_start;
 use cct_disk::Disk;
 use cct_edge::Failed;
-use cct_lines::Carry;
+use cct_model_lines::Carry;
 
 /// Where the first write of a turn goes: to the gate of the other half, if that is open, and else to the place after it,
 /// since a write that fails may leave any byte.

@@ -1,16 +1,16 @@
 -- What jobs do: their rows, tries and ends, and what each step brings.
-pub mod Asked
+pub mod AskedAndAnswered
 pub mod AtDesk
-pub mod Brought
-pub mod Counted
+pub mod AwaitedRecords
+pub mod CountersRead
 pub mod Ending
+pub mod EntriesOfStep
 pub mod GivenUp
 mod LastRows
-pub mod Moving
+pub mod LeftAlone
+pub mod ReadingsMadeAgain
 pub mod Scans
-pub mod Seen
-pub mod Telling
+pub mod SeenAtOne
+pub mod StepBrings
 pub mod Tests
 pub mod Tries
-pub mod Unmoved
-pub mod Waits

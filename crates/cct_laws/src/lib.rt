@@ -2,21 +2,21 @@
 //! whose body is empty. They hold of a setup of several devices, of all kinds and under both checks, with power cuts at
 //! every step and after each disk call of a put. `specs/Scope.antt` names the transcripts and the devices that a law is of.
 //!
-//! Each goes by cases on what one step brought (`Brought` of `proofs/jobs/Brought.antt`, to which `tells` of
-//! `proofs/jobs/Telling.antt` leads from the definition of legal), or on how that is seen from one device (`seen_from` of
-//! `proofs/jobs/Seen.antt`); `along` there carries a fact over all steps. That an exchange was forged is no part of what a
+//! Each goes by cases on what one step brought (`Brought` of `proofs/jobs/StepBrings.antt`, to which `tells` of
+//! `proofs/jobs/EntriesOfStep.antt` leads from the definition of legal), or on how that is seen from one device (`seen_from` of
+//! `proofs/jobs/SeenAtOne.antt`); `along` there carries a fact over all steps. That an exchange was forged is no part of what a
 //! step brought: a fact goes over the entry that tells so by a clause of its own.
 //!
 //! A crate above cites the lemmas of these laws, each of which is named in its function's `Answers.antt`. Beside them it
 //! cites:
 //!
-//! - `kept_legal`, `kept_since_legal` and `kept_hopper_legal` of `proofs/Whole.antt`, by which any fact of a device holds
-//!   that each thing that can come keeps; `along` of `proofs/jobs/Seen.antt`, by which one of all entries does;
+//! - `kept_legal`, `kept_since_legal` and `kept_hopper_legal` of `proofs/steps/AllKept.antt`, by which any fact of a device holds
+//!   that each thing that can come keeps; `along` of `proofs/jobs/SeenAtOne.antt`, by which one of all entries does;
 //! - `setup_sound`, `steps_of_today` and `front_of_today` of `proofs/text/Scripts.antt`, and there `legal_right` and
 //!   `played_right`, which say six laws at once; `legal_written` of `proofs/text/Texts.antt`;
-//! - for a host that restarts over its records `proofs/money/Replaying.antt`, which says what each record more tells, and
+//! - for a host that restarts over its records `proofs/money/EpochsReplayed.antt`, which says what each record more tells, and
 //!   `proofs/money/Restarts.antt`, which says what entries a power cut leaves;
-//! - `on_wire` of `proofs/OnWire.antt`: the entries of a `next`, and after an exchange that was forged the one that tells
+//! - `on_wire` of `proofs/wire/ForgedEntriesLast.antt`: the entries of a `next`, and after an exchange that was forged the one that tells
 //!   so, are those of a `next` on the wire of a machine;
 //! - `books_legal` of `proofs/money/Books.antt`: of every legal past, ids are in order and the books are kept;
 //! - `steady_step` of `proofs/jobs/Tries.antt`, `polls_step` of `proofs/jobs/Scans.antt` and `good_step` of

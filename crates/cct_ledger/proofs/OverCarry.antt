@@ -16,8 +16,8 @@ use Rattle.cct_model.specs.Following.{all_follow}
 use Rattle.cct_model.specs.Money.{amount, coins_of, odd_in, reserved_in, sum_over}
 use Rattle.cct_model.specs.Setup.{AreDistinct, IsSoundSetup}
 use Rattle.cct_laws.proofs.money.Covered.{covered_all}
-use Rattle.cct_carry.proofs.Carried.{available_carried, owed_carried}
-use Rattle.cct_carry.proofs.Resumed.{named_looked_up, opened_looked_up, orders_looked_up}
+use Rattle.cct_journal_carry.proofs.Carried.{available_carried, owed_carried}
+use Rattle.cct_journal_carry.proofs.Resumed.{named_looked_up, opened_looked_up, orders_looked_up}
 use Rattle.cct_ledger.specs.Ledger.{StandsFor, setup_of}
 use Rattle.cct_ledger.specs.Orders.{KeepsOrders, has_id}
 use Rattle.cct_ledger.specs.Resumed.{IsResumed}

@@ -17,7 +17,7 @@ ghost use Rattle.cct_ledger.specs.Orders.{has_id};
 use crate::lookup::{hopper_place, none_open, opened, put_order};
 use crate::resumed::{open_orders, worth_of};
 use arrayvec::ArrayVec;
-use cct_carry::{coins_of, coins_value};
+use cct_journal_carry::{coins_of, coins_value};
 use cct_model::{Carry, Coins, DEVICES, OpenOrder, Record, Setup, Totals};
 use thiserror::Error;
 

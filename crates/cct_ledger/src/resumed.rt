@@ -3,7 +3,7 @@ ghost use Rattle.std.specs.Prelude.{◌≡◌, ◌<◌, ◌^◌, map};
 ghost use Rattle.cct_model.specs.Carry.{order_held, owed_by};
 
 use arrayvec::ArrayVec;
-use cct_carry::{coins_of, order_held};
+use cct_journal_carry::{coins_of, order_held};
 use cct_model::{Carry, CarryOrder, DEVICES, OpenOrder, Setup};
 
 /// The open order of each device by a carry.

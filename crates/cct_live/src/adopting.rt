@@ -1,15 +1,15 @@
 //! The operator takes a changed setup over for a journal, on purpose.
 ghost use Rattle.std.specs.Prelude.{IfOk, IfSome};
-ghost use Rattle.cct_lines.specs.Setup.{IsSoundSetup};
+ghost use Rattle.cct_model_lines.specs.Setup.{IsSoundSetup};
 
 use crate::ending::{DONE, Stop, code_after};
 use crate::keeping::totals_by;
 use cct_disk::Disk;
 use cct_edge::Sink;
-use cct_lines::{Entry, Setup};
+use cct_live_service::Served;
+use cct_live_setup_copy::{CopyNames, CopyNo};
 use cct_model::Totals;
-use cct_service::Served;
-use cct_setup_copy::{CopyNames, CopyNo};
+use cct_model_lines::{Entry, Setup};
 use cct_text::put_entry;
 use std::fs::Files;
 

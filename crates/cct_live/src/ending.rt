@@ -1,11 +1,11 @@
 //! How the program ends, with its last line and its exit status (`docs/OPERATING.md`, "Exit statuses"; `docs/LIVE.md`).
 
+use cct_advice_near::near_word;
 use cct_edge::Failed;
-use cct_lines::LineKind;
-use cct_near::near_word;
+use cct_live_service::Served;
+use cct_live_setup_copy::What;
+use cct_model_lines::LineKind;
 use cct_script::SetupNo;
-use cct_service::Served;
-use cct_setup_copy::What;
 use std::alloc::AllocError;
 use std::{fmt, io};
 

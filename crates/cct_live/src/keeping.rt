@@ -1,15 +1,15 @@
 //! A journal belongs to a setup: the setup beside it is compared with the one given, or taken along.
 ghost use Rattle.std.specs.Prelude.{◌≡◌, ◌≤◌, ◌+◌};
-ghost use Rattle.cct_lines.specs.Setup.{IsSoundSetup};
+ghost use Rattle.cct_model_lines.specs.Setup.{IsSoundSetup};
 
 use crate::ending::Stop;
 use cct_disk::{Disk, FileDisk, MADE_LEN};
 use cct_host::{Host, StartNo};
 use cct_journal::{Journal, OpenNo};
-use cct_lines::Setup;
+use cct_live_service::Served;
+use cct_live_setup_copy::{CopyNames, CopyNo, first_difference};
 use cct_model::Totals;
-use cct_service::Served;
-use cct_setup_copy::{CopyNames, CopyNo, first_difference};
+use cct_model_lines::Setup;
 use std::fs::Files;
 
 /// How many bytes are read at once.

@@ -2,8 +2,8 @@
 
 use crate::ending::Stop;
 use crate::words::{Echo, LineWords};
-use cct_port::{Options, Port};
-use cct_terminal::{Terminal, TerminalNo};
+use cct_live_port::{Options, Port};
+use cct_live_terminal::{Terminal, TerminalNo};
 
 /// How many silent reads an answer is waited for before it is given up.
 const PATIENCE: u16 = 4;

@@ -2,7 +2,7 @@
 ghost use Rattle.cct_live.specs.Edges.{link_of};
 
 use arrayvec::ArrayVec;
-use cct_lines::MOST_HEARD;
+use cct_model_lines::MOST_HEARD;
 use cct_wire::Link;
 
 /// A link over another one that knows whether a message came back whole before its reply, since it was made.

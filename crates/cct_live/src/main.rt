@@ -1,11 +1,11 @@
-//! The program: the host of a machine on a line, over the journal that it finds (`cct_service`). A setup file names the
-//! devices, which are asked who they are before anything else (`cct_survey`); the journal belongs to the setup beside it
-//! (`cct_setup_copy`), and no other process may use it or the port meanwhile. Other forms of its words write a setup of what
+//! The program: the host of a machine on a line, over the journal that it finds (`cct_live_service`). A setup file names the
+//! devices, which are asked who they are before anything else (`cct_live_survey`); the journal belongs to the setup beside it
+//! (`cct_live_setup_copy`), and no other process may use it or the port meanwhile. Other forms of its words write a setup of what
 //! answers on the line, and take a changed setup over for a journal. The port is a terminal that is set up already.
 #![tactic(auto)]
 
 ghost use Rattle.std.specs.Prelude.{IfOk};
-ghost use Rattle.cct_lines.specs.Setup.{IsSoundSetup};
+ghost use Rattle.cct_model_lines.specs.Setup.{IsSoundSetup};
 
 mod adopting;
 mod ending;
@@ -31,16 +31,16 @@ use crate::quiet::QuietSink;
 use crate::rolling::call_first;
 use crate::words::{Echo, HostWords, LineWords, Words, read_words};
 use cct_advice::{KeptSink, MEMORY, UNWRITTEN, advise_end, read_advised_setup, words_of};
-use cct_change::Desk;
 use cct_disk::{FileDisk, InUse};
-use cct_draft::{Drafted, draft};
 use cct_edge::{Sink, StdSink, StdSource};
-use cct_lines::{Entry, Setup};
-use cct_port::Port;
-use cct_service::{AtEnd, Page, Served, serve};
-use cct_setup_copy::CopyNames;
-use cct_survey::{Roll, crc_twins};
-use cct_terminal::Terminal;
+use cct_host_change::Desk;
+use cct_live_draft::{Drafted, draft};
+use cct_live_port::Port;
+use cct_live_service::{AtEnd, Page, Served, serve};
+use cct_live_setup_copy::CopyNames;
+use cct_live_survey::{Roll, crc_twins};
+use cct_live_terminal::Terminal;
+use cct_model_lines::{Entry, Setup};
 use cct_text::put_entry;
 use clap::error::ErrorKind;
 use std::fs::{File, Files};

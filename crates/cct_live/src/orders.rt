@@ -2,8 +2,8 @@
 
 use cct_disk::Disk;
 use cct_journal::Journal;
-use cct_lines::Record;
-use cct_service::OrderTold;
+use cct_live_service::OrderTold;
+use cct_model_lines::Record;
 
 /// Life counts are counted modulo 2^24 (ccTalk Generic Specification 4, part 3, header 168).
 const LIFE_COUNTS: u32 = 0x100_0000;

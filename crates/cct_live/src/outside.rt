@@ -3,8 +3,8 @@
 use crate::orders::order_on;
 use cct_advice::advise_line;
 use cct_disk::FileDisk;
-use cct_lines::LineKind;
-use cct_service::{Beside, OrderTold, Outside};
+use cct_live_service::{Beside, OrderTold, Outside};
+use cct_model_lines::LineKind;
 use std::fs::{self, Files};
 
 /// The program around a service over the journal of this path.

@@ -3,9 +3,9 @@
 use crate::ending::Stop;
 use crate::listening::Listening;
 use cct_edge::{Failed, Sink};
-use cct_lines::Setup;
-use cct_port::CountedLink;
-use cct_survey::{Finding, Roll, write_finding};
+use cct_live_port::CountedLink;
+use cct_live_survey::{Finding, Roll, write_finding};
+use cct_model_lines::Setup;
 use cct_text::TextLine;
 
 /// How many questions are asked before the first line of the input is read, at most. Each device of a setup is asked one

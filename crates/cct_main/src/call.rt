@@ -1,7 +1,7 @@
 //! What a call of the program wants.
 
 use cct_advice::Help;
-use cct_words::{Words, read_words};
+use cct_bench_words::{Words, read_words};
 use std::alloc::Global;
 
 /// The file of the journal, in the current folder, where the words name no other one.

@@ -2,7 +2,7 @@
 //! it heard nothing.
 
 use cct_bench::{Family, Heard, Money, Monitor};
-use cct_lines::CheckKind;
+use cct_model_lines::CheckKind;
 
 /// Says of each watched device how many of the exchanges were for it, and what they showed.
 pub(crate) fn tell_heard(rt: &HostRuntime, monitor: &Monitor) {

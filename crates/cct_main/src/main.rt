@@ -11,11 +11,11 @@ use cct_advice::{
     AdvisedSink, Help, KeptSink, KeptSource, MEMORY, SharedSource, UNCHECKED, UNTOLD, UNWRITTEN,
     Window, advise, words_of,
 };
+use cct_advice_near::near_word;
 use cct_bench::{Status, audit_capture, bench};
 use cct_disk::{FileDisk, InUse};
 use cct_edge::{Failed, Sink, StdSink, StdSource};
-use cct_lines::Entry;
-use cct_near::near_word;
+use cct_model_lines::Entry;
 use cct_text::put_entry;
 use heard::tell_heard;
 use std::cell::RefCell;

@@ -1,9 +1,9 @@
-pub use Rattle.cct_lines.proofs.Messages
-pub use Rattle.cct_lines.proofs.Requests
-pub use Rattle.cct_lines.proofs.Hoppers
-pub use Rattle.cct_lines.proofs.Replaced
-pub use Rattle.cct_lines.proofs.Added
-pub use Rattle.cct_lines.proofs.Sound
+pub use Rattle.cct_model_lines.proofs.Messages
+pub use Rattle.cct_model_lines.proofs.Requests
+pub use Rattle.cct_model_lines.proofs.Hoppers
+pub use Rattle.cct_model_lines.proofs.Replaced
+pub use Rattle.cct_model_lines.proofs.Added
+pub use Rattle.cct_model_lines.proofs.Sound
 pub mod Addresses
 pub mod Polls
 pub mod Doses

@@ -6,7 +6,7 @@
 mod change;
 mod judging;
 
-pub use cct_lines::{
+pub use cct_model_lines::{
     BROADCAST, Bytes, COIN_PLACES, Carry, CarryEpoch, CarryEpochs, CarryOrder, CarryOrders,
     CheckKind, Coin, Coins, Command, CommandNo, CrashAt, Credits, DEVICES, DeviceBody, DeviceSet,
     DeviceSetup, Devices, ENABLE_CODE, EVENTS, End, Entry, Family, GREATEST_AMOUNT, GREATEST_FIRST,

@@ -4,13 +4,13 @@ use Rattle.std.specs.Prelude.{⊤}
 use Rattle.std.proofs.lemmas.List.{length-map, length-replicate}
 use Rattle.cct_monitor.specs.declared.watched.Kept.{Kept}
 use Rattle.cct_monitor.specs.declared.watched.Kept.TheVariants.{Acceptor, QuietAcceptor, Premises, Hopper, HopperPremises}
-use Rattle.cct_taps.specs.declared.money.Money.{Money}
+use Rattle.cct_audit_taps.specs.declared.money.Money.{Money}
 use Rattle.cct_monitor.specs.declared.watched.Family.{Family}
 use Rattle.cct_monitor.specs.declared.watched.Family.TheVariants as family
 use Rattle.cct_monitor.specs.declared.watched.Heard.{Heard}
-use Rattle.cct_taps.specs.Signs.{broken_at, broken_by, known_after, known_on, sign}
-use Rattle.cct_taps.specs.Deeds.{deed, hopper_after, hopper_broken_at, hopper_broken_by, hopper_on}
-use Rattle.cct_taps.specs.Taps.{Tap, shown, quiet_shown, life_shown}
+use Rattle.cct_audit_taps.specs.Signs.{broken_at, broken_by, known_after, known_on, sign}
+use Rattle.cct_audit_taps.specs.Deeds.{deed, hopper_after, hopper_broken_at, hopper_broken_by, hopper_on}
+use Rattle.cct_audit_taps.specs.Taps.{Tap, shown, quiet_shown, life_shown}
 use Rattle.cct_monitor.specs.Spans.{said_at, said_last, quiet_at}
 use Rattle.cct_monitor.specs.Lives.{fell_at, fell_by, last_life}
 use Rattle.cct_monitor.specs.Machine.{acceptor_after, acceptor_on, acceptor_says, ends_by, ends_on, family_of, heard_as, kept_on, last_on, life_on, quiet_after, quiet_says, says_by, says_on, watched_on}

@@ -5,30 +5,30 @@ use Rattle.std.specs.Prelude.{⊤}
 use Rattle.std.specs.List.{list_any}
 use Rattle.std.proofs.lemmas.Bool.Decides.{nat_tests}
 use Rattle.std.proofs.lemmas.List.Elements.{All-append, All-cons, All-head, All-nil, All-tail, filter-append}
-use Rattle.cct_taps.specs.declared.said.Said.{Said}
-use Rattle.cct_taps.specs.declared.said.Said.TheVariants.{Sure, Quiet, Doubt, Fell, Broken}
-use Rattle.cct_taps.specs.declared.shown.Shown.{Shown}
-use Rattle.cct_taps.specs.declared.shown.Shown.TheVariants.{Read, Masked, Set, Nothing}
+use Rattle.cct_audit_taps.specs.declared.said.Said.{Said}
+use Rattle.cct_audit_taps.specs.declared.said.Said.TheVariants.{Sure, Quiet, Doubt, Fell, Broken}
+use Rattle.cct_audit_taps.specs.declared.shown.Shown.{Shown}
+use Rattle.cct_audit_taps.specs.declared.shown.Shown.TheVariants.{Read, Masked, Set, Nothing}
 use Rattle.cct_monitor.specs.declared.hopper.LastLife.{LastLife}
-use Rattle.cct_taps.specs.declared.money.Money.{Money}
+use Rattle.cct_audit_taps.specs.declared.money.Money.{Money}
 use Rattle.cct_monitor.specs.declared.watched.Family.{Family}
 use Rattle.cct_monitor.specs.declared.watched.Family.TheVariants as family
 use Rattle.cct_monitor.specs.Lives.{fell_at, fell_by, last_life}
 use Rattle.cct_monitor.specs.Once.{all_quietly, all_said, is_between, is_of, is_of_at}
 use Rattle.cct_monitor.specs.Spans.{Span, coins_of, doubted, is_whole, last_reading, quiet_at, quietly, refused, said_at, said_last, spans, spans_by, surely, turned, waits}
 use Rattle.cct_model.specs.terms.coin.Credits.{Credits}
-use Rattle.cct_taps.specs.declared.signs.KnownMask.{KnownMask}
-use Rattle.cct_taps.specs.declared.signs.Sign.{Sign}
-use Rattle.cct_taps.specs.declared.signs.Sign.TheVariants as signs
-use Rattle.cct_taps.specs.Signs.{broken_buffer, broken_by, broken_reset, is_credit, is_event, known_after, sign}
-use Rattle.cct_taps.specs.declared.deeds.Deed.{Deed}
-use Rattle.cct_taps.specs.declared.deeds.Deed.TheVariants as deeds
-use Rattle.cct_taps.specs.declared.hoppers.KnownHopper.{KnownHopper}
-use Rattle.cct_taps.specs.declared.hoppers.KnownLife.{KnownLife}
-use Rattle.cct_taps.specs.declared.hoppers.KnownSerial.{KnownSerial}
-use Rattle.cct_taps.specs.Deeds.{broken_enable, broken_life, broken_serial, deed, hopper_after, hopper_broken_by, rise_fits}
+use Rattle.cct_audit_taps.specs.declared.signs.KnownMask.{KnownMask}
+use Rattle.cct_audit_taps.specs.declared.signs.Sign.{Sign}
+use Rattle.cct_audit_taps.specs.declared.signs.Sign.TheVariants as signs
+use Rattle.cct_audit_taps.specs.Signs.{broken_buffer, broken_by, broken_reset, is_credit, is_event, known_after, sign}
+use Rattle.cct_audit_taps.specs.declared.deeds.Deed.{Deed}
+use Rattle.cct_audit_taps.specs.declared.deeds.Deed.TheVariants as deeds
+use Rattle.cct_audit_taps.specs.declared.hoppers.KnownHopper.{KnownHopper}
+use Rattle.cct_audit_taps.specs.declared.hoppers.KnownLife.{KnownLife}
+use Rattle.cct_audit_taps.specs.declared.hoppers.KnownSerial.{KnownSerial}
+use Rattle.cct_audit_taps.specs.Deeds.{broken_enable, broken_life, broken_serial, deed, hopper_after, hopper_broken_by, rise_fits}
 use Rattle.cct_model.specs.Order.{life_between}
-use Rattle.cct_taps.specs.Taps.{Tap, life_shown, quiet_shown, shown}
+use Rattle.cct_audit_taps.specs.Taps.{Tap, life_shown, quiet_shown, shown}
 use Rattle.cct_monitor.specs.Watches.{Account, Came, Watch, accounts, all_told, by_address, deeds_of, finally_by, finally_of, finally_of_all, from_begin, lives_of, looks_of, made_tap, made_watch, put_watch, quiet_looks_of, signs_of, said_by, said_of, said_of_all}
 use Rattle.cct_monitor.proofs.Captures.{from_the_begin}
 use Rattle.cct_monitor.proofs.Once.{quietly_once, said_once}

@@ -1,6 +1,6 @@
 -- Taps that come after all devices are those of each device.
 use Rattle.std.proofs.Common.{◌≡◌, ◌++◌, nat_le, Bool, true, false, cond, List, [], ◌∷◌, map, refl, ap, ◌∙◌}
-use Rattle.cct_taps.specs.Taps.{Tap}
+use Rattle.cct_audit_taps.specs.Taps.{Tap}
 use Rattle.cct_monitor.specs.Watches.{Watch, accounts, by_address, from_begin, made_tap, made_watch, put_by_address, put_watch, taps_in, with_tap}
 
 no_taps : (ws : List Watch) → taps_in (map made_watch ws) ≡ 0

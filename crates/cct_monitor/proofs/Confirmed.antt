@@ -1,9 +1,9 @@
 -- What a tap makes sure are the spans that it confirms.
 use Rattle.std.proofs.Common.{◌≡◌, ℕ, suc, ◌==◌, ◌&&◌, ◌||◌, not, Bool, true, false, cond, List, [], ◌∷◌, ◌++◌, map, filter, flat_map, length, reverse, refl, sym, ap, ap₂, ◌∙◌, Option, Some, None, true≢false}
 use Rattle.std.specs.List.{list_any}
-use Rattle.cct_taps.specs.declared.shown.Shown.{Shown}
-use Rattle.cct_taps.specs.declared.shown.Shown.TheVariants.{Read, Masked, Set, Nothing}
-use Rattle.cct_taps.specs.declared.said.Said.{Said}
+use Rattle.cct_audit_taps.specs.declared.shown.Shown.{Shown}
+use Rattle.cct_audit_taps.specs.declared.shown.Shown.TheVariants.{Read, Masked, Set, Nothing}
+use Rattle.cct_audit_taps.specs.declared.said.Said.{Said}
 use Rattle.cct_monitor.specs.Spans.{Reading, Span, doubted, goes_on, is_whole, last_reading, leaves_open, new_reading, refused, said_at, spans, spans_by, surely, turned, waits}
 use Rattle.cct_monitor.specs.Confirmed.{confirms, ends_window, has_mask, is_confirmed, is_sure, window}
 

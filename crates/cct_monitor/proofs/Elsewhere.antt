@@ -10,21 +10,21 @@ use Rattle.cct_model.specs.Exchange.{after_echo, asked_of, got, to_all, to_one}
 use Rattle.cct_model.specs.Message.{Message, message, length_agrees, crc}
 use Rattle.cct_model.specs.Reply.{Reply}
 use Rattle.cct_model.specs.Request.{request_of}
-use Rattle.cct_taps.specs.declared.shown.Shown.{Shown}
-use Rattle.cct_taps.specs.declared.shown.Shown.TheVariants.{Nothing}
+use Rattle.cct_audit_taps.specs.declared.shown.Shown.{Shown}
+use Rattle.cct_audit_taps.specs.declared.shown.Shown.TheVariants.{Nothing}
 use Rattle.cct_monitor.specs.declared.watched.Kept.{Kept}
 use Rattle.cct_monitor.specs.declared.watched.Kept.TheVariants.{Acceptor, QuietAcceptor, Premises, Hopper, HopperPremises}
 use Rattle.cct_monitor.specs.declared.tally.Tally.{Tally}
-use Rattle.cct_taps.specs.declared.money.Money.{Money}
-use Rattle.cct_taps.specs.declared.money.Money.TheVariants.{Coins, Bills}
+use Rattle.cct_audit_taps.specs.declared.money.Money.{Money}
+use Rattle.cct_audit_taps.specs.declared.money.Money.TheVariants.{Coins, Bills}
 use Rattle.cct_monitor.specs.declared.watched.Family.{Family}
 use Rattle.cct_monitor.specs.declared.watched.Family.TheVariants as family
 use Rattle.cct_monitor.specs.declared.watched.Watched.{Watched}
-use Rattle.cct_taps.specs.declared.signs.Sign.TheVariants as signs
-use Rattle.cct_taps.specs.Signs.{broken_by, known_on, sign, sign_by}
-use Rattle.cct_taps.specs.declared.deeds.Deed.TheVariants as deeds
-use Rattle.cct_taps.specs.Deeds.{deed, deed_by, hopper_broken_by, hopper_on}
-use Rattle.cct_taps.specs.Taps.{Tap, asks_at, bills_by, but_masks, is_message, is_of_other, is_to, life_by, life_shown, quiet_shown, shown, shown_by, tap_of}
+use Rattle.cct_audit_taps.specs.declared.signs.Sign.TheVariants as signs
+use Rattle.cct_audit_taps.specs.Signs.{broken_by, known_on, sign, sign_by}
+use Rattle.cct_audit_taps.specs.declared.deeds.Deed.TheVariants as deeds
+use Rattle.cct_audit_taps.specs.Deeds.{deed, deed_by, hopper_broken_by, hopper_on}
+use Rattle.cct_audit_taps.specs.Taps.{Tap, asks_at, bills_by, but_masks, is_message, is_of_other, is_to, life_by, life_shown, quiet_shown, shown, shown_by, tap_of}
 use Rattle.cct_monitor.specs.Tallies.{is_counted, is_events, is_life, is_mask, is_masked, is_reading, tally_by, tally_more}
 use Rattle.cct_monitor.specs.Lives.{fell_by}
 use Rattle.cct_monitor.specs.Machine.{acceptor_on, acceptor_says, family_of, kept_on, last_on, life_on, quiet_says, says_by, says_on, watched_on}

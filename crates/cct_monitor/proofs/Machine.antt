@@ -3,9 +3,9 @@ use Rattle.std.proofs.Common.{◌≡◌, ℕ, suc, ◌==◌, ◌&&◌, ◌||◌,
 use Rattle.std.specs.List.{list_any}
 use Rattle.cct_model.specs.terms.coin.Credits.{Credits}
 use Rattle.cct_model.specs.Reading.{distance}
-use Rattle.cct_taps.specs.declared.shown.Shown.{Shown}
-use Rattle.cct_taps.specs.declared.shown.Shown.TheVariants.{Read, Masked, Set, Nothing}
-use Rattle.cct_taps.specs.declared.said.Said.{Said}
+use Rattle.cct_audit_taps.specs.declared.shown.Shown.{Shown}
+use Rattle.cct_audit_taps.specs.declared.shown.Shown.TheVariants.{Read, Masked, Set, Nothing}
+use Rattle.cct_audit_taps.specs.declared.said.Said.{Said}
 use Rattle.cct_monitor.specs.declared.acceptor.LastReading.{LastReading}
 use Rattle.cct_monitor.specs.declared.acceptor.WaitingSpan.{WaitingSpan}
 use Rattle.cct_monitor.specs.Spans.{Reading, Span, after_it, doubted, goes_on, is_set, is_whole, last_reading, leaves_open, new_reading, quiet_at, quietly, refused, said_at, said_last, spans, spans_by, turned, waits}

@@ -3,19 +3,19 @@ use Rattle.std.proofs.Common.{◌≡◌, ℕ, zero, suc, ◌+◌, ◌==◌, ◌|
 use Rattle.std.specs.Prelude.{Option, slice_get}
 use Rattle.std.specs.List.{list_any}
 use Rattle.cct_monitor.specs.declared.monitor.Monitor.{Monitor}
-use Rattle.cct_taps.specs.declared.said.Said.{Said}
-use Rattle.cct_taps.specs.declared.shown.Shown.TheVariants.{Nothing}
+use Rattle.cct_audit_taps.specs.declared.said.Said.{Said}
+use Rattle.cct_audit_taps.specs.declared.shown.Shown.TheVariants.{Nothing}
 use Rattle.cct_monitor.specs.declared.watched.Kept.{Kept}
 use Rattle.cct_monitor.specs.declared.watched.Kept.TheVariants.{Acceptor, QuietAcceptor, Premises, Hopper, HopperPremises}
 use Rattle.cct_monitor.specs.declared.watched.Family.{Family}
 use Rattle.cct_monitor.specs.declared.watched.Family.TheVariants as family
 use Rattle.cct_monitor.specs.declared.watched.Heard.{Heard}
 use Rattle.cct_monitor.specs.declared.watched.Watched.{Watched}
-use Rattle.cct_taps.specs.declared.signs.Sign.TheVariants as signs
-use Rattle.cct_taps.specs.Signs.{known_after}
-use Rattle.cct_taps.specs.declared.deeds.Deed.TheVariants as deeds
-use Rattle.cct_taps.specs.Deeds.{hopper_after, no_hopper}
-use Rattle.cct_taps.specs.Taps.{Tap}
+use Rattle.cct_audit_taps.specs.declared.signs.Sign.TheVariants as signs
+use Rattle.cct_audit_taps.specs.Signs.{known_after}
+use Rattle.cct_audit_taps.specs.declared.deeds.Deed.TheVariants as deeds
+use Rattle.cct_audit_taps.specs.Deeds.{hopper_after, no_hopper}
+use Rattle.cct_audit_taps.specs.Taps.{Tap}
 use Rattle.cct_monitor.specs.Lives.{last_life}
 use Rattle.cct_monitor.specs.Machine.{acceptor_after, ends_on, heard_as, kept_first, new_watched, no_tap, quiet_after, says_on, watched_on}
 use Rattle.cct_monitor.specs.Places.{are_apart, has_addr, put_watched}

@@ -7,9 +7,9 @@ use Rattle.std.proofs.lemmas.Bool.Decides.{nat_tests}
 use Rattle.std.proofs.lemmas.List.Quantifiers.{position-Some}
 use Rattle.std.proofs.lemmas.List.Sums.{fails_before_first}
 use Rattle.std.proofs.lemmas.Option.{slice_get-get_or}
-use Rattle.cct_taps.specs.declared.said.Said.{Said}
+use Rattle.cct_audit_taps.specs.declared.said.Said.{Said}
 use Rattle.cct_monitor.specs.declared.watched.Watched.{Watched}
-use Rattle.cct_taps.specs.Taps.{Tap, tap_of}
+use Rattle.cct_audit_taps.specs.Taps.{Tap, tap_of}
 use Rattle.cct_monitor.specs.Machine.{says_on, watched_on}
 use Rattle.cct_monitor.specs.Places.{are_apart, has_addr}
 use Rattle.cct_monitor.proofs.Elsewhere.{PassesBy, nothing_passes, other_passes}

@@ -3,16 +3,16 @@ use Rattle.std.proofs.Common.{◌≡◌, ◌⊎◌, inl, inr, ℕ, zero, suc, �
 use Rattle.std.proofs.lemmas.Bool.{and_parts}
 use Rattle.std.proofs.lemmas.List.{reverse-append}
 use Rattle.std.proofs.lemmas.List.Elements.{All-append, All-cons, All-head, All-map, All-nil, All-tail, All-weaker, Contains-append_cases, Contains-append_left, Contains-append_right, Contains-push}
-use Rattle.cct_taps.specs.declared.said.Said.{Said}
-use Rattle.cct_taps.specs.declared.shown.Shown.{Shown}
-use Rattle.cct_taps.specs.declared.shown.Shown.TheVariants.{Read, Masked, Set, Nothing}
-use Rattle.cct_taps.specs.declared.money.Money.{Money}
+use Rattle.cct_audit_taps.specs.declared.said.Said.{Said}
+use Rattle.cct_audit_taps.specs.declared.shown.Shown.{Shown}
+use Rattle.cct_audit_taps.specs.declared.shown.Shown.TheVariants.{Read, Masked, Set, Nothing}
+use Rattle.cct_audit_taps.specs.declared.money.Money.{Money}
 use Rattle.cct_monitor.specs.declared.watched.Family.TheVariants.{Acceptor, QuietAcceptor}
 use Rattle.cct_monitor.specs.Confirmed.{confirms, has_mask, is_confirmed}
 use Rattle.cct_monitor.specs.Lives.{fell_at}
 use Rattle.cct_monitor.specs.Once.{all_quietly, all_said}
 use Rattle.cct_monitor.specs.Spans.{Span, goes_on, last_reading, quiet_at, quietly, refused, said_at, spans, spans_by, surely, turned, waits}
-use Rattle.cct_taps.specs.Taps.{Tap, life_shown, quiet_shown, shown}
+use Rattle.cct_audit_taps.specs.Taps.{Tap, life_shown, quiet_shown, shown}
 use Rattle.cct_monitor.specs.Watches.{Came, Watch, all_told, by_address, from_begin, lives_of, looks_of, made_tap, made_watch, put_watch, said_by, said_of, said_of_all}
 use Rattle.cct_monitor.proofs.Captures.{from_the_begin}
 use Rattle.cct_monitor.proofs.Confirmed.{confirms_is, new_unconfirmed}

@@ -1,10 +1,10 @@
 -- Which spans are confirmed.
 use Rattle.std.specs.Prelude.{◌==◌, ◌&&◌, not, Bool, true, false, List, [], ◌∷◌, if◌then◌else◌}
 use Rattle.std.specs.List.{list_any}
-use Rattle.cct_taps.specs.declared.shown.Shown.{Shown}
-use Rattle.cct_taps.specs.declared.shown.Shown.TheVariants.{Read, Masked, Set, Nothing}
-use Rattle.cct_taps.specs.declared.said.Said.{Said}
-use Rattle.cct_taps.specs.declared.said.Said.TheVariants.{Sure, Quiet, Doubt, Fell, Broken}
+use Rattle.cct_audit_taps.specs.declared.shown.Shown.{Shown}
+use Rattle.cct_audit_taps.specs.declared.shown.Shown.TheVariants.{Read, Masked, Set, Nothing}
+use Rattle.cct_audit_taps.specs.declared.said.Said.{Said}
+use Rattle.cct_audit_taps.specs.declared.said.Said.TheVariants.{Sure, Quiet, Doubt, Fell, Broken}
 use Rattle.cct_monitor.specs.Spans.{Span, goes_on, is_whole}
 
 -- A tap ends the window of a span: it is the next reading, or a setting.

@@ -2,8 +2,8 @@
 use Rattle.std.specs.Prelude.{ℕ, suc, List, [], ◌∷◌, length, Option, Some, None}
 use Rattle.cct_model.specs.Order.{life_between}
 use Rattle.cct_monitor.specs.declared.hopper.LastLife.{LastLife}
-use Rattle.cct_taps.specs.declared.said.Said.{Said}
-use Rattle.cct_taps.specs.declared.said.Said.TheVariants.{Fell}
+use Rattle.cct_audit_taps.specs.declared.said.Said.{Said}
+use Rattle.cct_audit_taps.specs.declared.said.Said.TheVariants.{Fell}
 
 -- The last life count that taps showed, newest first, with the number of its tap, or none. Taps are numbered from 1.
 abbrev pub last_life : List (Option ℕ) → Option LastLife

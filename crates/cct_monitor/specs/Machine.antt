@@ -3,10 +3,10 @@ use Rattle.std.specs.Prelude.{ℕ, suc, ◌==◌, ◌&&◌, not, Bool, true, fal
 use Rattle.cct_model.specs.terms.coin.Credits.{Credits}
 use Rattle.cct_model.specs.terms.wire.CheckKind.{CheckKind}
 use Rattle.cct_model.specs.Reading.{distance, posted_of}
-use Rattle.cct_taps.specs.declared.shown.Shown.{Shown}
-use Rattle.cct_taps.specs.declared.shown.Shown.TheVariants.{Read, Masked, Set, Nothing}
-use Rattle.cct_taps.specs.declared.said.Said.{Said}
-use Rattle.cct_taps.specs.declared.said.Said.TheVariants.{Sure, Quiet, Doubt}
+use Rattle.cct_audit_taps.specs.declared.shown.Shown.{Shown}
+use Rattle.cct_audit_taps.specs.declared.shown.Shown.TheVariants.{Read, Masked, Set, Nothing}
+use Rattle.cct_audit_taps.specs.declared.said.Said.{Said}
+use Rattle.cct_audit_taps.specs.declared.said.Said.TheVariants.{Sure, Quiet, Doubt}
 use Rattle.cct_monitor.specs.declared.acceptor.LastReading.{LastReading}
 use Rattle.cct_monitor.specs.declared.acceptor.WaitingSpan.{WaitingSpan}
 use Rattle.cct_monitor.specs.declared.acceptor.AcceptorWatch.{AcceptorWatch}
@@ -17,9 +17,9 @@ use Rattle.cct_monitor.specs.declared.watched.Watched.{Watched}
 use Rattle.cct_monitor.specs.declared.watched.Family.{Family}
 use Rattle.cct_monitor.specs.declared.watched.Heard.{Heard}
 use Rattle.cct_monitor.specs.declared.watched.Family.TheVariants as family
-use Rattle.cct_taps.specs.Signs.{broken_by, known_on, sign}
-use Rattle.cct_taps.specs.Deeds.{deed, hopper_broken_by, hopper_on, no_hopper}
-use Rattle.cct_taps.specs.Taps.{Tap, shown, quiet_shown, life_shown}
+use Rattle.cct_audit_taps.specs.Signs.{broken_by, known_on, sign}
+use Rattle.cct_audit_taps.specs.Deeds.{deed, hopper_broken_by, hopper_on, no_hopper}
+use Rattle.cct_audit_taps.specs.Taps.{Tap, shown, quiet_shown, life_shown}
 use Rattle.cct_monitor.specs.Tallies.{no_tally, tally_by}
 use Rattle.cct_monitor.specs.Spans.{are_near}
 use Rattle.cct_monitor.specs.Lives.{fell_by}

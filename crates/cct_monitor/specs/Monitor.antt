@@ -8,8 +8,8 @@ use Rattle.cct_monitor.specs.declared.watched.Heard.{Heard}
 use Rattle.cct_monitor.specs.declared.watched.Family.TheVariants as family
 use Rattle.cct_monitor.specs.declared.watched.Watched.{Watched}
 use Rattle.cct_monitor.specs.declared.monitor.Monitor.{Monitor}
-use Rattle.cct_taps.specs.Signs.{known_after}
-use Rattle.cct_taps.specs.Deeds.{hopper_after}
+use Rattle.cct_audit_taps.specs.Signs.{known_after}
+use Rattle.cct_audit_taps.specs.Deeds.{hopper_after}
 use Rattle.cct_monitor.specs.Lives.{last_life}
 use Rattle.cct_monitor.specs.Machine.{acceptor_after, quiet_after}
 use Rattle.cct_monitor.specs.Tallies.{tally_of}

@@ -1,8 +1,8 @@
 -- What is said of a span, at all taps and at their end.
 use Rattle.std.specs.Prelude.{ℕ, ◌==◌, ◌&&◌, Bool, false, List, [], ◌∷◌, ◌++◌}
-use Rattle.cct_taps.specs.declared.said.Said.{Said}
-use Rattle.cct_taps.specs.declared.said.Said.TheVariants.{Sure, Quiet, Doubt, Fell, Broken}
-use Rattle.cct_taps.specs.declared.shown.Shown.{Shown}
+use Rattle.cct_audit_taps.specs.declared.said.Said.{Said}
+use Rattle.cct_audit_taps.specs.declared.said.Said.TheVariants.{Sure, Quiet, Doubt, Fell, Broken}
+use Rattle.cct_audit_taps.specs.declared.shown.Shown.{Shown}
 use Rattle.cct_monitor.specs.Spans.{Span, quiet_at, said_at}
 
 -- All that is said of the acceptor at an address at taps that showed this, newest first; what is said first stands first.

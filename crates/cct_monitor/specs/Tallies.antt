@@ -1,18 +1,18 @@
 -- How many taps were for a watched device, and what they showed.
 use Rattle.std.specs.Prelude.{ℕ, ◌+◌, min, Bool, true, false, List, [], ◌∷◌, if◌then◌else◌, Option, Some, None}
 use Rattle.cct_model.specs.terms.wire.CheckKind.{CheckKind}
-use Rattle.cct_taps.specs.declared.shown.Shown.{Shown}
-use Rattle.cct_taps.specs.declared.shown.Shown.TheVariants.{Read, Masked, Set, Nothing}
+use Rattle.cct_audit_taps.specs.declared.shown.Shown.{Shown}
+use Rattle.cct_audit_taps.specs.declared.shown.Shown.TheVariants.{Read, Masked, Set, Nothing}
 use Rattle.cct_monitor.specs.declared.tally.Tally.{Tally}
 use Rattle.cct_monitor.specs.declared.watched.Family.{Family}
 use Rattle.cct_monitor.specs.declared.watched.Family.TheVariants as family
-use Rattle.cct_taps.specs.declared.signs.Sign.{Sign}
-use Rattle.cct_taps.specs.declared.signs.Sign.TheVariants.{Events, Mask}
-use Rattle.cct_taps.specs.Signs.{sign}
-use Rattle.cct_taps.specs.declared.deeds.Deed.{Deed}
-use Rattle.cct_taps.specs.declared.deeds.Deed.TheVariants.{Life}
-use Rattle.cct_taps.specs.Deeds.{deed}
-use Rattle.cct_taps.specs.Taps.{Tap, is_message, life_shown, quiet_shown, shown}
+use Rattle.cct_audit_taps.specs.declared.signs.Sign.{Sign}
+use Rattle.cct_audit_taps.specs.declared.signs.Sign.TheVariants.{Events, Mask}
+use Rattle.cct_audit_taps.specs.Signs.{sign}
+use Rattle.cct_audit_taps.specs.declared.deeds.Deed.{Deed}
+use Rattle.cct_audit_taps.specs.declared.deeds.Deed.TheVariants.{Life}
+use Rattle.cct_audit_taps.specs.Deeds.{deed}
+use Rattle.cct_audit_taps.specs.Taps.{Tap, is_message, life_shown, quiet_shown, shown}
 
 -- A tap shows a reading.
 abbrev pub is_reading : Shown → Bool

@@ -2,19 +2,19 @@
 use Rattle.std.specs.Prelude.{ℕ, suc, nat_le, List, [], ◌∷◌, ◌++◌, map, replicate, if◌then◌else◌, Option, None}
 use Rattle.std.specs.List.{flat_map}
 use Rattle.cct_model.specs.terms.wire.CheckKind.{CheckKind}
-use Rattle.cct_taps.specs.declared.shown.Shown.{Shown}
-use Rattle.cct_taps.specs.declared.shown.Shown.TheVariants.{Nothing}
-use Rattle.cct_taps.specs.declared.said.Said.{Said}
-use Rattle.cct_taps.specs.declared.money.Money.{Money}
+use Rattle.cct_audit_taps.specs.declared.shown.Shown.{Shown}
+use Rattle.cct_audit_taps.specs.declared.shown.Shown.TheVariants.{Nothing}
+use Rattle.cct_audit_taps.specs.declared.said.Said.{Said}
+use Rattle.cct_audit_taps.specs.declared.money.Money.{Money}
 use Rattle.cct_monitor.specs.declared.watched.Family.{Family}
 use Rattle.cct_monitor.specs.declared.watched.Family.TheVariants.{Acceptor, QuietAcceptor, Premises, Hopper, HopperPremises}
-use Rattle.cct_taps.specs.declared.signs.Sign.{Sign}
-use Rattle.cct_taps.specs.declared.signs.Sign.TheVariants as signs
-use Rattle.cct_taps.specs.Signs.{broken_at, sign}
-use Rattle.cct_taps.specs.declared.deeds.Deed.{Deed}
-use Rattle.cct_taps.specs.declared.deeds.Deed.TheVariants as deeds
-use Rattle.cct_taps.specs.Deeds.{deed, hopper_broken_at}
-use Rattle.cct_taps.specs.Taps.{Tap, shown, quiet_shown, life_shown}
+use Rattle.cct_audit_taps.specs.declared.signs.Sign.{Sign}
+use Rattle.cct_audit_taps.specs.declared.signs.Sign.TheVariants as signs
+use Rattle.cct_audit_taps.specs.Signs.{broken_at, sign}
+use Rattle.cct_audit_taps.specs.declared.deeds.Deed.{Deed}
+use Rattle.cct_audit_taps.specs.declared.deeds.Deed.TheVariants as deeds
+use Rattle.cct_audit_taps.specs.Deeds.{deed, hopper_broken_at}
+use Rattle.cct_audit_taps.specs.Taps.{Tap, shown, quiet_shown, life_shown}
 use Rattle.cct_monitor.specs.Spans.{said_at, said_last, quiet_at}
 use Rattle.cct_monitor.specs.Lives.{fell_at}
 

@@ -2,12 +2,12 @@
 ghost use Rattle.std.specs.Prelude.{◌≡◌, ◌+◌, ◌<◌, ◌≤◌, ◌++◌, [], None, length};
 ghost use Rattle.cct_monitor.specs.Machine.{acceptor_on, acceptor_says, after_setting, doubt_new, doubt_waiting, fits, no_tap, sure_waiting, waiting_new};
 ghost use Rattle.cct_monitor.specs.Spans.{are_near};
-ghost use Rattle.cct_taps.specs.declared.shown.Shown.TheVariants.{Read};
+ghost use Rattle.cct_audit_taps.specs.declared.shown.Shown.TheVariants.{Read};
 
 use arrayvec::ArrayVec;
+use cct_audit_taps::{Said, Shown};
 use cct_epoch::{distance, posted};
 use cct_model::{Credits, EVENTS};
-use cct_taps::{Said, Shown};
 
 /// The last reading of an acceptor.
 #[derive(Clone, Copy, Debug, PartialEq, Eq)]

@@ -3,7 +3,7 @@ ghost use Rattle.std.specs.Prelude.{◌≡◌, []};
 ghost use Rattle.cct_monitor.specs.Lives.{fell_by};
 
 use arrayvec::ArrayVec;
-use cct_taps::{Said, fallen_between};
+use cct_audit_taps::{Said, fallen_between};
 
 /// The last life count of a hopper.
 #[derive(Clone, Copy, Debug, PartialEq, Eq)]

@@ -1,11 +1,11 @@
 //! What holds of whatever comes to a monitor.
 ghost use Rattle.std.specs.Prelude.{◌≡◌, ◌≤◌, ◌++◌, ℕ, true, Option, List, [], length, map, reverse};
 ghost use Rattle.std.specs.List.{All, Contains, filter};
-ghost use Rattle.cct_taps.specs.declared.shown.Shown.{Shown};
+ghost use Rattle.cct_audit_taps.specs.declared.shown.Shown.{Shown};
 ghost use Rattle.cct_monitor.specs.Confirmed.{confirms, is_confirmed, is_sure};
 ghost use Rattle.cct_monitor.specs.Once.{all_quietly, all_said, is_between, is_of};
 ghost use Rattle.cct_monitor.specs.Spans.{Reading, Span, goes_on, quietly, said_at, said_last, spans, spans_by, surely};
-ghost use Rattle.cct_taps.specs.Taps.{Tap};
+ghost use Rattle.cct_audit_taps.specs.Taps.{Tap};
 ghost use Rattle.cct_monitor.specs.Watches.{Watch, accounts, by_address, from_begin, made_tap, made_watch};
 
 /// Where the taps come after all devices that are to be watched, as in a capture, each device is watched from the first

@@ -12,8 +12,8 @@ mod quiet;
 mod tally;
 mod watched;
 
+pub use cct_audit_taps::{Money, Premise, Said, Shown};
 pub use cct_model::{CheckKind, Coin, Coins};
-pub use cct_taps::{Money, Premise, Said, Shown};
 pub use hopper::LastLife;
 pub use laws::{
     a_capture_is_watched_whole, a_tap_makes_sure_what_it_confirms, each_span_is_said_once,

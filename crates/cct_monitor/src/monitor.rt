@@ -1,14 +1,14 @@
 //! The monitor.
 ghost use Rattle.std.specs.Prelude.{◌≡◌, ◌+◌, ◌-◌, ◌^◌, ◌<◌, ◌==◌, ◌||◌, ℕ, true, false, List, [], ◌∷◌, map, slice_get};
 ghost use Rattle.cct_monitor.specs.Places.{are_apart};
-ghost use Rattle.cct_taps.specs.Taps.{tap_of};
+ghost use Rattle.cct_audit_taps.specs.Taps.{tap_of};
 ghost use Rattle.cct_monitor.specs.Watches.{Came, Watch, accounts, finally_of_all, made_tap, made_watch, said_of_all};
 
 use crate::places::{WATCHED, finish_devices, has_device, heard_at, put_device, tap_devices};
 use crate::watched::{Family, Heard, Watched};
 use arrayvec::ArrayVec;
+use cct_audit_taps::Said;
 use cct_model::CheckKind;
-use cct_taps::Said;
 
 /// A monitor of a wire, whoever is its host. It takes no memory, and keeps as much after each tap as before it.
 ///

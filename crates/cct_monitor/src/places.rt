@@ -3,11 +3,11 @@ ghost use Rattle.std.specs.Prelude.{◌≡◌, ◌<◌, ◌≤◌, [], true, len
 ghost use Rattle.std.specs.List.{flat_map, list_any, position, position_or_len};
 ghost use Rattle.cct_monitor.specs.Machine.{ends_on, heard_as, says_on, watched_on};
 ghost use Rattle.cct_monitor.specs.Places.{are_apart, has_addr, is_behind, put_watched};
-ghost use Rattle.cct_taps.specs.Taps.{tap_of};
+ghost use Rattle.cct_audit_taps.specs.Taps.{tap_of};
 
 use crate::watched::{Heard, Watched};
 use arrayvec::ArrayVec;
-use cct_taps::Said;
+use cct_audit_taps::Said;
 
 /// The most devices that a monitor watches.
 pub const WATCHED: usize = 32;

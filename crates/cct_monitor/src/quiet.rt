@@ -5,9 +5,9 @@ ghost use Rattle.cct_monitor.specs.Machine.{last_on, quiet_new, quiet_says};
 
 use crate::acceptor::{LastReading, after_setting, fits};
 use arrayvec::ArrayVec;
+use cct_audit_taps::{Said, Shown};
 use cct_epoch::{distance, posted};
 use cct_model::Credits;
-use cct_taps::{Said, Shown};
 
 /// The last reading after a tap of a number.
 pub(crate) fn last_on(shown: Shown, number: u32, last: Option<LastReading>) -> Option<LastReading>

@@ -2,7 +2,7 @@
 ghost use Rattle.std.specs.Prelude.{◌≡◌, false};
 ghost use Rattle.cct_monitor.specs.Tallies.{is_counted, is_events, is_life, is_mask, is_masked, is_reading, no_tally, one_more, tally_more};
 
-use cct_taps::{Deed, Shown, Sign};
+use cct_audit_taps::{Deed, Shown, Sign};
 
 /// How many taps were for a watched device, and what they showed. Each number stands still at its type's end.
 #[derive(Clone, Copy, Debug, PartialEq, Eq)]

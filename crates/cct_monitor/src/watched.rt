@@ -1,18 +1,18 @@
 //! What is kept of a watched device.
 ghost use Rattle.std.specs.Prelude.{◌≡◌, ◌+◌, ◌<◌, ◌≤◌, ◌++◌, [], length};
 ghost use Rattle.cct_monitor.specs.Machine.{ends_on, family_of, heard_as, kept_first, life_on, new_watched, says_on, watched_on};
-ghost use Rattle.cct_taps.specs.Taps.{tap_of};
+ghost use Rattle.cct_audit_taps.specs.Taps.{tap_of};
 
 use crate::acceptor::{AcceptorWatch, LastReading};
 use crate::hopper::{LastLife, fell};
 use crate::quiet::{last_on, say_quietly};
 use crate::tally::Tally;
 use arrayvec::ArrayVec;
-use cct_model::CheckKind;
-use cct_taps::{
+use cct_audit_taps::{
     KnownHopper, KnownMask, Money, Said, deed_at, hopper_on, is_message, known_on, life_at,
     no_hopper, quiet_shown_at, shown_at, sign_at, tell_broken, tell_hopper,
 };
+use cct_model::CheckKind;
 
 /// What a watched device is, and what is taken for granted of it.
 #[derive(Clone, Copy, Debug, PartialEq, Eq)]

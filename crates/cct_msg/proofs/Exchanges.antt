@@ -2,18 +2,18 @@
 use Rattle.std.proofs.Common.{◌≡◌, ℕ, ◌<◌, ◌≤◌, ◌^◌, ◌&&◌, Bool, true, true≢false, cond, List, [], ◌∷◌, length, refl, sym, ap, subst, ◌∙◌, Option, Some, arith, eq-eqb}
 use Rattle.std.specs.Prelude.{option_and_then}
 use Rattle.std.specs.List.{flat_map}
-use Rattle.cct_terms.specs.declared.wire.CheckKind.{CheckKind}
-use Rattle.cct_terms.specs.declared.wire.CheckKind.TheVariants.{Simple, Crc}
-use Rattle.cct_terms.specs.declared.coin.Pair.{Pair}
-use Rattle.cct_terms.specs.declared.request.Request.{Request}
-use Rattle.cct_terms.specs.declared.request.Request.TheVariants.{Dispense}
-use Rattle.cct_terms.specs.declared.request.ReplyForm.{ReplyForm}
-use Rattle.cct_terms.specs.declared.request.ReplyForm.TheVariants as form
-use Rattle.cct_terms.specs.Message.{message, spelling}
-use Rattle.cct_terms.specs.Request.{header_of, data_of, request_of}
-use Rattle.cct_terms.specs.Reply.{Reply, IsSayable, pair_bytes, reply_data, reply_header, reply_in, ack, nak, busy, credits, mask, master, path, coin_id, status, life, remaining, register, text, serial, revision, accepts}
-use Rattle.cct_terms.specs.Exchange.{ask, asked, asking, reply_from, replying}
-use Rattle.cct_terms.proofs.Requests.{is_asked_again, IsAgain, two_back, three_back, request_back, request_short, credits_back, coin_id_back}
+use Rattle.cct_model_wire.specs.declared.wire.CheckKind.{CheckKind}
+use Rattle.cct_model_wire.specs.declared.wire.CheckKind.TheVariants.{Simple, Crc}
+use Rattle.cct_model_wire.specs.declared.coin.Pair.{Pair}
+use Rattle.cct_model_wire.specs.declared.request.Request.{Request}
+use Rattle.cct_model_wire.specs.declared.request.Request.TheVariants.{Dispense}
+use Rattle.cct_model_wire.specs.declared.request.ReplyForm.{ReplyForm}
+use Rattle.cct_model_wire.specs.declared.request.ReplyForm.TheVariants as form
+use Rattle.cct_model_wire.specs.Message.{message, spelling}
+use Rattle.cct_model_wire.specs.Request.{header_of, data_of, request_of}
+use Rattle.cct_model_wire.specs.Reply.{Reply, IsSayable, pair_bytes, reply_data, reply_header, reply_in, ack, nak, busy, credits, mask, master, path, coin_id, status, life, remaining, register, text, serial, revision, accepts}
+use Rattle.cct_model_wire.specs.Exchange.{ask, asked, asking, reply_from, replying}
+use Rattle.cct_model_wire.proofs.Requests.{is_asked_again, IsAgain, two_back, three_back, request_back, request_short, credits_back, coin_id_back}
 use Rattle.cct_frame.specs.Frame.{carried}
 use Rattle.cct_frame.proofs.Spellings.{written_back}
 use Rattle.cct_msg.specs.Forms.{FitsItsBytes, IsWhole, form_shown}

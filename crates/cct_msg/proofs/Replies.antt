@@ -1,11 +1,11 @@
 -- What is read as a reply is a reply of the wanted form with these data bytes.
 use Rattle.std.proofs.Common.{◌≡◌, ℕ, ◌/◌, ◌%◌, ◌<◌, List, [], ◌∷◌, refl, subst, Some, arith}
 use Rattle.std.specs.List.{All}
-use Rattle.cct_terms.specs.declared.request.ReplyForm.{ReplyForm}
-use Rattle.cct_terms.specs.declared.request.ReplyForm.TheVariants as form
-use Rattle.cct_terms.specs.Request.{from_two, from_three, three_bytes}
-use Rattle.cct_terms.specs.Reply.{Reply, reply_data, reply_in, none_in, one_in, two_in, three_in, status_in, coin_id_in, credits_in, ack, credits, mask, master, path, coin_id, status, life, remaining, register, text, serial, revision, accepts}
-use Rattle.cct_terms.proofs.Requests.{two_bytes, byte_at}
+use Rattle.cct_model_wire.specs.declared.request.ReplyForm.{ReplyForm}
+use Rattle.cct_model_wire.specs.declared.request.ReplyForm.TheVariants as form
+use Rattle.cct_model_wire.specs.Request.{from_two, from_three, three_bytes}
+use Rattle.cct_model_wire.specs.Reply.{Reply, reply_data, reply_in, none_in, one_in, two_in, three_in, status_in, coin_id_in, credits_in, ack, credits, mask, master, path, coin_id, status, life, remaining, register, text, serial, revision, accepts}
+use Rattle.cct_model_wire.proofs.Requests.{two_bytes, byte_at}
 use Rattle.cct_msg.specs.Forms.{form_shown}
 
 -- three bytes are those of their number

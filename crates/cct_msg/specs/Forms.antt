@@ -1,10 +1,10 @@
 -- The forms in which replies are read back.
 use Rattle.std.specs.Prelude.{◌≡◌, ◌<◌, ◌^◌, ℕ, length, Option, Some, None, ⊤}
-use Rattle.cct_terms.specs.declared.request.Request.{Request}
-use Rattle.cct_terms.specs.declared.request.Request.TheVariants.{Dispense}
-use Rattle.cct_terms.specs.declared.request.ReplyForm.{ReplyForm}
-use Rattle.cct_terms.specs.declared.request.ReplyForm.TheVariants as form
-use Rattle.cct_terms.specs.Reply.{Reply, ack, nak, busy, credits, mask, master, path, coin_id, status, life, remaining, register, text, serial, revision, accepts}
+use Rattle.cct_model_wire.specs.declared.request.Request.{Request}
+use Rattle.cct_model_wire.specs.declared.request.Request.TheVariants.{Dispense}
+use Rattle.cct_model_wire.specs.declared.request.ReplyForm.{ReplyForm}
+use Rattle.cct_model_wire.specs.declared.request.ReplyForm.TheVariants as form
+use Rattle.cct_model_wire.specs.Reply.{Reply, ack, nak, busy, credits, mask, master, path, coin_id, status, life, remaining, register, text, serial, revision, accepts}
 
 -- The serial number of a dispense request fits its three bytes.
 abbrev pub FitsItsBytes : Request → Type 0

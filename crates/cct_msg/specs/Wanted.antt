@@ -1,11 +1,11 @@
 -- What the host makes of a message that may be the reply that it wants.
 use Rattle.std.specs.Prelude.{◌≡◌, ◌==◌, ◌&&◌, ⊤, ℕ, [], length, if◌then◌else◌, Option, Some, None, IsTrue}
-use Rattle.cct_terms.specs.declared.request.Reply as code
-use Rattle.cct_terms.specs.declared.request.Reply.TheVariants as shown
-use Rattle.cct_terms.specs.declared.request.ReplyForm.{ReplyForm}
-use Rattle.cct_terms.specs.Message.{Message}
-use Rattle.cct_terms.specs.Reply.{Reply}
-use Rattle.cct_terms.specs.Exchange.{is_for_host, reply_from}
+use Rattle.cct_model_wire.specs.declared.request.Reply as code
+use Rattle.cct_model_wire.specs.declared.request.Reply.TheVariants as shown
+use Rattle.cct_model_wire.specs.declared.request.ReplyForm.{ReplyForm}
+use Rattle.cct_model_wire.specs.Message.{Message}
+use Rattle.cct_model_wire.specs.Reply.{Reply}
+use Rattle.cct_model_wire.specs.Exchange.{is_for_host, reply_from}
 use Rattle.cct_msg.specs.declared.reply_reading.NotWanted.{NotWanted}
 use Rattle.cct_msg.specs.declared.reply_reading.NotWanted.TheVariants.{Nak, Busy, Other}
 

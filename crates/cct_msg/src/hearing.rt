@@ -2,13 +2,13 @@
 ghost use Rattle.std.specs.Prelude.{◌≡◌};
 ghost use Rattle.std.specs.Option.{option_map};
 ghost use Rattle.cct_frame.specs.Frame.{message_of};
-ghost use Rattle.cct_terms.specs.Exchange.{asked_of, got, to_all, to_one};
-ghost use Rattle.cct_terms.specs.Reply.{reply_shown};
+ghost use Rattle.cct_model_wire.specs.Exchange.{asked_of, got, to_all, to_one};
+ghost use Rattle.cct_model_wire.specs.Reply.{reply_shown};
 
 use crate::reply_reading::read_reply;
 use crate::request_reading::read_request;
 use cct_frame::FrameView;
-use cct_terms::{BROADCAST, CheckKind, Reply, ReplyForm, Request};
+use cct_model_wire::{BROADCAST, CheckKind, Reply, ReplyForm, Request};
 use cct_wire::{Heard, hear};
 
 /// What a message asks of the device at an address, whoever sent it: nothing where it is for another, or is no request.
@@ -46,7 +46,7 @@ fn to_all(request: Option<Request>) -> Option<Request>
 
 /// The reply in the form that the host wants from an address under a check, in what it heard after what it sent, or
 /// `None` where that is no such reply after the echo.
-#[tactic(auto, unfolding(cct_terms::specs::Exchange::got))]
+#[tactic(auto, unfolding(cct_model_wire::specs::Exchange::got))]
 pub fn wanted_reply<'h>(
     kind: CheckKind,
     addr: u8,

@@ -1,15 +1,15 @@
 //! What holds of requests and replies and the data bytes that say them.
 ghost use Rattle.std.specs.Prelude.{◌≡◌, ◌≢◌, ◌<◌, List, ℕ, All, Some, length, option_and_then};
-ghost use Rattle.cct_terms.specs.Exchange.{ask, asked, reply_from, replying};
-ghost use Rattle.cct_terms.specs.Message.{message, spelling};
-ghost use Rattle.cct_terms.specs.Reply.{IsSayable, Reply, nak, busy, reply_data, reply_in};
-ghost use Rattle.cct_terms.specs.Request.{data_of, header_of, request_of};
-ghost use Rattle.cct_terms.specs.declared.request.ReplyForm.{ReplyForm};
-ghost use Rattle.cct_terms.specs.declared.request.Request.{Request};
-ghost use Rattle.cct_terms.specs.declared.wire.CheckKind.{CheckKind};
+ghost use Rattle.cct_model_wire.specs.Exchange.{ask, asked, reply_from, replying};
+ghost use Rattle.cct_model_wire.specs.Message.{message, spelling};
+ghost use Rattle.cct_model_wire.specs.Reply.{IsSayable, Reply, nak, busy, reply_data, reply_in};
+ghost use Rattle.cct_model_wire.specs.Request.{data_of, header_of, request_of};
+ghost use Rattle.cct_model_wire.specs.declared.request.ReplyForm.{ReplyForm};
+ghost use Rattle.cct_model_wire.specs.declared.request.Request.{Request};
+ghost use Rattle.cct_model_wire.specs.declared.wire.CheckKind.{CheckKind};
 ghost use Rattle.cct_msg.specs.Forms.{FitsItsBytes, IsWhole, form_shown};
 
-use cct_terms::{CheckKind, ReplyForm, Request};
+use cct_model_wire::{CheckKind, ReplyForm, Request};
 
 /// A request is read back from its header and data bytes, and from the piece by which the host asks it, under either
 /// check. The serial number of a [`Request::Dispense`] has to fit three bytes.

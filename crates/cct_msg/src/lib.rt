@@ -12,7 +12,7 @@ mod request_reading;
 mod request_writing;
 mod wanted_form;
 
-pub use cct_terms::{Reply, ReplyForm, Request};
+pub use cct_model_wire::{Reply, ReplyForm, Request};
 pub use hearing::{asked_of, wanted_reply};
 pub use laws::{
     a_reply_is_read_back, a_request_is_read_back, what_is_read_is_the_reply,

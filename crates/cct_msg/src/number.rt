@@ -1,6 +1,6 @@
 //! Numbers of three bytes, low byte first.
 ghost use Rattle.std.specs.Prelude.{◌≡◌};
-ghost use Rattle.cct_terms.specs.Request.{from_three, three_bytes};
+ghost use Rattle.cct_model_wire.specs.Request.{from_three, three_bytes};
 
 /// The three low bytes of a number.
 pub(crate) fn three_bytes(number: u32) -> [u8; 3]

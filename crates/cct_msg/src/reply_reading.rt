@@ -2,14 +2,14 @@
 ghost use Rattle.std.specs.Prelude.{◌≡◌, ◌↔◌, Err, IfErr, IfOk, IfSome, None, OnErr, OnOk, Some};
 ghost use Rattle.std.specs.Option.{option_map};
 ghost use Rattle.cct_frame.specs.Frame.{message_of};
-ghost use Rattle.cct_terms.specs.Exchange.{is_for_host, reply_from};
-ghost use Rattle.cct_terms.specs.Reply.{reply_in, reply_shown};
+ghost use Rattle.cct_model_wire.specs.Exchange.{is_for_host, reply_from};
+ghost use Rattle.cct_model_wire.specs.Reply.{reply_in, reply_shown};
 ghost use Rattle.cct_msg.specs.Wanted.{IsBare, TextLiesAt, reason_in};
 
 use crate::header;
 use crate::number::from_three;
 use cct_frame::FrameView;
-use cct_terms::{Credits, HOST, Pair, Reply, ReplyForm};
+use cct_model_wire::{Credits, HOST, Pair, Reply, ReplyForm};
 use thiserror::Error;
 
 /// Why a message is not the reply that the host wants.
@@ -79,7 +79,7 @@ fn is_for_host(from: u8, view: &FrameView<'_>) -> bool
 }
 
 /// The data bytes of a reply with header 0, read in a form, or `None` where their number is wrong.
-#[tactic(auto, unfolding(cct_terms::specs::Reply::reply_in))]
+#[tactic(auto, unfolding(cct_model_wire::specs::Reply::reply_in))]
 fn reply_in<'a>(form: ReplyForm, body: &'a [u8]) -> Option<Reply<'a>>
     ensures value { option_map reply_shown result ≡ reply_in form body.now }
     ensures in_place { IfSome result (λ y. TextLiesAt body.entry.ref_ptr y) }

@@ -1,19 +1,19 @@
 //! A reply is written as the message by which a device gives it.
 ghost use Rattle.std.specs.Prelude.{◌≡◌, ◌∷◌};
 ghost use Rattle.std.specs.List.{flat_map};
-ghost use Rattle.cct_terms.specs.Exchange.{replying};
-ghost use Rattle.cct_terms.specs.Message.{spelling};
-ghost use Rattle.cct_terms.specs.Reply.{IsSayable, coin_id, pair_bytes, reply_shown};
+ghost use Rattle.cct_model_wire.specs.Exchange.{replying};
+ghost use Rattle.cct_model_wire.specs.Message.{spelling};
+ghost use Rattle.cct_model_wire.specs.Reply.{IsSayable, coin_id, pair_bytes, reply_shown};
 
 use crate::header;
 use crate::number::three_bytes;
 use arrayvec::ArrayVec;
 use cct_frame::write;
-use cct_terms::{CheckKind, Credits, MOST_SENT, Reply};
+use cct_model_wire::{CheckKind, Credits, MOST_SENT, Reply};
 
 /// Writes a reply of the device at address `from` to the address `to` in the place of what `out` holds (ccTalk Generic
 /// Specification 4, parts 2 and 3).
-#[tactic(auto, unfolding(cct_terms::specs::Reply::reply_data))]
+#[tactic(auto, unfolding(cct_model_wire::specs::Reply::reply_data))]
 pub fn encode_reply(
     kind: CheckKind,
     to: u8,
@@ -61,7 +61,7 @@ pub fn encode_reply(
 }
 
 /// Writes the identification of a coin, which has six characters.
-#[tactic(auto, unfolding(cct_terms::specs::Reply::reply_data))]
+#[tactic(auto, unfolding(cct_model_wire::specs::Reply::reply_data))]
 fn write_coin_id(kind: CheckKind, to: u8, from: u8, id: [u8; 6], out: &mut ArrayVec<u8, MOST_SENT>)
     ensures { out.new.items ≡ spelling kind (replying to from (coin_id id)) }
 {

@@ -1,15 +1,15 @@
 //! A message is read as the request that it asks.
 ghost use Rattle.std.specs.Prelude.{◌≡◌, ◌∷◌, []};
-ghost use Rattle.cct_terms.specs.Request.{request_of, requests_with, with_header};
+ghost use Rattle.cct_model_wire.specs.Request.{request_of, requests_with, with_header};
 
 use crate::header;
 use crate::number::from_three;
 use cct_frame::FrameView;
-use cct_terms::Request;
+use cct_model_wire::Request;
 
 /// The request that a message asks, whoever it is for and whoever sent it, or `None` where its header, or the number of
 /// its data bytes, is that of no request (ccTalk Generic Specification 4, parts 2 and 3).
-#[tactic(auto, unfolding(cct_terms::specs::Request::request_of, cct_terms::specs::Request::requests_with))]
+#[tactic(auto, unfolding(cct_model_wire::specs::Request::request_of, cct_model_wire::specs::Request::requests_with))]
 pub fn read_request(view: &FrameView<'_>) -> Option<Request>
     ensures { result ≡ request_of view.now.header view.now.body.now }
 {
@@ -28,7 +28,7 @@ pub fn read_request(view: &FrameView<'_>) -> Option<Request>
 }
 
 /// The request with a header and no data bytes.
-#[tactic(auto, unfolding(cct_terms::specs::Request::requests_with))]
+#[tactic(auto, unfolding(cct_model_wire::specs::Request::requests_with))]
 fn bare_request(header: u8) -> Option<Request>
     ensures { result ≡ with_header header (requests_with []) }
 {
@@ -58,7 +58,7 @@ fn bare_request(header: u8) -> Option<Request>
 }
 
 /// The request with a header and one data byte.
-#[tactic(auto, unfolding(cct_terms::specs::Request::requests_with))]
+#[tactic(auto, unfolding(cct_model_wire::specs::Request::requests_with))]
 fn byte_request(header: u8, byte: u8) -> Option<Request>
     ensures { result ≡ with_header header (requests_with (byte ∷ [])) }
 {
@@ -74,7 +74,7 @@ fn byte_request(header: u8, byte: u8) -> Option<Request>
 }
 
 /// The request with a header and two data bytes.
-#[tactic(auto, unfolding(cct_terms::specs::Request::requests_with))]
+#[tactic(auto, unfolding(cct_model_wire::specs::Request::requests_with))]
 fn two_byte_request(header: u8, first: u8, second: u8) -> Option<Request>
     ensures { result ≡ with_header header (requests_with (first ∷ second ∷ [])) }
 {
@@ -91,7 +91,7 @@ fn two_byte_request(header: u8, first: u8, second: u8) -> Option<Request>
 }
 
 /// The request with a header and four data bytes.
-#[tactic(auto, unfolding(cct_terms::specs::Request::requests_with))]
+#[tactic(auto, unfolding(cct_model_wire::specs::Request::requests_with))]
 fn dispense(header: u8, low: u8, middle: u8, high: u8, count: u8) -> Option<Request>
     ensures { result ≡ with_header header (requests_with (low ∷ middle ∷ high ∷ count ∷ [])) }
 {

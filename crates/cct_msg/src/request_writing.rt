@@ -1,18 +1,18 @@
 //! A request is written as the message by which the host asks it.
 ghost use Rattle.std.specs.Prelude.{◌≡◌};
-ghost use Rattle.cct_terms.specs.Exchange.{ask};
-ghost use Rattle.cct_terms.specs.Request.{data_of, header_of};
+ghost use Rattle.cct_model_wire.specs.Exchange.{ask};
+ghost use Rattle.cct_model_wire.specs.Request.{data_of, header_of};
 
 use crate::header;
 use crate::number::three_bytes;
 use arrayvec::ArrayVec;
 use cct_frame::write;
-use cct_terms::{CheckKind, HOST, MOST_SENT, Request};
+use cct_model_wire::{CheckKind, HOST, MOST_SENT, Request};
 
 /// Writes a request from the host, address 1, to the address `to` in the place of what `out` holds (ccTalk Generic
 /// Specification 4, part 3, and part 2 for a coin acceptor's and a hopper's). Of the serial number of a
 /// [`Request::Dispense`] the three low bytes are written, and a [`Request::CipherDispense`] goes out with nine zeros.
-#[tactic(auto, unfolding(cct_terms::specs::Exchange::ask))]
+#[tactic(auto, unfolding(cct_model_wire::specs::Exchange::ask))]
 pub fn encode_request(kind: CheckKind, to: u8, request: &Request, out: &mut ArrayVec<u8, MOST_SENT>)
     ensures { out.new.items ≡ ask kind to request.now }
 {
@@ -61,7 +61,7 @@ fn header_of(request: &Request) -> u8
 }
 
 /// Puts the data bytes of a request in the place of what `body` holds.
-#[tactic(auto, unfolding(cct_terms::specs::Request::data_of))]
+#[tactic(auto, unfolding(cct_model_wire::specs::Request::data_of))]
 fn put_body(request: &Request, body: &mut ArrayVec<u8, 9>)
     ensures { body.new.items ≡ data_of request.now }
 {

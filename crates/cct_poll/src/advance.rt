@@ -6,10 +6,10 @@ ghost use Rattle.cct_poll.specs.Steps.{Steps};
 
 use crate::canned::Canned;
 use arrayvec::ArrayVec;
+use cct_disk_queue::QueueDisk;
 use cct_edge::Failed;
 use cct_host::Host;
 use cct_model::Entry;
-use cct_queue::QueueDisk;
 
 /// The host makes its next attempt at an address: it sends this piece, and hears this, or it puts a record, where neither is.
 /// False where it sent something else, or a put failed: then the host is over.

@@ -6,17 +6,17 @@ ghost use Rattle.cct_journal.specs.Journal as journals;
 ghost use Rattle.cct_model.specs.Setup.{IsSoundSetup};
 ghost use Rattle.cct_model.specs.lines.entry.Entry.{Entry};
 ghost use Rattle.cct_model.specs.terms.wire.TheConstants.{MOST_HEARD};
-ghost use Rattle.cct_queue.specs.Calls.{act_of};
+ghost use Rattle.cct_disk_queue.specs.Calls.{act_of};
 ghost use Rattle.cct_poll.specs.Steps.{Steps, Says, Tells};
 
 use crate::advance::advance;
 use crate::refusal::{NotNow, PollNo};
 use arrayvec::ArrayVec;
+use cct_disk_queue::{Call, QueueDisk};
 use cct_host::{Host, StartNo};
 use cct_journal::{CreateNo, Journal, OpenNo};
 use cct_model::{Command, Entry, MOST_SENT, Setup, Totals};
 use cct_msg::encode_request;
-use cct_queue::{Call, QueueDisk};
 
 /// What the caller is to do next.
 #[derive(Clone, Copy, Debug, PartialEq, Eq)]

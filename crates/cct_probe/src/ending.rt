@@ -1,10 +1,10 @@
 //! How the program ends, with its last line and its exit status (`docs/PROBE.md`, "Exit statuses").
 
 use cct_edge::Failed;
-use cct_lines::LineKind;
+use cct_live_terminal::TerminalNo;
+use cct_model_lines::LineKind;
+use cct_probe_run::{Ended, Stop};
 use cct_script::SetupNo;
-use cct_terminal::TerminalNo;
-use cct_trial_run::{Ended, Stop};
 use std::{fmt, io};
 
 /// The exit status of a program that did what it was to do.

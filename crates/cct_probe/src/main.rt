@@ -1,4 +1,4 @@
-//! The program: it tries whether the devices on a line keep what is relied on of them (`cct_trials`). A setup file names the
+//! The program: it tries whether the devices on a line keep what is relied on of them (`cct_probe_plan`). A setup file names the
 //! devices. The port is a terminal that is set up already, which no other process may use meanwhile. No journal is used.
 #![tactic(auto)]
 
@@ -11,11 +11,11 @@ use crate::watch::Watch;
 use crate::words::{Words, read_words};
 use cct_advice::{MEMORY, read_advised_setup, words_of};
 use cct_edge::{Sink, StdSink, StdSource};
-use cct_lines::Setup;
-use cct_port::{Options, Port};
-use cct_terminal::Terminal;
-use cct_trial_run::{Bench, Ended, Leave, Person, Plan, leave, run};
-use cct_trials::TRIALS;
+use cct_live_port::{Options, Port};
+use cct_live_terminal::Terminal;
+use cct_model_lines::Setup;
+use cct_probe_plan::TRIALS;
+use cct_probe_run::{Bench, Ended, Leave, Person, Plan, leave, run};
 use clap::error::ErrorKind;
 use std::fs::{File, Files};
 use std::io;

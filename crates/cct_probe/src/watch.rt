@@ -1,6 +1,6 @@
 //! The clock of the program.
 
-use cct_trial_run::Clock;
+use cct_probe_run::Clock;
 use std::time::Instant;
 
 /// The time since it was started. Where the clock can't be read, it stands still.

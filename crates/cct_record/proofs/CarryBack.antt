@@ -3,12 +3,12 @@ use Rattle.std.proofs.Common.{◌≡◌, ℕ, ◌*◌, ◌^◌, ◌<◌, ◌≤�
 use Rattle.std.specs.Prelude.{All}
 use Rattle.std.proofs.lemmas.List.Elements.{All-head, All-tail}
 use Rattle.std.proofs.lemmas.Nat.{from_le_bytes-to_le_bytes_2, from_le_bytes-to_le_bytes_4, from_le_bytes-to_le_bytes_8}
-use Rattle.cct_lines.specs.Carried.{EpochFits, IsRightly, OrderFits}
-use Rattle.cct_lines.specs.terms.device.TheConstants.{DEVICES}
-use Rattle.cct_lines.specs.declared.carry.Carry.{Carry}
-use Rattle.cct_lines.specs.declared.carry.CarryEpoch.{CarryEpoch}
-use Rattle.cct_lines.specs.declared.carry.CarryOrder.{CarryOrder}
-use Rattle.cct_lines.proofs.Requests.{three_back}
+use Rattle.cct_model_lines.specs.Carried.{EpochFits, IsRightly, OrderFits}
+use Rattle.cct_model_lines.specs.terms.device.TheConstants.{DEVICES}
+use Rattle.cct_model_lines.specs.declared.carry.Carry.{Carry}
+use Rattle.cct_model_lines.specs.declared.carry.CarryEpoch.{CarryEpoch}
+use Rattle.cct_model_lines.specs.declared.carry.CarryOrder.{CarryOrder}
+use Rattle.cct_model_lines.proofs.Requests.{three_back}
 use Rattle.cct_record.specs.CarryBody.{SpellsCarry, SpellsNone, bodies_of, carry_read, epoch_body, epoch_read, epochs_read}
 use Rattle.cct_record.specs.CarryBody.{first_sums, order_body, order_read, orders_read, second_sums, third_sums}
 

@@ -1,11 +1,11 @@
 -- An old body and that of today of the same record.
 use Rattle.std.proofs.Common.{◌≡◌, ℕ, ◌^◌, ◌<◌, ◌≤◌, ◌/◌, ◌%◌, List, [], ◌∷◌, ◌++◌, length, replicate, slice_index, Option, Some, None, refl, sym, ◌∙◌, ap, subst, arith}
 use Rattle.std.specs.Prelude.{IfNone}
-use Rattle.cct_lines.specs.terms.coin.Coin.{Coin}
-use Rattle.cct_lines.specs.declared.record.Record.{Record}
-use Rattle.cct_lines.specs.declared.record.Record.TheVariants.{Epoch, Reading, Broken, EpochEnd, Opened, Closed, Odd}
-use Rattle.cct_lines.specs.declared.record.Record.TheVariants.{Sold}
-use Rattle.cct_lines.specs.Request.{three_bytes}
+use Rattle.cct_model_lines.specs.terms.coin.Coin.{Coin}
+use Rattle.cct_model_lines.specs.declared.record.Record.{Record}
+use Rattle.cct_model_lines.specs.declared.record.Record.TheVariants.{Epoch, Reading, Broken, EpochEnd, Opened, Closed, Odd}
+use Rattle.cct_model_lines.specs.declared.record.Record.TheVariants.{Sold}
+use Rattle.cct_model_lines.specs.Request.{three_bytes}
 use Rattle.cct_record.specs.Body.{InRange, IsRefused, Spells, body_of, fields_of}
 use Rattle.cct_record.specs.OldBody.{IsOld, IsRefusedOld, OldSpells, old_body_of, old_fields_of}
 use Rattle.cct_record.specs.Today.{HasRoom, today}

@@ -5,11 +5,11 @@ use Rattle.std.specs.Int.{w16, to_le_bytes}
 use Rattle.std.proofs.Common.{length-append}
 use Rattle.std.proofs.lemmas.List.{length-map}
 use Rattle.std.proofs.lemmas.List.Elements.{All-cons, All-head, All-map, All-tail, All-weaker}
-use Rattle.cct_lines.specs.Carried.{EpochFits, IsRightly}
-use Rattle.cct_lines.specs.Request.{three_bytes}
-use Rattle.cct_lines.specs.declared.carry.Carry.{Carry}
-use Rattle.cct_lines.specs.declared.carry.CarryEpoch.{CarryEpoch}
-use Rattle.cct_lines.specs.declared.carry.CarryOrder.{CarryOrder}
+use Rattle.cct_model_lines.specs.Carried.{EpochFits, IsRightly}
+use Rattle.cct_model_lines.specs.Request.{three_bytes}
+use Rattle.cct_model_lines.specs.declared.carry.Carry.{Carry}
+use Rattle.cct_model_lines.specs.declared.carry.CarryEpoch.{CarryEpoch}
+use Rattle.cct_model_lines.specs.declared.carry.CarryOrder.{CarryOrder}
 use Rattle.cct_record.specs.CarryBody.{SpellsCarry, SpellsNone, bodies_of, epoch_body, first_sums, order_body}
 use Rattle.cct_record.specs.CarryBody.{second_sums, third_sums}
 use Rattle.cct_record.specs.OldCarryBody.{IsOldEpoch, OldSpellsCarry, OldSpellsNone, old_bodies_of, old_epoch_body}

@@ -1,8 +1,8 @@
 -- Bodies of journals of versions 1 and 2, worked out by hand: an epoch of acceptor 2 with the mask ffff, a reading of it
 -- with one coin of place 5 by path 1, the end of the epoch, a broken epoch, and the epoch of a carry.
 use Rattle.std.proofs.Common.{◌≡◌, List, [], ◌∷◌, replicate, refl}
-use Rattle.cct_lines.specs.terms.coin.Coin.{Coin}
-use Rattle.cct_lines.specs.declared.record.Record.TheVariants.{Epoch, Reading, Broken, EpochEnd}
+use Rattle.cct_model_lines.specs.terms.coin.Coin.{Coin}
+use Rattle.cct_model_lines.specs.declared.record.Record.TheVariants.{Epoch, Reading, Broken, EpochEnd}
 use Rattle.cct_record.specs.Body.{fields_of}
 use Rattle.cct_record.specs.OldBody.{old_body_of, old_fields_of}
 use Rattle.cct_record.specs.OldCarryBody.{old_epoch_body}

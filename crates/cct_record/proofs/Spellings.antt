@@ -1,11 +1,11 @@
 -- What stands at the places of the fields of a body is the record that it spells.
 use Rattle.std.proofs.Common.{◌≡◌, ℕ, ◌^◌, ◌<◌, ◌≤◌, List, [], ◌∷◌, length, refl, ◌∙◌, ap, subst, Some, None, arith}
 use Rattle.std.proofs.lemmas.Nat.{from_le_bytes-to_le_bytes_2, from_le_bytes-to_le_bytes_4}
-use Rattle.cct_lines.specs.terms.coin.Coin.{Coin}
-use Rattle.cct_lines.specs.declared.record.Record.{Record}
-use Rattle.cct_lines.specs.declared.record.Record.TheVariants.{Epoch, Reading, Broken, EpochEnd, Opened, Closed, Odd}
-use Rattle.cct_lines.specs.declared.record.Record.TheVariants.{Sold}
-use Rattle.cct_lines.proofs.Requests.{three_back}
+use Rattle.cct_model_lines.specs.terms.coin.Coin.{Coin}
+use Rattle.cct_model_lines.specs.declared.record.Record.{Record}
+use Rattle.cct_model_lines.specs.declared.record.Record.TheVariants.{Epoch, Reading, Broken, EpochEnd, Opened, Closed, Odd}
+use Rattle.cct_model_lines.specs.declared.record.Record.TheVariants.{Sold}
+use Rattle.cct_model_lines.proofs.Requests.{three_back}
 use Rattle.cct_record.specs.Body.{Encodable, InRange, IsRefused, Spells, body_of, fields_of}
 use Rattle.cct_record.specs.Fields.{record_at}
 

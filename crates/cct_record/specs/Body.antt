@@ -1,12 +1,12 @@
 -- The body of a record: 31 bytes, and one spelling for each record.
 use Rattle.std.specs.Prelude.{◌≡◌, ℕ, ◌-◌, ◌<◌, ◌≤◌, ◌^◌, List, [], ◌∷◌, ◌++◌, length, flat_map, replicate, All, ⊤}
 use Rattle.std.specs.Int.{w16, w32, to_le_bytes}
-use Rattle.cct_lines.specs.terms.coin.Coin.{Coin}
-use Rattle.cct_lines.specs.terms.coin.TheConstants.{EVENTS}
-use Rattle.cct_lines.specs.Request.{three_bytes}
-use Rattle.cct_lines.specs.declared.record.Record.{Record}
-use Rattle.cct_lines.specs.declared.record.Record.TheVariants.{Epoch, Reading, Broken, EpochEnd, Opened, Closed, Odd}
-use Rattle.cct_lines.specs.declared.record.Record.TheVariants.{Sold}
+use Rattle.cct_model_lines.specs.terms.coin.Coin.{Coin}
+use Rattle.cct_model_lines.specs.terms.coin.TheConstants.{EVENTS}
+use Rattle.cct_model_lines.specs.Request.{three_bytes}
+use Rattle.cct_model_lines.specs.declared.record.Record.{Record}
+use Rattle.cct_model_lines.specs.declared.record.Record.TheVariants.{Epoch, Reading, Broken, EpochEnd, Opened, Closed, Odd}
+use Rattle.cct_model_lines.specs.declared.record.Record.TheVariants.{Sold}
 
 -- A coin's coin place and sorter path.
 abbrev pub coin_fields : Coin → List ℕ

@@ -2,11 +2,11 @@
 use Rattle.std.specs.Prelude.{◌≡◌, ℕ, ◌+◌, ◌==◌, List, [], ◌∷◌, ◌++◌, map, Option, Some, None}
 use Rattle.std.specs.Prelude.{if◌then◌else◌, slice_index}
 use Rattle.std.specs.Int.{w16, w32, w64, to_le_bytes, from_le_bytes}
-use Rattle.cct_lines.specs.Request.{three_bytes}
-use Rattle.cct_lines.specs.Carried.{IsRightly}
-use Rattle.cct_lines.specs.declared.carry.Carry.{Carry}
-use Rattle.cct_lines.specs.declared.carry.CarryEpoch.{CarryEpoch}
-use Rattle.cct_lines.specs.declared.carry.CarryOrder.{CarryOrder}
+use Rattle.cct_model_lines.specs.Request.{three_bytes}
+use Rattle.cct_model_lines.specs.Carried.{IsRightly}
+use Rattle.cct_model_lines.specs.declared.carry.Carry.{Carry}
+use Rattle.cct_model_lines.specs.declared.carry.CarryEpoch.{CarryEpoch}
+use Rattle.cct_model_lines.specs.declared.carry.CarryOrder.{CarryOrder}
 use Rattle.cct_record.specs.Body.{filled}
 use Rattle.cct_record.specs.Fields.{four_at, three_at, two_at}
 

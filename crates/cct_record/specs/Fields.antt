@@ -2,11 +2,11 @@
 use Rattle.std.specs.Prelude.{ℕ, zero, suc, ◌+◌, ◌*◌, ◌==◌, min, List, [], ◌∷◌, ◌++◌, Option, Some, None, slice_index}
 use Rattle.std.specs.Prelude.{if◌then◌else◌}
 use Rattle.std.specs.Int.{w16, w32, from_le_bytes}
-use Rattle.cct_lines.specs.terms.coin.Coin.{Coin}
-use Rattle.cct_lines.specs.Request.{from_three}
-use Rattle.cct_lines.specs.declared.record.Record.{Record}
-use Rattle.cct_lines.specs.declared.record.Record.TheVariants.{Epoch, Reading, Broken, EpochEnd, Opened, Closed, Odd}
-use Rattle.cct_lines.specs.declared.record.Record.TheVariants.{Sold}
+use Rattle.cct_model_lines.specs.terms.coin.Coin.{Coin}
+use Rattle.cct_model_lines.specs.Request.{from_three}
+use Rattle.cct_model_lines.specs.declared.record.Record.{Record}
+use Rattle.cct_model_lines.specs.declared.record.Record.TheVariants.{Epoch, Reading, Broken, EpochEnd, Opened, Closed, Odd}
+use Rattle.cct_model_lines.specs.declared.record.Record.TheVariants.{Sold}
 
 -- The number of the two bytes from a place on.
 abbrev pub two_at : List ℕ → ℕ → ℕ

@@ -1,8 +1,8 @@
 -- The body of a record in a journal of version 1 or 2, which knew no accept counter: both versions spelt records alike.
 use Rattle.std.specs.Prelude.{◌≡◌, ℕ, ◌<◌, List, [], ◌∷◌, ◌++◌, ⊤}
 use Rattle.std.specs.Int.{w16, to_le_bytes}
-use Rattle.cct_lines.specs.declared.record.Record.{Record}
-use Rattle.cct_lines.specs.declared.record.Record.TheVariants.{Epoch, Reading, Broken}
+use Rattle.cct_model_lines.specs.declared.record.Record.{Record}
+use Rattle.cct_model_lines.specs.declared.record.Record.TheVariants.{Epoch, Reading, Broken}
 use Rattle.cct_record.specs.Body.{InRange, coins_fields, fields_of, filled}
 
 -- The kind and the fields: no accept counter, one byte of lost coins in a reading, and none in a broken epoch. The other

@@ -1,9 +1,9 @@
 -- The bodies of a carry in a journal of version 2, whose epochs had no accept counter.
 use Rattle.std.specs.Prelude.{◌≡◌, ℕ, List, ◌∷◌, ◌++◌, [], map, All}
 use Rattle.std.specs.Int.{w16, to_le_bytes}
-use Rattle.cct_lines.specs.Carried.{IsRightly}
-use Rattle.cct_lines.specs.declared.carry.Carry.{Carry}
-use Rattle.cct_lines.specs.declared.carry.CarryEpoch.{CarryEpoch}
+use Rattle.cct_model_lines.specs.Carried.{IsRightly}
+use Rattle.cct_model_lines.specs.declared.carry.Carry.{Carry}
+use Rattle.cct_model_lines.specs.declared.carry.CarryEpoch.{CarryEpoch}
 use Rattle.cct_record.specs.Body.{filled}
 use Rattle.cct_record.specs.CarryBody.{first_sums, order_body, second_sums, third_sums}
 

@@ -1,7 +1,7 @@
 //! Bodies are read as the carry that they spell.
 ghost use Rattle.std.specs.Prelude.{◌≡◌, ℕ, ◌+◌, ◌≤◌, ◌↔◌, All, IfNone, IfSome, IsTrue, drop, length, map, take};
-ghost use Rattle.cct_lines.specs.Carried.{AreSmall, EpochFits, IsBelow, IsRightly, OrderFits, Rise, addr_of_epoch, addr_of_order};
-ghost use Rattle.cct_lines.specs.declared.carry.Carry.{Carry};
+ghost use Rattle.cct_model_lines.specs.Carried.{AreSmall, EpochFits, IsBelow, IsRightly, OrderFits, Rise, addr_of_epoch, addr_of_order};
+ghost use Rattle.cct_model_lines.specs.declared.carry.Carry.{Carry};
 ghost use Rattle.cct_record.specs.CarryBody.{SpellsCarry, SpellsNone, bodies_of, carry_read, eight_at, epoch_read, epochs_read, order_read, orders_read};
 ghost use Rattle.cct_record.specs.CarryTests.{EntriesFit};
 
@@ -9,7 +9,7 @@ use crate::encode_carry;
 use crate::kind::{BODY, ENTRIES, RUNNING};
 use crate::reading::{four_at, three_at, two_at};
 use arrayvec::ArrayVec;
-use cct_lines::{Carry, CarryEpoch, CarryEpochs, CarryOrder, CarryOrders, DEVICES};
+use cct_model_lines::{Carry, CarryEpoch, CarryEpochs, CarryOrder, CarryOrders, DEVICES};
 
 /// The carry of `base` records that bodies spell (`docs/JOURNAL.md`, "The carry"), or none where they spell none: they
 /// aren't the bodies of a carry in their order, or no carry of so many records has these numbers.

@@ -12,7 +12,7 @@ mod writing;
 
 pub use carry::encode_carry;
 pub use carry_reading::read_carry;
-pub use cct_lines::Record;
+pub use cct_model_lines::Record;
 pub use laws::{
     a_body_spells_one_record, an_old_body_spells_one_record, bodies_spell_one_carry,
     old_bodies_spell_one_carry,

@@ -7,7 +7,7 @@ ghost use Rattle.cct_record.specs.Today.{HasRoom, added, added_at, today, widen}
 use crate::kind::{BODIES, BODY, BROKEN, EPOCH, READING, RUNNING};
 use crate::{read, read_carry};
 use arrayvec::ArrayVec;
-use cct_lines::{Carry, Record};
+use cct_model_lines::{Carry, Record};
 
 /// The record that a body of a journal of version 1 or 2 spells (`docs/JOURNAL.md`, "Old bodies"), or none where no
 /// record is spelt so: the kind isn't known, more than five coins are said, a coin has the coin place 0, or a byte after

@@ -5,7 +5,7 @@ ghost use Rattle.cct_record.specs.Fields.{coins_at, four_at, record_at, three_at
 
 use crate::encode;
 use crate::kind::{BODY, BROKEN, CLOSED, COUNTS, EPOCH, EPOCH_END, ODD, OPENED, READING, SOLD};
-use cct_lines::{Coin, Coins, EVENTS, Record};
+use cct_model_lines::{Coin, Coins, EVENTS, Record};
 
 /// The record that a body spells (`docs/JOURNAL.md`, "The body of a record"), or none where no record is spelt so: the
 /// kind isn't known, more than five coins are said, a coin has the coin place 0, or a byte after the fields isn't 0.

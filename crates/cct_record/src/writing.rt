@@ -2,12 +2,12 @@
 ghost use Rattle.std.specs.Prelude.{◌≡◌, ◌+◌, ◌-◌, ◌≤◌, ◌++◌, All, length, replicate};
 ghost use Rattle.std.specs.Int.{to_le_bytes, w32};
 ghost use Rattle.arrayvec.specs.ArrayVec.{array_vec_len};
-ghost use Rattle.cct_lines.specs.Request.{three_bytes};
+ghost use Rattle.cct_model_lines.specs.Request.{three_bytes};
 ghost use Rattle.cct_record.specs.Body.{Encodable, FitsBytes, InRange, body_of, coin_fields, coins_fields, fields_of};
 
 use crate::kind::{BODY, BROKEN, CLOSED, EPOCH, EPOCH_END, ODD, OPENED, READING, SOLD};
 use arrayvec::ArrayVec;
-use cct_lines::{Coin, Coins, EVENTS, Record};
+use cct_model_lines::{Coin, Coins, EVENTS, Record};
 
 /// The body of a record: its kind and its fields, filled up with 0 (`docs/JOURNAL.md`, "The body of a record").
 ///

@@ -1,10 +1,10 @@
 //! The credit buffer, which header 229 reads (ccTalk Generic Specification 4, part 2).
 ghost use Rattle.std.specs.Prelude.{◌≡◌, List, [], ◌∷◌, length, slice_get, unwrap_or, IfOk};
-ghost use Rattle.cct_terms.specs.declared.coin.Pair.{Pair};
-ghost use Rattle.cct_terms.specs.declared.coin.TheConstants.{EVENTS};
-ghost use Rattle.cct_terms.specs.Acceptor.{counter, last_five, no_event};
+ghost use Rattle.cct_model_wire.specs.declared.coin.Pair.{Pair};
+ghost use Rattle.cct_model_wire.specs.declared.coin.TheConstants.{EVENTS};
+ghost use Rattle.cct_model_wire.specs.Acceptor.{counter, last_five, no_event};
 
-use cct_terms::{Credits, EVENTS, Pair};
+use cct_model_wire::{Credits, EVENTS, Pair};
 use circular_buffer::HeapCircularBuffer;
 use std::alloc::{AllocError, Global};
 

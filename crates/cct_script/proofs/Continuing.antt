@@ -6,9 +6,9 @@ use Rattle.std.specs.List.{slice_split, position}
 use Rattle.std.specs.Io.KnownBytes.{IsAtEnd}
 use Rattle.std.proofs.lemmas.Bool.Decides.{nat_tests}
 use Rattle.std.proofs.lemmas.List.{append-nil, length-append}
-use Rattle.cct_lines.specs.declared.entry.LineKind.{LineKind}
-use Rattle.cct_lines.specs.declared.entry.LineKind.TheVariants as kind
-use Rattle.cct_lines.specs.Script.{is_line_feed, most_lines}
+use Rattle.cct_model_lines.specs.declared.entry.LineKind.{LineKind}
+use Rattle.cct_model_lines.specs.declared.entry.LineKind.TheVariants as kind
+use Rattle.cct_model_lines.specs.Script.{is_line_feed, most_lines}
 use Rattle.cct_edge.specs.declared.fault.Failed.{Failed}
 use Rattle.cct_script.specs.Giving.{Standing, Waits, Gives}
 use Rattle.cct_script.specs.Scripts.{IsNext, Kind, before_end, behind_end, GoesOnIn, IsClosedIn, StopsIn, WithMoreTaken}

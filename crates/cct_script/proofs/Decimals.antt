@@ -3,7 +3,7 @@ use Rattle.std.proofs.Common.{◌≡◌, ℕ, ◌+◌, ◌-◌, ◌*◌, ◌<◌
 use Rattle.std.proofs.Common.{None, refl, arith}
 use Rattle.std.specs.Prelude.{option_and_then}
 use Rattle.std.proofs.lemmas.Bool.Decides.{nat_tests}
-use Rattle.cct_lines.specs.Grammar.{digits_from, within, is_digit}
+use Rattle.cct_model_lines.specs.Grammar.{digits_from, within, is_digit}
 
 not_both : (b : Bool) (x : Option ℕ) → cond (b && false) x None ≡ None
 not_both true x = refl

@@ -1,11 +1,11 @@
 -- A line with another number of fields than its word wants has no form.
 use Rattle.std.proofs.Common.{◌≡◌, ◌≢◌, ℕ, List, [], ◌∷◌, length, None, refl}
-use Rattle.cct_lines.specs.terms.device.DeviceBody.{DeviceBody}
-use Rattle.cct_lines.specs.terms.device.DeviceSetup.{DeviceSetup}
-use Rattle.cct_lines.specs.declared.setup.SetupLine.{SetupLine}
-use Rattle.cct_lines.specs.declared.command.Step.{Step}
-use Rattle.cct_lines.specs.Grammar.{counting_line, hopper_line, value_line, texts_line, is_space, alone, step_at}
-use Rattle.cct_lines.specs.Grammar.{place_step, fault_step, start_step, pay_step, path_step, route_step, vend_step, stock_step, change_step, crash_step}
+use Rattle.cct_model_lines.specs.terms.device.DeviceBody.{DeviceBody}
+use Rattle.cct_model_lines.specs.terms.device.DeviceSetup.{DeviceSetup}
+use Rattle.cct_model_lines.specs.declared.setup.SetupLine.{SetupLine}
+use Rattle.cct_model_lines.specs.declared.command.Step.{Step}
+use Rattle.cct_model_lines.specs.Grammar.{counting_line, hopper_line, value_line, texts_line, is_space, alone, step_at}
+use Rattle.cct_model_lines.specs.Grammar.{place_step, fault_step, start_step, pay_step, path_step, route_step, vend_step, stock_step, change_step, crash_step}
 use Rattle.std.specs.List.{slice_split}
 use Rattle.cct_script.specs.Capture.{tap_form, watch_form}
 use Rattle.cct_script.specs.Live.{do_form, order_form}

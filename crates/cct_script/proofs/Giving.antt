@@ -6,7 +6,7 @@ use Rattle.std.proofs.lemmas.Bool.{false≢true}
 use Rattle.std.proofs.lemmas.Bool.Decides.{nat_tests}
 use Rattle.std.proofs.lemmas.List.{nil_from_length}
 use Rattle.std.proofs.lemmas.List.Quantifiers.{position-Some}
-use Rattle.cct_lines.specs.Script.{is_line_feed}
+use Rattle.cct_model_lines.specs.Script.{is_line_feed}
 use Rattle.cct_script.proofs.Splits.{split_place, fails_in_front}
 
 -- a search finds nothing where no byte passes

@@ -4,7 +4,7 @@ use Rattle.std.specs.Result.{result_ok}
 use Rattle.hex.specs.Hex.{decode_of, decode_sized}
 use Rattle.hex.specs.declared.error.FromHexError.{FromHexError}
 use Rattle.hex.proofs.HexLemmas.{decode_of-ok, decode_sized-twice}
-use Rattle.cct_lines.specs.Grammar.{mask_in, mask_of_bytes, ◌>>=◌}
+use Rattle.cct_model_lines.specs.Grammar.{mask_in, mask_of_bytes, ◌>>=◌}
 
 pub no_mask : (field : List ℕ) (e : FromHexError) → decode_sized field 2 ≡ Err e → (r : Result (List ℕ) FromHexError)
     → decode_of field ≡ r → result_ok r >>= mask_of_bytes ≡ None

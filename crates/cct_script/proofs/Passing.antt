@@ -7,7 +7,7 @@ use Rattle.std.proofs.lemmas.List.Elements.{All-append}
 use Rattle.std.specs.Io.KnownBytes.{IsAtEnd}
 use Rattle.cct_edge.specs.Bytes.{Serves, TellsAsBefore}
 use Rattle.cct_edge.proofs.Chains.{Consumes-nil, Consumes-trans}
-use Rattle.cct_lines.specs.Script.{is_line_feed, most_bytes}
+use Rattle.cct_model_lines.specs.Script.{is_line_feed, most_bytes}
 use Rattle.cct_script.specs.declared.endless.Found.{Found}
 use Rattle.cct_script.specs.declared.endless.Found.TheVariants as found
 use Rattle.cct_script.specs.declared.lines.LinesNo.{LinesNo}

@@ -1,16 +1,16 @@
 -- A setup line keeps a setup sound.
 use Rattle.std.proofs.Common.{◌≡◌, subst, sym, Result, Ok, Err}
-use Rattle.cct_lines.specs.terms.device.Setup.{Setup}
-use Rattle.cct_lines.specs.declared.setup.SetupLine.{SetupLine}
-use Rattle.cct_lines.specs.declared.setup.SetupLine.TheVariants as says
-use Rattle.cct_lines.specs.declared.entry.LineKind.{LineKind}
-use Rattle.cct_lines.specs.Device.{IsSound}
-use Rattle.cct_lines.specs.Setup.{IsSoundSetup}
-use Rattle.cct_lines.specs.SetupLine.{IsSetupLine}
-use Rattle.cct_lines.specs.Grammar.{added}
+use Rattle.cct_model_lines.specs.terms.device.Setup.{Setup}
+use Rattle.cct_model_lines.specs.declared.setup.SetupLine.{SetupLine}
+use Rattle.cct_model_lines.specs.declared.setup.SetupLine.TheVariants as says
+use Rattle.cct_model_lines.specs.declared.entry.LineKind.{LineKind}
+use Rattle.cct_model_lines.specs.Device.{IsSound}
+use Rattle.cct_model_lines.specs.Setup.{IsSoundSetup}
+use Rattle.cct_model_lines.specs.SetupLine.{IsSetupLine}
+use Rattle.cct_model_lines.specs.Grammar.{added}
 use Rattle.cct_script.specs.Changing.{Changes}
-use Rattle.cct_lines.proofs.Added.{AreAll, KeepsEach, added_keeps}
-use Rattle.cct_lines.proofs.Sound.{named_sound, valued_sound}
+use Rattle.cct_model_lines.proofs.Added.{AreAll, KeepsEach, added_keeps}
+use Rattle.cct_model_lines.proofs.Sound.{named_sound, valued_sound}
 
 -- a setup line in range keeps each device sound
 keeps_sound : (line : SetupLine) → IsSetupLine line → KeepsEach IsSound line

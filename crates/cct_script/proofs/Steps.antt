@@ -2,9 +2,9 @@
 use Rattle.std.proofs.Common.{◌≡◌, ℕ, List, ◌∷◌, Result, Ok, Err, ap}
 use Rattle.std.specs.Prelude.{MatchResult}
 use Rattle.std.specs.List.{slice_split}
-use Rattle.cct_lines.specs.Grammar.{is_space, step_fields, step_line}
-use Rattle.cct_lines.specs.declared.command.Step.{Step}
-use Rattle.cct_lines.specs.declared.entry.LineKind.{LineKind}
+use Rattle.cct_model_lines.specs.Grammar.{is_space, step_fields, step_line}
+use Rattle.cct_model_lines.specs.declared.command.Step.{Step}
+use Rattle.cct_model_lines.specs.declared.entry.LineKind.{LineKind}
 use Rattle.cct_script.specs.Steps.{device_step, epoch_step, order_step, other_step, desk_step, said_into}
 
 -- the groups one after another are the whole definition

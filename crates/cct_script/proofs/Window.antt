@@ -10,8 +10,8 @@ use Rattle.std.proofs.lemmas.Bool.{false≢true}
 use borrow.Rule.Slice.PartMut.{put_mid}
 use Rattle.std.specs.Result.{IsErr, MatchResult}
 use Rattle.std.specs.List.{position}
-use Rattle.cct_lines.specs.declared.entry.TheConstants.{MOST_LINE}
-use Rattle.cct_lines.specs.Script.{is_line_feed}
+use Rattle.cct_model_lines.specs.declared.entry.TheConstants.{MOST_LINE}
+use Rattle.cct_model_lines.specs.Script.{is_line_feed}
 use Rattle.cct_edge.specs.Bytes.{Serves, TellsAsBefore}
 use Rattle.cct_edge.proofs.Chains.{Consumes-nil, Consumes-trans}
 use Rattle.std.specs.Io.KnownBytes.{Consumes, Keeps}

@@ -2,10 +2,10 @@
 use Rattle.std.specs.Prelude.{◌≤◌, ℕ, Bool, true, false, List, [], ◌∷◌, length, if◌then◌else◌, Option, Some, None, Result, Ok, Err, codes, bytes_eq, ⊤}
 use Rattle.std.specs.Option.{ok_or}
 use Rattle.std.specs.List.{slice_split}
-use Rattle.cct_lines.specs.terms.wire.TheConstants.{MOST_HEARD, MOST_SENT}
-use Rattle.cct_lines.specs.declared.entry.LineKind.{LineKind}
-use Rattle.cct_lines.specs.declared.entry.LineKind.TheVariants as kind
-use Rattle.cct_lines.specs.Grammar.{◌>>=◌, alone, check_in, is_space, piece_in, ranged}
+use Rattle.cct_model_lines.specs.terms.wire.TheConstants.{MOST_HEARD, MOST_SENT}
+use Rattle.cct_model_lines.specs.declared.entry.LineKind.{LineKind}
+use Rattle.cct_model_lines.specs.declared.entry.LineKind.TheVariants as kind
+use Rattle.cct_model_lines.specs.Grammar.{◌>>=◌, alone, check_in, is_space, piece_in, ranged}
 use Rattle.cct_script.specs.declared.capture.CaptureLine.{CaptureLine}
 use Rattle.cct_script.specs.declared.capture.CaptureLine.TheVariants as says
 

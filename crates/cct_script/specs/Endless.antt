@@ -2,7 +2,7 @@
 use Rattle.std.specs.Prelude.{◌≡◌, ℕ, ◌+◌, ◌<◌, ◌≤◌, Bool, true, false, List, [], ◌∷◌, ◌++◌, length, Option, Result, Ok, Err, take, drop, ⊤}
 use Rattle.std.specs.List.{All}
 use Rattle.std.specs.Io.KnownBytes.{IsAtEnd}
-use Rattle.cct_lines.specs.Script.{is_line_feed, most_bytes}
+use Rattle.cct_model_lines.specs.Script.{is_line_feed, most_bytes}
 use Rattle.cct_script.specs.declared.endless.EndlessLines.{EndlessLines}
 use Rattle.cct_script.specs.declared.endless.Found.{Found}
 use Rattle.cct_script.specs.declared.endless.Found.TheVariants as found

@@ -2,7 +2,7 @@
 use Rattle.std.specs.Prelude.{◌≡◌, ℕ, List, [], Option, Some, None, IfSome}
 use Rattle.std.specs.List.{slice_split}
 use Rattle.std.specs.Borrow.{Bor}
-use Rattle.cct_lines.specs.Grammar.{is_space}
+use Rattle.cct_model_lines.specs.Grammar.{is_space}
 
 -- The fields after a space, or none where there is no space.
 abbrev pub fields_after : Option (Bor (List ℕ)) → List (List ℕ)

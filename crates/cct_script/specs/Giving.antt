@@ -3,8 +3,8 @@ use Rattle.std.specs.Prelude.{◌≡◌, ℕ, ◌+◌, suc, ◌<◌, ◌≤◌, 
 use Rattle.std.specs.Prelude.{take, drop, Ok, Err}
 use Rattle.std.specs.List.{position}
 use Rattle.std.specs.Io.KnownBytes.{IsAtEnd}
-use Rattle.cct_lines.specs.declared.entry.TheConstants.{MOST_LINE}
-use Rattle.cct_lines.specs.Script.{is_line_feed, most_lines, most_bytes}
+use Rattle.cct_model_lines.specs.declared.entry.TheConstants.{MOST_LINE}
+use Rattle.cct_model_lines.specs.Script.{is_line_feed, most_lines, most_bytes}
 use Rattle.cct_script.specs.declared.lines.Line.{Line}
 use Rattle.cct_script.specs.declared.lines.Line.TheVariants.{Text, End}
 use Rattle.cct_script.specs.declared.lines.LinesNo.{LinesNo}

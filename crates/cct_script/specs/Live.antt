@@ -2,13 +2,13 @@
 use Rattle.std.specs.Prelude.{ℕ, List, [], ◌∷◌, if◌then◌else◌, Option, None, Result, Ok, Err, codes, bytes_eq, ⊤, ◌≤◌}
 use Rattle.std.specs.Option.{ok_or, option_map}
 use Rattle.std.specs.List.{slice_split}
-use Rattle.cct_lines.specs.declared.command.TheConstants.{GREATEST_AMOUNT}
-use Rattle.cct_lines.specs.declared.command.Step.{Step}
-use Rattle.cct_lines.specs.declared.command.Step.TheVariants as step
-use Rattle.cct_lines.specs.declared.entry.LineKind.{LineKind}
-use Rattle.cct_lines.specs.declared.entry.LineKind.TheVariants as kind
-use Rattle.cct_lines.specs.Grammar.{address_in, alone, is_space, ranged, step_line}
-use Rattle.cct_lines.specs.Script.{IsCommand}
+use Rattle.cct_model_lines.specs.declared.command.TheConstants.{GREATEST_AMOUNT}
+use Rattle.cct_model_lines.specs.declared.command.Step.{Step}
+use Rattle.cct_model_lines.specs.declared.command.Step.TheVariants as step
+use Rattle.cct_model_lines.specs.declared.entry.LineKind.{LineKind}
+use Rattle.cct_model_lines.specs.declared.entry.LineKind.TheVariants as kind
+use Rattle.cct_model_lines.specs.Grammar.{address_in, alone, is_space, ranged, step_line}
+use Rattle.cct_model_lines.specs.Script.{IsCommand}
 use Rattle.cct_script.specs.declared.live.LiveLine.{LiveLine}
 use Rattle.cct_script.specs.declared.live.LiveLine.TheVariants as says
 

@@ -2,16 +2,16 @@
 use Rattle.std.specs.Prelude.{◌≡◌, ℕ, List, if◌then◌else◌, Option, None, Result, Ok, Err}
 use Rattle.std.specs.Prelude.{OnOk, codes, bytes_eq}
 use Rattle.std.specs.Option.{ok_or, option_map}
-use Rattle.cct_lines.specs.declared.command.Command.TheVariants as command
-use Rattle.cct_lines.specs.declared.command.Step.{Step}
-use Rattle.cct_lines.specs.declared.command.Step.TheVariants as step
-use Rattle.cct_lines.specs.declared.command.WireFault.TheVariants as fault
-use Rattle.cct_lines.specs.declared.entry.LineKind.{LineKind}
-use Rattle.cct_lines.specs.declared.entry.LineKind.TheVariants as kind
-use Rattle.cct_lines.specs.Grammar.{alone, change_step, crash_step, fault_step, path_step, pay_step, piece_in, place_step}
-use Rattle.cct_lines.specs.Grammar.{route_step, start_step, step_at, stock_step, vend_step}
-use Rattle.cct_lines.specs.terms.wire.TheConstants.{MOST_HEARD, MOST_SENT}
-use Rattle.cct_lines.specs.Script.{IsInRange}
+use Rattle.cct_model_lines.specs.declared.command.Command.TheVariants as command
+use Rattle.cct_model_lines.specs.declared.command.Step.{Step}
+use Rattle.cct_model_lines.specs.declared.command.Step.TheVariants as step
+use Rattle.cct_model_lines.specs.declared.command.WireFault.TheVariants as fault
+use Rattle.cct_model_lines.specs.declared.entry.LineKind.{LineKind}
+use Rattle.cct_model_lines.specs.declared.entry.LineKind.TheVariants as kind
+use Rattle.cct_model_lines.specs.Grammar.{alone, change_step, crash_step, fault_step, path_step, pay_step, piece_in, place_step}
+use Rattle.cct_model_lines.specs.Grammar.{route_step, start_step, step_at, stock_step, vend_step}
+use Rattle.cct_model_lines.specs.terms.wire.TheConstants.{MOST_HEARD, MOST_SENT}
+use Rattle.cct_model_lines.specs.Script.{IsInRange}
 
 -- What a line says, by the answer and what stands then in the room for its step.
 abbrev pub said_into : Result (Unit {0}) LineKind → Step → Result Step LineKind

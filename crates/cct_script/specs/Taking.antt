@@ -3,8 +3,8 @@ use Rattle.std.specs.Prelude.{◌≡◌, ℕ, ◌+◌, ◌-◌, ◌<◌, List, �
 use Rattle.std.specs.Prelude.{Result, Ok, Err}
 use Rattle.std.specs.Io.KnownBytes.{Consumes}
 use Rattle.cct_edge.specs.declared.fault.Failed.{Failed}
-use Rattle.cct_lines.specs.declared.entry.TheConstants.{MOST_LINE}
-use Rattle.cct_lines.specs.Script.{is_line_feed}
+use Rattle.cct_model_lines.specs.declared.entry.TheConstants.{MOST_LINE}
+use Rattle.cct_model_lines.specs.Script.{is_line_feed}
 use Rattle.cct_script.specs.declared.lines.LinesNo.{LinesNo}
 use Rattle.cct_script.specs.declared.lines.LinesNo.TheVariants as no
 

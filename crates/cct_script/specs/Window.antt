@@ -1,8 +1,8 @@
 -- What the reader of lines holds, and what it found.
 use Rattle.std.specs.Prelude.{◌≡◌, ℕ, ◌+◌, ◌<◌, List, ◌++◌, length, position, Option, Some, None, ◌≤◌, ⊤}
 use Rattle.std.specs.Io.KnownBytes.{Consumes, IsAtEnd}
-use Rattle.cct_lines.specs.declared.entry.TheConstants.{MOST_LINE}
-use Rattle.cct_lines.specs.Script.{is_line_feed, most_bytes}
+use Rattle.cct_model_lines.specs.declared.entry.TheConstants.{MOST_LINE}
+use Rattle.cct_model_lines.specs.Script.{is_line_feed, most_bytes}
 use Rattle.cct_script.specs.declared.buffer.Held.{Held}
 use Rattle.cct_script.specs.declared.buffer.Held.TheVariants.{Line, Long, Ended}
 

@@ -1,19 +1,21 @@
 //! What a setup line adds to a setup.
 ghost use Rattle.std.specs.Prelude.{◌≡◌, ◌≢◌, ◌≤◌, ◌-◌, Ok, Err, MatchResult, slice_index};
 ghost use Rattle.std.specs.List.{slice_set};
-ghost use Rattle.cct_lines.specs.Exchange.{device_at};
-ghost use Rattle.cct_lines.specs.Setup.{IsSoundSetup};
-ghost use Rattle.cct_lines.specs.SetupLine.{IsSetupLine};
-ghost use Rattle.cct_lines.specs.Grammar.{add_device, change_device, valued, named, added};
+ghost use Rattle.cct_model_lines.specs.Exchange.{device_at};
+ghost use Rattle.cct_model_lines.specs.Setup.{IsSoundSetup};
+ghost use Rattle.cct_model_lines.specs.SetupLine.{IsSetupLine};
+ghost use Rattle.cct_model_lines.specs.Grammar.{add_device, change_device, valued, named, added};
 ghost use Rattle.cct_script.specs.Changing.{Changes};
 
-use cct_lines::{COIN_PLACES, DEVICES, DeviceBody, DeviceSetup, LineKind, Setup, SetupLine, Texts};
+use cct_model_lines::{
+    COIN_PLACES, DEVICES, DeviceBody, DeviceSetup, LineKind, Setup, SetupLine, Texts,
+};
 use std::alloc::AllocError;
 
 /// Adds to a setup what a setup line says, `Begin` nothing. `Device` where the address of a new device is another's,
 /// where the setup has `DEVICES` devices, where a value is for no acceptor, or where texts are for no device; `Again` where
 /// the place has a value, or the device was given texts. Nothing is changed then.
-#[tactic(auto, unfolding(cct_lines::specs::Grammar::added))]
+#[tactic(auto, unfolding(cct_model_lines::specs::Grammar::added))]
 pub fn add(setup: &mut Setup, line: &SetupLine) -> Result<(), LineKind>
     requires { IsSetupLine line.now }
     ensures adds { Changes setup.old setup.new (added setup.old line.now) result }

@@ -3,13 +3,13 @@ ghost use Rattle.std.specs.Prelude.{◌≡◌, ◌≢◌, ℕ, ◌+◌, ◌<◌,
 ghost use Rattle.std.specs.Prelude.{position, slice_range, IfOk, IsErr, MatchResult, OnErr, None, Ok, Err};
 ghost use Rattle.std.specs.Io.KnownBytes.{Consumes, Keeps, IsAtEnd};
 ghost use Rattle.cct_edge.specs.Bytes.{Serves};
-ghost use Rattle.cct_lines.specs.Script.{is_line_feed};
+ghost use Rattle.cct_model_lines.specs.Script.{is_line_feed};
 ghost use Rattle.cct_script.specs.Taking.{TakesOn, TakesUntilFault};
 ghost use Rattle.cct_script.specs.Window.{Fills, Finds, IsShort};
 
 use crate::bytes::place_of;
 use cct_edge::{Failed, Source};
-use cct_lines::MOST_LINE;
+use cct_model_lines::MOST_LINE;
 use std::marker::Model;
 
 /// The most bytes of a line, its line feed among them, and the first byte of one that is too long.

@@ -6,7 +6,7 @@ ghost use Rattle.cct_script.specs.Fields.{Reads, fields_after};
 use crate::fields::{alone, first_field, three, two};
 use crate::numbers::ranged_u8;
 use crate::words::{check_in, piece_in};
-use cct_lines::{CheckKind, LineKind, MOST_HEARD, MOST_SENT, Piece, Sent};
+use cct_model_lines::{CheckKind, LineKind, MOST_HEARD, MOST_SENT, Piece, Sent};
 
 const WATCH: &[u8] = b"watch";
 

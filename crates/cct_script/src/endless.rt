@@ -1,7 +1,7 @@
 //! The lines of an input that has no last one.
 ghost use Rattle.std.specs.Prelude.{◌≡◌, ◌≤◌, ◌<◌, [], length, Err, IfOk};
 ghost use Rattle.cct_edge.specs.Bytes.{Serves};
-ghost use Rattle.cct_lines.specs.Script.{most_bytes};
+ghost use Rattle.cct_model_lines.specs.Script.{most_bytes};
 
 use crate::buffer::{Held, LineBuffer};
 use crate::bytes::place_of;

@@ -1,7 +1,7 @@
 //! The fields of a line, which single spaces part.
 ghost use Rattle.std.specs.Prelude.{◌≡◌, ◌≢◌, [], ◌∷◌, length, MatchOption};
 ghost use Rattle.std.specs.List.{slice_split};
-ghost use Rattle.cct_lines.specs.Grammar.{is_space, alone};
+ghost use Rattle.cct_model_lines.specs.Grammar.{is_space, alone};
 ghost use Rattle.cct_script.specs.Fields.{fields_after};
 
 use crate::bytes::place_of;

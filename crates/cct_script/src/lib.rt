@@ -21,7 +21,7 @@ mod words;
 
 pub use adding::add;
 pub use capture::{CaptureLine, read_capture_line};
-pub use cct_lines::SetupLine;
+pub use cct_model_lines::SetupLine;
 pub use endless::{EndlessLines, MOST_PASSED, NextLine};
 pub use lines::{Line, Lines, LinesNo};
 pub use live::{LiveLine, read_live_line};

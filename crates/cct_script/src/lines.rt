@@ -1,11 +1,11 @@
 //! The lines of a script, one after another.
 ghost use Rattle.std.specs.Prelude.{◌≡◌, ◌≢◌, ◌≤◌, ◌<◌, [], drop, length, position, None, Err, IfOk, IfSome};
 ghost use Rattle.cct_edge.specs.Bytes.{Serves};
-ghost use Rattle.cct_lines.specs.Script.{is_line_feed};
+ghost use Rattle.cct_model_lines.specs.Script.{is_line_feed};
 
 use crate::buffer::{Held, LineBuffer};
 use cct_edge::{Failed, Source};
-use cct_lines::MOST_LINES;
+use cct_model_lines::MOST_LINES;
 use thiserror::Error;
 
 /// A line, or the end of the input.

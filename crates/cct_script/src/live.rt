@@ -2,13 +2,13 @@
 ghost use Rattle.std.specs.Prelude.{◌≡◌, IfOk};
 ghost use Rattle.cct_script.specs.Fields.{fields_after};
 ghost use Rattle.cct_script.specs.Live.{IsTold, live_line, do_form, order_form, live_word, of_step};
-ghost use Rattle.cct_lines.specs.Grammar.{step_line};
+ghost use Rattle.cct_model_lines.specs.Grammar.{step_line};
 ghost use Rattle.std.specs.Option.{ok_or};
 
 use crate::fields::{alone, first_field, one};
 use crate::numbers::{ranged_u8, ranged_u32};
 use crate::step::read_step_line;
-use cct_lines::{Command, LineKind, Step};
+use cct_model_lines::{Command, LineKind, Step};
 
 const DO: &[u8] = b"do";
 

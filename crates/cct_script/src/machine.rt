@@ -1,13 +1,13 @@
 //! The setup of a machine, from the setup lines of a text.
 ghost use Rattle.std.specs.Prelude.{◌≡◌, Err, IfOk};
 ghost use Rattle.cct_edge.specs.Bytes.{Serves};
-ghost use Rattle.cct_lines.specs.Setup.{IsSoundSetup};
+ghost use Rattle.cct_model_lines.specs.Setup.{IsSoundSetup};
 
 use crate::adding::add;
 use crate::lines::{Line, Lines, LinesNo};
 use crate::setup::read_setup_line;
 use cct_edge::Source;
-use cct_lines::{Devices, LineKind, MOST_LINES, Setup, SetupLine};
+use cct_model_lines::{Devices, LineKind, MOST_LINES, Setup, SetupLine};
 use thiserror::Error;
 
 /// Why a text gives no setup.

@@ -1,12 +1,12 @@
 //! Numbers in decimal.
 ghost use Rattle.std.specs.Prelude.{◌≡◌, ◌≤◌, ◌^◌, ◌<◌, option_and_then};
-ghost use Rattle.cct_lines.specs.Grammar.{digits_from, number_in, within, ranged};
+ghost use Rattle.cct_model_lines.specs.Grammar.{digits_from, number_in, within, ranged};
 ghost use Rattle.cct_script.specs.Fields.{Reads};
 
 /// The number that a field spells in decimal, without sign and without leading zeros.
 ///
 /// `None` where the field spells no number that way, or one below `least` or above `most`.
-#[tactic(auto, unfolding(cct_lines::specs::Grammar::ranged))]
+#[tactic(auto, unfolding(cct_model_lines::specs::Grammar::ranged))]
 pub fn ranged(least: u64, most: u64, field: &[u8]) -> Option<u64>
     ensures { Reads result (ranged least most field.now) (λ number. (least ≤ number) × (number ≤ most)) }
 {

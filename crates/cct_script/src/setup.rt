@@ -1,18 +1,20 @@
 //! The setup lines of a script (`docs/SCRIPT.md`).
 ghost use Rattle.std.specs.Prelude.{◌≡◌, ◌≤◌, ◌<◌, ◌^◌, ℕ, Some, None, IfOk, IfSome, MatchOption};
-ghost use Rattle.cct_lines.specs.Device.{IsSound, IsSoundBody};
-ghost use Rattle.cct_lines.specs.SetupLine.{IsSetupLine};
-ghost use Rattle.cct_lines.specs.declared.setup.SetupLine.{SetupLine};
-ghost use Rattle.cct_lines.specs.terms.device.DeviceBody.{DeviceBody};
-ghost use Rattle.cct_lines.specs.terms.device.DeviceSetup.{DeviceSetup};
-ghost use Rattle.cct_lines.specs.Grammar.{ranged, three_byte_in, plain_texts, plain_acceptor, plain_bills, plain_device};
-ghost use Rattle.cct_lines.specs.Grammar.{counting_line, acceptor_line, bills_line, hopper_line, value_line, texts_line, setup_line};
+ghost use Rattle.cct_model_lines.specs.Device.{IsSound, IsSoundBody};
+ghost use Rattle.cct_model_lines.specs.SetupLine.{IsSetupLine};
+ghost use Rattle.cct_model_lines.specs.declared.setup.SetupLine.{SetupLine};
+ghost use Rattle.cct_model_lines.specs.terms.device.DeviceBody.{DeviceBody};
+ghost use Rattle.cct_model_lines.specs.terms.device.DeviceSetup.{DeviceSetup};
+ghost use Rattle.cct_model_lines.specs.Grammar.{ranged, three_byte_in, plain_texts, plain_acceptor, plain_bills, plain_device};
+ghost use Rattle.cct_model_lines.specs.Grammar.{counting_line, acceptor_line, bills_line, hopper_line, value_line, texts_line, setup_line};
 ghost use Rattle.cct_script.specs.Fields.{Reads, fields_after};
 
 use crate::fields::{alone, first_field, five, four};
 use crate::numbers::{ranged_u8, ranged_u32};
 use crate::words::{check_in, id_in, name_of, word_in};
-use cct_lines::{COIN_PLACES, CheckKind, DeviceBody, DeviceSetup, LineKind, SetupLine, Texts};
+use cct_model_lines::{
+    COIN_PLACES, CheckKind, DeviceBody, DeviceSetup, LineKind, SetupLine, Texts,
+};
 
 const ACCEPTOR: &[u8] = b"acceptor";
 
@@ -60,7 +62,7 @@ fn plain_texts() -> Texts
 }
 
 /// A coin acceptor of which a script says no more: its places have no values.
-#[tactic(auto, using(cct_lines::proofs::Sound::plain_acceptor_sound))]
+#[tactic(auto, using(cct_model_lines::proofs::Sound::plain_acceptor_sound))]
 fn plain_acceptor(accepts: u32) -> DeviceBody
     ensures says { result ≡ plain_acceptor accepts }
     ensures sound { accepts < 2 ^ 24 → IsSoundBody result }
@@ -73,7 +75,7 @@ fn plain_acceptor(accepts: u32) -> DeviceBody
 }
 
 /// A bill acceptor of which a script says no more: its places have no values.
-#[tactic(auto, using(cct_lines::proofs::Sound::plain_bills_sound))]
+#[tactic(auto, using(cct_model_lines::proofs::Sound::plain_bills_sound))]
 fn plain_bills(accepts: u32) -> DeviceBody
     ensures says { result ≡ plain_bills accepts }
     ensures sound { accepts < 2 ^ 24 → IsSoundBody result }
@@ -86,7 +88,7 @@ fn plain_bills(accepts: u32) -> DeviceBody
 }
 
 /// A device of which a script says no more.
-#[tactic(auto, using(cct_lines::proofs::Sound::plain_device_sound))]
+#[tactic(auto, using(cct_model_lines::proofs::Sound::plain_device_sound))]
 fn plain_device(addr: u8, kind: CheckKind, serial: u32, body: DeviceBody) -> DeviceSetup
     ensures says { result ≡ plain_device addr kind serial body }
     ensures sound { 2 ≤ addr → serial < 2 ^ 24 → IsSoundBody body → IsSound result }
@@ -211,7 +213,7 @@ fn texts_line(rest: Option<&[u8]>) -> Option<SetupLine>
 
 /// What a setup line says, without its line feed. `Word` where the first field is no word of a setup line, else `Form`
 /// where the line isn't in a form of its word.
-#[tactic(auto, unfolding(cct_lines::specs::Grammar::setup_line))]
+#[tactic(auto, unfolding(cct_model_lines::specs::Grammar::setup_line))]
 pub fn read_setup_line(line: &[u8]) -> Result<SetupLine, LineKind>
     ensures value { result ≡ setup_line line.now }
     // What it says is in its ranges: each address is 2 to 255, and a hopper's line has a hopper's body.

@@ -1,8 +1,8 @@
 //! The step lines of a script (`docs/SCRIPT.md`).
 ghost use Rattle.std.specs.Prelude.{◌≡◌, Ok, Err, IfOk, MatchResult, OnOk};
-ghost use Rattle.cct_lines.specs.Grammar.{step_line};
-ghost use Rattle.cct_lines.specs.Script.{IsInRange};
-ghost use Rattle.cct_lines.specs.declared.command.Step.TheVariants as steps;
+ghost use Rattle.cct_model_lines.specs.Grammar.{step_line};
+ghost use Rattle.cct_model_lines.specs.Script.{IsInRange};
+ghost use Rattle.cct_model_lines.specs.declared.command.Step.TheVariants as steps;
 ghost use Rattle.cct_script.specs.Fields.{fields_after};
 ghost use Rattle.cct_script.specs.Steps.{ReadsInto, desk_step, device_step, epoch_step, order_step, other_step};
 
@@ -11,7 +11,7 @@ use crate::step_fields::{
     addr, bill_into, change_into, coin_into, crash_into, fault_into, nothing, path_into, pay_into,
     route_into, start_into, stock_into, vend_into,
 };
-use cct_lines::{Command, LineKind, Step};
+use cct_model_lines::{Command, LineKind, Step};
 
 const COIN: &[u8] = b"coin";
 

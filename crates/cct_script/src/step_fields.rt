@@ -1,17 +1,17 @@
 //! What stands after the words of step lines (`docs/SCRIPT.md`), read into the room for a step.
 ghost use Rattle.std.specs.Prelude.{◌≡◌, ◌≤◌, ℕ, Some, None, IfSome, MatchOption, MatchResult};
-ghost use Rattle.cct_lines.specs.declared.command.Step.{Step};
-ghost use Rattle.cct_lines.specs.declared.command.Step.TheVariants as steps;
-ghost use Rattle.cct_lines.specs.Grammar.{address_in, alone, choice_in, place_step, step_at, fault_step, start_step};
-ghost use Rattle.cct_lines.specs.Grammar.{pay_step, path_step, route_step, vend_step, stock_step, change_step, crash_step};
-ghost use Rattle.cct_lines.specs.Script.{IsInRange};
+ghost use Rattle.cct_model_lines.specs.declared.command.Step.{Step};
+ghost use Rattle.cct_model_lines.specs.declared.command.Step.TheVariants as steps;
+ghost use Rattle.cct_model_lines.specs.Grammar.{address_in, alone, choice_in, place_step, step_at, fault_step, start_step};
+ghost use Rattle.cct_model_lines.specs.Grammar.{pay_step, path_step, route_step, vend_step, stock_step, change_step, crash_step};
+ghost use Rattle.cct_model_lines.specs.Script.{IsInRange};
 ghost use Rattle.cct_script.specs.Fields.{Sets, fields_after};
 ghost use Rattle.cct_script.specs.Steps.{with_bytes};
 
 use crate::fields::{one, three, two};
 use crate::numbers::{ranged, ranged_u8, ranged_u32};
 use crate::words::{mask_in, piece_into};
-use cct_lines::{
+use cct_model_lines::{
     COIN_PLACES, Command, CrashAt, GREATEST_AMOUNT, GREATEST_FIRST, LineKind, MOST_HEARD,
     MOST_SENT, PATHS, Piece, RETURN_CODE, STACK_CODE, Step, WireFault,
 };

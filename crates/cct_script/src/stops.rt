@@ -5,7 +5,7 @@ ghost use Rattle.cct_script.specs.Giving.{line_given};
 ghost use Rattle.cct_script.specs.Scripts.{before_end, behind_end, read_of};
 
 use crate::lines::{Line, LinesNo};
-use cct_lines::LineKind;
+use cct_model_lines::LineKind;
 
 /// Why a script is read no further.
 #[derive(Clone, Copy, Debug, PartialEq, Eq)]

@@ -1,11 +1,11 @@
 //! Fields that are texts, names of checks, and bytes in hexadecimal.
 ghost use Rattle.std.specs.Prelude.{◌≡◌, ◌≤◌, length, IsTrue};
 ghost use Rattle.std.specs.List.{list_all, All};
-ghost use Rattle.cct_lines.specs.Device.{IsPrinting, IsWord, IsId};
-ghost use Rattle.cct_lines.specs.Grammar.{is_printing, check_in, word_in, id_in, piece_in, mask_in};
+ghost use Rattle.cct_model_lines.specs.Device.{IsPrinting, IsWord, IsId};
+ghost use Rattle.cct_model_lines.specs.Grammar.{is_printing, check_in, word_in, id_in, piece_in, mask_in};
 ghost use Rattle.cct_script.specs.Fields.{Reads, Sets};
 
-use cct_lines::{CheckKind, MOST_HEARD, MOST_NAME, Name, Piece};
+use cct_model_lines::{CheckKind, MOST_HEARD, MOST_NAME, Name, Piece};
 
 const SIMPLE: &[u8] = b"simple";
 
@@ -27,7 +27,7 @@ pub(crate) fn check_in(field: &[u8]) -> Option<CheckKind>
 }
 
 /// Whether each byte is a printing character, 21 to 7e in hexadecimal.
-#[tactic(auto, using(cct_lines::proofs::Sound::printing_all))]
+#[tactic(auto, using(cct_model_lines::proofs::Sound::printing_all))]
 fn are_printing(bytes: &[u8]) -> bool
     ensures tells { result ≡ list_all is_printing bytes.now }
     ensures printing { IsTrue result → All IsPrinting bytes.now }
@@ -46,7 +46,7 @@ pub(crate) fn name_of(bytes: &[u8]) -> Name
 }
 
 /// The text that a field is: 1 to 24 printing characters.
-#[tactic(auto, unfolding(cct_lines::specs::Grammar::word_in))]
+#[tactic(auto, unfolding(cct_model_lines::specs::Grammar::word_in))]
 pub(crate) fn word_in(field: &[u8]) -> Option<Name>
     ensures { Reads result (word_in field.now) IsWord }
 {
@@ -57,7 +57,7 @@ pub(crate) fn word_in(field: &[u8]) -> Option<Name>
 }
 
 /// The identification of a coin that a field is: six printing characters.
-#[tactic(auto, unfolding(cct_lines::specs::Grammar::id_in))]
+#[tactic(auto, unfolding(cct_model_lines::specs::Grammar::id_in))]
 pub(crate) fn id_in(field: &[u8]) -> Option<[u8; 6]>
     ensures { Reads result (id_in field.now) IsId }
 {
@@ -71,7 +71,7 @@ pub(crate) fn id_in(field: &[u8]) -> Option<[u8; 6]>
 
 /// Reads the piece of up to `most` bytes that a field spells into the room for a piece: a hyphen is the empty piece, else
 /// it is in hexadecimal of either case, two digits a byte. Where the field spells none, anything may stand in the room.
-#[tactic(auto, unfolding(cct_lines::specs::Grammar::piece_in))]
+#[tactic(auto, unfolding(cct_model_lines::specs::Grammar::piece_in))]
 pub(crate) fn piece_into(most: usize, field: &[u8], piece: &mut Piece) -> Option<()>
     requires { most ≤ MOST_HEARD }
     ensures { Sets result piece.new (piece_in most field.now) (λ bytes. length bytes ≤ most) }
@@ -103,7 +103,7 @@ pub fn piece_in(most: usize, field: &[u8]) -> Option<Piece>
 
 /// The inhibit mask that a field spells, bit 0 for coin place 1: four hexadecimal digits of either case, not all 0
 /// (ccTalk Generic Specification 4, part 2, header 231).
-#[tactic(auto, using(crate::proofs::Masks::mask_refused), unfolding(cct_lines::specs::Grammar::mask_in))]
+#[tactic(auto, using(crate::proofs::Masks::mask_refused), unfolding(cct_model_lines::specs::Grammar::mask_in))]
 pub(crate) fn mask_in(field: &[u8]) -> Option<u16>
     ensures { Reads result (mask_in field.now) (λ mask. 1 ≤ mask) }
 {

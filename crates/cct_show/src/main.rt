@@ -7,9 +7,9 @@ mod status;
 
 use crate::refused::Refused;
 use crate::status::{USAGE, WORDS_REFUSED, message_of};
-use cct_captured::{Watches, watches_in};
 use cct_edge::{StdSink, StdSource};
-use cct_forms::{
+use cct_show_captured::{Watches, watches_in};
+use cct_show_forms::{
     Part, RowForm, Status, show_page, show_picture, show_rows, show_text, write_capture,
 };
 use std::io::ErrorKind;

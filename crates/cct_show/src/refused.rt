@@ -1,7 +1,7 @@
 //! Why the words of the command line name no form.
 
-use cct_captured::watches_in;
-use cct_near::near_word;
+use cct_advice_near::near_word;
+use cct_show_captured::watches_in;
 use std::fmt;
 
 /// The words that name a form.

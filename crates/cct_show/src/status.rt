@@ -1,6 +1,6 @@
 //! What standard error says of the end.
 
-use cct_forms::Status;
+use cct_show_forms::Status;
 
 /// What is said where words are refused, and by the word `--help`.
 pub(crate) const USAGE: &str = "\

@@ -1,8 +1,8 @@
 -- The table of coins, as that of an acceptor with these settings.
 use Rattle.std.specs.Prelude.{◌≡◌, ℕ, ◌-◌, ◌≤◌, List, Some, slice_get}
 use Rattle.cct_sorter.specs.declared.table.CoinTable.{CoinTable}
-use Rattle.cct_terms.specs.declared.coin.TheConstants.{COIN_PLACES}
-use Rattle.cct_terms.specs.Setting.{Setting, mask_in, is_normal_in, default_in, own_path_in}
+use Rattle.cct_model_wire.specs.declared.coin.TheConstants.{COIN_PLACES}
+use Rattle.cct_model_wire.specs.Setting.{Setting, mask_in, is_normal_in, default_in, own_path_in}
 
 -- A table holds the mask, the master inhibit, the default path and the path set for each coin place that the settings
 -- since the last reset left, newest first.

@@ -1,10 +1,10 @@
 //! The table of coins (ccTalk Generic Specification 4, part 2): headers 231 and 230 set and tell the inhibit mask, 228
 //! and 227 the master inhibit, 210 and 209 the sorter path of a coin place, 189 and 188 the default path.
 ghost use Rattle.std.specs.Prelude.{◌≡◌, ◌≤◌, ◌↔◌, ◌&&◌, List, [], ◌∷◌, IsErrOf, IsOk, IsTrue, OnErr, not};
-ghost use Rattle.cct_terms.specs.Setting.{Setting, mask_set, master_set, path_set, default_set, is_place, is_path, mask_in, is_normal_in, default_in, path_in, accepts_in};
+ghost use Rattle.cct_model_wire.specs.Setting.{Setting, mask_set, master_set, path_set, default_set, is_place, is_path, mask_in, is_normal_in, default_in, path_in, accepts_in};
 ghost use Rattle.cct_sorter.specs.Table.{Holds};
 
-use cct_terms::{COIN_PLACES, PATHS, has_place};
+use cct_model_wire::{COIN_PLACES, PATHS, has_place};
 use thiserror::Error;
 
 /// What an acceptor was told of coins since its last reset.

@@ -4,18 +4,18 @@ use Rattle.std.specs.List.{filter_map, cons_option}
 use Rattle.std.specs.Result.{result_unwrap_or}
 use Rattle.hex.specs.Hex.{IsBytes}
 use Rattle.hex.proofs.HexLemmas.{decode_of-encode_lower}
-use Rattle.cct_lines.specs.terms.coin.Coin.{Coin}
-use Rattle.cct_lines.specs.declared.record.Record.{Record}
-use Rattle.cct_lines.specs.declared.record.Record.TheVariants as record_of
-use Rattle.cct_lines.specs.declared.command.Command.{Command}
-use Rattle.cct_lines.specs.declared.command.Command.TheVariants as command
-use Rattle.cct_lines.specs.declared.command.CommandNo.{CommandNo}
-use Rattle.cct_lines.specs.declared.command.CommandNo.TheVariants as refusal
-use Rattle.cct_lines.specs.declared.command.WireFault.{WireFault}
-use Rattle.cct_lines.specs.declared.command.WireFault.TheVariants as fault
-use Rattle.cct_lines.specs.declared.entry.LineKind.{LineKind}
-use Rattle.cct_lines.specs.declared.entry.LineKind.TheVariants as kind
-use Rattle.cct_lines.specs.Text.{number_text, piece_field, mask_field, coin_text, coins_field, record_fields, command_fields, reason_fields, fault_fields, kind_field}
+use Rattle.cct_model_lines.specs.terms.coin.Coin.{Coin}
+use Rattle.cct_model_lines.specs.declared.record.Record.{Record}
+use Rattle.cct_model_lines.specs.declared.record.Record.TheVariants as record_of
+use Rattle.cct_model_lines.specs.declared.command.Command.{Command}
+use Rattle.cct_model_lines.specs.declared.command.Command.TheVariants as command
+use Rattle.cct_model_lines.specs.declared.command.CommandNo.{CommandNo}
+use Rattle.cct_model_lines.specs.declared.command.CommandNo.TheVariants as refusal
+use Rattle.cct_model_lines.specs.declared.command.WireFault.{WireFault}
+use Rattle.cct_model_lines.specs.declared.command.WireFault.TheVariants as fault
+use Rattle.cct_model_lines.specs.declared.entry.LineKind.{LineKind}
+use Rattle.cct_model_lines.specs.declared.entry.LineKind.TheVariants as kind
+use Rattle.cct_model_lines.specs.Text.{number_text, piece_field, mask_field, coin_text, coins_field, record_fields, command_fields, reason_fields, fault_fields, kind_field}
 use Rattle.cct_text.specs.Reading.{parts_at, number_in, piece_in, mask_of, mask_in, coin_of, coins_in, record_in, Ordered, command_in, reason_in, fault_in, kind_in}
 use Rattle.cct_text.specs.Written.{IsMask, IsRecord, IsCommand, IsFault}
 use Rattle.cct_text.proofs.Cuts.{all_above, EachAbove, above_append, above_weaker, number_above, number_field, piece_above, mask_above, mask_bytes, joined_above, cut_joined}

@@ -6,7 +6,7 @@ use Rattle.std.proofs.lemmas.Bool.Decides.{nat_tests}
 use Rattle.std.proofs.lemmas.List.Elements.{All-nil, All-cons}
 use Rattle.std.proofs.lemmas.List.Splits.{slice_split_at, slice_split_none}
 use Rattle.hex.specs.Hex.{IsBytes, encode_lower, encode_with, lower_digits}
-use Rattle.cct_lines.specs.Text.{number_text, piece_field, mask_field}
+use Rattle.cct_model_lines.specs.Text.{number_text, piece_field, mask_field}
 use Rattle.cct_text.specs.Reading.{parts_at}
 use Rattle.cct_text.proofs.Numbers.{number_by_steps}
 

@@ -4,9 +4,9 @@ use Rattle.std.specs.List.{filter_map, cons_option}
 use Rattle.std.proofs.lemmas.Bool.{cases_lt, eqb-true, eq-eqb}
 use Rattle.std.proofs.lemmas.List.{map-append}
 use Rattle.std.proofs.Math.Seq.{take-suc, take-length}
-use Rattle.cct_lines.specs.declared.entry.Listed.{Listed}
-use Rattle.cct_lines.specs.DeviceSet.{has, addresses_below, all_addresses}
-use Rattle.cct_lines.specs.Text.{number_text, list_field, listed_text, listed_field}
+use Rattle.cct_model_lines.specs.declared.entry.Listed.{Listed}
+use Rattle.cct_model_lines.specs.DeviceSet.{has, addresses_below, all_addresses}
+use Rattle.cct_model_lines.specs.Text.{number_text, list_field, listed_text, listed_field}
 use Rattle.cct_text.specs.Reading.{parts_at, Device, device_of, devices_in, is_listed, listed_in}
 use Rattle.cct_text.specs.Written.{IsListed}
 use Rattle.cct_text.proofs.Cuts.{all_above, EachAbove, above_append, above_weaker, number_above, joined_above, cut_joined}

@@ -3,9 +3,9 @@ use Rattle.std.proofs.Common.{◌≡◌, ◌≢◌, ℕ, ◌+◌, ◌*◌, ◌�
 use Rattle.std.specs.List.{filter_map, cons_option}
 use Rattle.std.proofs.lemmas.List.{append-nil, flat_map_more}
 use Rattle.std.proofs.lemmas.List.Elements.{filter_map-append}
-use Rattle.cct_lines.specs.declared.entry.Listed.{Listed}
-use Rattle.cct_lines.specs.DeviceSet.{addresses_below, all_addresses}
-use Rattle.cct_lines.specs.Text.{listed_text, listed_field, list_field}
+use Rattle.cct_model_lines.specs.declared.entry.Listed.{Listed}
+use Rattle.cct_model_lines.specs.DeviceSet.{addresses_below, all_addresses}
+use Rattle.cct_model_lines.specs.Text.{listed_text, listed_field, list_field}
 use Rattle.cct_text.specs.Joined.{apart, found, separator_past}
 use Rattle.cct_text.proofs.Texts.{joined_is}
 

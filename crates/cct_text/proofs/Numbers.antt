@@ -5,7 +5,7 @@ use Rattle.std.specs.Char.{digit_value}
 use Rattle.std.proofs.lemmas.Bool.Decides.{nat_tests}
 use Rattle.std.proofs.lemmas.Fmt.{decimal_digit, decimal_step}
 use Rattle.std.proofs.lemmas.Str.{digit_value_digit}
-use Rattle.cct_lines.specs.Text.{last_digits, number_text}
+use Rattle.cct_model_lines.specs.Text.{last_digits, number_text}
 
 -- what holds of a number of one digit, and with each digit more
 abbrev HoldsOfDigit : (ℕ → List ℕ → Type 0) → Type 0

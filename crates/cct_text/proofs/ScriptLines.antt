@@ -5,17 +5,17 @@ use Rattle.std.specs.List.{join_with_byte}
 use Rattle.std.specs.Option.{ok_or}
 use Rattle.std.proofs.lemmas.Bool.Decides.{nat_tests}
 use Rattle.hex.proofs.HexLemmas.{decode_of-encode_lower}
-use Rattle.cct_terms.specs.declared.coin.TheConstants.{COIN_PLACES, PATHS}
-use Rattle.cct_terms.specs.declared.request.TheConstants.{RETURN_CODE, STACK_CODE}
-use Rattle.cct_lines.specs.declared.command.Command.{Command}
-use Rattle.cct_lines.specs.declared.command.Command.TheVariants as command
-use Rattle.cct_lines.specs.declared.command.Step.{Step}
-use Rattle.cct_lines.specs.declared.command.Step.TheVariants as step
-use Rattle.cct_lines.specs.declared.entry.LineKind.TheVariants as kind
-use Rattle.cct_lines.specs.declared.entry.Entry.TheVariants as entry
-use Rattle.cct_lines.specs.Grammar.{address_in, digits_from, is_digit, mask_in, number_in, ranged, step_at, step_fields, step_line}
-use Rattle.cct_lines.specs.Script.{IsCommand}
-use Rattle.cct_lines.specs.Text.{command_fields, line_of, mask_field, number_text}
+use Rattle.cct_model_wire.specs.declared.coin.TheConstants.{COIN_PLACES, PATHS}
+use Rattle.cct_model_wire.specs.declared.request.TheConstants.{RETURN_CODE, STACK_CODE}
+use Rattle.cct_model_lines.specs.declared.command.Command.{Command}
+use Rattle.cct_model_lines.specs.declared.command.Command.TheVariants as command
+use Rattle.cct_model_lines.specs.declared.command.Step.{Step}
+use Rattle.cct_model_lines.specs.declared.command.Step.TheVariants as step
+use Rattle.cct_model_lines.specs.declared.entry.LineKind.TheVariants as kind
+use Rattle.cct_model_lines.specs.declared.entry.Entry.TheVariants as entry
+use Rattle.cct_model_lines.specs.Grammar.{address_in, digits_from, is_digit, mask_in, number_in, ranged, step_at, step_fields, step_line}
+use Rattle.cct_model_lines.specs.Script.{IsCommand}
+use Rattle.cct_model_lines.specs.Text.{command_fields, line_of, mask_field, number_text}
 use Rattle.cct_text.specs.ScriptLine.{IsByte, IsTyped, command_line}
 use Rattle.cct_text.specs.Written as written
 use Rattle.cct_text.proofs.Back.{command_above}

@@ -4,13 +4,13 @@ use Rattle.std.specs.List.{All, filter_map, cons_option, join_with_byte}
 use Rattle.std.proofs.lemmas.List.{append-nil}
 use Rattle.std.proofs.lemmas.List.Elements.{All-head, All-tail, All-nil, All-cons}
 use Rattle.std.proofs.lemmas.List.Splits.{slice_split_at}
-use Rattle.cct_lines.specs.declared.entry.End.{End}
-use Rattle.cct_lines.specs.declared.entry.End.TheVariants as end_of
-use Rattle.cct_lines.specs.declared.entry.Said.{Said}
-use Rattle.cct_lines.specs.declared.entry.Said.TheVariants as said_of
-use Rattle.cct_lines.specs.declared.entry.Entry.{Entry}
-use Rattle.cct_lines.specs.declared.entry.Entry.TheVariants as entry
-use Rattle.cct_lines.specs.Text.{number_text, piece_field, coins_field, command_fields, end_fields, said_fields, fields_of, line_of, text}
+use Rattle.cct_model_lines.specs.declared.entry.End.{End}
+use Rattle.cct_model_lines.specs.declared.entry.End.TheVariants as end_of
+use Rattle.cct_model_lines.specs.declared.entry.Said.{Said}
+use Rattle.cct_model_lines.specs.declared.entry.Said.TheVariants as said_of
+use Rattle.cct_model_lines.specs.declared.entry.Entry.{Entry}
+use Rattle.cct_model_lines.specs.declared.entry.Entry.TheVariants as entry
+use Rattle.cct_model_lines.specs.Text.{number_text, piece_field, coins_field, command_fields, end_fields, said_fields, fields_of, line_of, text}
 use Rattle.cct_text.specs.Reading.{parts_at, number_in, piece_in, coins_in, made, either, taken_by, refused_by, command_in, read_fields, read_line, read_text}
 use Rattle.cct_text.specs.Written.{IsEnd, IsWritten}
 use Rattle.cct_text.proofs.Cuts.{all_above, EachAbove, above_weaker, each_append, number_field, piece_above, joined_above, cut_joined, has_none}

@@ -8,8 +8,8 @@ use Rattle.std.proofs.lemmas.List.Concat.{flat_map-append}
 use Rattle.cct_edge.specs.Bytes.{AppendsFront}
 use Rattle.cct_edge.specs.declared.fault.Failed.{Failed}
 use Rattle.cct_edge.proofs.Chains.{Appends-nil, Appends-trans, Appends-then_front}
-use Rattle.cct_lines.specs.declared.entry.Entry.{Entry}
-use Rattle.cct_lines.specs.Text.{line_of, text}
+use Rattle.cct_model_lines.specs.declared.entry.Entry.{Entry}
+use Rattle.cct_model_lines.specs.Text.{line_of, text}
 use Rattle.cct_text.specs.Writing.{Puts, PutsLine, Writes, Wrote, IsNothing}
 
 -- some puts, and then more

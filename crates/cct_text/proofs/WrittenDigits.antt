@@ -4,7 +4,7 @@ use Rattle.std.specs.Fmt.{decimal}
 use Rattle.std.proofs.lemmas.Fmt.{decimal_digit, decimal_step, length-decimal-le}
 use Rattle.std.proofs.lemmas.List.{take-append-drop, take_at, length-take-le}
 use Rattle.hex.specs.Hex.{lower_digits}
-use Rattle.cct_lines.specs.Text.{number_text}
+use Rattle.cct_model_lines.specs.Text.{number_text}
 use Rattle.cct_text.specs.Adding.{Adds}
 use Rattle.cct_text.proofs.Numbers.{decimal_is}
 use Rattle.cct_text.specs.declared.digits.TheConstants.{HEX_PAIRS}

@@ -1,6 +1,6 @@
 -- What a writer makes of a line.
 use Rattle.std.specs.Prelude.{◌≡◌, ℕ, ◌+◌, ◌<◌, ◌≤◌, List, ◌++◌, length}
-use Rattle.cct_lines.specs.declared.entry.TheConstants.{MOST_TEXT}
+use Rattle.cct_model_lines.specs.declared.entry.TheConstants.{MOST_TEXT}
 use Rattle.cct_text.specs.Joined.{joined}
 
 -- A text was added at the end of a line, of so many bytes at most.

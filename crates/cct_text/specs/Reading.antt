@@ -5,23 +5,23 @@ use Rattle.std.specs.Result.{result_unwrap_or}
 use Rattle.std.specs.Str.{bytes_eq}
 use Rattle.std.specs.Str.Parse.{digits_value}
 use Rattle.hex.specs.Hex.{decode_of}
-use Rattle.cct_lines.specs.terms.coin.Coin.{Coin}
-use Rattle.cct_lines.specs.declared.record.Record.{Record}
-use Rattle.cct_lines.specs.declared.record.Record.TheVariants as record_of
-use Rattle.cct_lines.specs.declared.command.Command.{Command}
-use Rattle.cct_lines.specs.declared.command.Command.TheVariants as command
-use Rattle.cct_lines.specs.declared.command.CommandNo.{CommandNo}
-use Rattle.cct_lines.specs.declared.command.CommandNo.TheVariants as refusal
-use Rattle.cct_lines.specs.declared.command.WireFault.{WireFault}
-use Rattle.cct_lines.specs.declared.command.WireFault.TheVariants as fault
-use Rattle.cct_lines.specs.declared.entry.Listed.{Listed}
-use Rattle.cct_lines.specs.declared.entry.End.TheVariants as end_of
-use Rattle.cct_lines.specs.declared.entry.LineKind.{LineKind}
-use Rattle.cct_lines.specs.declared.entry.LineKind.TheVariants as kind
-use Rattle.cct_lines.specs.declared.entry.Said.TheVariants as said_of
-use Rattle.cct_lines.specs.declared.entry.Entry.{Entry}
-use Rattle.cct_lines.specs.declared.entry.Entry.TheVariants as entry
-use Rattle.cct_lines.specs.DeviceSet.{all_addresses}
+use Rattle.cct_model_lines.specs.terms.coin.Coin.{Coin}
+use Rattle.cct_model_lines.specs.declared.record.Record.{Record}
+use Rattle.cct_model_lines.specs.declared.record.Record.TheVariants as record_of
+use Rattle.cct_model_lines.specs.declared.command.Command.{Command}
+use Rattle.cct_model_lines.specs.declared.command.Command.TheVariants as command
+use Rattle.cct_model_lines.specs.declared.command.CommandNo.{CommandNo}
+use Rattle.cct_model_lines.specs.declared.command.CommandNo.TheVariants as refusal
+use Rattle.cct_model_lines.specs.declared.command.WireFault.{WireFault}
+use Rattle.cct_model_lines.specs.declared.command.WireFault.TheVariants as fault
+use Rattle.cct_model_lines.specs.declared.entry.Listed.{Listed}
+use Rattle.cct_model_lines.specs.declared.entry.End.TheVariants as end_of
+use Rattle.cct_model_lines.specs.declared.entry.LineKind.{LineKind}
+use Rattle.cct_model_lines.specs.declared.entry.LineKind.TheVariants as kind
+use Rattle.cct_model_lines.specs.declared.entry.Said.TheVariants as said_of
+use Rattle.cct_model_lines.specs.declared.entry.Entry.{Entry}
+use Rattle.cct_model_lines.specs.declared.entry.Entry.TheVariants as entry
+use Rattle.cct_model_lines.specs.DeviceSet.{all_addresses}
 
 -- The parts of bytes between those that are a byte.
 abbrev pub parts_at : ℕ → List ℕ → List (List ℕ)

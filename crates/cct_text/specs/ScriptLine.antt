@@ -1,9 +1,9 @@
 -- The line of a script that gives a command.
 use Rattle.std.specs.Prelude.{ℕ, ◌^◌, ◌<◌, List, ⊤}
 use Rattle.std.specs.List.{join_with_byte}
-use Rattle.cct_lines.specs.declared.command.Command.{Command}
-use Rattle.cct_lines.specs.declared.command.Command.TheVariants as command
-use Rattle.cct_lines.specs.Text.{command_fields}
+use Rattle.cct_model_lines.specs.declared.command.Command.{Command}
+use Rattle.cct_model_lines.specs.declared.command.Command.TheVariants as command
+use Rattle.cct_model_lines.specs.Text.{command_fields}
 
 -- The fields of a command joined by spaces.
 abbrev pub command_line : Command → List ℕ

@@ -3,8 +3,8 @@ use Rattle.std.specs.Prelude.{◌≡◌, ℕ, ◌⊎◌, List, [], ◌∷◌, ma
 use Rattle.std.specs.Io.KnownBytes.{Appends}
 use Rattle.cct_edge.specs.Bytes.{AppendsFront}
 use Rattle.cct_edge.specs.declared.fault.Failed.{Failed}
-use Rattle.cct_lines.specs.declared.entry.Entry.{Entry}
-use Rattle.cct_lines.specs.Text.{line_of, text}
+use Rattle.cct_model_lines.specs.declared.entry.Entry.{Entry}
+use Rattle.cct_model_lines.specs.Text.{line_of, text}
 
 -- A line was put once: what is told of the bytes grew by it, or by a front of it if the put failed.
 pub record PutsLine {K : Type 0} (written : K → Option (List ℕ))

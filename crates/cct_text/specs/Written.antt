@@ -1,18 +1,18 @@
 -- Which entries a transcript may have.
 use Rattle.std.specs.Prelude.{◌≡◌, ℕ, ◌^◌, ◌<◌, length, true, false, ⊤}
 use Rattle.hex.specs.Hex.{IsBytes}
-use Rattle.cct_lines.specs.declared.record.Record.{Record}
-use Rattle.cct_lines.specs.declared.record.Record.TheVariants as record_of
-use Rattle.cct_lines.specs.declared.command.Command.{Command}
-use Rattle.cct_lines.specs.declared.command.Command.TheVariants as command
-use Rattle.cct_lines.specs.declared.command.WireFault.{WireFault}
-use Rattle.cct_lines.specs.declared.command.WireFault.TheVariants as fault
-use Rattle.cct_lines.specs.declared.entry.Listed.{Listed}
-use Rattle.cct_lines.specs.declared.entry.End.{End}
-use Rattle.cct_lines.specs.declared.entry.End.TheVariants as end_of
-use Rattle.cct_lines.specs.declared.entry.Entry.{Entry}
-use Rattle.cct_lines.specs.declared.entry.Entry.TheVariants as entry
-use Rattle.cct_lines.specs.DeviceSet.{has}
+use Rattle.cct_model_lines.specs.declared.record.Record.{Record}
+use Rattle.cct_model_lines.specs.declared.record.Record.TheVariants as record_of
+use Rattle.cct_model_lines.specs.declared.command.Command.{Command}
+use Rattle.cct_model_lines.specs.declared.command.Command.TheVariants as command
+use Rattle.cct_model_lines.specs.declared.command.WireFault.{WireFault}
+use Rattle.cct_model_lines.specs.declared.command.WireFault.TheVariants as fault
+use Rattle.cct_model_lines.specs.declared.entry.Listed.{Listed}
+use Rattle.cct_model_lines.specs.declared.entry.End.{End}
+use Rattle.cct_model_lines.specs.declared.entry.End.TheVariants as end_of
+use Rattle.cct_model_lines.specs.declared.entry.Entry.{Entry}
+use Rattle.cct_model_lines.specs.declared.entry.Entry.TheVariants as entry
+use Rattle.cct_model_lines.specs.DeviceSet.{has}
 
 -- An inhibit mask has 16 bits.
 abbrev pub IsMask : ℕ → Type 0

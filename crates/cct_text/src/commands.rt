@@ -1,13 +1,13 @@
 //! Commands, the reasons why they are refused, and wire faults.
 ghost use Rattle.std.specs.Prelude.{◌≡◌, ℕ, ◌+◌, ◌<◌, ◌≤◌, List, [], ◌∷◌, ◌++◌, length};
-ghost use Rattle.cct_lines.specs.declared.entry.Entry.TheVariants.{Fault};
-ghost use Rattle.cct_lines.specs.Text.{command_fields, reason_fields, fields_of};
+ghost use Rattle.cct_model_lines.specs.declared.entry.Entry.TheVariants.{Fault};
+ghost use Rattle.cct_model_lines.specs.Text.{command_fields, reason_fields, fields_of};
 ghost use Rattle.cct_text.specs.Joined.{each_after};
 ghost use Rattle.cct_text.specs.Adding.{Adds, HasFields};
 
 use crate::fields::{write_address, write_mask, write_numbers, write_pair, write_piece};
 use crate::text::TextLine;
-use cct_lines::{Command, CommandNo, MOST_TEXT, WireFault};
+use cct_model_lines::{Command, CommandNo, MOST_TEXT, WireFault};
 
 /// Writes the fields of a command.
 pub(crate) fn write_command(line: &mut TextLine, command: &Command)

@@ -1,12 +1,12 @@
 //! How jobs end, and the devices that a scan lists.
 ghost use Rattle.std.specs.Prelude.{◌≡◌, ℕ, ◌+◌, ◌*◌, ◌<◌, ◌≤◌, List, [], ◌∷◌, ◌++◌, length};
-ghost use Rattle.cct_lines.specs.Text.{end_fields, listed_text, listed_field};
+ghost use Rattle.cct_model_lines.specs.Text.{end_fields, listed_text, listed_field};
 ghost use Rattle.cct_text.specs.Joined.{each_after, found, separator_past};
 ghost use Rattle.cct_text.specs.Adding.{Adds, HasFields};
 
 use crate::fields::{write_address, write_number, write_pair};
 use crate::text::TextLine;
-use cct_lines::{End, Listed, MOST_TEXT};
+use cct_model_lines::{End, Listed, MOST_TEXT};
 
 /// Writes the fields of a job's end.
 pub(crate) fn write_end(line: &mut TextLine, addr: u8, end: &End)

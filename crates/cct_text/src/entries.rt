@@ -1,7 +1,7 @@
 //! The line of each entry.
 ghost use Rattle.std.specs.Prelude.{◌≡◌, ℕ, ◌+◌, ◌<◌, ◌≤◌, List, [], ◌∷◌, ◌++◌, length};
-ghost use Rattle.cct_lines.specs.declared.entry.Entry.TheVariants.{Accepted, Taken, No, Wire, Balance, Line, JournalLost, Listing};
-ghost use Rattle.cct_lines.specs.Text.{record_fields, fields_of, line_of, kind_field, sum_field};
+ghost use Rattle.cct_model_lines.specs.declared.entry.Entry.TheVariants.{Accepted, Taken, No, Wire, Balance, Line, JournalLost, Listing};
+ghost use Rattle.cct_model_lines.specs.Text.{record_fields, fields_of, line_of, kind_field, sum_field};
 ghost use Rattle.cct_text.specs.Joined.{each_after};
 ghost use Rattle.cct_text.specs.Adding.{Adds, HasFields};
 
@@ -11,13 +11,13 @@ use crate::fields::{write_address, write_number, write_numbers, write_pair, writ
 use crate::records::write_record;
 use crate::said::write_said;
 use crate::text::TextLine;
-use cct_lines::{
+use cct_model_lines::{
     Coin, Command, CommandNo, Entry, LineKind, MOST_HEARD, MOST_SENT, MOST_TEXT, Record, SumOf,
     Totals,
 };
 
 /// Makes the line buffer the line of an entry.
-#[tactic(auto, using(crate::proofs::Texts::joined_is), unfolding(cct_lines::specs::Text::line_of))]
+#[tactic(auto, using(crate::proofs::Texts::joined_is), unfolding(cct_model_lines::specs::Text::line_of))]
 pub(crate) fn write_line(line: &mut TextLine, entry: &Entry)
     ensures line { line.new ≡ line_of entry.now }
     ensures short { length line.new < MOST_TEXT }

@@ -1,11 +1,11 @@
 //! Fields of a line, each after a space.
 ghost use Rattle.std.specs.Prelude.{◌≡◌, ℕ, ◌+◌, ◌*◌, ◌<◌, ◌≤◌, List, [], ◌∷◌, ◌++◌, length, map};
-ghost use Rattle.cct_lines.specs.Text.{number_text, piece_field, mask_field};
+ghost use Rattle.cct_model_lines.specs.Text.{number_text, piece_field, mask_field};
 ghost use Rattle.cct_text.specs.Joined.{each_after};
 ghost use Rattle.cct_text.specs.Adding.{Adds};
 
 use crate::text::TextLine;
-use cct_lines::MOST_TEXT;
+use cct_model_lines::MOST_TEXT;
 
 /// Writes a word, and numbers as the fields after it.
 pub(crate) fn write_numbers(line: &mut TextLine, word: &[u8], numbers: &[u64])

@@ -1,16 +1,16 @@
-//! One text is one transcript: laws over the definitions of `cct_lines` and of this crate alone, each the clause of a
+//! One text is one transcript: laws over the definitions of `cct_model_lines` and of this crate alone, each the clause of a
 //! function without parameters, whose body is empty.
 //!
 //! A crate above cites their lemmas, `fields_back`, `line_is_one` and `text_is_one` of `proofs/Whole.antt`.
 ghost use Rattle.std.specs.Prelude.{◌≡◌, ◌∷◌, ◌++◌, [], List, codes};
 ghost use Rattle.std.specs.List.{All, join_with_byte};
-ghost use Rattle.cct_lines.specs.declared.entry.Entry.{Entry};
-ghost use Rattle.cct_lines.specs.declared.entry.Entry.TheVariants.{Taken};
-ghost use Rattle.cct_lines.specs.declared.command.Command.{Command};
-ghost use Rattle.cct_lines.specs.declared.command.Step.TheVariants as step;
-ghost use Rattle.cct_lines.specs.Grammar.{step_line};
-ghost use Rattle.cct_lines.specs.Script.{IsCommand};
-ghost use Rattle.cct_lines.specs.Text.{fields_of, line_of, text};
+ghost use Rattle.cct_model_lines.specs.declared.entry.Entry.{Entry};
+ghost use Rattle.cct_model_lines.specs.declared.entry.Entry.TheVariants.{Taken};
+ghost use Rattle.cct_model_lines.specs.declared.command.Command.{Command};
+ghost use Rattle.cct_model_lines.specs.declared.command.Step.TheVariants as step;
+ghost use Rattle.cct_model_lines.specs.Grammar.{step_line};
+ghost use Rattle.cct_model_lines.specs.Script.{IsCommand};
+ghost use Rattle.cct_model_lines.specs.Text.{fields_of, line_of, text};
 ghost use Rattle.cct_text.specs.Reading.{parts_at, read_fields, read_text};
 ghost use Rattle.cct_text.specs.ScriptLine.{IsTyped, command_line};
 ghost use Rattle.cct_text.specs.Written.{IsWritten};

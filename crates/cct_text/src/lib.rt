@@ -3,11 +3,11 @@
 
 ghost use Rattle.std.specs.Prelude.{◌≡◌, ◌<◌, length, IsErr};
 ghost use Rattle.cct_edge.specs.Bytes.{Serves};
-ghost use Rattle.cct_lines.specs.Text.{line_of};
+ghost use Rattle.cct_model_lines.specs.Text.{line_of};
 ghost use Rattle.cct_text.specs.Writing.{PutsLine, Writes};
 
 use cct_edge::{Failed, Sink};
-use cct_lines::{Entry, MOST_TEXT};
+use cct_model_lines::{Entry, MOST_TEXT};
 use entries::write_line;
 
 mod commands;

@@ -1,13 +1,13 @@
 //! Records of the journal, and the coins in them.
 ghost use Rattle.std.specs.Prelude.{◌≡◌, ℕ, ◌+◌, ◌≤◌, List, [], ◌∷◌, ◌++◌, length};
-ghost use Rattle.cct_lines.specs.declared.record.Record.TheVariants.{Odd};
-ghost use Rattle.cct_lines.specs.Text.{number_text, coin_text, coins_field, record_fields};
+ghost use Rattle.cct_model_lines.specs.declared.record.Record.TheVariants.{Odd};
+ghost use Rattle.cct_model_lines.specs.Text.{number_text, coin_text, coins_field, record_fields};
 ghost use Rattle.cct_text.specs.Joined.{each_after};
 ghost use Rattle.cct_text.specs.Adding.{Adds};
 
 use crate::fields::{write_address, write_mask, write_number, write_numbers, write_pair};
 use crate::text::TextLine;
-use cct_lines::{Coin, EVENTS, MOST_TEXT, Record};
+use cct_model_lines::{Coin, EVENTS, MOST_TEXT, Record};
 
 /// Writes the fields of a record.
 pub(crate) fn write_record(line: &mut TextLine, entry: &Record)

@@ -1,13 +1,13 @@
 //! What a monitor says of a watched device.
 ghost use Rattle.std.specs.Prelude.{◌≡◌, ℕ, ◌+◌, ◌≤◌, List, [], ◌∷◌, ◌++◌, length};
-ghost use Rattle.cct_lines.specs.Text.{number_text, said_fields};
+ghost use Rattle.cct_model_lines.specs.Text.{number_text, said_fields};
 ghost use Rattle.cct_text.specs.Joined.{each_after};
 ghost use Rattle.cct_text.specs.Adding.{Adds, HasFields};
 
 use crate::fields::{write_number, write_numbers};
 use crate::records::write_coins;
 use crate::text::TextLine;
-use cct_lines::{MOST_TEXT, Said};
+use cct_model_lines::{MOST_TEXT, Said};
 
 /// Writes the fields of what a monitor says.
 pub(crate) fn write_said(line: &mut TextLine, said: &Said)

@@ -2,11 +2,11 @@
 ghost use Rattle.std.specs.Prelude.{◌≡◌, ℕ, ◌+◌, ◌*◌, ◌<◌, ◌≤◌, List, [], ◌∷◌, ◌++◌, length};
 ghost use Rattle.std.specs.Fmt.{decimal};
 ghost use Rattle.hex.specs.Hex.{encode_lower};
-ghost use Rattle.cct_lines.specs.Text.{number_text};
+ghost use Rattle.cct_model_lines.specs.Text.{number_text};
 ghost use Rattle.cct_text.specs.Adding.{Adds};
 
 use crate::digits::{digit_count, write_hex};
-use cct_lines::MOST_TEXT;
+use cct_model_lines::MOST_TEXT;
 use itoa::write_digits;
 use std::marker::Model;
 
@@ -19,7 +19,7 @@ pub struct TextLine {
 
 impl Model for TextLine {
     ghost use Rattle.std.specs.Prelude.{◌≤◌, List, ℕ, take};
-    ghost use Rattle.cct_lines.specs.declared.entry.TheConstants.{MOST_TEXT};
+    ghost use Rattle.cct_model_lines.specs.declared.entry.TheConstants.{MOST_TEXT};
 
     ghost Value = { List ℕ };
 

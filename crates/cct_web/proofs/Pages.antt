@@ -12,9 +12,9 @@ use Rattle.cct_audit.specs.Writing.{BrokeLines, WroteLines, bytes_of}
 use Rattle.cct_bench.specs.declared.outcome.Status.{Status}
 use Rattle.cct_bench.specs.declared.outcome.Status.TheVariants as status
 use Rattle.cct_bench.specs.Audit.{AuditCloses, AuditEnds, AuditRan}
-use Rattle.cct_slices.specs.declared.page.Page.{Page}
-use Rattle.cct_slices.specs.Slices.{PageStays, page_bytes, page_puts, page_room, page_written, written_count, written_on}
-use Rattle.cct_slices.proofs.Stays.{stays_refl, stays_trans}
+use Rattle.cct_edge_slices.specs.declared.page.Page.{Page}
+use Rattle.cct_edge_slices.specs.Slices.{PageStays, page_bytes, page_puts, page_room, page_written, written_count, written_on}
+use Rattle.cct_edge_slices.proofs.Stays.{stays_refl, stays_trans}
 use Rattle.cct_web.specs.Audits.{AreFront, AreLines}
 
 -- a source that counts no fault didn't fail

@@ -3,7 +3,7 @@ ghost use Rattle.std.specs.Prelude.{◌≡◌, ◌≤◌, drop, length, take};
 ghost use Rattle.cct_web.specs.Audits.{Audits};
 
 use crate::onto::audit_onto;
-use cct_slices::{Given, Page};
+use cct_edge_slices::{Given, Page};
 
 /// Audits a capture, and writes at the front of `page` what an audit says, with the last line where one is refused. Answers the exit
 /// status of `cct_main audit`, and in `wrote` how many bytes were written: after them the page is as it was.

@@ -1,11 +1,11 @@
 //! An audit onto a page.
 ghost use Rattle.std.specs.Prelude.{◌≡◌};
 ghost use Rattle.cct_bench.specs.Status.{code_of};
-ghost use Rattle.cct_slices.specs.Slices.{PageStays, given_bytes, page_room, written_count, written_on};
+ghost use Rattle.cct_edge_slices.specs.Slices.{PageStays, given_bytes, page_room, written_count, written_on};
 ghost use Rattle.cct_web.specs.Audits.{Audits};
 
 use cct_bench::{Status, audit_capture};
-use cct_slices::{Given, Page};
+use cct_edge_slices::{Given, Page};
 
 /// Audits a capture onto a page on which nothing is written.
 pub(crate) fn audit_onto(source: &mut Given<'_>, page: &mut Page<'_>) -> Status

@@ -2,7 +2,7 @@
 
 use cct_bench::{Status, bench};
 use cct_disk::MemDisk;
-use cct_slices::{Given, Page};
+use cct_edge_slices::{Given, Page};
 use std::alloc::{AllocError, Global};
 
 /// How many bytes a disk has that a journal is created on.

@@ -1,7 +1,7 @@
 //! Lines are drawn.
 
-use cct_forms::{Part, show_page, show_picture};
-use cct_slices::{Given, Page};
+use cct_edge_slices::{Given, Page};
+use cct_show_forms::{Part, show_page, show_picture};
 use std::alloc::Global;
 
 /// All lines.

@@ -3,7 +3,7 @@
 use crate::written::Written;
 use cct_advice::{KeptSource, advise};
 use cct_edge::{Failed, Source};
-use cct_slices::{Given, Page};
+use cct_edge_slices::{Given, Page};
 use std::fmt::Write;
 
 /// How many bytes of a text are taken in one call at most.

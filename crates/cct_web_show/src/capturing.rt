@@ -1,10 +1,10 @@
 //! A log is made a capture.
 
 use crate::written::Written;
-use cct_captured::{WatchNo, Watches, add_watch};
-use cct_forms::{Status, write_capture};
-use cct_lines::DEVICES;
-use cct_slices::{Given, Page};
+use cct_edge_slices::{Given, Page};
+use cct_model_lines::DEVICES;
+use cct_show_captured::{WatchNo, Watches, add_watch};
+use cct_show_forms::{Status, write_capture};
 use std::fmt::Write;
 
 /// The exit status of `cct_show` where its words are refused.

@@ -2,7 +2,7 @@
 use Rattle.std.proofs.Common.{◌≡◌, ◌⊎◌, inl, inr, ℕ, ◌+◌, ◌<◌, ◌≤◌, ◌==◌, Bool, true, false, cond, List, [], ◌∷◌, ◌++◌, length, drop, Option, None, Some, refl, arith, eq-eqb}
 use Rattle.std.proofs.lemmas.Bool.{eqb-true, cases_lt}
 use Rattle.std.proofs.Math.ListN.{drop_of_length-le}
-use Rattle.cct_terms.specs.Exchange.{after_echo}
+use Rattle.cct_model_wire.specs.Exchange.{after_echo}
 use Rattle.cct_wire.specs.Echo.{echo_place}
 
 ends_at_once : (sent : List ℕ) → echo_place sent [] ≡ 0

@@ -3,9 +3,9 @@ use Rattle.std.proofs.Common.{◌≡◌, ◌↔◌, ap₂, IsSome, ℕ, ◌+◌,
 use Rattle.std.specs.Prelude.{min, IfErr, Result}
 use Rattle.std.proofs.lemmas.Bool.Decides.{nat_tests}
 use Rattle.std.proofs.lemmas.List.{take_all, take_at, take-append-le, take_more, length-take-le, length-append, take-take}
-use Rattle.cct_terms.specs.declared.wire.CheckKind.{CheckKind}
-use Rattle.cct_terms.specs.declared.wire.CheckKind.TheVariants.{Simple, Crc}
-use Rattle.cct_terms.specs.Message.{Message, crc, message}
+use Rattle.cct_model_wire.specs.declared.wire.CheckKind.{CheckKind}
+use Rattle.cct_model_wire.specs.declared.wire.CheckKind.TheVariants.{Simple, Crc}
+use Rattle.cct_model_wire.specs.Message.{Message, crc, message}
 use Rattle.cct_frame.specs.Frame.{before_last, fault_in, run_over}
 use Rattle.cct_frame.specs.declared.reading.FrameFault.{FrameFault}
 use Rattle.cct_frame.specs.declared.reading.FrameView.{FrameView}

@@ -1,10 +1,10 @@
 -- Silence after an echo.
 use Rattle.std.proofs.Common.{◌≡◌, ℕ, List, [], Some, None, refl, ap, ◌∙◌}
 use Rattle.std.specs.Prelude.{option_and_then}
-use Rattle.cct_terms.specs.declared.wire.CheckKind.{CheckKind}
-use Rattle.cct_terms.specs.declared.wire.CheckKind.TheVariants.{Simple, Crc}
-use Rattle.cct_terms.specs.Message.{message}
-use Rattle.cct_terms.specs.Exchange.{after_echo}
+use Rattle.cct_model_wire.specs.declared.wire.CheckKind.{CheckKind}
+use Rattle.cct_model_wire.specs.declared.wire.CheckKind.TheVariants.{Simple, Crc}
+use Rattle.cct_model_wire.specs.Message.{message}
+use Rattle.cct_model_wire.specs.Exchange.{after_echo}
 use Rattle.cct_wire.specs.Heard.{message_after}
 
 no_byte : (kind : CheckKind) → message kind [] ≡ None

@@ -1,7 +1,7 @@
 -- A framer and the bytes that came to it since the last gap.
 use Rattle.std.specs.Prelude.{◌≡◌, ℕ, ◌-◌, ◌^◌, nat_le, min, List, length, take, if◌then◌else◌, Option, Some, slice_index}
-use Rattle.cct_terms.specs.declared.wire.CheckKind.{CheckKind}
-use Rattle.cct_terms.specs.declared.wire.TheConstants.{MOST_SENT}
+use Rattle.cct_model_wire.specs.declared.wire.CheckKind.{CheckKind}
+use Rattle.cct_model_wire.specs.declared.wire.TheConstants.{MOST_SENT}
 use Rattle.cct_frame.specs.Frame.{fault_in}
 use Rattle.cct_frame.specs.declared.reading.FrameFault.{FrameFault}
 use Rattle.cct_frame.specs.declared.reading.FrameFault.TheVariants.{Length}

@@ -1,8 +1,8 @@
 -- What the host hears in one exchange: its own echo, and what follows it.
 use Rattle.std.specs.Prelude.{◌≡◌, ⊤, ℕ, List, [], ◌∷◌, Option, Some, None, option_and_then}
-use Rattle.cct_terms.specs.declared.wire.CheckKind.{CheckKind}
-use Rattle.cct_terms.specs.Message.{Message, message}
-use Rattle.cct_terms.specs.Exchange.{after_echo}
+use Rattle.cct_model_wire.specs.declared.wire.CheckKind.{CheckKind}
+use Rattle.cct_model_wire.specs.Message.{Message, message}
+use Rattle.cct_model_wire.specs.Exchange.{after_echo}
 use Rattle.cct_frame.specs.declared.reading.FrameFault.{FrameFault}
 use Rattle.cct_frame.specs.Frame.{message_of, fault_in}
 use Rattle.cct_wire.specs.declared.hearing.Heard.{Heard}

@@ -1,6 +1,6 @@
 //! The echo is taken off what the host heard.
 ghost use Rattle.std.specs.Prelude.{◌≡◌, ◌↔◌, ◌+◌, Some, None, Err, IfOk, IfErr, IsErr, length};
-ghost use Rattle.cct_terms.specs.Exchange.{after_echo};
+ghost use Rattle.cct_model_wire.specs.Exchange.{after_echo};
 ghost use Rattle.cct_wire.specs.Echo.{echo_place};
 
 use thiserror::Error;

@@ -2,7 +2,7 @@
 ghost use Rattle.std.specs.Prelude.{◌≤◌, ℕ, List, length};
 
 use arrayvec::ArrayVec;
-use cct_terms::{MOST_HEARD, MOST_SENT};
+use cct_model_wire::{MOST_HEARD, MOST_SENT};
 
 /// The wire with whatever is at its other end.
 pub trait Link {

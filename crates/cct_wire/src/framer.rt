@@ -1,12 +1,12 @@
 //! A message whose bytes come one by one.
 ghost use Rattle.std.specs.Prelude.{◌≡◌, ◌↔◌, ◌+◌, ◌-◌, ◌<◌, ◌≤◌, ℕ, true, List, [], ◌∷◌, ◌++◌, None, Some, IfErr, IfOk, IsSome, OnErr, length, slice_range, take};
-ghost use Rattle.cct_terms.specs.declared.wire.CheckKind.{CheckKind};
-ghost use Rattle.cct_terms.specs.declared.wire.TheConstants.{MOST_SENT};
-ghost use Rattle.cct_terms.specs.Message.{message};
+ghost use Rattle.cct_model_wire.specs.declared.wire.CheckKind.{CheckKind};
+ghost use Rattle.cct_model_wire.specs.declared.wire.TheConstants.{MOST_SENT};
+ghost use Rattle.cct_model_wire.specs.Message.{message};
 ghost use Rattle.cct_frame.specs.Frame.{before_last, message_of, run_over};
 
 use cct_frame::{FrameFault, FrameView, check_step, read_checked};
-use cct_terms::{CheckKind, MOST_SENT};
+use cct_model_wire::{CheckKind, MOST_SENT};
 
 /// What the bytes since the last gap are, with the one that was fed.
 #[derive(Clone, Copy, Debug, PartialEq, Eq)]

@@ -1,13 +1,13 @@
 //! What the host makes of what it heard.
 ghost use Rattle.std.specs.Prelude.{◌≡◌, ◌↔◌, ◌+◌, [], Some, None, length};
-ghost use Rattle.cct_terms.specs.Exchange.{after_echo};
+ghost use Rattle.cct_model_wire.specs.Exchange.{after_echo};
 ghost use Rattle.cct_frame.specs.declared.reading.FrameFault.{FrameFault};
 ghost use Rattle.cct_wire.specs.Echo.{echo_place};
 ghost use Rattle.cct_wire.specs.Heard.{BodyLiesAt, Tells, fault_after, message_after, message_in};
 
 use crate::echo::{EchoBad, bare_after_echo};
 use cct_frame::{FrameFault, FrameView, read};
-use cct_terms::CheckKind;
+use cct_model_wire::CheckKind;
 
 /// What the host hears in one exchange.
 #[derive(Clone, Copy, Debug, PartialEq, Eq)]

@@ -1,6 +1,6 @@
 //! What holds of every echo.
 ghost use Rattle.std.specs.Prelude.{◌≡◌, ◌↔◌, ◌<◌, List, ℕ, Some, None, ◌++◌, length};
-ghost use Rattle.cct_terms.specs.Exchange.{after_echo};
+ghost use Rattle.cct_model_wire.specs.Exchange.{after_echo};
 ghost use Rattle.cct_wire.specs.Echo.{echo_place};
 
 /// What follows a whole echo is all that is heard after it, and an echo is damaged exactly where its first damaged

@@ -23,7 +23,7 @@ use Rattle.cct_host.specs.Host as hosts
 use Rattle.cct_host.specs.Place.{Place, device, lines_at, sales, scans}
 use Rattle.cct_host.proofs.Lines.{IsQuiet}
 use Rattle.cct_host.proofs.Quiet.{host_quiet}
-use Rattle.cct_change.specs.Serving.{Asks, Ends, change_told, entries_by}
+use Rattle.cct_host_change.specs.Serving.{Asks, Ends, change_told, entries_by}
 use Rattle.cct_world.specs.declared.machine.Machine.{Machine}
 use Rattle.cct_world.specs.Machine.{Pays, PlaysUndisturbed, capacity_in, desk_of, setup_of}
 use Rattle.cct_world.specs.Restarts.{kept_in}

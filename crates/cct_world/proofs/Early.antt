@@ -9,8 +9,8 @@ use Rattle.cct_model.specs.lines.entry.Entry.{Entry}
 use Rattle.cct_model.specs.AtDesk.{EntriesAtDesk, LeavesDesk}
 use Rattle.cct_model.specs.Change.{Desk, clear_desk, desk_after}
 use Rattle.cct_model.specs.Transcript.{onto}
-use Rattle.cct_laws.proofs.Desks.{leaves_more}
-use Rattle.cct_laws.proofs.Onto.{transcript_on}
+use Rattle.cct_laws.proofs.steps.AtTheDesk.{leaves_more}
+use Rattle.cct_laws.proofs.steps.OneMore.{transcript_on}
 use Rattle.cct_world.specs.Early.{LegalBeforeLoss}
 use Rattle.cct_world.specs.Step.{crashes, crashes_of}
 use Rattle.cct_world.specs.Relying.{First, IsCrash, losses_in}

@@ -31,7 +31,7 @@ use Rattle.cct_bus.specs.declared.outcome.Outcome.TheVariants as outcome
 use Rattle.cct_bus.specs.Bus as wires
 use Rattle.cct_bus.specs.Outcome.{becomes, of_effect, of_inserted}
 use Rattle.cct_disk.specs.declared.disk.Disk.{Ghosts}
-use Rattle.cct_laws.proofs.OnWire.{on_wire}
+use Rattle.cct_laws.proofs.wire.ForgedEntriesLast.{on_wire}
 use Rattle.cct_host.specs.declared.host.Host.{Host}
 use Rattle.cct_host.specs.Attempt.{Attempt, HeardBy, news_of}
 use Rattle.cct_host.specs.Host as hosts

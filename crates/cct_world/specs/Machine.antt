@@ -12,7 +12,7 @@ use Rattle.cct_model.specs.Legal.{due_at}
 use Rattle.cct_model.specs.Records.{records}
 use Rattle.cct_model.specs.declared.change.Payment.{Payment}
 use Rattle.cct_model.specs.declared.change.Session.{Session}
-use Rattle.cct_change.specs.Serving.{entries_by}
+use Rattle.cct_host_change.specs.Serving.{entries_by}
 use Rattle.cct_edge.specs.Faults.{Caused, Rose}
 use Rattle.cct_disk.specs.declared.disk.Disk.{Ghosts}
 use Rattle.cct_disk.specs.Disk.{IsTrusted}

@@ -8,8 +8,8 @@ use Rattle.cct_model.specs.lines.entry.Entry.{Entry}
 use Rattle.cct_model.specs.lines.entry.Entry.TheVariants as entry
 use Rattle.cct_bus.specs.declared.outcome.Outcome.{Outcome}
 use Rattle.cct_bus.specs.declared.outcome.Outcome.TheVariants as outcome
-use Rattle.cct_change.specs.declared.desk.Serving.{Serving}
-use Rattle.cct_change.specs.declared.desk.Serving.TheVariants as serving
+use Rattle.cct_host_change.specs.declared.desk.Serving.{Serving}
+use Rattle.cct_host_change.specs.declared.desk.Serving.TheVariants as serving
 use Rattle.cct_edge.specs.Faults.{next_count}
 use Rattle.cct_disk.specs.Disk.{GoesOn, Outlasts}
 use Rattle.cct_journal.specs.Stands.{CutOnce}

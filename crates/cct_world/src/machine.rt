@@ -12,7 +12,7 @@ ghost use Rattle.cct_bus.specs.Bus as wires;
 ghost use Rattle.cct_host.specs.Host as hosts;
 ghost use Rattle.cct_host.specs.Restarting.{restart_news};
 ghost use Rattle.cct_world.specs.Forged.{TellsForged, asked_at, forged_told};
-ghost use Rattle.cct_change.specs.Serving.{change_told};
+ghost use Rattle.cct_host_change.specs.Serving.{change_told};
 ghost use Rattle.cct_world.specs.Step.{crashes_of, entries_told, entry_told, is_next, is_of_desk};
 ghost use Rattle.cct_model.specs.Change.{desk_after};
 ghost use Rattle.std.specs.Option.{option_map};
@@ -20,10 +20,10 @@ ghost use Rattle.std.specs.Option.{option_map};
 use crate::WorldNo;
 use arrayvec::ArrayVec;
 use cct_bus::{Bus, Outcome};
-use cct_change::{Desk, Serving, Shortfall};
 use cct_disk::Disk;
 use cct_edge::Failed;
 use cct_host::{Crashed, Host};
+use cct_host_change::{Desk, Serving, Shortfall};
 use cct_model::{Command, CommandNo, CrashAt, Entry, Happening, Payment, Step, Totals, WireFault};
 
 /// The host, the bus and the desk of a world. They stand in a box, so that a world that is moved costs a pointer.

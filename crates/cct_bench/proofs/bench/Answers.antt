@@ -24,7 +24,7 @@ use Rattle.cct_bench.proofs.CommandLine.{load_said, words_most}
 use Rattle.cct_bench.proofs.UpgradeEnds.{goes_forward, no_memory_upgraded, some_bytes, untouched_moments, upgrade_completes}
 use Rattle.cct_text.proofs.Writing.{wrote_none}
 use Rattle.cct_audit.specs.Writing.{BrokeLines, WritesLines, WroteLines}
-use Rattle.cct_state.specs.Known.{any_disk, of_image}
+use Rattle.cct_bench_state.specs.Known.{any_disk, of_image}
 use Rattle.cct_bench.specs.State.{told_disk}
 use Rattle.cct_bench.proofs.StateEnds.{state_no_memory}
 use Rattle.cct_audit.proofs.Puts.{wrote_none as wrote_no_line}

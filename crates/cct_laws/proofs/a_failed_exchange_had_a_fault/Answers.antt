@@ -1,4 +1,4 @@
-use Rattle.cct_laws.proofs.Faults.{legal_fails, legal_fails_but, legal_echoes}
+use Rattle.cct_laws.proofs.wire.Faults.{legal_fails, legal_fails_but, legal_echoes}
 use Rattle.cct_laws.proofs.a_failed_exchange_had_a_fault.Goals as goal
 
 pub returns : goal.returns

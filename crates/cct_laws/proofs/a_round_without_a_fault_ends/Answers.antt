@@ -1,5 +1,5 @@
 use Rattle.cct_laws.proofs.jobs.Ending.{round_ends}
-use Rattle.cct_laws.proofs.jobs.Moving.{round_moves}
+use Rattle.cct_laws.proofs.jobs.ReadingsMadeAgain.{round_moves}
 use Rattle.cct_laws.proofs.a_round_without_a_fault_ends.Goals as goal
 
 pub returns : goal.returns

@@ -25,9 +25,9 @@ use Rattle.cct_model.specs.Script.{IsCommand}
 use Rattle.cct_laws.specs.DeviceJobs.{is_for_taker, suits}
 use Rattle.cct_laws.specs.Takers.{accepted_of, told_events}
 use Rattle.cct_msg.specs.Forms.{FitsItsBytes}
-use Rattle.cct_laws.proofs.Exchanges.{Answers, Replied}
-use Rattle.cct_laws.proofs.Replies.{start_of, ids_of, acceptor_is, bill_is, taker_is, replied_accepts, replied_credits, replied_mask}
-use Rattle.cct_laws.proofs.CommonReplies.{answers_so, each_answers, reset_replied, also, ident_replied}
+use Rattle.cct_laws.proofs.wire.Exchanges.{Answers, Replied}
+use Rattle.cct_laws.proofs.wire.Replies.{start_of, ids_of, acceptor_is, bill_is, taker_is, replied_accepts, replied_credits, replied_mask}
+use Rattle.cct_laws.proofs.wire.CommonReplies.{answers_so, each_answers, reset_replied, also, ident_replied}
 use Rattle.cct_model.proofs.Requests.{Each}
 use Rattle.cct_model.proofs.Rows.{EachRow, each_asked, Asks}
 use Rattle.cct_model.specs.Rows.{rows_of}

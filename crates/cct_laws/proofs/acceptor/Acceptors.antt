@@ -26,11 +26,11 @@ use Rattle.cct_model.specs.Job.{works, job, sends, puts, ident_requests, Noted, 
 use Rattle.cct_model.specs.Rows.{Then, ends_as, if_quiet, if_posted, new_epoch, reading, epoch_end, TableRow, asks_for, asks_once, waits_for_coins, puts_due, row, rows_of, rest, from, first, done, sent_once, end_of, end_kept, end_by_record}
 use Rattle.cct_model.proofs.Rows.{EachRow, EachBefore, before_on, fact_after, Behind, behind_answer, behind_record, PutEnds, each_told, put_end}
 use Rattle.cct_laws.specs.DeviceJobs.{Fate, unheard, silenced, answered, IsForOthers, is_for_taker, with_ended}
-use Rattle.cct_laws.proofs.EitherKind.{for_taker}
+use Rattle.cct_laws.proofs.steps.EitherKind.{for_taker}
 use Rattle.cct_laws.specs.SinceEpoch.{InEpochAt, AcceptsInEpochs, IsKept}
 use Rattle.cct_model.specs.Claims.{AllPast, mark, base, InOrder, Covers, Pace}
 use Rattle.cct_laws.specs.Moving.{MovedAt, MovesWithCoins, NoStopMovesAt, NoStopMoves}
-use Rattle.cct_laws.proofs.acceptor.World.{World, world, world_of, Tells, Goes, IsUnrouted, after_heard, count_at, closed, on_nothing}
+use Rattle.cct_laws.proofs.acceptor.BesideCoins.{World, world, world_of, Tells, Goes, IsUnrouted, after_heard, count_at, closed, on_nothing}
 use Rattle.cct_laws.proofs.acceptor.Kinds.{goes_routed}
 use Rattle.cct_laws.proofs.acceptor.Fits.{ReadSoFar, read_so_far, Notes, notes_in, IsRunning, running_on, FitsAt, at_on}
 use Rattle.cct_laws.proofs.acceptor.Moves.{StandsWell, Sound, sound_line, near_of, sound_exchange, keeps_ended, Keeps, KeepsAsk, AtRows, IfOther, IsMild, IsNeutral, keeps_accepted, keeps_inhibited, keeps_alien, keeps_reset, keeps_holding, keeps_rejecting, keeps_moved_on, runs_not_idle, keeps_taken, keeps_with_ended, answered_at, answered_over, next_at, mild_unrouted, on_after, on_heard, on_unheard, fits_at, by_fate, request_is, entry_is, IsOtherEnd}

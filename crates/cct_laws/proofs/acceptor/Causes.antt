@@ -17,11 +17,11 @@ use Rattle.cct_model.specs.Transcript.{met, lines_of}
 use Rattle.cct_laws.specs.Ids.{Ids}
 use Rattle.cct_laws.specs.Law.{IsOf}
 use Rattle.cct_laws.specs.SinceEpoch.{since_epoch, HasCause, HasCauseAt, HaveCauses}
-use Rattle.cct_laws.proofs.jobs.Brought.{AtDevice, came, took, halted, idled, made_exchange, made_put, AtWork, Brought, row_after, wire_of, wire_end, record_end}
-use Rattle.cct_laws.proofs.EitherKind.{for_taker}
-use Rattle.cct_laws.proofs.Keeping.{HoldsAt, IsRanged}
+use Rattle.cct_laws.proofs.jobs.StepBrings.{AtDevice, came, took, halted, idled, made_exchange, made_put, AtWork, Brought, row_after, wire_of, wire_end, record_end}
+use Rattle.cct_laws.proofs.steps.EitherKind.{for_taker}
+use Rattle.cct_laws.proofs.steps.EachKeeps.{HoldsAt, IsRanged}
 use Rattle.cct_laws.proofs.acceptor.Masks.{Masks, masks_break}
-use Rattle.cct_laws.proofs.jobs.Seen.{each_aside, each_with_end, loose, Lost, bare, kept_here, kept_elsewhere, seen_here, seen_aside, seen_lost, seen_from}
+use Rattle.cct_laws.proofs.jobs.SeenAtOne.{each_aside, each_with_end, loose, Lost, bare, kept_here, kept_elsewhere, seen_here, seen_aside, seen_lost, seen_from}
 
 -- a record that the device's job puts
 put_caused : (d : DeviceSetup) (past : List Entry) (c : Command) (since : List Line) (r : Record) → IsTaker d.body →

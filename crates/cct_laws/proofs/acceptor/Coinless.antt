@@ -38,12 +38,12 @@ use Rattle.cct_laws.specs.Law.{IsOf, lines_in}
 use Rattle.cct_laws.specs.Scope.{EachHopper}
 use Rattle.cct_laws.specs.Tallying.{AlwaysTallies}
 use Rattle.cct_laws.proofs.acceptor.Acceptors.{put_other}
-use Rattle.cct_laws.proofs.EitherKind.{for_hopper, kind_of}
+use Rattle.cct_laws.proofs.steps.EitherKind.{for_hopper, kind_of}
 use Rattle.cct_laws.proofs.acceptor.Moves.{IfOther, IsOtherEnd, failure_other}
 use Rattle.cct_laws.proofs.acceptor.Posts.{legal_in_order, legal_covers}
 use Rattle.cct_laws.proofs.acceptor.Tallies.{always_tallied}
 use Rattle.cct_model.proofs.Rows.{RowHolds, puts_only, EachRow, answer_end, DueHolds, AnswerEnds, told_only, each_told, each_put}
-use Rattle.cct_laws.proofs.Whole.{kept_hopper_legal}
+use Rattle.cct_laws.proofs.steps.AllKept.{kept_hopper_legal}
 
 -- what holds of the lines of a hopper
 record Coinless (lines : List Line) : Type 0 where

@@ -19,7 +19,7 @@ use Rattle.cct_model.specs.Rows.{if_quiet, new_epoch, reading, epoch_end, TableR
 use Rattle.cct_model.specs.Claims as claims
 use Rattle.cct_model.specs.Claims.{coins, looking, mark, base, fewer, AreNewest, IsNear}
 use Rattle.cct_laws.specs.Moving.{counting}
-use Rattle.cct_laws.proofs.acceptor.World.{World, Shut, Silent, IsLive, Tracks, Goes, On, mask_at, count_from, count_at, tracks_on, closed}
+use Rattle.cct_laws.proofs.acceptor.BesideCoins.{World, Shut, Silent, IsLive, Tracks, Goes, On, mask_at, count_from, count_at, tracks_on, closed}
 
 -- what was read so far, which no object changes: the mark, the base and the epoch; the coins before the last reading of the
 -- credits, before the last look at the mask, before the last reading of the accept counter, and before the one that stands

@@ -16,7 +16,7 @@ use Rattle.cct_model.specs.Line as line
 use Rattle.cct_model.specs.Line.{Line, accepted, inhibited}
 use Rattle.cct_model.specs.Setting.{Setting, accepts_in}
 use Rattle.cct_model.specs.Transcript.{doses, stacked_line}
-use Rattle.cct_laws.proofs.acceptor.World.{World, world_of, Tells, Goes, On, on_coin, on_piece, on_held, on_given_back, on_reset, on_nothing, goes_on_stacked}
+use Rattle.cct_laws.proofs.acceptor.BesideCoins.{World, world_of, Tells, Goes, On, on_coin, on_piece, on_held, on_given_back, on_reset, on_nothing, goes_on_stacked}
 
 -- a coin falls in, or another object
 

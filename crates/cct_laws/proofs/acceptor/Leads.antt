@@ -17,7 +17,7 @@ use Rattle.cct_model.proofs.Requests.{Each}
 use Rattle.cct_model.proofs.Rows.{Behind, EachBefore}
 use Rattle.cct_laws.specs.DeviceJobs.{is_for_taker}
 use Rattle.cct_model.specs.declared.judging.Judged.{Judged}
-use Rattle.cct_laws.proofs.acceptor.World.{World}
+use Rattle.cct_laws.proofs.acceptor.BesideCoins.{World}
 use Rattle.cct_laws.proofs.acceptor.Fits.{ReadSoFar, Notes, FitsAt, AfterReset, AfterCredits, AfterShut, AfterMask, AfterCount, AfterEpoch}
 use Rattle.cct_laws.proofs.acceptor.Moves.{IsOtherEnd, IsNeutral, neutral_if, IsTold, ident_told, told_fits, quiet_fits, reading_counts}
 use Rattle.cct_laws.proofs.acceptor.Rounds.{IsAfterCount, IsAfterReading}

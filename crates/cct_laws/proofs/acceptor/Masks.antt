@@ -26,11 +26,11 @@ use Rattle.cct_model.specs.Order.{order}
 use Rattle.cct_model.specs.Job.{works, job, sends, puts, noted_in, epoch, counted, epoch_by, address_of, judged_in, Noted}
 use Rattle.cct_model.specs.Rows.{ends_as, TableRow, asks_for, asks_once, waits_for_coins, puts_due, row, rest, first}
 use Rattle.cct_model.specs.Script.{IsCommand}
-use Rattle.cct_laws.proofs.EitherKind.{for_taker}
+use Rattle.cct_laws.proofs.steps.EitherKind.{for_taker}
 use Rattle.cct_laws.specs.DeviceJobs.{is_for_taker, Fate, unheard, silenced, answered, IsForOthers, with_ended}
 use Rattle.cct_laws.specs.SinceEpoch.{since_record, mask_set_in, IsMaskedBy, MayBreak, IsKeptSince}
 use Rattle.cct_model.proofs.Rows.{EachBefore}
-use Rattle.cct_laws.proofs.acceptor.World.{World, Silent, IsLive, mask_at, world}
+use Rattle.cct_laws.proofs.acceptor.BesideCoins.{World, Silent, IsLive, mask_at, world}
 use Rattle.cct_laws.proofs.acceptor.Fits.{ReadSoFar, read_so_far, Notes, notes_in, StateOf, IsRunning, FitsAt}
 use Rattle.cct_laws.proofs.acceptor.Moves.{Keeps, fits_at, request_is}
 use Rattle.cct_laws.proofs.acceptor.Acceptors.{left_leads, keeps_kept}

@@ -33,7 +33,7 @@ use Rattle.cct_model.specs.Claims.{AllPast, coins, mark, base, OrderAt, CoverAt,
 use Rattle.cct_laws.specs.Moving.{MovedAt, NoStopMovesAt}
 use Rattle.cct_laws.specs.SinceEpoch.{InEpochAt}
 use Rattle.cct_laws.specs.DeviceJobs.{is_for_taker, Fate, unheard, silenced, answered, with_ended, IsTaken}
-use Rattle.cct_laws.proofs.acceptor.World.{World, world, Shut, Silent, Tells, On, IsUnrouted, after_heard, world_heard, on_reset, on_master, on_path, on_default, on_nothing}
+use Rattle.cct_laws.proofs.acceptor.BesideCoins.{World, world, Shut, Silent, Tells, On, IsUnrouted, after_heard, world_heard, on_reset, on_master, on_path, on_default, on_nothing}
 use Rattle.cct_laws.proofs.acceptor.Kinds.{on_accepted, on_inhibited, on_alien, on_holding, on_rejecting, on_resetting}
 use Rattle.cct_laws.proofs.acceptor.Fits.{ReadSoFar, read_so_far, Notes, notes_in, StateOf, IsIdle, IsRunning, IfOver, ends_epoch, CountsAt, FitsAt, Fits, state_on, at_on, fits_on}
 use Rattle.cct_model.proofs.RowEnds.{failed_stays}

@@ -9,7 +9,7 @@ use Rattle.cct_laws.specs.Scope.{EachTaker}
 use Rattle.cct_laws.specs.SinceEpoch.{AcceptsInEpochs}
 use Rattle.cct_laws.proofs.acceptor.Moves.{Keeps}
 use Rattle.cct_laws.proofs.acceptor.Acceptors.{keeps_kept, kept_in_order, kept_covers, kept_moves, kept_stops, kept_epochs}
-use Rattle.cct_laws.proofs.Whole.{kept_legal}
+use Rattle.cct_laws.proofs.steps.AllKept.{kept_legal}
 
 -- what holds of the lines holds in every legal transcript
 pub legal_keeps : EachTaker (λ d transcript. Keeps d (met d (onto [] transcript)) (lines_in d transcript))

@@ -16,7 +16,7 @@ use Rattle.cct_model.specs.Rows.{Then, ends_as, if_posted, new_epoch, reading, e
 use Rattle.cct_model.specs.Script.{IsCommand}
 use Rattle.cct_model.specs.Order.{order}
 use Rattle.cct_laws.specs.DeviceJobs.{is_for_taker}
-use Rattle.cct_laws.proofs.acceptor.World.{World, Silent, world}
+use Rattle.cct_laws.proofs.acceptor.BesideCoins.{World, Silent, world}
 use Rattle.cct_laws.proofs.acceptor.Fits.{ReadSoFar, read_so_far, Notes, notes_in, PostsAs, BreaksAs, Ready, IsRunning, FitsAt}
 use Rattle.cct_laws.proofs.acceptor.Moves.{Keeps, fits_at, entry_is}
 use Rattle.cct_laws.proofs.acceptor.Acceptors.{left_leads}

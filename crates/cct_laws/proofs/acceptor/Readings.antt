@@ -16,8 +16,8 @@ use Rattle.cct_model.specs.Acceptor.{counter, last_five, no_event}
 use Rattle.cct_model.specs.Job.{judged_by}
 use Rattle.cct_model.specs.Claims.{AreNewest, IsNear, fewer}
 use Rattle.cct_epoch.proofs.Counters.{distance_most, counter_same, counter_zero}
-use Rattle.cct_laws.proofs.acceptor.Newest.{coins_among-append, take_front, posted_newest}
-use Rattle.cct_laws.proofs.acceptor.World.{World, Silent, After, IsLive, Tracks, mask_at, count_from, count_at}
+use Rattle.cct_laws.proofs.acceptor.NewestEvents.{coins_among-append, take_front, posted_newest}
+use Rattle.cct_laws.proofs.acceptor.BesideCoins.{World, Silent, After, IsLive, Tracks, mask_at, count_from, count_at}
 use Rattle.cct_laws.proofs.acceptor.Fits.{ReadSoFar, Notes, StateOf, Runs, IsRunning, Begun, Reads, Counts, HeldIn, Sees, SeesIn, Posts, Breaks, Nears, Ready}
 
 -- what is read of an acceptor

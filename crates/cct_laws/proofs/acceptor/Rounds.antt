@@ -24,14 +24,14 @@ use Rattle.cct_model.specs.Job.{works, job, with_line, epoch, ident_requests, ju
 use Rattle.cct_model.specs.Claims.{coins}
 use Rattle.cct_laws.specs.DeviceJobs.{Fate, with_ended}
 use Rattle.cct_laws.specs.Moving.{counting, IsNoStop}
-use Rattle.cct_laws.proofs.acceptor.World.{World, world, world_heard, Shut, count_from, count_at}
+use Rattle.cct_laws.proofs.acceptor.BesideCoins.{World, world, world_heard, Shut, count_from, count_at}
 use Rattle.cct_laws.proofs.acceptor.Fits.{IsShutSince, read_so_far, Notes, notes_in, Begins, HeldIn, SeesIn, Posts, PostsAs, BreaksAs, Ready, CountsAt, FitsAt, Fits, IfOver, if_over, IsStill, ends_epoch, AfterCredits, AfterMask, AfterCount, AfterReading}
 use Rattle.cct_laws.proofs.acceptor.Moves.{Sound, Keeps, KeepsAsk, AtRows, IsOtherEnd, keeps_ended, keeps_with_ended, answered_at, next_at, by_fate}
 use Rattle.cct_laws.proofs.acceptor.Readings.{credits_at, held_now, sees_now, ready_now}
 use Rattle.cct_laws.proofs.acceptor.Starts.{reading_mild, read_same}
 use Rattle.cct_laws.specs.Takers.{accepted_of}
-use Rattle.cct_laws.proofs.acceptor.Items.{reading_fewer, keeps_clean, keeps_moved, sound_reading, sound_broken}
-use Rattle.cct_laws.proofs.Replies.{start_of, IsReading, judged_as, reading_tells, replied_mask, replied_accepts}
+use Rattle.cct_laws.proofs.acceptor.RecordsKeep.{reading_fewer, keeps_clean, keeps_moved, sound_reading, sound_broken}
+use Rattle.cct_laws.proofs.wire.Replies.{start_of, IsReading, judged_as, reading_tells, replied_mask, replied_accepts}
 use Rattle.cct_model.specs.Rows.{done, Then, if_judged, if_unmoved, if_posted, new_epoch, reading, TableRow, asks_for, puts_due, rows_of, rest, end_by_answer, end_kept, sent_once}
 use Rattle.cct_model.proofs.Rows.{EachRow, each_told, each_after, Behind, behind_answer, put_leaves}
 

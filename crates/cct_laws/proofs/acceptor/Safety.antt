@@ -18,14 +18,14 @@ use Rattle.cct_model.specs.Transcript.{met, onto}
 use Rattle.cct_laws.specs.Law.{lines_in}
 use Rattle.cct_laws.specs.SinceEpoch.{since_epoch_in, mask_set_in, IsMaskedBy, MayBreak, HaveCauses}
 use Rattle.cct_laws.specs.Scope.{EachTaker}
-use Rattle.cct_laws.proofs.acceptor.Newest.{coins_among-append}
+use Rattle.cct_laws.proofs.acceptor.NewestEvents.{coins_among-append}
 use Rattle.cct_laws.proofs.acceptor.Causes.{causes_go_on}
-use Rattle.cct_laws.proofs.Whole.{kept_since_legal, goes_on_legal, ranged_legal}
+use Rattle.cct_laws.proofs.steps.AllKept.{kept_since_legal, goes_on_legal, ranged_legal}
 use Rattle.cct_laws.proofs.acceptor.Fits.{StateOf}
-use Rattle.cct_laws.proofs.acceptor.World.{world}
-use Rattle.cct_laws.proofs.jobs.Brought.{IsAt, job_at}
-use Rattle.cct_laws.proofs.EitherKind.{for_taker}
-use Rattle.cct_laws.proofs.Keeping.{IsRanged}
+use Rattle.cct_laws.proofs.acceptor.BesideCoins.{world}
+use Rattle.cct_laws.proofs.jobs.StepBrings.{IsAt, job_at}
+use Rattle.cct_laws.proofs.steps.EitherKind.{for_taker}
+use Rattle.cct_laws.proofs.steps.EachKeeps.{IsRanged}
 use Rattle.cct_laws.proofs.acceptor.Masks.{MaskedIn, Masks, masks_kept, masks_silent, masks_break}
 
 -- a credit buffer tells no coin where the events tell none

@@ -18,11 +18,11 @@ use Rattle.cct_model.specs.Device.{IsTaker}
 use Rattle.cct_model.specs.Line.{Line, exchange, put}
 use Rattle.cct_model.specs.Job.{works, job, with_line, epoch, judged_in, tries}
 use Rattle.cct_laws.specs.DeviceJobs.{Fate, unheard, silenced, answered, with_ended}
-use Rattle.cct_laws.proofs.acceptor.World.{World, world, Tells, After, Silent, after_heard, world_heard, count_at, with_settings, silent_fresh}
+use Rattle.cct_laws.proofs.acceptor.BesideCoins.{World, world, Tells, After, Silent, after_heard, world_heard, count_at, with_settings, silent_fresh}
 use Rattle.cct_laws.proofs.acceptor.Fits.{ReadSoFar, read_so_far, notes_in, StateOf, IsIdle, Waits, FitsAt, Fits, AfterReset, AfterEpoch}
 use Rattle.cct_laws.proofs.acceptor.Moves.{Sound, Keeps, KeepsAsk, AtRows, IsMild, IsOtherEnd, sound_line, sound_exchange, keeps_ended, keeps_with_ended, on_unheard, answered_at, next_at, by_fate}
-use Rattle.cct_laws.proofs.acceptor.Items.{sound_epoch}
-use Rattle.cct_laws.proofs.Replies.{IsReading, reading_tells}
+use Rattle.cct_laws.proofs.acceptor.RecordsKeep.{sound_epoch}
+use Rattle.cct_laws.proofs.wire.Replies.{IsReading, reading_tells}
 use Rattle.cct_model.specs.Rows.{Then, ends_as, if_quiet, TableRow, asks_for, asks_once, rows_of, rest, end_of, end_failed, sent_once}
 use Rattle.cct_model.proofs.Rows.{Behind, behind_answer, put_leaves}
 use Rattle.cct_model.specs.Request.{header_of}

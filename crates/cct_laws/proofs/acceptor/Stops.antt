@@ -18,10 +18,10 @@ use Rattle.cct_model.specs.Claims.{coins, mark, Near}
 use Rattle.cct_model.specs.Rows.{Then, ends_as, if_posted, reading, epoch_end, TableRow, asks_for, puts_due, from, first, rest, end_kept, sent_once}
 use Rattle.cct_model.proofs.Rows.{Behind, behind_answer}
 use Rattle.cct_laws.specs.DeviceJobs.{Fate, with_ended}
-use Rattle.cct_laws.proofs.acceptor.World.{world, Shut, after_heard, shut_by_master}
+use Rattle.cct_laws.proofs.acceptor.BesideCoins.{world, Shut, after_heard, shut_by_master}
 use Rattle.cct_laws.proofs.acceptor.Fits.{read_so_far, Ready, IsRunning, IfOver, IsStill, ends_epoch, AfterShut}
 use Rattle.cct_laws.proofs.acceptor.Moves.{Sound, Keeps, KeepsAsk, AtRows, IsOtherEnd, keeps_ended, keeps_with_ended, answered_at, next_at, by_fate, entry_is}
-use Rattle.cct_laws.proofs.acceptor.Items.{sound_over}
+use Rattle.cct_laws.proofs.acceptor.RecordsKeep.{sound_over}
 use Rattle.cct_laws.proofs.acceptor.Rounds.{IsAfterReading, posts_put, breaks_put}
 
 -- every coin is inhibited

@@ -1,4 +1,4 @@
-use Rattle.cct_laws.proofs.Honesty.{honest_means, means_honest}
+use Rattle.cct_laws.proofs.wire.HonestFaults.{honest_means, means_honest}
 use Rattle.cct_laws.proofs.an_honest_fault_does_honest_damage.Goals as goal
 
 pub returns : goal.returns

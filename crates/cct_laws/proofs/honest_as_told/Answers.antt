@@ -1,4 +1,4 @@
-use Rattle.cct_laws.proofs.AsTold.{legal_as_told}
+use Rattle.cct_laws.proofs.wire.HonestAsReported.{legal_as_told}
 use Rattle.cct_laws.proofs.honest_as_told.Goals as goal
 
 pub returns : goal.returns

@@ -12,8 +12,8 @@ use Rattle.cct_laws.specs.Ending.{nexts_after, HasNoEnd}
 use Rattle.cct_laws.specs.Faults.{EchoFailsByFault}
 use Rattle.cct_laws.specs.LifeCounts.{FitsLife}
 use Rattle.cct_laws.specs.SinceEpoch.{since_epoch, HasCauseAt}
-use Rattle.cct_laws.proofs.jobs.Waits.{BeginsNone}
-use Rattle.cct_laws.proofs.jobs.Brought.{IsOfDesk, tells_stock, begins_change, keeps_change, serves_none, serves_later, serves_odd, serves_all, serves_short}
+use Rattle.cct_laws.proofs.jobs.AwaitedRecords.{BeginsNone}
+use Rattle.cct_laws.proofs.jobs.StepBrings.{IsOfDesk, tells_stock, begins_change, keeps_change, serves_none, serves_later, serves_odd, serves_all, serves_short}
 
 -- an entry of a step is none of any device, and what is promised of all entries holds of it
 pub record IsApart (s : Step) (e : Entry) : Type 0 where

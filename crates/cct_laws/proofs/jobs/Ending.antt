@@ -39,21 +39,21 @@ use Rattle.cct_laws.specs.Ending.{nexts_after, nexts_at, halts_after, halts_at, 
 use Rattle.cct_laws.specs.Ids.{Ids}
 use Rattle.cct_laws.specs.DeviceJobs.{suits}
 use Rattle.cct_laws.specs.Law.{IsOf}
-use Rattle.cct_laws.proofs.jobs.Asked.{answers_at, refusable}
-use Rattle.cct_laws.proofs.jobs.Brought.{AtDevice, came, took, halted, idled, made_exchange, made_put, AtWork, row_after, wire_of, wire_end, record_end, Brought}
+use Rattle.cct_laws.proofs.jobs.AskedAndAnswered.{answers_at, refusable}
+use Rattle.cct_laws.proofs.jobs.StepBrings.{AtDevice, came, took, halted, idled, made_exchange, made_put, AtWork, row_after, wire_of, wire_end, record_end, Brought}
 use Rattle.cct_model.proofs.Doses.{job_undosed}
-use Rattle.cct_laws.proofs.Exchanges.{Replied, Refused, undisturbed_got, undisturbed_refused}
-use Rattle.cct_laws.proofs.Onto.{grown}
+use Rattle.cct_laws.proofs.wire.Exchanges.{Replied, Refused, undisturbed_got, undisturbed_refused}
+use Rattle.cct_laws.proofs.steps.OneMore.{grown}
 use Rattle.cct_laws.proofs.orders.Ids.{ids_start, put_owned}
 use Rattle.cct_model.proofs.Rows.{waits_before, told_no_waits}
-use Rattle.cct_laws.proofs.jobs.Telling.{Telling, tells, GoesOverForged, over_telling, any_steps}
-use Rattle.cct_laws.proofs.jobs.Seen.{ArePassed, loose, loose_line, Lost, bare, kept_here, kept_elsewhere, seen_here, seen_aside, seen_lost, seen_from, passed_job, lines_wire, lines_put, lines_taken, along_from, ids_told}
+use Rattle.cct_laws.proofs.jobs.EntriesOfStep.{Telling, tells, GoesOverForged, over_telling, any_steps}
+use Rattle.cct_laws.proofs.jobs.SeenAtOne.{ArePassed, loose, loose_line, Lost, bare, kept_here, kept_elsewhere, seen_here, seen_aside, seen_lost, seen_from, passed_job, lines_wire, lines_put, lines_taken, along_from, ids_told}
 use Rattle.cct_laws.proofs.jobs.Tries.{IfEndOf, ends_of_answer, ends_of_put}
 use Rattle.cct_laws.proofs.jobs.LastRows.{few_failed, few_put, few_answered, refused_ends, refused_once}
-use Rattle.cct_laws.proofs.money.Held.{judged_reads}
+use Rattle.cct_laws.proofs.money.RecordsHeld.{judged_reads}
 use Rattle.cct_model.proofs.Tries.{same_request, left_asks}
 use Rattle.cct_model.proofs.RowEnds.{AnswersAs, answers_as, once_ends, once_goes, row_once, rest_asks}
-use Rattle.cct_laws.proofs.Replies.{replied_status, same_reply}
+use Rattle.cct_laws.proofs.wire.Replies.{replied_status, same_reply}
 
 -- a job that is to end within so many `next`: one for each of its rows that aren't done, and one for a halt
 record JobAt (d : DeviceSetup) (c : Command) (nexts : ℕ) (past : List Entry) : Type 0 where

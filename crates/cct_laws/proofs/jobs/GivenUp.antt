@@ -30,7 +30,7 @@ use Rattle.cct_laws.specs.Faults.{IsFaultSet, may_be_refused, FailsByFaultBut, E
 use Rattle.cct_laws.specs.Law.{IsOf, EachEntry}
 use Rattle.cct_laws.specs.Tries.{failed_tries, failed_in, HasThreeTries, ScanTriesAt}
 use Rattle.cct_model.proofs.Doses.{job_undosed}
-use Rattle.cct_laws.proofs.Faults.{legal_fails_but, legal_echoes}
+use Rattle.cct_laws.proofs.wire.Faults.{legal_fails_but, legal_echoes}
 use Rattle.cct_laws.proofs.jobs.Scans.{IsPoll, tries_more, scan_line_is, legal_scans}
 use Rattle.cct_laws.proofs.jobs.Tries.{asks_again, again_in, GivenUpAt, tries_by, legal_given_up}
 use Rattle.cct_model.proofs.Requests.{is_once_header, is_asked_again}

@@ -19,7 +19,7 @@ use Rattle.cct_model.specs.Reply as reply
 use Rattle.cct_model.specs.Job.{sends, puts, Noted, ident_requests, address_of, judged_in, noted_in, tries}
 use Rattle.cct_model.specs.Rows.{ends_as, path_told, if_posted, if_closed, new_epoch, reading, epoch_end, new_order, order_end, sale, TableRow, asks_for, asks_once, waits_for_coins, puts_due, telling, rows_of, after, from, first, row_at, end_by_answer, end_answered, end_failed, end_kept, end_bare, end_of, done, rest, row, sent_once}
 use Rattle.cct_msg.specs.Forms.{form_shown}
-use Rattle.cct_laws.proofs.money.Held.{IsReading, close_row_closes, same_record}
+use Rattle.cct_laws.proofs.money.RecordsHeld.{IsReading, close_row_closes, same_record}
 use Rattle.cct_laws.specs.Ending.{IsEndOf}
 use Rattle.cct_laws.specs.Faults.{may_be_refused}
 use Rattle.cct_model.proofs.Requests.{is_asked_again}

@@ -21,9 +21,9 @@ use Rattle.cct_model.specs.Transcript.{scan_lines, scan_line, onto}
 use Rattle.cct_laws.specs.Ids.{Ids}
 use Rattle.cct_laws.specs.Tries.{HasFewTries, HasThreeTries, ScanTriesAt}
 use Rattle.cct_laws.proofs.jobs.AtDesk.{desk_apart}
-use Rattle.cct_laws.proofs.jobs.Brought.{Brought, of_device, faulted, refused, began_scan, began_sale, nobody, polled, sold, balanced, of_desk, ended_short, lost_power, lost_in_put, lost_in_sale}
-use Rattle.cct_laws.proofs.jobs.Seen.{unscanned, along}
-use Rattle.cct_laws.proofs.jobs.Telling.{any_steps}
+use Rattle.cct_laws.proofs.jobs.StepBrings.{Brought, of_device, faulted, refused, began_scan, began_sale, nobody, polled, sold, balanced, of_desk, ended_short, lost_power, lost_in_put, lost_in_sale}
+use Rattle.cct_laws.proofs.jobs.SeenAtOne.{unscanned, along}
+use Rattle.cct_laws.proofs.jobs.EntriesOfStep.{any_steps}
 
 -- what holds of the lines of address 0 after every step
 pub record Polls (lines : List Line) : Type 0 where

@@ -36,13 +36,13 @@ use Rattle.cct_laws.specs.Ids.{Ids}
 use Rattle.cct_laws.specs.DeviceJobs.{with_ended}
 use Rattle.cct_laws.specs.Law.{IsOf, lines_in}
 use Rattle.cct_laws.specs.Tries.{failed_by, failed_tries, failed_in, TriesAt}
-use Rattle.cct_laws.proofs.jobs.Brought.{Comes, takes_coin, leaves_coin, takes_bill, leaves_bill, leaves_alien, drops_coin, drops_none, jams, jams_none, is_reset, AtDevice, came, took, halted, idled, made_exchange, made_put, Brought, wire_of, wire_end, record_end, begun_at_work}
+use Rattle.cct_laws.proofs.jobs.StepBrings.{Comes, takes_coin, leaves_coin, takes_bill, leaves_bill, leaves_alien, drops_coin, drops_none, jams, jams_none, is_reset, AtDevice, came, took, halted, idled, made_exchange, made_put, Brought, wire_of, wire_end, record_end, begun_at_work}
 use Rattle.cct_model.proofs.Doses.{AreDoses, doses_are, job_undosed}
 use Rattle.cct_laws.proofs.orders.Ids.{put_owned}
-use Rattle.cct_laws.proofs.Setups.{found_in}
+use Rattle.cct_laws.proofs.setups.DeviceAt.{found_in}
 use Rattle.cct_model.proofs.Rows.{IfEnd, RowHolds, EachRow, answer_end, put_end, Asks, AnswerEnds, PutEnds, each_told, each_after, state_holds, but_first, after_next, EachBefore, before_on, fact_after, told_fact}
-use Rattle.cct_laws.proofs.jobs.Telling.{any_steps}
-use Rattle.cct_laws.proofs.jobs.Seen.{ArePassed, loose, loose_line, Lost, bare, kept_here, kept_elsewhere, seen_here, seen_aside, seen_lost, seen_from, along, lines_wire, lines_with_end, lines_put, lines_taken, lines_kept, lines_kept_elsewhere}
+use Rattle.cct_laws.proofs.jobs.EntriesOfStep.{any_steps}
+use Rattle.cct_laws.proofs.jobs.SeenAtOne.{ArePassed, loose, loose_line, Lost, bare, kept_here, kept_elsewhere, seen_here, seen_aside, seen_lost, seen_from, along, lines_wire, lines_with_end, lines_put, lines_taken, lines_kept, lines_kept_elsewhere}
 use Rattle.cct_model.proofs.Requests.{is_asked_again}
 use Rattle.cct_model.proofs.Tries.{tried, IfHeard, fails_as, IsHeardEnd, answers_heard, puts_heard, due_sends, same_request, left_asks, asked_fails}
 use Rattle.cct_model.proofs.RowEnds.{IfOnce, once_sent, failed_stays, once_goes, rest_asks, fails_rest}

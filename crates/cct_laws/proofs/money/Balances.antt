@@ -15,9 +15,9 @@ use Rattle.cct_laws.specs.Law.{EachEntry}
 use Rattle.cct_laws.specs.Scope.{EachTranscript}
 use Rattle.cct_laws.proofs.money.Books.{Books, books_start, books_step, books_forged}
 use Rattle.cct_laws.proofs.jobs.AtDesk.{desk_apart}
-use Rattle.cct_laws.proofs.jobs.Brought.{Comes, takes_coin, leaves_coin, takes_bill, leaves_bill, leaves_alien, drops_coin, drops_none, jams, jams_none, is_reset, AtDevice, came, took, halted, idled, made_exchange, made_put, wire_of, wire_end, record_end, poll_wire, poll_end, Brought, of_device, faulted, refused, began_scan, began_sale, nobody, polled, sold, balanced, of_desk, ended_short, lost_power, lost_in_put, lost_in_sale}
+use Rattle.cct_laws.proofs.jobs.StepBrings.{Comes, takes_coin, leaves_coin, takes_bill, leaves_bill, leaves_alien, drops_coin, drops_none, jams, jams_none, is_reset, AtDevice, came, took, halted, idled, made_exchange, made_put, wire_of, wire_end, record_end, poll_wire, poll_end, Brought, of_device, faulted, refused, began_scan, began_sale, nobody, polled, sold, balanced, of_desk, ended_short, lost_power, lost_in_put, lost_in_sale}
 use Rattle.cct_laws.proofs.money.Journal.{conserved}
-use Rattle.cct_laws.proofs.jobs.Seen.{each_with_end, along}
+use Rattle.cct_laws.proofs.jobs.SeenAtOne.{each_with_end, along}
 
 -- so far each was
 abbrev AllBalanced : Setup → List Entry → Type 0

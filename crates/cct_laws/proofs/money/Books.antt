@@ -26,25 +26,25 @@ use Rattle.cct_model.specs.Script.{IsInRange}
 use Rattle.cct_model.specs.Transcript.{met, lines_of, sale_lines}
 use Rattle.cct_laws.specs.Ids.{Ids}
 use Rattle.cct_laws.specs.Law.{IsOf}
-use Rattle.cct_laws.proofs.money.AllHeld.{holds_restarted, held_restarted, held_kept}
+use Rattle.cct_laws.proofs.money.RecordsHeldByAll.{holds_restarted, held_restarted, held_kept}
 use Rattle.cct_laws.proofs.money.Reserved.{spent_by}
 use Rattle.cct_laws.proofs.jobs.AtDesk.{desk_apart}
-use Rattle.cct_laws.proofs.jobs.Brought.{wire_of, wire_end, record_end, poll_wire, poll_end, AtDevice, came, took, halted, idled, made_exchange, made_put, Selling, Due, from_job, from_sale, Brought, of_device, faulted, refused, began_scan, began_sale, nobody, polled, sold, balanced, of_desk, ended_short, lost_power, lost_in_put, lost_in_sale}
+use Rattle.cct_laws.proofs.jobs.StepBrings.{wire_of, wire_end, record_end, poll_wire, poll_end, AtDevice, came, took, halted, idled, made_exchange, made_put, Selling, Due, from_job, from_sale, Brought, of_device, faulted, refused, began_scan, began_sale, nobody, polled, sold, balanced, of_desk, ended_short, lost_power, lost_in_put, lost_in_sale}
 use Rattle.cct_laws.proofs.money.Covered.{spoken_in, sold_spoken}
-use Rattle.cct_laws.proofs.money.Follow.{Follows, follows_by}
+use Rattle.cct_laws.proofs.money.PutsFollow.{Follows, follows_by}
 use Rattle.cct_laws.proofs.orders.Ids.{ids_start, put_owned}
-use Rattle.cct_laws.proofs.Keeping.{works_at}
+use Rattle.cct_laws.proofs.steps.EachKeeps.{works_at}
 use Rattle.cct_laws.proofs.orders.Orders.{belongs_all}
-use Rattle.cct_laws.proofs.money.Recorded.{restart_frees}
+use Rattle.cct_laws.proofs.money.FromRecordsAlone.{restart_frees}
 use Rattle.cct_laws.proofs.money.Room.{room_for, money_for}
-use Rattle.cct_laws.proofs.jobs.Seen.{not_zero, along_from}
-use Rattle.cct_laws.proofs.Setups.{same_or_other}
+use Rattle.cct_laws.proofs.jobs.SeenAtOne.{not_zero, along_from}
+use Rattle.cct_laws.proofs.setups.DeviceAt.{same_or_other}
 use Rattle.cct_laws.proofs.money.Sums.{sum_grows_each, sum_none, all_found}
-use Rattle.cct_laws.proofs.jobs.Unmoved.{off_host, AreSame, same_lines, came_quiet, same_came, same_taken, same_put, same_end, same_wire, same_elsewhere, records_end}
+use Rattle.cct_laws.proofs.jobs.LeftAlone.{off_host, AreSame, same_lines, came_quiet, same_came, same_taken, same_put, same_end, same_wire, same_elsewhere, records_end}
 use Rattle.cct_laws.proofs.money.Counting.{Counts, counts_moved, counts_sold, counts_same, counts_lost}
-use Rattle.cct_laws.proofs.money.Spending.{moves_taken, moves_halted, moves_asked, moves_put}
-use Rattle.cct_laws.proofs.money.Fitted.{Base, base_start, base_step, due_fits, scan_unsold}
-use Rattle.cct_laws.proofs.money.Freed.{sale_reserves, affords, due_frees}
+use Rattle.cct_laws.proofs.money.BooksChange.{moves_taken, moves_halted, moves_asked, moves_put}
+use Rattle.cct_laws.proofs.money.JobsCanPut.{Base, base_start, base_step, due_fits, scan_unsold}
+use Rattle.cct_laws.proofs.money.NoLongerReserved.{sale_reserves, affords, due_frees}
 
 -- the books: what the records and the sums over them keep, beside what running jobs need; the records and those that are
 -- held are no more than the capacity

@@ -13,12 +13,12 @@ use Rattle.cct_model.specs.Following.{all_follow}
 use Rattle.cct_model.specs.Transcript.{lines_of, sale_lines}
 use Rattle.cct_laws.specs.Law.{IsOf}
 use Rattle.cct_laws.specs.Recorded.{HasNoJob}
-use Rattle.cct_laws.proofs.money.AllHeld.{holds_same, held_moved}
+use Rattle.cct_laws.proofs.money.RecordsHeldByAll.{holds_same, held_moved}
 use Rattle.cct_laws.proofs.money.Reserved.{spoken_both, at_work_moved}
 use Rattle.cct_laws.proofs.money.Covered.{covered_all, spoken_in}
-use Rattle.cct_laws.proofs.money.Recorded.{nothing_at_work}
+use Rattle.cct_laws.proofs.money.FromRecordsAlone.{nothing_at_work}
 use Rattle.cct_laws.proofs.money.Sums.{sum_same_each, all_found}
-use Rattle.cct_laws.proofs.jobs.Unmoved.{AreSame}
+use Rattle.cct_laws.proofs.jobs.LeftAlone.{AreSame}
 
 -- what the records and the sums over them and over the jobs keep
 pub record Counts (capacity : ℕ) (setup : Setup) (past : List Entry) : Type 0 where

@@ -11,7 +11,7 @@ use Rattle.cct_model.specs.Money.{coins_of, amount, posted_in, paid_in, sold_in,
 use Rattle.cct_model.specs.Following.{count_of, follows, all_follow}
 use Rattle.cct_laws.proofs.money.Sums.{sum_none}
 use Rattle.cct_laws.proofs.orders.Orders.{Belongs, belongs_all, OpensAt, opens_at}
-use Rattle.cct_laws.proofs.money.Worth.{HopperAt, hopper_at, owed_kept, owed_opened, owed_closed, closed_worth}
+use Rattle.cct_laws.proofs.money.SumsOfRecords.{HopperAt, hopper_at, owed_kept, owed_opened, owed_closed, closed_worth}
 
 -- what the records reserve, what they say was paid, and the prices of sales
 abbrev pub spoken_in : Setup → List Record → ℕ

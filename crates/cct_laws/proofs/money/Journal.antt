@@ -28,11 +28,11 @@ use Rattle.cct_laws.specs.Balanced.{IsConserved}
 use Rattle.cct_laws.specs.Ids.{Ids}
 use Rattle.cct_laws.specs.Law.{IsOf}
 use Rattle.cct_laws.specs.Scope.{EachTranscript}
-use Rattle.cct_laws.proofs.money.AllHeld.{holds_put}
+use Rattle.cct_laws.proofs.money.RecordsHeldByAll.{holds_put}
 use Rattle.cct_laws.proofs.money.Reserved.{available_both}
 use Rattle.cct_laws.proofs.money.Books.{Books, selling_holds, due_follows, books_legal}
-use Rattle.cct_laws.proofs.jobs.Brought.{row_after, Selling, Due, from_job, from_sale, is_due}
-use Rattle.cct_laws.proofs.money.Freed.{due_frees, allows}
+use Rattle.cct_laws.proofs.jobs.StepBrings.{row_after, Selling, Due, from_job, from_sale, is_due}
+use Rattle.cct_laws.proofs.money.NoLongerReserved.{due_frees, allows}
 use Rattle.cct_laws.proofs.money.Sums.{sum_holds}
 
 -- what is available, reserved, paid and sold is what was posted

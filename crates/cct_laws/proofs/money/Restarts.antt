@@ -14,7 +14,7 @@ use Rattle.cct_laws.specs.Recorded.{HasNoJob}
 use Rattle.cct_laws.specs.Restart.{due_in, calls_in, RestartSuits}
 use Rattle.cct_laws.proofs.money.Books.{Books}
 use Rattle.cct_laws.proofs.money.Journal.{kept_due_follows}
-use Rattle.cct_laws.proofs.money.Recorded.{restart_frees}
+use Rattle.cct_laws.proofs.money.FromRecordsAlone.{restart_frees}
 
 -- the entries of a power cut: nothing was kept, or the record that was due was
 pub data RestartLeaves (setup : Setup) (past : List Entry) (at : Option CrashAt) : List Entry → Type 0 where

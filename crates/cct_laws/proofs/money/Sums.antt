@@ -9,7 +9,7 @@ use Rattle.cct_model.specs.Job.{job}
 use Rattle.cct_model.specs.Money.{sum_over}
 use Rattle.cct_model.specs.Refusal.{running_id, greatest_running}
 use Rattle.cct_model.specs.Transcript.{lines_of}
-use Rattle.cct_laws.proofs.Setups.{same_some}
+use Rattle.cct_laws.proofs.setups.DeviceAt.{same_some}
 
 -- functions that agree have one sum
 pub sum_same : (f g : DeviceSetup → ℕ) (ds : List DeviceSetup) → ((d : DeviceSetup) → f d ≡ g d) →

@@ -16,9 +16,9 @@ use Rattle.cct_model.specs.Device.{IsSound, IsHopper, common_reply, reply_of}
 use Rattle.cct_model.specs.Job.{ident_requests, own_requests}
 use Rattle.cct_msg.proofs.Exchanges.{serial_fits}
 use Rattle.cct_laws.specs.DeviceJobs.{is_for_hopper}
-use Rattle.cct_laws.proofs.Exchanges.{Replied, Answers}
-use Rattle.cct_laws.proofs.Replies.{start_of, hopper_is, replied_status, replied_stop, replied_life}
-use Rattle.cct_laws.proofs.CommonReplies.{answers_so, each_answers, ident_replied}
+use Rattle.cct_laws.proofs.wire.Exchanges.{Replied, Answers}
+use Rattle.cct_laws.proofs.wire.Replies.{start_of, hopper_is, replied_status, replied_stop, replied_life}
+use Rattle.cct_laws.proofs.wire.CommonReplies.{answers_so, each_answers, ident_replied}
 use Rattle.cct_model.proofs.Requests.{Each}
 use Rattle.cct_model.proofs.Rows.{EachRow, each_asked, Asks}
 use Rattle.cct_model.specs.Rows.{settling, rows_of}

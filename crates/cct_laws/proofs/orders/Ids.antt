@@ -34,13 +34,13 @@ use Rattle.cct_model.specs.Paid.{uses, IsFresh}
 use Rattle.cct_laws.specs.Ids.{waiting, waiting_at, waiting_sale, Ids}
 use Rattle.cct_laws.specs.Law.{IsOf}
 use Rattle.cct_laws.specs.Recorded.{HasNoJob}
-use Rattle.cct_laws.proofs.Setups.{same_some, found_in}
+use Rattle.cct_laws.proofs.setups.DeviceAt.{same_some, found_in}
 use Rattle.cct_model.proofs.Rows.{RowHolds, IsOwned, row_owned, after_next, told_no_id}
 use Rattle.cct_laws.proofs.jobs.AtDesk.{desk_apart}
-use Rattle.cct_laws.proofs.jobs.Brought.{Comes, takes_coin, leaves_coin, takes_bill, leaves_bill, leaves_alien, drops_coin, drops_none, jams, jams_none, is_reset, AtWork, row_after, wire_of, wire_end, record_end, poll_wire, poll_end, AtDevice, came, took, halted, idled, made_exchange, made_put, Selling, Brought, of_device, faulted, refused, began_scan, began_sale, nobody, polled, sold, balanced, of_desk, ended_short, lost_power, lost_in_put, lost_in_sale}
-use Rattle.cct_laws.proofs.money.Recorded.{order_recorded, restart_frees}
-use Rattle.cct_laws.proofs.jobs.Waits.{one_id, one_id_of_sale, one_after, here_waits, BeginsNone, device_waits_less, sale_waits_less}
-use Rattle.cct_laws.proofs.orders.Used.{Unused, Grows, same_records, one_more, grows_owned, more_unused}
+use Rattle.cct_laws.proofs.jobs.StepBrings.{Comes, takes_coin, leaves_coin, takes_bill, leaves_bill, leaves_alien, drops_coin, drops_none, jams, jams_none, is_reset, AtWork, row_after, wire_of, wire_end, record_end, poll_wire, poll_end, AtDevice, came, took, halted, idled, made_exchange, made_put, Selling, Brought, of_device, faulted, refused, began_scan, began_sale, nobody, polled, sold, balanced, of_desk, ended_short, lost_power, lost_in_put, lost_in_sale}
+use Rattle.cct_laws.proofs.money.FromRecordsAlone.{order_recorded, restart_frees}
+use Rattle.cct_laws.proofs.jobs.AwaitedRecords.{one_id, one_id_of_sale, one_after, here_waits, BeginsNone, device_waits_less, sale_waits_less}
+use Rattle.cct_laws.proofs.orders.UsedIds.{Unused, Grows, same_records, one_more, grows_owned, more_unused}
 use Rattle.cct_laws.proofs.orders.Opening.{Opens, opens_waits, opened_waits, UsesOwn, row_own}
 use Rattle.cct_laws.proofs.orders.NewIds.{IsNew, payment_new, sale_new}
 

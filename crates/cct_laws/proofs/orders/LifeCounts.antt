@@ -38,14 +38,14 @@ use Rattle.cct_laws.specs.Law.{IsOf, EachEntry}
 use Rattle.cct_laws.specs.LifeCounts.{HasFittingLife, FitsLife}
 use Rattle.cct_laws.specs.Scope.{EachTranscript}
 use Rattle.cct_laws.proofs.jobs.AtDesk.{desk_apart}
-use Rattle.cct_laws.proofs.jobs.Brought.{Comes, takes_coin, leaves_coin, takes_bill, leaves_bill, leaves_alien, drops_coin, drops_none, jams, jams_none, is_reset, AtDevice, came, took, halted, idled, made_exchange, made_put, AtWork, Brought, of_device, faulted, refused, began_scan, began_sale, nobody, polled, sold, balanced, of_desk, ended_short, lost_power, lost_in_put, lost_in_sale, row_after, wire_of, wire_end, record_end, poll_wire, poll_end}
-use Rattle.cct_laws.proofs.EitherKind.{both_hopper, for_taker}
-use Rattle.cct_laws.proofs.Keeping.{IsRanged, ranged_step, kept_step}
+use Rattle.cct_laws.proofs.jobs.StepBrings.{Comes, takes_coin, leaves_coin, takes_bill, leaves_bill, leaves_alien, drops_coin, drops_none, jams, jams_none, is_reset, AtDevice, came, took, halted, idled, made_exchange, made_put, AtWork, Brought, of_device, faulted, refused, began_scan, began_sale, nobody, polled, sold, balanced, of_desk, ended_short, lost_power, lost_in_put, lost_in_sale, row_after, wire_of, wire_end, record_end, poll_wire, poll_end}
+use Rattle.cct_laws.proofs.steps.EitherKind.{both_hopper, for_taker}
+use Rattle.cct_laws.proofs.steps.EachKeeps.{IsRanged, ranged_step, kept_step}
 use Rattle.cct_laws.proofs.orders.Paying.{pays_kept, never_odd}
 use Rattle.cct_laws.proofs.orders.Payouts.{Pays}
 use Rattle.cct_model.proofs.Rows.{IfEnd, RowHolds, JudgedHolds, judged_holds, EachRow, exchange_end, puts_only, AnswerEnds, BareEnds, DueHolds, each_told, told_only, each_put, each_after}
-use Rattle.cct_laws.proofs.jobs.Seen.{along}
-use Rattle.cct_laws.proofs.Whole.{honest_before}
+use Rattle.cct_laws.proofs.jobs.SeenAtOne.{along}
+use Rattle.cct_laws.proofs.steps.AllKept.{honest_before}
 
 -- an end but that one, if there is one
 abbrev IsFitEnd : End → Type 0

@@ -17,8 +17,8 @@ use Rattle.cct_laws.specs.Law.{IsOf}
 use Rattle.cct_laws.proofs.money.Sums.{greatest_holds}
 use Rattle.cct_laws.proofs.jobs.Tests.{tests_pass}
 use Rattle.cct_laws.proofs.orders.Orders.{unused_above}
-use Rattle.cct_laws.proofs.orders.Used.{Unused}
-use Rattle.cct_laws.proofs.jobs.Waits.{OneId, one_id, one_id_of_sale, after_waits}
+use Rattle.cct_laws.proofs.orders.UsedIds.{Unused}
+use Rattle.cct_laws.proofs.jobs.AwaitedRecords.{OneId, one_id, one_id_of_sale, after_waits}
 
 -- no record uses an id, and no job waits with it
 pub record IsNew (setup : Setup) (past : List Entry) (id : ℕ) : Type 0 where

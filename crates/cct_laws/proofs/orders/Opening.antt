@@ -17,7 +17,7 @@ use Rattle.cct_model.specs.Order.{close, life_between}
 use Rattle.cct_model.specs.Job.{credits_read, mask_read, accepts_before, accepts_read, ident_requests, Noted, judged_in, noted_in, address_of}
 use Rattle.cct_model.specs.Rows.{id_ahead, row, Due, TableRow, asks_for, asks_once, waits_for_coins, puts_due, new_order, rows_of, from, rest, left, first, done, sale, new_epoch, reading, epoch_end, order_end, Then}
 use Rattle.cct_model.proofs.Rows.{RowHolds, EachRow, each_told, each_left, JudgedHolds, judged_holds, due_holds, state_holds, DueHolds, but_first}
-use Rattle.cct_laws.proofs.jobs.Waits.{OneId, one_id, one_after}
+use Rattle.cct_laws.proofs.jobs.AwaitedRecords.{OneId, one_id, one_after}
 
 -- the first of these rows is to open an order of so many coins, with this id
 abbrev pub Opens : ℕ → ℕ → List TableRow → Type 0

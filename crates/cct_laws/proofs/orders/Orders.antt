@@ -13,7 +13,7 @@ use Rattle.cct_model.specs.Money.{coins_of, available_in}
 use Rattle.cct_model.specs.Paid.{uses}
 use Rattle.cct_model.specs.Following.{follows, all_follow}
 use Rattle.cct_model.proofs.OpenOrders.{order_next, order_own, order_else}
-use Rattle.cct_laws.proofs.Setups.{same_some}
+use Rattle.cct_laws.proofs.setups.DeviceAt.{same_some}
 
 -- the open order at an address after one record more
 

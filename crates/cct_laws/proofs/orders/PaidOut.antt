@@ -28,15 +28,15 @@ use Rattle.cct_laws.specs.KeptHopper.{IsKeptHopper}
 use Rattle.cct_laws.specs.Law.{lines_in}
 use Rattle.cct_laws.specs.PaidOut.{shows_none, paid_out_by, is_paid_out}
 use Rattle.cct_laws.specs.Scope.{EachHopper}
-use Rattle.cct_laws.proofs.EitherKind.{for_hopper}
+use Rattle.cct_laws.proofs.steps.EitherKind.{for_hopper}
 use Rattle.cct_model.proofs.Rows.{but_first, after_none, after_next, EachBefore, before_on, fact_after, told_fact}
-use Rattle.cct_laws.proofs.Whole.{kept_hopper_legal}
+use Rattle.cct_laws.proofs.steps.AllKept.{kept_hopper_legal}
 use Rattle.cct_model.proofs.Requests.{IsAgain}
 use Rattle.cct_model.proofs.Tries.{due_sends}
 use Rattle.cct_model.proofs.RowEnds.{rest_asks, again_row, stays_again}
 use Rattle.cct_model.specs.declared.judging.EpochState.{EpochState}
 use Rattle.cct_model.specs.declared.judging.OpenOrder.{OpenOrder}
-use Rattle.cct_laws.proofs.Replies.{replied_status}
+use Rattle.cct_laws.proofs.wire.Replies.{replied_status}
 
 -- a request lets no hopper dispense
 abbrev IsNoDispense : Request → Type 0

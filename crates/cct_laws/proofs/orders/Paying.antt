@@ -25,9 +25,9 @@ use Rattle.cct_model.proofs.Hoppers.{remaining_fall, remaining_jam}
 use Rattle.cct_laws.specs.DeviceJobs.{IsForOthers, is_for_hopper}
 use Rattle.cct_laws.specs.LifeCounts.{HasFittingLife}
 use Rattle.cct_laws.specs.KeptHopper.{IsOwed, IsKeptHopper}
-use Rattle.cct_laws.proofs.orders.Owing.{View, StateOf, Falls, state_falls, falls_of_order, IsOpen, FitsJob, fits_falls, FitsLeft, rows_linked, told_needs}
+use Rattle.cct_laws.proofs.orders.OwedCoins.{View, StateOf, Falls, state_falls, falls_of_order, IsOpen, FitsJob, fits_falls, FitsLeft, rows_linked, told_needs}
 use Rattle.cct_laws.proofs.orders.Payouts.{view, Pays, pays_less, less_rest, IsMany, less_heard, sent_fits, put_fits, pays_asks, pays_ended, pays_puts}
-use Rattle.cct_laws.proofs.Replies.{start_of}
+use Rattle.cct_laws.proofs.wire.Replies.{start_of}
 use Rattle.cct_model.proofs.Rows.{after_none}
 
 -- before anything came

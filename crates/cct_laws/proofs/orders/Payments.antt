@@ -20,11 +20,11 @@ use Rattle.cct_laws.specs.Law.{lines_in}
 use Rattle.cct_laws.specs.Scope.{EachHopper}
 use Rattle.cct_laws.proofs.orders.Paying.{pays_kept, pays_paid, rests_unowed, dispense_fresh}
 use Rattle.cct_laws.proofs.orders.Payouts.{Pays}
-use Rattle.cct_laws.proofs.jobs.Seen.{along}
-use Rattle.cct_laws.proofs.jobs.Telling.{any_steps}
-use Rattle.cct_laws.proofs.orders.Growing.{step_grows}
-use Rattle.cct_laws.proofs.orders.Used.{grows_fresh}
-use Rattle.cct_laws.proofs.Whole.{kept_hopper_legal}
+use Rattle.cct_laws.proofs.jobs.SeenAtOne.{along}
+use Rattle.cct_laws.proofs.jobs.EntriesOfStep.{any_steps}
+use Rattle.cct_laws.proofs.orders.OneMoreRecord.{step_grows}
+use Rattle.cct_laws.proofs.orders.UsedIds.{grows_fresh}
+use Rattle.cct_laws.proofs.steps.AllKept.{kept_hopper_legal}
 
 -- no id is used twice, whatever the wire does
 pub legal_fresh : (capacity : ℕ) (setup : Setup) (steps : List Step) (transcript : List Entry) →

@@ -27,11 +27,11 @@ use Rattle.cct_model.specs.Transcript.{dispensed_by, doses}
 use Rattle.cct_model.proofs.Hoppers.{left_heard, remaining_heard, taken_when}
 use Rattle.cct_laws.specs.DeviceJobs.{Fate, unheard, silenced, answered, with_ended}
 use Rattle.cct_model.proofs.Rows.{RowHolds, EachRow, each_after, but_first, after_next}
-use Rattle.cct_laws.proofs.orders.Owing.{View, StateOf, Less, Takes, state_less, IsFresh, state_takes, state_opens, close_is, IsOpen, IsLife, FitsJob, fits_less, FitsLeft, FitsRows, Follows, AreLinked, Needs, needs_less}
+use Rattle.cct_laws.proofs.orders.OwedCoins.{View, StateOf, Less, Takes, state_less, IsFresh, state_takes, state_opens, close_is, IsOpen, IsLife, FitsJob, fits_less, FitsLeft, FitsRows, Follows, AreLinked, Needs, needs_less}
 use Rattle.cct_model.proofs.Requests.{IsAgain}
 use Rattle.cct_model.proofs.Tries.{AsksWell, asks_well, due_sends, same_request}
 use Rattle.cct_model.proofs.RowEnds.{failed_stays, once_goes, row_again, row_once, rest_asks}
-use Rattle.cct_laws.proofs.Replies.{start_of, replied_status, replied_stop, replied_life, same_reply}
+use Rattle.cct_laws.proofs.wire.Replies.{start_of, replied_status, replied_stop, replied_life, same_reply}
 
 -- what is counted of a hopper
 abbrev pub view : DeviceSetup → List Met → List Line → View

@@ -1,4 +1,4 @@
-use Rattle.cct_laws.proofs.money.Recorded.{epoch_recorded, held_recorded, last_recorded, order_recorded, restart_frees, totals_recorded}
+use Rattle.cct_laws.proofs.money.FromRecordsAlone.{epoch_recorded, held_recorded, last_recorded, order_recorded, restart_frees, totals_recorded}
 use Rattle.cct_laws.proofs.money.Restarts.{entries_free}
 use Rattle.cct_laws.proofs.records_tell_what_a_host_needs.Goals as goal
 

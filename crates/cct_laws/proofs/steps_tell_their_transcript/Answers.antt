@@ -1,4 +1,4 @@
-use Rattle.cct_laws.proofs.Alike.{steps_begin, fronts_begin}
+use Rattle.cct_laws.proofs.steps.SameTranscript.{steps_begin, fronts_begin}
 use Rattle.cct_laws.proofs.steps_tell_their_transcript.Goals as goal
 
 pub returns : goal.returns

@@ -22,7 +22,7 @@ use Rattle.cct_model.specs.Hopper.{enabled, Payout, left, paid, unpaid, taken_co
 use Rattle.cct_model.specs.Device.{IsPrinting, IsWord, IsId, IsSoundBody, IsSound, category_of, common_reply, own_reply, reply_of}
 use Rattle.cct_model.specs.Exchange.{asked_of, asks_of, asker, replying, reply_bytes, bare_answer, answer_to, answer, to_all, to_one}
 use Rattle.cct_model.proofs.Hoppers.{payout_adds, register_bits}
-use Rattle.cct_terms.proofs.OfBytes.{Bytes, IfThere, there_then, IsOfBytes, message_bytes}
+use Rattle.cct_model_wire.proofs.OfBytes.{Bytes, IfThere, there_then, IsOfBytes, message_bytes}
 use Rattle.cct_laws.proofs.text.Bytes.{spelled_bytes, asker_fits, FitsRequest, request_fits, to_one_fits, to_all_fits}
 
 -- settings, and what they make of a coin

@@ -13,7 +13,7 @@ use Rattle.cct_model.specs.Request.{requests_with, open_requests, with_header, r
 use Rattle.cct_model.specs.Reply.{Reply}
 use Rattle.cct_model.specs.Reply as reply
 use Rattle.cct_model.specs.Exchange.{after_echo, is_for_host, reply_from, got, asker, to_all, to_one}
-use Rattle.cct_terms.proofs.OfBytes.{Bytes, IfThere, bytes_more, there_then, there_when, rest_bytes, IsOfBytes, message_bytes}
+use Rattle.cct_model_wire.proofs.OfBytes.{Bytes, IfThere, bytes_more, there_then, there_when, rest_bytes, IsOfBytes, message_bytes}
 
 -- the register of a CRC has 16 bits
 xored_fits : (t : Bool) (x : ℕ) → x < 65536 → cond t x (bit_xor x 4129) < 65536

@@ -23,11 +23,11 @@ use Rattle.cct_model.specs.Setup.{IsSoundSetup}
 use Rattle.cct_laws.specs.Law.{HasBytes, AreOfToday}
 use Rattle.cct_laws.specs.Right.{IsRight}
 use Rattle.cct_laws.specs.Scope.{EachTranscript}
-use Rattle.cct_laws.proofs.Desks.{legal_at_desk}
+use Rattle.cct_laws.proofs.steps.AtTheDesk.{legal_at_desk}
 use Rattle.cct_laws.proofs.acceptor.Coinless.{each_in_order, each_covers, each_tallies}
-use Rattle.cct_laws.proofs.AsTold.{legal_as_told}
+use Rattle.cct_laws.proofs.wire.HonestAsReported.{legal_as_told}
 use Rattle.cct_laws.proofs.orders.Payments.{legal_paid, legal_fresh}
-use Rattle.cct_laws.proofs.text.Said.{KeepsSound, IfSaid, IsToday, setup_said, step_said}
+use Rattle.cct_laws.proofs.text.LinesInRange.{KeepsSound, IfSaid, IsToday, setup_said, step_said}
 use Rattle.cct_laws.proofs.text.Texts.{legal_written}
 
 -- a step that a script can have

@@ -29,14 +29,14 @@ use Rattle.cct_text.specs.Written.{IsEnd, IsWritten}
 use Rattle.cct_text.proofs.Whole.{text_is_one}
 use Rattle.cct_laws.specs.Ids.{Ids}
 use Rattle.cct_laws.specs.Law.{IsOf, HasBytes}
-use Rattle.cct_laws.proofs.Onto.{onto_each}
-use Rattle.cct_laws.proofs.Setups.{found_in}
+use Rattle.cct_laws.proofs.steps.OneMore.{onto_each}
+use Rattle.cct_laws.proofs.setups.DeviceAt.{found_in}
 use Rattle.cct_laws.proofs.jobs.AtDesk.{desk_apart}
-use Rattle.cct_laws.proofs.jobs.Brought.{IsOfDesk, tells_stock, begins_change, keeps_change, serves_none, serves_later, serves_odd, serves_all, serves_short, Comes, takes_coin, leaves_coin, takes_bill, leaves_bill, leaves_alien, drops_coin, drops_none, jams, jams_none, is_reset, AtWork, row_after, AtDevice, came, took, halted, idled, made_exchange, made_put, wire_of, wire_end, record_end, poll_wire, poll_end, Brought, of_device, faulted, refused, began_scan, began_sale, nobody, polled, sold, balanced, of_desk, ended_short, lost_power, lost_in_put, lost_in_sale}
-use Rattle.cct_laws.proofs.jobs.Seen.{unscanned, along}
-use Rattle.cct_terms.proofs.OfBytes.{IfThere}
-use Rattle.cct_laws.proofs.Lists.{Fine, IsAsked, fine_begun, row_asked, fine_more, scan_ends}
-use Rattle.cct_laws.proofs.text.Told.{IsTold, AllTold, told_written, heard_bytes, FitsAsk, ask_bytes, poll_fits, FitsJob, job_fits, FitsRow, row_fits, exchange_ends, put_ends}
+use Rattle.cct_laws.proofs.jobs.StepBrings.{IsOfDesk, tells_stock, begins_change, keeps_change, serves_none, serves_later, serves_odd, serves_all, serves_short, Comes, takes_coin, leaves_coin, takes_bill, leaves_bill, leaves_alien, drops_coin, drops_none, jams, jams_none, is_reset, AtWork, row_after, AtDevice, came, took, halted, idled, made_exchange, made_put, wire_of, wire_end, record_end, poll_wire, poll_end, Brought, of_device, faulted, refused, began_scan, began_sale, nobody, polled, sold, balanced, of_desk, ended_short, lost_power, lost_in_put, lost_in_sale}
+use Rattle.cct_laws.proofs.jobs.SeenAtOne.{unscanned, along}
+use Rattle.cct_model_wire.proofs.OfBytes.{IfThere}
+use Rattle.cct_laws.proofs.setups.ScanLists.{Fine, IsAsked, fine_begun, row_asked, fine_more, scan_ends}
+use Rattle.cct_laws.proofs.text.EntriesInRange.{IsTold, AllTold, told_written, heard_bytes, FitsAsk, ask_bytes, poll_fits, FitsJob, job_fits, FitsRow, row_fits, exchange_ends, put_ends}
 
 -- what holds of a past
 abbrev pub FineJob : Job → Type 0

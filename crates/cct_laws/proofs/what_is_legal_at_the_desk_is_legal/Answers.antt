@@ -1,4 +1,4 @@
-use Rattle.cct_laws.proofs.Desks.{at_desk_legal, entries_legal, leaves_legal, legal_at_desk}
+use Rattle.cct_laws.proofs.steps.AtTheDesk.{at_desk_legal, entries_legal, leaves_legal, legal_at_desk}
 use Rattle.cct_laws.proofs.what_is_legal_at_the_desk_is_legal.Goals as goal
 
 pub returns : goal.returns

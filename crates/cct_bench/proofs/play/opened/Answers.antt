@@ -1,6 +1,6 @@
 use Rattle.std.proofs.Common.{sym, ◌∙◌}
 use Rattle.cct_model.specs.Carry.{carry_of}
-use Rattle.cct_carry.proofs.Resumed.{carry_of_none}
+use Rattle.cct_journal_carry.proofs.Resumed.{carry_of_none}
 use Rattle.cct_bench.proofs.play.opened.Goals as goal
 
 pub returns-in-Ok-clause-ready : goal.returns-in-Ok-clause-ready

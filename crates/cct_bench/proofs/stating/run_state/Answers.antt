@@ -2,7 +2,7 @@ use Rattle.std.proofs.Common.{◌≡◌, ◌∙◌, Err, List, Result, ap, sym, 
 use Rattle.cct_edge.specs.Faults.{Rose}
 use Rattle.cct_edge.specs.declared.fault.Failed.{Failed}
 use Rattle.cct_audit.specs.Writing.{WritesLines}
-use Rattle.cct_state.specs.Known.{any_disk, of_image}
+use Rattle.cct_bench_state.specs.Known.{any_disk, of_image}
 use Rattle.cct_bench.specs.State.{told_disk}
 use Rattle.cct_bench.specs.declared.ending.Ending.TheVariants as ending
 use Rattle.cct_bench.proofs.StateEnds.{other_size, script_read, script_stopped, weaker}

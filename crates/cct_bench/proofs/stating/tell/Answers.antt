@@ -1,7 +1,7 @@
 use Rattle.std.proofs.Common.{sym, subst}
 use Rattle.cct_edge.specs.Faults.{Rose}
 use Rattle.cct_audit.specs.Writing.{WritesLines}
-use Rattle.cct_state.specs.Known.{any_disk, of_image}
+use Rattle.cct_bench_state.specs.Known.{any_disk, of_image}
 use Rattle.cct_bench.specs.State.{StateEnds, told_disk}
 use Rattle.cct_bench.proofs.StateEnds.{behind}
 use Rattle.cct_bench.proofs.stating.tell.Goals as goal

@@ -1,7 +1,7 @@
 use Rattle.std.proofs.Common.{◌≡◌, ◌∙◌, subst, sym}
 use Rattle.cct_edge.specs.Faults.{Rose}
 use Rattle.cct_audit.specs.Writing.{WritesLines}
-use Rattle.cct_state.specs.Known.{any_disk, of_image}
+use Rattle.cct_bench_state.specs.Known.{any_disk, of_image}
 use Rattle.cct_bench.specs.State.{StateEnds, told_disk}
 use Rattle.cct_bench.specs.declared.ending.Ending.TheVariants as ending
 use Rattle.cct_bench.proofs.StateEnds.{none_given, stop_ends, weaker}

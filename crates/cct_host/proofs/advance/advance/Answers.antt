@@ -8,7 +8,7 @@ use Rattle.cct_model.specs.Legal.{due_at}
 use Rattle.cct_model.specs.Money.{freed_by, reserved_at_work}
 use Rattle.cct_model.specs.Records.{records}
 use Rattle.cct_disk.specs.Disk.{LeavesOnly}
-use Rattle.cct_carry.specs.Tally as tallies
+use Rattle.cct_journal_carry.specs.Tally as tallies
 use Rattle.cct_journal.specs.Journal as journals
 use Rattle.cct_ledger.specs.Ledger as ledgers
 use Rattle.cct_host.specs.OnDisk.{KeepsRecords, StandsUpTo}

@@ -1,4 +1,4 @@
-use Rattle.cct_carry.specs.Tally.{setup_of}
+use Rattle.cct_journal_carry.specs.Tally.{setup_of}
 use Rattle.cct_host.proofs.Putting.{due_added}
 use Rattle.cct_host.proofs.advance.count.Goals as goal
 

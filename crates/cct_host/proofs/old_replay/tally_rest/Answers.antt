@@ -1,5 +1,5 @@
 use Rattle.std.proofs.Common.{arith, subst, sym, ◌∙◌}
-use Rattle.cct_carry.specs.Tally as tallies
+use Rattle.cct_journal_carry.specs.Tally as tallies
 use Rattle.cct_host.specs.OldTally.{TalliesUpTo}
 use Rattle.cct_host.proofs.OldTallying.{bad_still, err_passed, first_goes, read_on, reads_still, up_goes, up_still}
 use Rattle.cct_host.proofs.Tallying.{went_all}

@@ -1,7 +1,7 @@
 -- The tally went over the first records after those of the carry, and the journal was only read.
 use Rattle.std.proofs.Common.{◌≡◌, List}
 use Rattle.cct_model.specs.lines.record.Record.{Record}
-use Rattle.cct_carry.specs.Tally as tallies
+use Rattle.cct_journal_carry.specs.Tally as tallies
 use Rattle.cct_journal.specs.OldJournal as olds
 use Rattle.cct_journal.specs.OldStands.{OldCounts, OldReadsFrom}
 use Rattle.cct_host.specs.OldTally.{OnlyReadOld, TalliesUpTo}

@@ -2,7 +2,7 @@
 use Rattle.std.proofs.Common.{◌≡◌, List}
 use Rattle.cct_model.specs.lines.record.Record.{Record}
 use Rattle.cct_model.specs.Carry.{Fits}
-use Rattle.cct_carry.specs.Tally as tallies
+use Rattle.cct_journal_carry.specs.Tally as tallies
 use Rattle.cct_journal.specs.Journal as journals
 use Rattle.cct_host.specs.OnDisk.{ReadsRest}
 use Rattle.cct_host.specs.Starting.{OnlyReadIn, TalliesFirst, TalliesSome}

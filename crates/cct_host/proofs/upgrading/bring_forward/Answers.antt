@@ -6,7 +6,7 @@ use Rattle.cct_journal.specs.OldImage.{IsTurning}
 use Rattle.cct_journal.specs.OldJournal as olds
 use Rattle.cct_journal.specs.OldStands.{IsTurned}
 use Rattle.cct_journal.specs.declared.old_place.OldPlace.{OldPlace}
-use Rattle.cct_carry.specs.Tally as tallies
+use Rattle.cct_journal_carry.specs.Tally as tallies
 use Rattle.cct_host.specs.Upgrading.{disk_after}
 use Rattle.cct_host.proofs.Upgrades.{if_ok_all, read_there, turns_leave}
 use Rattle.cct_host.proofs.upgrading.bring_forward.Goals as goal

@@ -1,5 +1,5 @@
 use Rattle.std.proofs.Common.{ℕ, subst, arith, MatchOption}
-use Rattle.cct_lines.specs.declared.carry.Carry.{Carry}
+use Rattle.cct_model_lines.specs.declared.carry.Carry.{Carry}
 use Rattle.cct_journal.specs.Half.{half}
 use Rattle.cct_journal.specs.Start.{Begins}
 use Rattle.cct_journal.proofs.Found.{begins_there}

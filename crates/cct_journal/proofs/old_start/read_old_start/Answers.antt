@@ -1,7 +1,7 @@
 use Rattle.std.proofs.Common.{ℕ, ◌∙◌, sym, subst}
 use Rattle.std.specs.Prelude.{IfNone}
 use Rattle.std.proofs.lemmas.Bool.Decides.{not_from_Decides}
-use Rattle.cct_lines.specs.declared.carry.Carry.{Carry}
+use Rattle.cct_model_lines.specs.declared.carry.Carry.{Carry}
 use Rattle.cct_record.specs.OldCarryBody.{OldSpellsCarry}
 use Rattle.cct_journal.specs.OldImage.{BeginsSecond}
 use Rattle.cct_journal.proofs.OldHeads.{second_fewer, second_no_other, second_none, second_so}

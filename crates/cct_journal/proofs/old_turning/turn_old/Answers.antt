@@ -1,5 +1,5 @@
 use Rattle.std.proofs.Common.{◌+◌, List}
-use Rattle.cct_lines.specs.declared.record.Record.{Record}
+use Rattle.cct_model_lines.specs.declared.record.Record.{Record}
 use Rattle.cct_journal.specs.OldStands.{BeginsEmpty, OldStands}
 use Rattle.cct_journal.specs.Places.{after_turn}
 use Rattle.cct_journal.proofs.Heads.{start_len}

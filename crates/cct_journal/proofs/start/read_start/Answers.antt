@@ -1,7 +1,7 @@
 use Rattle.std.proofs.Common.{ℕ, subst, sym}
 use Rattle.std.specs.Prelude.{IfNone}
 use Rattle.std.proofs.lemmas.Bool.Decides.{not_from_Decides}
-use Rattle.cct_lines.specs.declared.carry.Carry.{Carry}
+use Rattle.cct_model_lines.specs.declared.carry.Carry.{Carry}
 use Rattle.cct_journal.specs.Start.{Begins}
 use Rattle.cct_journal.proofs.Heads.{begins_none, begins_no_other}
 use Rattle.cct_journal.proofs.start.read_start.Goals as goal

@@ -1,4 +1,4 @@
-use Rattle.cct_terms.proofs.Requests.{request_back}
+use Rattle.cct_model_wire.proofs.Requests.{request_back}
 use Rattle.cct_msg.proofs.Exchanges.{asked_back}
 use Rattle.cct_msg.proofs.laws.a_request_is_read_back.Goals as goal
 

@@ -1,4 +1,4 @@
-use Rattle.cct_terms.proofs.Requests.{request_header, request_data, cipher_nine, cipher_any, key_any, rng_any}
+use Rattle.cct_model_wire.proofs.Requests.{request_header, request_data, cipher_nine, cipher_any, key_any, rng_any}
 use Rattle.cct_msg.proofs.laws.what_is_read_is_the_request.Goals as goal
 
 pub returns-clause-header : goal.returns-clause-header

@@ -1,8 +1,8 @@
 use Rattle.std.proofs.Common.{◌≡◌, ℕ, ◌*◌, ◌^◌, ◌≤◌, ◌↔◌, ◌∷◌, [], List, Bool, IsTrue, arith, lit<}
 use Rattle.std.specs.Prelude.{All}
 use Rattle.std.proofs.lemmas.List.Elements.{All-from_recursion}
-use Rattle.cct_lines.specs.Carried.{AreSmall}
-use Rattle.cct_lines.specs.declared.carry.Carry.{Carry}
+use Rattle.cct_model_lines.specs.Carried.{AreSmall}
+use Rattle.cct_model_lines.specs.declared.carry.Carry.{Carry}
 use Rattle.cct_record.proofs.carry_reading.are_small.Goals as goal
 
 -- The eight sums of a carry.

@@ -2,7 +2,7 @@ use Rattle.std.proofs.Common.{arith, subst, sym}
 use Rattle.std.specs.Prelude.{All}
 use Rattle.std.proofs.lemmas.Grind.{common_steps}
 use Rattle.std.proofs.lemmas.List.Elements.{All-push}
-use Rattle.cct_lines.specs.Carried.{EpochFits}
+use Rattle.cct_model_lines.specs.Carried.{EpochFits}
 use Rattle.cct_record.proofs.carry_reading.epochs_at.Goals as goal
 
 pub loop-body-preserved : goal.loop-body-preserved

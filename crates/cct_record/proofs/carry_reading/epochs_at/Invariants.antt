@@ -1,7 +1,7 @@
 -- The epochs of the bodies so far.
 use Rattle.std.proofs.Common.{◌≡◌, length, map, take}
 use Rattle.std.specs.Prelude.{All}
-use Rattle.cct_lines.specs.Carried.{EpochFits}
+use Rattle.cct_model_lines.specs.Carried.{EpochFits}
 use Rattle.cct_record.specs.CarryBody.{epoch_read}
 use Rattle.cct_record.proofs.carry_reading.epochs_at.Given as goal
 

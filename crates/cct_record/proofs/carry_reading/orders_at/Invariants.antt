@@ -1,7 +1,7 @@
 -- The orders of the bodies so far.
 use Rattle.std.proofs.Common.{◌≡◌, length, map, take}
 use Rattle.std.specs.Prelude.{All}
-use Rattle.cct_lines.specs.Carried.{OrderFits}
+use Rattle.cct_model_lines.specs.Carried.{OrderFits}
 use Rattle.cct_record.specs.CarryBody.{order_read}
 use Rattle.cct_record.proofs.carry_reading.orders_at.Given as goal
 

@@ -1,5 +1,5 @@
-use Rattle.cct_lines.specs.declared.setup.SetupLine.TheVariants as says
-use Rattle.cct_lines.specs.Grammar.{added}
+use Rattle.cct_model_lines.specs.declared.setup.SetupLine.TheVariants as says
+use Rattle.cct_model_lines.specs.Grammar.{added}
 use Rattle.cct_script.proofs.Sound.{kept_sound}
 use Rattle.cct_script.proofs.adding.add.Goals as goal
 

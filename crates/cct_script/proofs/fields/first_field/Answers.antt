@@ -1,7 +1,7 @@
 use Rattle.std.proofs.Common.{◌+◌, ◌∷◌, take, sym, ap, ◌∙◌}
 use Rattle.std.specs.List.{slice_split}
 use Rattle.std.proofs.lemmas.List.{take_rest}
-use Rattle.cct_lines.specs.Grammar.{is_space}
+use Rattle.cct_model_lines.specs.Grammar.{is_space}
 use Rattle.cct_script.proofs.Splits.{split_at, split_none}
 use Rattle.cct_script.proofs.fields.first_field.Goals as goal
 

@@ -1,6 +1,6 @@
 -- The setup is sound so far, and the source has served.
 use Rattle.cct_edge.specs.Bytes.{Serves}
-use Rattle.cct_lines.specs.Setup.{IsSoundSetup}
+use Rattle.cct_model_lines.specs.Setup.{IsSoundSetup}
 use Rattle.cct_script.proofs.machine.read_setup.Given as goal
 
 abbrev pub invariant-loop-number : goal.invariant-loop-number

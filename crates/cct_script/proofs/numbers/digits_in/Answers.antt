@@ -1,7 +1,7 @@
 use Rattle.std.proofs.Common.{◌+◌, ◌-◌, ◌*◌, ◌<◌, get_or, drop, sym, ap, ◌∙◌, arith}
 use Rattle.std.specs.Prelude.{option_and_then}
 use Rattle.std.proofs.lemmas.List.{at_drop_more}
-use Rattle.cct_lines.specs.Grammar.{digits_from, within, is_digit}
+use Rattle.cct_model_lines.specs.Grammar.{digits_from, within, is_digit}
 use Rattle.cct_script.proofs.Decimals.{digits_above, and_then_chosen}
 use Rattle.cct_script.proofs.numbers.digits_in.Goals as goal
 

@@ -1,5 +1,5 @@
 use Rattle.std.proofs.Common.{◌≡◌, ◌≤◌, drop}
-use Rattle.cct_lines.specs.Grammar.{digits_from}
+use Rattle.cct_model_lines.specs.Grammar.{digits_from}
 use Rattle.cct_script.proofs.numbers.digits_in.Given as goal
 
 abbrev pub invariant-loop-byte : goal.invariant-loop-byte

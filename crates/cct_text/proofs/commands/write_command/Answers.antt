@@ -1,5 +1,5 @@
 use Rattle.std.proofs.Common.{◌++◌, ◌∷◌, ap, sym, ◌∙◌, codes, rules}
-use Rattle.cct_lines.specs.Text.{command_fields, mask_field, number_text}
+use Rattle.cct_model_lines.specs.Text.{command_fields, mask_field, number_text}
 use Rattle.cct_text.specs.Joined.{each_after}
 use Rattle.cct_text.proofs.Texts.{masked}
 use Rattle.cct_text.proofs.commands.write_command.Goals as goal

@@ -1,5 +1,5 @@
 use Rattle.std.proofs.Common.{◌≡◌, ◌+◌, ◌*◌, ◌≤◌, ◌++◌, length, map, take}
-use Rattle.cct_lines.specs.Text.{number_text}
+use Rattle.cct_model_lines.specs.Text.{number_text}
 use Rattle.cct_text.specs.Joined.{each_after}
 use Rattle.cct_text.proofs.fields.write_numbers.Given as goal
 

@@ -1,5 +1,5 @@
 use Rattle.std.proofs.Common.{◌≡◌, ◌+◌, ◌*◌, ◌≤◌, ◌++◌, length, map, take}
-use Rattle.cct_lines.specs.Text.{coin_text}
+use Rattle.cct_model_lines.specs.Text.{coin_text}
 use Rattle.cct_text.specs.Joined.{each_after}
 use Rattle.cct_text.proofs.records.write_coins.Given as goal
 

@@ -1,5 +1,5 @@
 use Rattle.std.proofs.Common.{◌∙◌, ap, subst, sym}
-use Rattle.cct_terms.specs.Bill.{is_way}
+use Rattle.cct_model_wire.specs.Bill.{is_way}
 use Rattle.cct_bill.specs.Bill.{start_of}
 use Rattle.cct_bill.proofs.Bills.{Routes, held_no_more, returned_holds, stacked_holds}
 use Rattle.cct_bill.proofs.bill.BillAcceptor.route_held.Goals as goal

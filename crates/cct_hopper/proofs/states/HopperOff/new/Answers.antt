@@ -1,5 +1,5 @@
 use Rattle.std.proofs.Common.{[], subst, sym}
-use Rattle.cct_device.specs.Listening.{HeardSince}
+use Rattle.cct_device_core.specs.Listening.{HeardSince}
 use Rattle.cct_hopper.proofs.states.HopperOff.new.Goals as goal
 
 pub returns-clause-gap : goal.returns-clause-gap

@@ -3,7 +3,7 @@ use Rattle.std.proofs.lemmas.List.{length-map}
 use Rattle.cct_model.specs.declared.judging.OpenOrder.{OpenOrder}
 use Rattle.cct_ledger.specs.Orders.{KeepsOrders}
 use Rattle.cct_ledger.proofs.Orders.{keeps_first, first_owed, first_worth}
-use Rattle.cct_carry.proofs.Coins.{values_most}
+use Rattle.cct_journal_carry.proofs.Coins.{values_most}
 use Rattle.cct_ledger.proofs.ledger.Ledger.new.Goals as goal
 
 pub invariant_of-result : goal.invariant_of-result

@@ -1,6 +1,6 @@
 use Rattle.std.proofs.Common.{arith}
 use Rattle.cct_model.specs.Exchange.{device_at}
-use Rattle.cct_carry.proofs.Coins.{coins_most}
+use Rattle.cct_journal_carry.proofs.Coins.{coins_most}
 use Rattle.cct_ledger.proofs.ledger.Ledger.post.Goals as goal
 
 pub overflow_add-self : goal.overflow_add-self

@@ -2,7 +2,7 @@ use Rattle.std.proofs.Common.{ap, refl, ◌∙◌, length, List, Option, arith}
 use Rattle.std.proofs.lemmas.List.{length-map}
 use Rattle.cct_model.specs.declared.judging.OpenOrder.{OpenOrder}
 use Rattle.cct_model.specs.Carry.{owed_by}
-use Rattle.cct_carry.proofs.Coins.{values_most}
+use Rattle.cct_journal_carry.proofs.Coins.{values_most}
 use Rattle.cct_ledger.proofs.OverCarry.{kept_worth, resumed_stands}
 use Rattle.cct_ledger.proofs.ledger.Ledger.resume.Goals as goal
 

@@ -1,7 +1,7 @@
 use Rattle.std.proofs.Common.{◌+◌, length, ap, refl, ◌∙◌}
 use Rattle.std.specs.List.{list_any}
 use Rattle.cct_monitor.specs.Places.{are_apart, has_addr}
-use Rattle.cct_taps.specs.Taps.{tap_of}
+use Rattle.cct_audit_taps.specs.Taps.{tap_of}
 use Rattle.cct_monitor.proofs.Monitors.{tap_stands, tap_told}
 use Rattle.cct_monitor.proofs.Positions.{any_on, apart_on, length_on}
 use Rattle.cct_monitor.proofs.monitor.Monitor.tap.Goals as goal

@@ -1,7 +1,7 @@
 use Rattle.std.proofs.Common.{◌≡◌, ◌++◌, ◌∷◌, length, Some, None, take, ap, sym, ◌∙◌, arith}
 use Rattle.std.specs.List.{position}
 use Rattle.std.proofs.lemmas.List.{length-drop, nil_from_length}
-use Rattle.cct_lines.specs.Script.{is_line_feed}
+use Rattle.cct_model_lines.specs.Script.{is_line_feed}
 use Rattle.cct_script.proofs.Giving.{line_parts}
 use Rattle.cct_script.proofs.Passing.{front_alone, one_line}
 use Rattle.cct_script.proofs.buffer.LineBuffer.drop_line.Goals as goal

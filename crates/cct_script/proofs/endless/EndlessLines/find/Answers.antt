@@ -1,8 +1,8 @@
 use Rattle.std.proofs.Common.{◌≡◌, ◌≤◌, Some, sym, ◌∙◌, arith}
 use Rattle.std.specs.List.{position}
 use Rattle.std.proofs.lemmas.List.{length-take-le}
-use Rattle.cct_lines.specs.declared.entry.TheConstants.{MOST_LINE}
-use Rattle.cct_lines.specs.Script.{is_line_feed}
+use Rattle.cct_model_lines.specs.declared.entry.TheConstants.{MOST_LINE}
+use Rattle.cct_model_lines.specs.Script.{is_line_feed}
 use Rattle.cct_script.proofs.Giving.{line_parts, line_within}
 use Rattle.cct_script.proofs.Passing.{front_alone, gives_end, gives_on, one_line}
 use Rattle.cct_script.proofs.endless.EndlessLines.find.Goals as goal

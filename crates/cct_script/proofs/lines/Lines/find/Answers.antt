@@ -1,7 +1,7 @@
 use Rattle.std.proofs.Common.{◌≡◌, ℕ, ◌≤◌, List, Some, subst, position, sym, ◌∙◌, arith}
 use Rattle.std.proofs.lemmas.List.{length-take-le}
-use Rattle.cct_lines.specs.declared.entry.TheConstants.{MOST_LINE}
-use Rattle.cct_lines.specs.Script.{is_line_feed, most_lines}
+use Rattle.cct_model_lines.specs.declared.entry.TheConstants.{MOST_LINE}
+use Rattle.cct_model_lines.specs.Script.{is_line_feed, most_lines}
 use Rattle.cct_script.specs.Giving.{standing_of}
 use Rattle.cct_script.specs.Taking.{TakesOn}
 use Rattle.cct_script.proofs.Giving.{line_alone, line_parts, line_within, not_empty}

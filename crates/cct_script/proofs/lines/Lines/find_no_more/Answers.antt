@@ -1,7 +1,7 @@
 use Rattle.std.proofs.Common.{◌≤◌, length, [], refl, sym, arith}
 use Rattle.std.proofs.lemmas.List.{append-nil}
 use Rattle.cct_edge.proofs.Chains.{Consumes-nil}
-use Rattle.cct_lines.specs.Script.{most_lines}
+use Rattle.cct_model_lines.specs.Script.{most_lines}
 use Rattle.cct_script.specs.Taking.{no_take}
 use Rattle.cct_script.proofs.Giving.{is_nothing, not_empty}
 use Rattle.cct_script.proofs.Window.{takes-first, until-first}

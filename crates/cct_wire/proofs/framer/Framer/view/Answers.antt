@@ -1,6 +1,6 @@
 use Rattle.std.proofs.Common.{◌≡◌, ◌-◌, ℕ, List, length, subst, Some, None, IfOk, OnErr, arith}
 use Rattle.std.specs.Prelude.{slice_range}
-use Rattle.cct_terms.specs.Message.{message}
+use Rattle.cct_model_wire.specs.Message.{message}
 use Rattle.cct_frame.specs.Frame.{message_of}
 use Rattle.cct_wire.proofs.Framers.{held_whole, fault_held}
 use Rattle.cct_wire.proofs.framer.Framer.view.Goals as goal

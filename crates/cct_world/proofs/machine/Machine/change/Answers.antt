@@ -1,5 +1,5 @@
 use Rattle.std.proofs.Common.{[], ◌∷◌, ◌∙◌, ap, refl, reverse, sym}
-use Rattle.cct_change.specs.Serving.{change_told}
+use Rattle.cct_host_change.specs.Serving.{change_told}
 use Rattle.cct_world.proofs.AtDesk.{change_aside, one_aside, plain_aside}
 use Rattle.cct_world.proofs.machine.Machine.change.Goals as goal
 

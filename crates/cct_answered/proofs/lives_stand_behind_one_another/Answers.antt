@@ -1,5 +1,0 @@
-use Rattle.cct_answered.proofs.Real.{first_whole, next_whole}
-use Rattle.cct_answered.proofs.lives_stand_behind_one_another.Goals as goal
-
-pub returns : goal.returns
-returns c = record { first = first_whole; next = next_whole }

@@ -1,5 +1,0 @@
-use Rattle.cct_answered.proofs.Real.{life_right, world_right}
-use Rattle.cct_answered.proofs.no_coin_is_posted_twice_on_a_real_line.Goals as goal
-
-pub returns : goal.returns
-returns c = record { live = world_right; life = life_right }

@@ -1,6 +1,0 @@
-use Rattle.cct_answered.proofs.Asked.{over_unasked}
-use Rattle.cct_answered.proofs.Surveyed.{question_asked}
-use Rattle.cct_answered.proofs.questions_may_be_left_out_of_a_world.Goals as goal
-
-pub returns : goal.returns
-returns c = record { left_out = over_unasked; asked = question_asked }

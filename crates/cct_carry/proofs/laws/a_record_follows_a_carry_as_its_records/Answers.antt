@@ -1,5 +1,0 @@
-use Rattle.cct_carry.proofs.Follows.{follows_carried}
-use Rattle.cct_carry.proofs.laws.a_record_follows_a_carry_as_its_records.Goals as goal
-
-pub returns : goal.returns
-returns c = follows_carried

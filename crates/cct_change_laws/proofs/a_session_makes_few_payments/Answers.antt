@@ -1,5 +1,0 @@
-use Rattle.cct_change_laws.proofs.Few.{has_tally, makes_few}
-use Rattle.cct_change_laws.proofs.a_session_makes_few_payments.Goals as goal
-
-pub returns : goal.returns
-returns c = record { few = makes_few; tallied = has_tally }

@@ -1,0 +1,24 @@
+-- The images after a write and a sync.
+use Rattle.std.proofs.Common.{rules}
+use Rattle.cct_disk_queue.proofs.Images.{sync_within, write_follows, write_goes_on}
+use Rattle.cct_disk_queue.proofs.queue.QueueDiskDisk.TheImpl.Goals as goal
+
+pub write-tells : goal.write-tells
+write-tells c = record {
+  written = search rules;
+  torn = search rules;
+  images = λ _. write_follows c.args.at c.args.bytes.now c.args.self.now c.new.self.now c.requires c.result c.ensures.written c.ensures.failed;
+  goes_on = write_goes_on c.args.at c.args.bytes.now c.args.self.now c.new.self.now c.requires c.result c.ensures.written c.ensures.failed;
+  time = search rules;
+  cause = c.ensures.cause;
+}
+
+pub sync-tells : goal.sync-tells
+sync-tells c = record {
+  kept = search rules;
+  seen = search rules;
+  images = λ _. sync_within c.args.self.now c.new.self.now c.result c.ensures.synced c.ensures.failed;
+  goes_on = search rules;
+  time = search rules;
+  cause = c.ensures.cause;
+}

@@ -1,6 +1,0 @@
--- Only such questions were asked so far.
-use Rattle.cct_survey.specs.Asking.{Inquires}
-use Rattle.cct_draft.proofs.drafting.draft_coins.Given as goal
-
-abbrev pub invariant-loop-place : goal.invariant-loop-place
-invariant-loop-place g l = (first : _) → Inquires g.L.Link.gives first l.fn.link → Inquires g.L.Link.gives first l.link

@@ -1,5 +1,0 @@
-use Rattle.cct_honest_line.proofs.Living.{new_port}
-use Rattle.cct_honest_line.proofs.a_new_port_is_of_any_line.Goals as goal
-
-pub returns : goal.returns
-returns c start = new_port _ _

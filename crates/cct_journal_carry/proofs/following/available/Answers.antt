@@ -1,0 +1,15 @@
+use Rattle.std.proofs.Common.{ap, arith}
+use Rattle.cct_model.specs.Carry.{owed_by}
+use Rattle.cct_journal_carry.proofs.following.available.Goals as goal
+
+pub owed-requires : goal.owed-requires
+owed-requires c =
+    let same = ap (owed_by c.args.setup.now) c.as_slice.ensures.value in
+    let covered = c.requires in
+    omega arith
+
+pub overflow_sub-result : goal.overflow_sub-result
+overflow_sub-result c =
+    let same = ap (owed_by c.args.setup.now) c.as_slice.ensures.value in
+    let covered = c.requires in
+    omega arith

@@ -1,0 +1,38 @@
+//! What is promised of a program that does what a host asks for that calls nothing.
+#![tactic(auto)]
+
+ghost use Rattle.std.specs.Prelude.{◌≡◌, ℕ, List, [], reverse};
+ghost use Rattle.cct_model.specs.lines.entry.Entry.{Entry};
+ghost use Rattle.cct_model.specs.lines.record.Record.{Record};
+ghost use Rattle.cct_model.specs.Setup.{IsSoundSetup};
+ghost use Rattle.cct_journal.specs.declared.format.TheConstants.{MOST_RECORDS};
+ghost use Rattle.cct_model.specs.Records.{records};
+ghost use Rattle.cct_host.specs.Attempt.{put_of};
+ghost use Rattle.cct_host.specs.Host.{StandsFor, disk_of, setup_of};
+ghost use Rattle.cct_host.specs.OnDisk.{StandsUpTo};
+ghost use Rattle.cct_laws_live.specs.LiveStep.{LiveStep};
+ghost use Rattle.cct_laws_live.specs.Life.{IsLife};
+ghost use Rattle.cct_poll.specs.declared.poll.Poll.{Poll};
+ghost use Rattle.cct_poll.specs.Steps.{Steps};
+ghost use Rattle.cct_disk_queue.specs.Calls.{Since};
+ghost use Rattle.cct_laws_poll.specs.Runs.{Deed, LivesOn, Runs};
+
+/// What is told while a program gives commands, says what it heard, and makes the calls on its part, is what a live host tells
+/// in some steps, whatever is heard: so all that `cct_laws_live` says of one life holds of it. A law: its body is empty.
+pub fn a_run_is_a_life()
+    ensures { (found : List Record) (deeds : List Deed) (steps : List LiveStep) (past : List Entry) (before after : Poll)
+        (told : List Entry) → IsSoundSetup (setup_of before.host)
+        → IsLife MOST_RECORDS (setup_of before.host) found steps past → StandsFor before.host past
+        → Runs deeds before.host after.host told → LivesOn (setup_of before.host) found steps past after.host told }
+{}
+
+/// After a step each image that a part might have had while the calls that it notes were made, in their order, stands for the
+/// records of the past, or for these and the one that the step puts. `make_calls` of `cct_disk_queue` says that a part has no other
+/// (`Since`). A law: its body is empty.
+pub fn a_part_keeps_the_records()
+    ensures { (before after : Poll) (piece heard : List ℕ) (addr : ℕ) (told past : List Entry)
+        (step : Steps piece heard addr before.host after.host told) → (disk_of before.host).calls ≡ []
+        → StandsFor before.host past → (image : List ℕ)
+        → Since (disk_of after.host).base (disk_of after.host).calls 0 image
+        → StandsUpTo (setup_of before.host) (put_of step.what) (reverse (records past)) image }
+{}

@@ -1,5 +1,0 @@
-use Rattle.cct_line_laws.proofs.Serving.{service_right}
-use Rattle.cct_line_laws.proofs.a_service_over_an_honest_line_is_right.Goals as goal
-
-pub returns : goal.returns
-returns c start = service_right _ _ _ _ _ _ _ _ _ _ _

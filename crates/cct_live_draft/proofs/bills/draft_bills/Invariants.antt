@@ -1,0 +1,6 @@
+-- Only such questions were asked so far.
+use Rattle.cct_live_survey.specs.Asking.{Inquires}
+use Rattle.cct_live_draft.proofs.bills.draft_bills.Given as goal
+
+abbrev pub invariant-loop-place : goal.invariant-loop-place
+invariant-loop-place g l = (first : _) → Inquires g.L.Link.gives first l.fn.link → Inquires g.L.Link.gives first l.link

@@ -1,0 +1,94 @@
+//! The value of the coins of a hopper.
+ghost use Rattle.cct_live_survey.specs.Asking.{Inquires};
+
+use crate::lines::{note_hopper, note_several, put_hopper};
+use cct_edge::{Failed, Sink};
+use cct_live_survey::{Room, ValueRequest, value_of};
+use cct_model_lines::CheckKind;
+use cct_text::TextLine;
+use cct_text_worth::value_told;
+use cct_wire::Link;
+
+/// What a hopper tells of the value of its coins.
+#[derive(Clone, Copy, Debug, PartialEq, Eq)]
+enum Worth {
+    /// Each is worth so much, 1 to 1,000,000.
+    Each(u32),
+    /// It has several coins.
+    Several,
+    /// It doesn't tell it.
+    Untold,
+}
+
+/// Writes the line of a hopper, with the value of its coins where it is told.
+pub(crate) fn draft_hopper<L: Link, K: Sink, N: Sink>(
+    kind: CheckKind,
+    addr: u8,
+    serial: u32,
+    link: &mut L,
+    room: &mut Room,
+    line: &mut TextLine,
+    out: &mut K,
+    notes: &mut N,
+) -> Result<(), Failed>
+    ensures inquires { (first : L) → Inquires L.gives first link.old → Inquires L.gives first link.new }
+{
+    match worth_of(kind, addr, link, room) {
+        Worth::Each(value) => put_hopper(kind, addr, serial, value, line, out),
+        Worth::Several => {
+            put_hopper(kind, addr, serial, 0, line, out)?;
+            note_several(addr, line, notes)
+        }
+        Worth::Untold => {
+            put_hopper(kind, addr, serial, 0, line, out)?;
+            note_hopper(addr, line, notes)
+        }
+    }
+}
+
+/// What a hopper tells of the value of its coins: by their identification, else by the value of the first of its coins,
+/// where it has no second one.
+fn worth_of<L: Link>(kind: CheckKind, addr: u8, link: &mut L, room: &mut Room) -> Worth
+    ensures inquires { (first : L) → Inquires L.gives first link.old → Inquires L.gives first link.new }
+{
+    if let Some(value) = told_by_id(kind, addr, link, room) {
+        return Worth::Each(value);
+    }
+    let Some(value) = told_of_coin(kind, addr, 1, link, room) else {
+        return Worth::Untold;
+    };
+    match told_of_coin(kind, addr, 2, link, room) {
+        Some(_) => Worth::Several,
+        None => Worth::Each(value),
+    }
+}
+
+/// The value that the identification of a hopper's coins tells.
+fn told_by_id<L: Link>(kind: CheckKind, addr: u8, link: &mut L, room: &mut Room) -> Option<u32>
+    ensures inquires { (first : L) → Inquires L.gives first link.old → Inquires L.gives first link.new }
+{
+    let told = value_of(link, kind, addr, ValueRequest::HopperCoin, room)?;
+    match *told.as_slice() {
+        [a, b, c, d, e, f] => value_told([a, b, c, d, e, f]),
+        _ => None,
+    }
+}
+
+/// The value of one of a hopper's coins, if it has that one.
+fn told_of_coin<L: Link>(
+    kind: CheckKind,
+    addr: u8,
+    place: u8,
+    link: &mut L,
+    room: &mut Room,
+) -> Option<u32>
+    ensures inquires { (first : L) → Inquires L.gives first link.old → Inquires L.gives first link.new }
+{
+    let told = value_of(link, kind, addr, ValueRequest::HopperValue { place }, room)?;
+    match *told.as_slice() {
+        [_, _, _, _, _, _, low, high] if low != 0 || high != 0 => {
+            Some(u32::from(u16::from_le_bytes([low, high])))
+        }
+        _ => None,
+    }
+}

@@ -1,0 +1,410 @@
+-- What is done for a line, made of its parts.
+use Rattle.std.proofs.Common.{◌≡◌, ◌≤◌, ◌+◌, ◌∙◌, ◌⊎◌, ℕ, zero, suc, List, [], ◌∷◌, ◌++◌, length, Bool, true, false, Ok, Err, ◌==◌, ◌||◌, refl, eqb-true, sym, ap, subst, inl, inr, append_assoc, arith}
+use Rattle.std.specs.List.{All, list_any}
+use Rattle.std.proofs.lemmas.Bool.Decides.{nat_tests}
+use Rattle.std.proofs.lemmas.List.{append-nil}
+use Rattle.std.proofs.lemmas.List.Elements.{All-nil}
+use Rattle.cct_model.specs.terms.device.DeviceSetup.{DeviceSetup}
+use Rattle.cct_model.specs.terms.device.Setup.{Setup}
+use Rattle.cct_model.specs.lines.command.Command.{Command}
+use Rattle.cct_model.specs.lines.entry.Entry.{Entry}
+use Rattle.cct_model.specs.lines.entry.Entry.TheVariants as entry_of
+use Rattle.cct_laws_live.specs.LiveStep.{LiveStep}
+use Rattle.cct_laws_live.specs.LiveStep as live
+use Rattle.cct_script.specs.declared.live.LiveLine.{LiveLine}
+use Rattle.cct_script.specs.declared.live.LiveLine.TheVariants as says
+use Rattle.cct_live_survey.specs.declared.finding.Finding.{Finding}
+use Rattle.cct_live_service.specs.declared.attempts.TheConstants.{MOST_ATTEMPTS}
+use Rattle.cct_live_service.specs.declared.attempts.Until.{Until}
+use Rattle.cct_live_service.specs.declared.attempts.Until.TheVariants as until_of
+use Rattle.cct_live_service.specs.declared.stopping.AtEnd.TheVariants as at_end
+use Rattle.cct_live_service.specs.declared.input.InputLine.TheVariants as input
+use Rattle.cct_live_service.specs.declared.notice.Notice.{Notice}
+use Rattle.cct_live_service.specs.Held.{IsAfter}
+use Rattle.cct_live_service.specs.Doing.{AreAttempts, Does, DoesKnown, DoesLine, DoesLines, FrontOf, GoesOn, IsAttempt, IsAttemptWith, IsLastTry, IsStepOf, MakesAttempts, Many, PlaysLines, ServesLines, ServesOn, Tells, TellsOne, Then, ThenBy, Times, is_known}
+use Rattle.cct_live_service.specs.Ends.{is_end, tells_end}
+use Rattle.cct_live_service.specs.Known.{Knows, Rests}
+use Rattle.cct_live_service.specs.Said.{Said}
+use Rattle.cct_live_service.specs.Told.{Told, as_told, attempt_told, entry, findings_in, notice, notices_told, told_unsent, unheard}
+use Rattle.cct_live_service.proofs.Parts.{front_whole}
+
+-- something once more
+pub times_more : (P : List LiveStep → List Told → Type 0) (n : ℕ) (s1 s2 : List LiveStep) (t1 t2 : List Told) →
+    Times n P s1 t1 → P s2 t2 → Times (suc n) P (s1 ++ s2) (t1 ++ t2)
+times_more P n s1 s2 t1 t2 h k = record {
+  before = s1;
+  after = s2;
+  said = t1;
+  added = t2;
+  steps_are = refl;
+  told_is = refl;
+  first = h;
+  next = k;
+}
+
+pub many_none : (P : List LiveStep → List Told → Type 0) → Many P [] []
+many_none P = (0, (refl, refl))
+
+pub many_one : (P : List LiveStep → List Told → Type 0) (steps : List LiveStep) (told : List Told) → P steps told →
+    Many P steps told
+many_one P steps told h = (1, times_more P 0 [] steps [] told (refl, refl) h)
+
+nothing_after : (P : List LiveStep → List Told → Type 0) (s1 s2 : List LiveStep) (t1 t2 : List Told) → s2 ≡ [] → t2 ≡ [] →
+    P s1 t1 → P (s1 ++ s2) (t1 ++ t2)
+nothing_after P s1 s2 t1 t2 s t h =
+    subst (λ steps. P steps (t1 ++ t2)) (sym (ap (λ more. s1 ++ more) s ∙ append-nil s1))
+    (subst (P s1) (sym (ap (λ more. t1 ++ more) t ∙ append-nil t1)) h)
+
+many_times : (P : List LiveStep → List Told → Type 0) (m : ℕ) (s1 s2 : List LiveStep) (t1 t2 : List Told) →
+    Many P s1 t1 → Times m P s2 t2 → Many P (s1 ++ s2) (t1 ++ t2)
+many_times P zero s1 s2 t1 t2 h k = nothing_after (Many P) s1 s2 t1 t2 k.0 k.1 h
+many_times P (suc m) s1 s2 t1 t2 h k =
+    let r = many_times P m s1 k.before t1 k.said h k.first in (
+      suc r.0,
+      record {
+        before = s1 ++ k.before;
+        after = k.after;
+        said = t1 ++ k.said;
+        added = k.added;
+        steps_are = ap (λ s. s1 ++ s) k.steps_are ∙ sym (append_assoc s1 k.before k.after);
+        told_is = ap (λ t. t1 ++ t) k.told_is ∙ sym (append_assoc t1 k.said k.added);
+        first = r.1;
+        next = k.next;
+      },
+    )
+
+-- many, and many more
+pub many_then : (P : List LiveStep → List Told → Type 0) (s1 s2 : List LiveStep) (t1 t2 : List Told) → Many P s1 t1 →
+    Many P s2 t2 → Many P (s1 ++ s2) (t1 ++ t2)
+many_then P s1 s2 t1 t2 h k = many_times P k.0 s1 s2 t1 t2 h k.1
+
+-- what is one thing is also another
+times_weaker : (P Q : List LiveStep → List Told → Type 0) →
+    ((steps : List LiveStep) (told : List Told) → P steps told → Q steps told) → (n : ℕ) (steps : List LiveStep)
+    (told : List Told) → Times n P steps told → Times n Q steps told
+times_weaker P Q to zero steps told h = h
+times_weaker P Q to (suc n) steps told h = record {
+  before = h.before;
+  after = h.after;
+  said = h.said;
+  added = h.added;
+  steps_are = h.steps_are;
+  told_is = h.told_is;
+  first = times_weaker P Q to n h.before h.said h.first;
+  next = to h.after h.added h.next;
+}
+
+pub many_weaker : (P Q : List LiveStep → List Told → Type 0) →
+    ((steps : List LiveStep) (told : List Told) → P steps told → Q steps told) → (steps : List LiveStep) (told : List Told) →
+    Many P steps told → Many Q steps told
+many_weaker P Q to steps told h = (h.0, times_weaker P Q to h.0 steps told h.1)
+
+-- an attempt that isn't made breaks one off
+pub attempt_broken : (sent : Bool) (entries : List Entry) (addr : ℕ) → FrontOf (IsAttemptWith sent entries addr) [] []
+attempt_broken sent entries addr = record {
+  undone = live.next addr ∷ [];
+  untold = attempt_told sent entries ++ [];
+  whole = (refl, ([], (false, All-nil (IsAfter false entries)), refl));
+}
+
+-- what an attempt tells ends its job where one of its entries does
+notices_go_on : (notices : List Notice) → tells_end (notices_told notices) ≡ false
+notices_go_on [] = refl
+notices_go_on (n ∷ notices) = notices_go_on notices
+
+as_told_end : (entries : List Entry) (notices : List Notice) →
+    tells_end (as_told entries ++ notices_told notices) ≡ list_any is_end entries
+as_told_end [] notices = notices_go_on notices
+as_told_end (e ∷ entries) notices = ap (λ b. is_end e || b) (as_told_end entries notices)
+
+unsent_end : (e : Entry) (told : List Told) → tells_end (told_unsent e (unheard e) ∷ told) ≡ (is_end e || tells_end told)
+unsent_end (entry_of.Wire addr sent []) told = refl
+unsent_end (entry_of.Wire addr sent (byte ∷ heard)) told = refl
+unsent_end e told = refl
+
+attempt_end : (sent : Bool) (entries : List Entry) (notices : List Notice) →
+    tells_end (attempt_told sent entries ++ notices_told notices) ≡ list_any is_end entries
+attempt_end true entries notices = as_told_end entries notices
+attempt_end false [] notices = notices_go_on notices
+attempt_end false (e ∷ entries) notices =
+    unsent_end e (as_told entries ++ notices_told notices) ∙ ap (λ b. is_end e || b) (as_told_end entries notices)
+
+with_end : (sent : Bool) (entries : List Entry) (addr : ℕ) (steps : List LiveStep) (told : List Told) →
+    IsAttemptWith sent entries addr steps told → tells_end told ≡ list_any is_end entries
+with_end sent entries addr steps told h = ap tells_end h.1.2 ∙ attempt_end sent entries h.1.0
+
+-- attempts, none of which is the last one, and one more
+then_one : (P Q : List LiveStep → List Told → Type 0) (s1 s2 : List LiveStep) (t1 t2 : List Told) → P s1 t1 → Q s2 t2 →
+    Then P Q (s1 ++ s2) (t1 ++ t2)
+then_one P Q s1 s2 t1 t2 h k = record {
+  before = s1;
+  after = s2;
+  said = t1;
+  added = t2;
+  steps_are = refl;
+  told_is = refl;
+  first = h;
+  next = k;
+}
+
+pub goes_on_one : (addr made : ℕ) (sent : Bool) (entries : List Entry) → list_any is_end entries ≡ false →
+    (s1 s2 : List LiveStep) (t1 t2 : List Told) → Times made (GoesOn addr) s1 t1 → IsAttemptWith sent entries addr s2 t2 →
+    Times (made + 1) (GoesOn addr) (s1 ++ s2) (t1 ++ t2)
+goes_on_one addr made sent entries on s1 s2 t1 t2 h k =
+    subst (λ n. Times n (GoesOn addr) (s1 ++ s2) (t1 ++ t2)) (one_more made)
+    (times_more (GoesOn addr) made s1 s2 t1 t2 h ((sent, entries, k), with_end sent entries addr s2 t2 k ∙ on))
+  where
+    one_more : (n : ℕ) → suc n ≡ n + 1
+    one_more n = omega arith
+
+last_try : (until : Until) (addr made : ℕ) (steps : List LiveStep) (told : List Told) → IsAttempt addr steps told →
+    (until ≡ until_of.Ended → (tells_end told ≡ true) ⊎ (suc made ≡ MOST_ATTEMPTS)) → IsLastTry until made addr steps told
+last_try until_of.Ended addr made steps told h over = (h, over refl)
+last_try until_of.Failed addr made steps told h over = h
+
+-- and the last one
+pub last_made : (until : Until) (addr made : ℕ) (sent : Bool) (entries : List Entry) → suc made ≤ MOST_ATTEMPTS →
+    (until ≡ until_of.Ended → list_any is_end entries ≡ true) → (s1 s2 : List LiveStep) (t1 t2 : List Told) →
+    Times made (GoesOn addr) s1 t1 → IsAttemptWith sent entries addr s2 t2 →
+    MakesAttempts until addr (s1 ++ s2) (t1 ++ t2)
+last_made until addr made sent entries few over s1 s2 t1 t2 h k = (
+  made,
+  few,
+  then_one (Times made (GoesOn addr)) (IsLastTry until made addr) s1 s2 t1 t2 h
+      (last_try until addr made s2 t2 (sent, entries, k) (λ is. inl (with_end sent entries addr s2 t2 k ∙ over is))),
+)
+
+-- as many as are made
+pub all_made : (until : Until) (addr made : ℕ) → made ≡ MOST_ATTEMPTS → (steps : List LiveStep) (told : List Told) →
+    Times made (GoesOn addr) steps told → MakesAttempts until addr steps told
+all_made until addr zero all steps told h = absurd (some all)
+  where
+    some : 0 ≡ MOST_ATTEMPTS → ⊥
+    some is = omega (arith, is)
+all_made until addr (suc made) all steps told h = (
+  made,
+  few,
+  record {
+    before = h.before;
+    after = h.after;
+    said = h.said;
+    added = h.added;
+    steps_are = h.steps_are;
+    told_is = h.told_is;
+    first = h.first;
+    next = last_try until addr made h.after h.added h.next.0 (λ is. inr all);
+  },
+)
+  where
+    few : suc made ≤ MOST_ATTEMPTS
+    few = omega (arith, all)
+
+-- attempts of which the last one wasn't told to its end
+abbrev pub OneMore : ℕ → ℕ → List LiveStep → List Told → Type 0
+OneMore made addr = Then (Times made (GoesOn addr)) (IsAttempt addr)
+
+pub one_more_made : (made addr : ℕ) (sent : Bool) (entries : List Entry) (s1 s2 : List LiveStep) (t1 t2 : List Told) →
+    Times made (GoesOn addr) s1 t1 → IsAttemptWith sent entries addr s2 t2 → OneMore made addr (s1 ++ s2) (t1 ++ t2)
+one_more_made made addr sent entries s1 s2 t1 t2 h k =
+    then_one (Times made (GoesOn addr)) (IsAttempt addr) s1 s2 t1 t2 h (sent, entries, k)
+
+pub attempts_broken : (until : Until) (addr made : ℕ) → suc made ≤ MOST_ATTEMPTS → (steps : List LiveStep)
+    (told : List Told) → OneMore made addr steps told → FrontOf (MakesAttempts until addr) steps told
+attempts_broken until addr made few steps told h =
+    by_end (tells_end h.added) (suc made == MOST_ATTEMPTS) refl refl
+  where
+    as_last : (until ≡ until_of.Ended → (tells_end h.added ≡ true) ⊎ (suc made ≡ MOST_ATTEMPTS)) →
+        FrontOf (MakesAttempts until addr) steps told
+    as_last over = front_whole (MakesAttempts until addr) steps told (
+      made,
+      few,
+      record {
+        before = h.before;
+        after = h.after;
+        said = h.said;
+        added = h.added;
+        steps_are = h.steps_are;
+        told_is = h.told_is;
+        first = h.first;
+        next = last_try until addr made h.after h.added h.next over;
+      },
+    )
+
+    fewer : (n most : ℕ) → suc n ≤ most → (suc n == most) ≡ false → suc (suc n) ≤ most
+    fewer n most le other = grind (arith, nat_tests, le, other)
+
+    by_end : (ends all : Bool) → tells_end h.added ≡ ends → (suc made == MOST_ATTEMPTS) ≡ all →
+        FrontOf (MakesAttempts until addr) steps told
+    by_end true all ended is = as_last (λ until. inl ended)
+    by_end false true on is = as_last (λ until. inr (eqb-true (suc made) MOST_ATTEMPTS is))
+    by_end false false on is = record {
+      undone = live.next addr ∷ [];
+      untold = attempt_told true (entry_of.Idle addr ∷ []) ++ notices_told [];
+      whole = last_made until addr (suc made) true (entry_of.Idle addr ∷ []) (fewer made MOST_ATTEMPTS few is) (λ is. refl)
+          steps (live.next addr ∷ []) told (attempt_told true (entry_of.Idle addr ∷ []) ++ notices_told [])
+          (record {
+            before = h.before;
+            after = h.after;
+            said = h.said;
+            added = h.added;
+            steps_are = h.steps_are;
+            told_is = h.told_is;
+            first = h.first;
+            next = (h.next, on);
+          })
+          (refl, ([], (false, All-nil (IsAfter false (entry_of.Idle addr ∷ []))), refl));
+    }
+
+-- attempts are attempts
+pub none_made : (addr : ℕ) → AreAttempts addr MOST_ATTEMPTS [] []
+none_made addr = (0, omega arith, (refl, refl))
+
+tried : (until : Until) (addr made : ℕ) (steps : List LiveStep) (told : List Told) → IsLastTry until made addr steps told →
+    IsAttempt addr steps told
+tried until_of.Ended addr made steps told h = h.0
+tried until_of.Failed addr made steps told h = h
+
+pub made_are : (until : Until) (addr : ℕ) (steps : List LiveStep) (told : List Told) → MakesAttempts until addr steps told →
+    AreAttempts addr MOST_ATTEMPTS steps told
+made_are until addr steps told h = (
+  suc h.0,
+  h.1,
+  record {
+    before = h.2.before;
+    after = h.2.after;
+    said = h.2.said;
+    added = h.2.added;
+    steps_are = h.2.steps_are;
+    told_is = h.2.told_is;
+    first = times_weaker (GoesOn addr) (IsAttempt addr) (λ s t k. k.0) h.0 h.2.before h.2.said h.2.first;
+    next = tried until addr h.0 h.2.after h.2.added h.2.next;
+  },
+)
+
+-- an attempt, or attempts, or a command: steps of a kind
+pub attempt_step : (begun : ℕ → Command) (sent : Bool) (entries : List Entry) (addr : ℕ) (steps : List LiveStep)
+    (told : List Told) → IsAttemptWith sent entries addr steps told → Many (IsStepOf begun) steps told
+attempt_step begun sent entries addr steps told h =
+    many_one (IsStepOf begun) steps told (inr (addr, (sent, entries, h)))
+
+pub attempts_steps : (begun : ℕ → Command) (addr most : ℕ) (steps : List LiveStep) (told : List Told) →
+    AreAttempts addr most steps told → Many (IsStepOf begun) steps told
+attempts_steps begun addr most steps told h =
+    (h.0, times_weaker (IsAttempt addr) (IsStepOf begun) (λ s t k. inr (addr, k)) h.0 steps told h.2)
+
+pub command_step : (begun : ℕ → Command) (addr : ℕ) (steps : List LiveStep) (told : List Told) →
+    TellsOne (live.command (begun addr)) steps told → Many (IsStepOf begun) steps told
+command_step begun addr steps told h = many_one (IsStepOf begun) steps told (inl (addr, h))
+
+-- what is done for a line, where more is known
+does_weaker : (A B : Bool → Type 0) → ((rest : Bool) → A rest → B rest) → (devices : List DeviceSetup)
+    (findings : List Finding) (said : LiveLine) (steps : List LiveStep) (told : List Told) →
+    Does A devices findings said steps told → Does B devices findings said steps told
+does_weaker A B to devices findings says.Poll steps told h = record {
+  before = h.before;
+  after = h.after;
+  said = h.said;
+  added = h.added;
+  steps_are = h.steps_are;
+  told_is = h.told_is;
+  first = serves_on h.first;
+  next = h.next;
+}
+  where
+    serves_on : ServesOn A findings h.before h.said → ServesOn B findings h.before h.said
+    serves_on (inl none) = inl (none.0, to true none.1)
+    serves_on (inr some) = inr (some.0, to false some.1)
+does_weaker A B to devices findings (says.Command c) steps told h = h
+does_weaker A B to devices findings (says.Next addr) steps told h = h
+does_weaker A B to devices findings (says.Do addr) steps told h = h
+does_weaker A B to devices findings says.Balance steps told h = h
+does_weaker A B to devices findings says.Status steps told h = h
+does_weaker A B to devices findings (says.Order id) steps told h = h
+does_weaker A B to devices findings (says.Stock addr count) steps told h = h
+does_weaker A B to devices findings (says.Change first amount) steps told h = h
+does_weaker A B to devices findings says.Serve steps told h = h
+does_weaker A B to devices findings says.End steps told h = h
+
+known_weaker : (A B : Bool → Type 0) → ((rest : Bool) → A rest → B rest) → (known : Bool)
+    (devices : List DeviceSetup) (findings : List Finding) (number : ℕ) (said : LiveLine) (steps : List LiveStep)
+    (told : List Told) → DoesKnown A known devices findings number said steps told →
+    DoesKnown B known devices findings number said steps told
+known_weaker A B to true devices findings number said steps told h = does_weaker A B to devices findings said steps told h
+known_weaker A B to false devices findings number said steps told h = h
+
+pub line_weaker : (A B : Bool → Type 0) → ((rest : Bool) → A rest → B rest) → (devices : List DeviceSetup)
+    (findings : List Finding) (number : ℕ) (said : Said) (steps : List LiveStep) (told : List Told) →
+    DoesLine A devices findings number said steps told → DoesLine B devices findings number said steps told
+line_weaker A B to devices findings number (Ok (input.Host said)) steps told h =
+    known_weaker A B to (is_known devices said) devices findings number said steps told h
+line_weaker A B to devices findings number (Ok input.State) steps told h = h
+line_weaker A B to devices findings number (Err why) steps told h = h
+
+-- one thing, and then another one that goes by it
+pub then_by : (P : List LiveStep → List Told → Type 0) (Q : List Told → List LiveStep → List Told → Type 0)
+    (s1 s2 : List LiveStep) (t1 t2 : List Told) → P s1 t1 → Q t1 s2 t2 → ThenBy P Q (s1 ++ s2) (t1 ++ t2)
+then_by P Q s1 s2 t1 t2 h k = record {
+  before = s1;
+  after = s2;
+  said = t1;
+  added = t2;
+  steps_are = refl;
+  told_is = refl;
+  first = h;
+  next = k;
+}
+
+-- lines, and the next one, by what is known and was found up to then
+pub line_then : (knows : Knows) (Rested : Bool → Type 0) (setup : Setup) (findings now : List Finding) (lines : List Said)
+    (number : ℕ) (said : Said) → suc (length lines) ≡ number → (s1 s2 : List LiveStep) (t1 t2 : List Told) →
+    ((rest : Bool) → Rested rest → knows t1 (Rests setup rest)) → DoesLines knows setup findings lines s1 t1 →
+    now ≡ findings ++ findings_in t1 → DoesLine Rested setup.devices now number said s2 t2 →
+    DoesLines knows setup findings (said ∷ lines) (s1 ++ s2) (t1 ++ t2)
+line_then knows Rested setup findings now lines number said is s1 s2 t1 t2 to h found k =
+    then_by (DoesLines knows setup findings lines)
+    (λ told. DoesLine (λ rest. knows told (Rests setup rest)) setup.devices (findings ++ findings_in told)
+    (suc (length lines)) said) s1 s2 t1 t2 h
+    (line_weaker Rested (λ rest. knows t1 (Rests setup rest)) to setup.devices (findings ++ findings_in t1)
+    (suc (length lines)) said s2 t2
+    (subst (λ f. DoesLine Rested setup.devices f (suc (length lines)) said s2 t2) found
+    (subst (λ n. DoesLine Rested setup.devices now n said s2 t2) (sym is) k)))
+
+-- what is told first, and then lines
+pub opening_then : (knows : Knows) (setup : Setup) (opening : Notice) (findings : List Finding) (lines : List Said)
+    (s1 s2 : List LiveStep) (t1 t2 : List Told) → Tells (notice opening) s1 t1 → DoesLines knows setup findings lines s2 t2 →
+    PlaysLines knows setup opening findings lines (s1 ++ s2) (t1 ++ t2)
+opening_then knows setup opening findings lines =
+    then_one (Tells (notice opening)) (DoesLines knows setup findings lines)
+
+-- that alone
+pub opening_alone : (knows : Knows) (setup : Setup) (opening : Notice) (findings : List Finding) (steps : List LiveStep)
+    (told : List Told) → Tells (notice opening) steps told → PlaysLines knows setup opening findings [] steps told
+opening_alone knows setup opening findings steps told h = record {
+  before = steps;
+  after = [];
+  said = told;
+  added = [];
+  steps_are = sym (append-nil steps);
+  told_is = sym (append-nil told);
+  first = h;
+  next = (refl, refl);
+}
+
+-- lines, and nothing at the end
+pub end_none : (knows : Knows) (setup : Setup) (opening : Notice) (findings : List Finding) (lines : List Said)
+    (steps : List LiveStep) (told : List Told) → PlaysLines knows setup opening findings lines steps told →
+    ServesLines knows setup opening findings at_end.Leave lines steps told
+end_none knows setup opening findings lines steps told h = record {
+  before = steps;
+  after = [];
+  said = told;
+  added = [];
+  steps_are = sym (append-nil steps);
+  told_is = sym (append-nil told);
+  first = h;
+  next = (refl, refl);
+}
+
+-- the number of the next line
+pub next_number : (many number : ℕ) → suc many ≡ number → suc (suc many) ≡ number + 1
+next_number many number is = omega (arith, is)

@@ -1,0 +1,172 @@
+-- What is told of what the journal knows.
+use Rattle.std.proofs.Common.{◌≡◌, ◌∙◌, ℕ, List, [], ◌∷◌, ◌++◌, reverse, map, true, false, Option, Some, None, is_some, Result, Ok, Err, refl, sym, ap, ap₂, subst, inl, inr}
+use Rattle.std.specs.Prelude.{MatchResult}
+use Rattle.std.specs.Io.KnownBytes.{Appends}
+use Rattle.std.proofs.lemmas.List.{reverse-append, reverse-reverse}
+use Rattle.std.proofs.lemmas.Option.{same_Some}
+use Rattle.cct_audit.specs.Writing.{WritesLines, bytes_of}
+use Rattle.cct_edge.specs.Bytes.{AppendsFront}
+use Rattle.cct_edge.specs.declared.fault.Failed.{Failed}
+use Rattle.cct_disk.specs.declared.disk.Disk.{Ghosts}
+use Rattle.cct_journal.specs.Image.{HasFrom}
+use Rattle.cct_journal.specs.Journal as journals
+use Rattle.cct_journal.specs.declared.refusal.OpenNo.{OpenNo}
+use Rattle.cct_journal.specs.declared.refusal.OpenNo.TheVariants as opening
+use Rattle.cct_text.specs.Writing.{Puts}
+use Rattle.cct_journal.proofs.Opens.{one_from}
+use Rattle.cct_model.specs.terms.device.Setup.{Setup}
+use Rattle.cct_model.specs.lines.carry.Carry.{Carry}
+use Rattle.cct_model.specs.lines.entry.Entry.{Entry}
+use Rattle.cct_model.specs.lines.record.Record.{Record}
+use Rattle.cct_model.specs.Carry.{carry}
+use Rattle.cct_model.specs.Records.{records}
+use Rattle.cct_host.specs.declared.host.Host.{Host}
+use Rattle.cct_host.specs.Host.{disk_of, setup_of}
+use Rattle.cct_bench_state.specs.Books.{state_lines}
+use Rattle.cct_bench_state.specs.Known.{any_disk, of_image}
+use Rattle.cct_bench_state.specs.Telling.{Tells}
+use Rattle.cct_bench_state.specs.declared.telling.StateEnd.{StateEnd}
+use Rattle.cct_bench_state.specs.declared.telling.StateEnd.TheVariants as telling
+use Rattle.cct_laws_live.specs.LiveStep.{LiveStep}
+use Rattle.cct_live_service.specs.Doing.{IsStating}
+use Rattle.cct_live_service.specs.AtDesk.{IsApart}
+use Rattle.cct_live_service.specs.Linked.{AreQuiet}
+use Rattle.cct_live_service.specs.Reported.{AreSoWhere}
+use Rattle.cct_live_service.specs.Stated.{IsStateFor, IsStateOf}
+use Rattle.cct_live_service.specs.Told.{Told, WritesTold, findings_in, knows_each, news_of, told_line, told_text}
+
+-- it is no news of the host, and no finding
+pub news_known : (all lines : List (List ℕ)) → news_of (knows_each all lines) ≡ []
+news_known all [] = refl
+news_known all (line ∷ lines) = news_known all lines
+
+pub found_known : (all lines : List (List ℕ)) → findings_in (knows_each all lines) ≡ []
+found_known all [] = refl
+found_known all (line ∷ lines) = found_known all lines
+
+pub stating_finds : (steps : List LiveStep) (told : List Told) → IsStating steps told → findings_in told ≡ []
+stating_finds steps told (none, inl known) = ap findings_in known.1 ∙ found_known known.0 known.0
+stating_finds steps told (none, inr unread) = ap findings_in unread
+
+-- nothing goes over the link, and the desk is left as it is
+pub quiet_known : (all lines : List (List ℕ)) → AreQuiet (knows_each all lines)
+quiet_known all [] = refl
+quiet_known all (line ∷ lines) = quiet_known all lines
+
+pub apart_known : (all lines : List (List ℕ)) → IsApart (knows_each all lines)
+apart_known all [] desk = refl
+apart_known all (line ∷ lines) desk = apart_known all lines desk
+
+-- each line is of all of them
+pub so_known : (T : Type 0) (setup : Setup) (past : List Entry) (all lines : List (List ℕ)) →
+    (T → IsStateOf setup (records past) all) → AreSoWhere T setup past (knows_each all lines)
+so_known T setup past all [] is = tt
+so_known T setup past all (line ∷ lines) is = (is, so_known T setup past all lines is)
+
+-- lines that were written are told
+lines_known : (all lines : List (List ℕ)) → map told_line (knows_each all lines) ≡ lines
+lines_known all [] = refl
+lines_known all (line ∷ lines) = ap (λ ls. line ∷ ls) (lines_known all lines)
+
+text_known : (all lines : List (List ℕ)) → told_text (knows_each all lines) ≡ bytes_of lines
+text_known all [] = refl
+text_known all (line ∷ lines) = ap (λ bytes. line ++ bytes) (text_known all lines)
+
+module _ {K : Type 0} (written : K → Option (List ℕ)) (puts : K → List ℕ → Result (Unit {0}) Failed → K → Type 0) where
+  pub told_known : (a b : K) (all lines : List (List ℕ)) (result : Result (Unit {0}) Failed) →
+      WritesLines written puts a lines result b → WritesTold written puts a (knows_each all lines) result b
+  told_known a b all lines result h = record {
+    put = subst (λ ls. Puts puts a ls result b) (sym (lines_known all lines)) h.put;
+    bytes = subst (λ bytes. MatchResult result (λ _. Appends (written a) (written b) bytes)
+        (λ _. AppendsFront (written a) (written b) bytes)) (sym (text_known all lines)) h.told;
+  }
+
+-- the records of a past, split where the last ones begin
+split_at : (all first rest : List Record) → reverse all ≡ first ++ rest → all ≡ reverse rest ++ reverse first
+split_at all first rest is = sym (reverse-reverse all) ∙ ap reverse is ∙ reverse-append first rest
+
+-- the image of a trusted disk is the one that was read: its records are those of the past
+module _ {D : Type 0} {g : Ghosts D} (host : Host D g) where
+  pub image_state : (image : List ℕ) (base : ℕ) (c : Carry) (rest : List Record) → g.seen (disk_of host) ≡ Some image →
+      HasFrom image base c rest → IsStateFor host (state_lines (Some (setup_of host)) c (reverse rest))
+  image_state image base c rest seen has past stands trusted =
+      let setup = setup_of host in
+      let kept = stands.on_disk trusted in
+      let place = journals.place_of host.journal in
+      let there : HasFrom image place.base place.carry kept.rest =
+      subst (λ i. HasFrom i place.base place.carry kept.rest) (same_Some kept.image image (sym kept.held.tells ∙ seen))
+      (record { second = place.second; generation = place.generation; current = kept.has }) in
+      let one = one_from image base place.base c place.carry rest kept.rest has there in
+      let first = kept.continues.first in
+      let is : c ≡ carry setup (reverse first) = one.carry_is ∙ kept.continues.carry_is in
+      record {
+        first = reverse first;
+        since = reverse kept.rest;
+        all_are = split_at (records past) first kept.rest kept.continues.all;
+        lines_are = ap₂ (λ k rs. state_lines (Some setup) k (reverse rs)) is one.rest_is;
+      }
+
+  -- a disk that tells no bytes isn't trusted
+  pub untold_state : g.seen (disk_of host) ≡ None → (lines : List (List ℕ)) → IsStateFor host lines
+  untold_state none lines past stands trusted =
+      absurd (never (subst (λ (s : Option (List ℕ)). is_some s ≡ true) none trusted.1))
+    where
+      never : false ≡ true → ⊥
+      never e = cc e
+
+-- what was read of a disk that gives the bytes of the host's is the state of its journal
+module _ {D : Type 0} {g : Ghosts D} (host : Host D g) (writes : List (List ℕ) → Result (Unit {0}) Failed → Type 0) where
+  whole : (seen : Option (List ℕ)) → seen ≡ g.seen (disk_of host) →
+      ((image : List ℕ) → seen ≡ Some image → Tells (of_image image) (Some (setup_of host)) telling.Done writes) →
+      Tells any_disk (Some (setup_of host)) telling.Done writes →
+      (lines : List (List ℕ)) × IsStateFor host lines × writes lines (Ok tt)
+  whole None same told any =
+      let lines = state_lines (Some (setup_of host)) any.1 (reverse any.2) in
+      (lines, untold_state host (sym same) lines, any.5)
+  whole (Some image) same told any =
+      let one = told image refl in
+      (state_lines (Some (setup_of host)) one.1 (reverse one.2), image_state host image one.0 one.1 one.2 (sym same) one.3, one.5)
+
+  front : (seen : Option (List ℕ)) → seen ≡ g.seen (disk_of host) →
+      ((image : List ℕ) → seen ≡ Some image → Tells (of_image image) (Some (setup_of host)) telling.Unwritten writes) →
+      Tells any_disk (Some (setup_of host)) telling.Unwritten writes →
+      (lines : List (List ℕ)) × IsStateFor host lines × ((failed : Failed) × writes lines (Err failed))
+  front None same told any =
+      let lines = state_lines (Some (setup_of host)) any.1 (reverse any.2) in
+      (lines, untold_state host (sym same) lines, (any.5, any.6))
+  front (Some image) same told any =
+      let one = told image refl in (
+        state_lines (Some (setup_of host)) one.1 (reverse one.2),
+        image_state host image one.0 one.1 one.2 (sym same) one.3,
+        (one.5, one.6),
+      )
+
+  none : (setup : Option Setup) (why : OpenNo) → Tells any_disk setup (telling.Unread why) writes → writes [] (Ok tt)
+  none setup opening.Disk told = told
+  none setup opening.Alien told = told.1
+  none setup (opening.BadRecord index) told = told.1
+
+  -- by how it ended
+  module _ (how : StateEnd) (setup : Setup) (same : setup ≡ setup_of host) (seen : Option (List ℕ))
+      (gives : seen ≡ g.seen (disk_of host))
+      (told : (image : List ℕ) → seen ≡ Some image → Tells (of_image image) (Some setup) how writes)
+      (any : Tells any_disk (Some setup) how writes) where
+    told_as : (end : StateEnd) → how ≡ end → (image : List ℕ) → seen ≡ Some image →
+        Tells (of_image image) (Some (setup_of host)) end writes
+    told_as end is image at =
+        subst (λ s. Tells (of_image image) (Some s) end writes) same
+        (subst (λ h. Tells (of_image image) (Some setup) h writes) is (told image at))
+
+    any_as : (end : StateEnd) → how ≡ end → Tells any_disk (Some (setup_of host)) end writes
+    any_as end is =
+        subst (λ s. Tells any_disk (Some s) end writes) same (subst (λ h. Tells any_disk (Some setup) h writes) is any)
+
+    pub state_whole : how ≡ telling.Done → (lines : List (List ℕ)) × IsStateFor host lines × writes lines (Ok tt)
+    state_whole is = whole seen gives (told_as telling.Done is) (any_as telling.Done is)
+
+    pub state_front : how ≡ telling.Unwritten →
+        (lines : List (List ℕ)) × IsStateFor host lines × ((failed : Failed) × writes lines (Err failed))
+    state_front is = front seen gives (told_as telling.Unwritten is) (any_as telling.Unwritten is)
+
+    pub state_none : (why : OpenNo) → how ≡ telling.Unread why → writes [] (Ok tt)
+    state_none why is = none (Some (setup_of host)) why (any_as (telling.Unread why) is)

@@ -1,0 +1,115 @@
+-- How a host stands is told as it is, one part of what is told after another.
+use Rattle.std.proofs.Common.{Bool, true, false, List, [], ◌∷◌, ◌++◌, subst, append_assoc}
+use Rattle.std.specs.List.{All}
+use Rattle.std.proofs.lemmas.List.Elements.{All-head, All-tail}
+use Rattle.cct_model.specs.terms.device.Setup.{Setup}
+use Rattle.cct_model.specs.lines.entry.Entry.{Entry}
+use Rattle.cct_model.specs.lines.entry.Entry.TheVariants as entry_of
+use Rattle.cct_disk.specs.declared.disk.Disk.{Ghosts}
+use Rattle.cct_host.specs.declared.host.Host.{Host}
+use Rattle.cct_host.specs.Host.{Keeps, setup_of}
+use Rattle.cct_live_service.specs.declared.notice.Notice.{Notice}
+use Rattle.cct_live_service.specs.declared.notice.Notice.TheVariants as notice_of
+use Rattle.cct_live_service.specs.Found.{Begun, found_there, made_new}
+use Rattle.cct_live_service.specs.Held.{IsAfter}
+use Rattle.cct_live_service.specs.Opening.{opening_of}
+use Rattle.cct_live_service.specs.Reported.{AreSo, AreSoWhere, IsSo, IsStatusOf}
+use Rattle.cct_live_service.specs.Told.{Told, answer_news, as_told, attempt_told, entry, falls_short, finding, knows, last, news_of, notice, notices_told, operates, pays, refused, told_unsent, unheard, unsent}
+
+-- what is told first and then
+pub so_then : (T : Type 0) (setup : Setup) (past : List Entry) (t1 t2 : List Told) → AreSoWhere T setup past t1 →
+    AreSoWhere T setup (news_of t1 ++ past) t2 → AreSoWhere T setup past (t1 ++ t2)
+so_then T setup past [] t2 h k = k
+so_then T setup past (entry e ∷ t1) t2 h k =
+    so_then T setup (e ∷ past) t1 t2 h
+    (subst (λ p. AreSoWhere T setup p t2) (append_assoc (news_of t1) (e ∷ []) past) k)
+so_then T setup past (unsent addr sent ∷ t1) t2 h k =
+    so_then T setup (entry_of.Wire addr sent [] ∷ past) t1 t2 h
+    (subst (λ p. AreSoWhere T setup p t2) (append_assoc (news_of t1) (entry_of.Wire addr sent [] ∷ []) past) k)
+so_then T setup past (notice n ∷ t1) t2 h k = (h.0, so_then T setup past t1 t2 h.1 k)
+so_then T setup past (knows all line ∷ t1) t2 h k = (h.0, so_then T setup past t1 t2 h.1 k)
+so_then T setup past (refused number why ∷ t1) t2 h k = so_then T setup past t1 t2 h k
+so_then T setup past (finding f ∷ t1) t2 h k = so_then T setup past t1 t2 h k
+so_then T setup past (last e ∷ t1) t2 h k = so_then T setup past t1 t2 h k
+so_then T setup past (operates s e ∷ t1) t2 h k = so_then T setup past t1 t2 h k
+so_then T setup past (pays p answer ∷ t1) t2 h k =
+    so_then T setup (answer_news p answer ++ past) t1 t2 h
+    (subst (λ before. AreSoWhere T setup before t2) (append_assoc (news_of t1) (answer_news p answer) past) k)
+so_then T setup past (falls_short p paid rest ∷ t1) t2 h k = so_then T setup past t1 t2 h k
+
+-- what is so on any disk is so on this one
+pub so_where : (T : Type 0) (setup : Setup) (past : List Entry) (told : List Told) → AreSo setup past told →
+    AreSoWhere T setup past told
+so_where T setup past [] h = tt
+so_where T setup past (entry e ∷ told) h = so_where T setup (e ∷ past) told h
+so_where T setup past (unsent addr sent ∷ told) h = so_where T setup (entry_of.Wire addr sent [] ∷ past) told h
+so_where T setup past (notice n ∷ told) h = (h.0, so_where T setup past told h.1)
+so_where T setup past (knows all line ∷ told) h = (λ trusted. h.0 tt, so_where T setup past told h.1)
+so_where T setup past (refused number why ∷ told) h = so_where T setup past told h
+so_where T setup past (finding f ∷ told) h = so_where T setup past told h
+so_where T setup past (last e ∷ told) h = so_where T setup past told h
+so_where T setup past (operates s e ∷ told) h = so_where T setup past told h
+so_where T setup past (pays p answer ∷ told) h = so_where T setup (answer_news p answer ++ past) told h
+so_where T setup past (falls_short p paid rest ∷ told) h = so_where T setup past told h
+
+-- what comes after the entries of an attempt tells nothing of how a host stands
+so_after : (setup : Setup) (past : List Entry) (failed : Bool) (entries : List Entry) (n : Notice) →
+    IsAfter failed entries n → IsSo setup past n
+so_after setup past failed [] (notice_of.Device addr job epoch order) h = absurd h
+so_after setup past failed (entry_of.Wire addr sent heard ∷ entries) (notice_of.Device at job epoch order) h = absurd h
+so_after setup past failed (e ∷ entries) (notice_of.Device addr job epoch order) h = absurd h
+so_after setup past failed [] (notice_of.Last id) h = absurd h
+so_after setup past failed (entry_of.Wire addr sent heard ∷ entries) (notice_of.Last id) h = absurd h
+so_after setup past failed (e ∷ entries) (notice_of.Last id) h = absurd h
+so_after setup past failed [] (notice_of.Room records) h = absurd h
+so_after setup past failed (entry_of.Wire addr sent heard ∷ entries) (notice_of.Room records) h = absurd h
+so_after setup past failed (e ∷ entries) (notice_of.Room records) h = absurd h
+so_after setup past failed [] (notice_of.Order id told) h = absurd h
+so_after setup past failed (entry_of.Wire addr sent heard ∷ entries) (notice_of.Order id told) h = absurd h
+so_after setup past failed (e ∷ entries) (notice_of.Order id told) h = absurd h
+so_after setup past failed entries n h = tt
+
+so_notices : (setup : Setup) (past : List Entry) (failed : Bool) (entries : List Entry) (notices : List Notice) →
+    All (IsAfter failed entries) notices → AreSo setup past (notices_told notices)
+so_notices setup past failed entries [] h = tt
+so_notices setup past failed entries (n ∷ notices) h = (
+  so_after setup past failed entries n (All-head (IsAfter failed entries) n notices h),
+  so_notices setup past failed entries notices (All-tail (IsAfter failed entries) n notices h),
+)
+
+so_as : (setup : Setup) (past : List Entry) (entries : List Entry) (told : List Told) →
+    ((later : List Entry) → AreSo setup later told) → AreSo setup past (as_told entries ++ told)
+so_as setup past [] told h = h past
+so_as setup past (e ∷ entries) told h = so_as setup (e ∷ past) entries told h
+
+so_unsent : (setup : Setup) (past : List Entry) (e : Entry) (told : List Told) →
+    ((later : List Entry) → AreSo setup later told) → AreSo setup past (told_unsent e (unheard e) ∷ told)
+so_unsent setup past (entry_of.Wire addr sent []) told h = h (entry_of.Wire addr sent [] ∷ past)
+so_unsent setup past (entry_of.Wire addr sent (byte ∷ heard)) told h =
+    h (entry_of.Wire addr sent (byte ∷ heard) ∷ past)
+so_unsent setup past e told h = h (e ∷ past)
+
+-- nor does an attempt
+pub so_attempt : (setup : Setup) (past : List Entry) (sent failed : Bool) (entries : List Entry) (notices : List Notice) →
+    All (IsAfter failed entries) notices → AreSo setup past (attempt_told sent entries ++ notices_told notices)
+so_attempt setup past true failed entries notices h =
+    so_as setup past entries (notices_told notices) (λ later. so_notices setup later failed entries notices h)
+so_attempt setup past false failed [] notices h = so_notices setup past failed [] notices h
+so_attempt setup past false failed (e ∷ entries) notices h =
+    so_unsent setup past e (as_told entries ++ notices_told notices)
+    (λ later. so_as setup later entries (notices_told notices)
+    (λ after. so_notices setup after failed (e ∷ entries) notices h))
+
+-- nor what is told first
+pub so_opening : (setup : Setup) (past : List Entry) (begun : Begun) → AreSo setup past (notice (opening_of setup begun) ∷ [])
+so_opening setup past made_new = (tt, tt)
+so_opening setup past (found_there base c rest) = (tt, tt)
+
+-- and the notices of a host tell how it stands
+pub so_status : {D : Type 0} {g : Ghosts D} (host : Host D g) (notices : List Notice) → All (IsStatusOf host) notices →
+    (past : List Entry) → Keeps host past → AreSo (setup_of host) past (notices_told notices)
+so_status host [] h past keeps = tt
+so_status host (n ∷ notices) h past keeps = (
+  (All-head (IsStatusOf host) n notices h).1 past keeps,
+  so_status host notices (All-tail (IsStatusOf host) n notices h) past keeps,
+)

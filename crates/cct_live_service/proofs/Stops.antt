@@ -1,0 +1,395 @@
+-- The end of a service: each acceptor that runs is stopped.
+use Rattle.std.proofs.Common.{◌≡◌, ◌≤◌, ◌+◌, ◌-◌, ◌⊎◌, ℕ, zero, suc, List, [], ◌∷◌, ◌++◌, length, Bool, true, false, Option, Result, Ok, Err, refl, sym, subst, inl, inr, append_assoc, arith}
+use Rattle.std.proofs.lemmas.List.{append-nil}
+use Rattle.std.proofs.lemmas.List.Elements.{All-nil}
+use Rattle.cct_edge.specs.declared.fault.Failed.{Failed}
+use Rattle.cct_model.specs.terms.device.Setup.{Setup}
+use Rattle.cct_model.specs.lines.command.Command.TheVariants as command
+use Rattle.cct_model.specs.lines.entry.Entry.{Entry}
+use Rattle.cct_model.specs.lines.entry.Entry.TheVariants as entry_of
+use Rattle.cct_model.specs.Change.{Desk}
+use Rattle.cct_disk.specs.declared.disk.Disk.{Ghosts}
+use Rattle.cct_host.specs.declared.host.Host.{Host}
+use Rattle.cct_host.specs.Host.{setup_of}
+use Rattle.cct_laws_live.specs.LiveStep.{LiveStep}
+use Rattle.cct_laws_live.specs.LiveStep as live
+use Rattle.cct_live_survey.specs.declared.finding.Finding.{Finding}
+use Rattle.cct_live_service.specs.declared.attempts.TheConstants.{MOST_ATTEMPTS}
+use Rattle.cct_live_service.specs.declared.attempts.Until.{Until}
+use Rattle.cct_live_service.specs.declared.attempts.Until.TheVariants as until_of
+use Rattle.cct_live_service.specs.declared.notice.Notice.{Notice}
+use Rattle.cct_live_service.specs.declared.served.Served.{Served}
+use Rattle.cct_live_service.specs.declared.served.Served.TheVariants as served
+use Rattle.cct_live_service.specs.declared.stopping.AtEnd.{AtEnd}
+use Rattle.cct_live_service.specs.declared.stopping.AtEnd.TheVariants as at_end
+use Rattle.cct_live_service.specs.Doing.{AreAttempts, DoesLines, FrontOf, GivesStop, GoesOnTo, MakesAttempts, PlaysLines, ServesLines, StopsAt, StopsBy, StopsRunning, StopsStill, StopsUpTo, TellsOne, ends_by}
+use Rattle.cct_live_service.specs.Held.{IsAfter}
+use Rattle.cct_live_service.specs.Known.{HasJob, IsIdle, IsKnown, KnownAfter, Knows, Rests}
+use Rattle.cct_live_service.specs.Parts.{LivesOn, LivesTo}
+use Rattle.cct_live_service.specs.Said.{Said}
+use Rattle.cct_live_service.specs.Told.{Told, attempt_told, entry, findings_in, notices_told}
+use Rattle.cct_live_service.proofs.Doings.{end_none, last_made, line_weaker, made_are, none_made, then_by}
+use Rattle.cct_live_service.proofs.KnownLater.{GoesTo, known_later, known_now, known_then}
+use Rattle.cct_live_service.proofs.Parts.{front_whole, lives_front, lives_weaker}
+
+-- attempts, where a job is, are attempts
+pub gone_are : (NoJob : Type 0) (until : Until) (addr : ℕ) (steps : List LiveStep) (told : List Told) →
+    GoesOnTo NoJob until addr steps told → AreAttempts addr MOST_ATTEMPTS steps told
+gone_are NoJob until addr steps told (inl none) =
+    subst (λ s. AreAttempts addr MOST_ATTEMPTS s told) (sym none.0.0)
+    (subst (AreAttempts addr MOST_ATTEMPTS []) (sym none.0.1) (none_made addr))
+gone_are NoJob until addr steps told (inr made) = made_are until addr steps told made
+
+-- one attempt
+once : ℕ → List Told
+once addr = attempt_told true (entry_of.Idle addr ∷ []) ++ notices_told []
+
+made_once : (addr : ℕ) → MakesAttempts until_of.Ended addr (live.next addr ∷ []) (once addr)
+unfolding once
+made_once addr =
+    last_made until_of.Ended addr 0 true (entry_of.Idle addr ∷ []) (omega arith) (λ is. refl) [] (live.next addr ∷ []) []
+    (attempt_told true (entry_of.Idle addr ∷ []) ++ notices_told []) (refl, refl)
+    (refl, ([], (false, All-nil (IsAfter false (entry_of.Idle addr ∷ []))), refl))
+
+-- a stop of which the attempts aren't told
+pub gives_front : (knows : Knows) (setup : Setup) (addr : ℕ) (steps : List LiveStep) (told : List Told) →
+    TellsOne (live.command (command.Stop addr)) steps told → FrontOf (GivesStop knows setup addr) steps told
+gives_front knows setup addr steps told h = record {
+  undone = live.next addr ∷ [];
+  untold = once addr;
+  whole = then_by (TellsOne (live.command (command.Stop addr)))
+      (λ said. GoesOnTo (knows said (HasJob setup addr false)) until_of.Ended addr) steps (live.next addr ∷ []) told
+      (once addr) h (inr (made_once addr));
+}
+
+-- some stop
+abbrev stop_steps : ℕ → List LiveStep
+stop_steps addr = (live.command (command.Stop addr) ∷ []) ++ live.next addr ∷ []
+
+abbrev stop_told : ℕ → List Told
+stop_told addr = (entry entry_of.Words ∷ []) ++ once addr
+
+gives_some : (knows : Knows) (setup : Setup) (addr : ℕ) → GivesStop knows setup addr (stop_steps addr) (stop_told addr)
+gives_some knows setup addr =
+    then_by (TellsOne (live.command (command.Stop addr)))
+    (λ said. GoesOnTo (knows said (HasJob setup addr false)) until_of.Ended addr) (live.command (command.Stop addr) ∷ [])
+    (live.next addr ∷ []) (entry entry_of.Words ∷ []) (once addr) (refl, (entry_of.Words, refl)) (inr (made_once addr))
+
+-- the attempts of a job, before the stop is told
+pub running_front : (knows : Knows) (setup : Setup) (addr : ℕ) (steps : List LiveStep) (told : List Told) →
+    GoesOnTo (knows [] (HasJob setup addr false)) until_of.Ended addr steps told →
+    FrontOf (StopsRunning knows setup addr) steps told
+running_front knows setup addr steps told h = record {
+  undone = stop_steps addr;
+  untold = stop_told addr;
+  whole = then_by (GoesOnTo (knows [] (HasJob setup addr false)) until_of.Ended addr) (StopsStill knows setup addr) steps
+      (stop_steps addr) told (stop_told addr) h (inr (gives_some (λ more. knows (told ++ more)) setup addr));
+}
+
+some_stop : (knows : Knows) (setup : Setup) (addr : ℕ) →
+    StopsAt knows setup addr ((live.next addr ∷ []) ++ stop_steps addr) (once addr ++ stop_told addr)
+some_stop knows setup addr =
+    inr (then_by (GoesOnTo (knows [] (HasJob setup addr false)) until_of.Ended addr) (StopsStill knows setup addr)
+    (live.next addr ∷ []) (stop_steps addr) (once addr) (stop_told addr) (inr (made_once addr))
+    (inr (gives_some (λ more. knows (once addr ++ more)) setup addr)))
+
+-- the first addresses, before the others
+pub more_stop : (many addr end : ℕ) → many + addr ≡ end → (knows : Knows) (setup : Setup) (steps : List LiveStep)
+    (told : List Told) → StopsUpTo addr knows setup steps told → FrontOf (StopsUpTo end knows setup) steps told
+more_stop zero addr end is knows setup steps told h =
+    subst (λ n. FrontOf (StopsUpTo n knows setup) steps told) (same addr end is)
+    (front_whole (StopsUpTo addr knows setup) steps told h)
+  where
+    same : (n m : ℕ) → 0 + n ≡ m → n ≡ m
+    same n m e = omega (arith, e)
+more_stop (suc many) addr end is knows setup steps told h =
+    let at = many + addr in
+    let k = more_stop many addr at refl knows setup steps told h in
+    let then_steps = (live.next at ∷ []) ++ stop_steps at in
+    let then_told = once at ++ stop_told at in
+    subst (λ n. FrontOf (StopsUpTo n knows setup) steps told) (one_more many addr end is)
+    (record {
+      undone = k.undone ++ then_steps;
+      untold = k.untold ++ then_told;
+      whole = subst (λ s. StopsUpTo (suc at) knows setup s (told ++ (k.untold ++ then_told)))
+          (append_assoc steps k.undone then_steps)
+          (subst (StopsUpTo (suc at) knows setup ((steps ++ k.undone) ++ then_steps))
+          (append_assoc told k.untold then_told)
+          (then_by (StopsUpTo at knows setup) (λ said. StopsAt (λ more. knows (said ++ more)) setup at)
+          (steps ++ k.undone) then_steps (told ++ k.untold) then_told k.whole
+          (some_stop (λ more. knows ((told ++ k.untold) ++ more)) setup at)));
+    })
+  where
+    one_more : (m n e : ℕ) → suc m + n ≡ e → suc (m + n) ≡ e
+    one_more m n e eq = omega (arith, eq)
+
+pub all_stop : (addr : ℕ) → addr ≤ 256 → (knows : Knows) (setup : Setup) (steps : List LiveStep) (told : List Told) →
+    StopsUpTo addr knows setup steps told → FrontOf (StopsUpTo 256 knows setup) steps told
+all_stop addr few knows setup steps told h =
+    more_stop (256 - addr) addr 256 (rest addr few) knows setup steps told h
+  where
+    rest : (n : ℕ) → n ≤ 256 → (256 - n) + n ≡ 256
+    rest n le = omega (arith, le)
+
+-- lines, before what is done at the end
+stops_none : (ends : AtEnd) (knows : Knows) (setup : Setup) → FrontOf (StopsBy ends knows setup) [] []
+stops_none at_end.Leave knows setup = front_whole (StopsBy at_end.Leave knows setup) [] [] (refl, refl)
+stops_none at_end.Stop knows setup = all_stop 0 (omega arith) knows setup [] [] (refl, refl)
+
+pub end_front : (knows : Knows) (setup : Setup) (opening : Notice) (findings : List Finding) (ends : AtEnd)
+    (lines : List Said) (steps : List LiveStep) (told : List Told) →
+    PlaysLines knows setup opening findings lines steps told →
+    FrontOf (ServesLines knows setup opening findings ends lines) steps told
+end_front knows setup opening findings ends lines steps told h =
+    let k = stops_none ends (λ more. knows (told ++ more)) setup in
+    record {
+      undone = k.undone;
+      untold = k.untold;
+      whole = then_by (PlaysLines knows setup opening findings lines)
+          (λ said. StopsBy ends (λ more. knows (said ++ more)) setup) steps k.undone told k.untold h k.whole;
+    }
+
+-- the same, where more is known
+pub gone_weaker : (M N : Type 0) → (M → N) → (until : Until) (addr : ℕ) (steps : List LiveStep) (told : List Told) →
+    GoesOnTo M until addr steps told → GoesOnTo N until addr steps told
+gone_weaker M N by until addr steps told (inl none) = inl (none.0, by none.1)
+gone_weaker M N by until addr steps told (inr made) = inr made
+
+module _ (A B : Knows) (to : (told : List Told) (Fact : Desk → List Entry → Type 0) → A told Fact → B told Fact)
+    (setup : Setup) where
+  lines_weaker : (findings : List Finding) (lines : List Said) (steps : List LiveStep) (told : List Told) →
+      DoesLines A setup findings lines steps told → DoesLines B setup findings lines steps told
+  lines_weaker findings [] steps told h = h
+  lines_weaker findings (said ∷ lines) steps told h = record {
+    before = h.before;
+    after = h.after;
+    said = h.said;
+    added = h.added;
+    steps_are = h.steps_are;
+    told_is = h.told_is;
+    first = lines_weaker findings lines h.before h.said h.first;
+    next = line_weaker (λ rest. A h.said (Rests setup rest)) (λ rest. B h.said (Rests setup rest))
+        (λ rest known. to h.said (Rests setup rest) known) setup.devices (findings ++ findings_in h.said)
+        (suc (length lines)) said h.after h.added h.next;
+  }
+
+  plays_weaker : (opening : Notice) (findings : List Finding) (lines : List Said) (steps : List LiveStep)
+      (told : List Told) → PlaysLines A setup opening findings lines steps told →
+      PlaysLines B setup opening findings lines steps told
+  plays_weaker opening findings lines steps told h = record {
+    before = h.before;
+    after = h.after;
+    said = h.said;
+    added = h.added;
+    steps_are = h.steps_are;
+    told_is = h.told_is;
+    first = h.first;
+    next = lines_weaker findings lines h.after h.added h.next;
+  }
+
+  pub gives_weaker : (addr : ℕ) (steps : List LiveStep) (told : List Told) → GivesStop A setup addr steps told →
+      GivesStop B setup addr steps told
+  gives_weaker addr steps told h = record {
+    before = h.before;
+    after = h.after;
+    said = h.said;
+    added = h.added;
+    steps_are = h.steps_are;
+    told_is = h.told_is;
+    first = h.first;
+    next = gone_weaker (A h.said (HasJob setup addr false)) (B h.said (HasJob setup addr false))
+        (to h.said (HasJob setup addr false)) until_of.Ended addr h.after h.added h.next;
+  }
+
+module _ (setup : Setup) where
+  still_weaker : (A B : Knows) → ((told : List Told) (Fact : Desk → List Entry → Type 0) → A told Fact → B told Fact) →
+      (addr : ℕ) (said : List Told) (steps : List LiveStep) (told : List Told) →
+      StopsStill A setup addr said steps told → StopsStill B setup addr said steps told
+  still_weaker A B to addr said steps told (inl none) = inl (none.0, by none.1)
+    where
+      by : A said (IsIdle setup addr) ⊎ A [] (HasJob setup addr true) →
+          B said (IsIdle setup addr) ⊎ B [] (HasJob setup addr true)
+      by (inl idle) = inl (to said (IsIdle setup addr) idle)
+      by (inr has) = inr (to [] (HasJob setup addr true) has)
+  still_weaker A B to addr said steps told (inr gives) =
+      inr (gives_weaker (λ more. A (said ++ more)) (λ more. B (said ++ more)) (λ more Fact. to (said ++ more) Fact) setup
+      addr steps told gives)
+
+  pub at_weaker : (A B : Knows) → ((told : List Told) (Fact : Desk → List Entry → Type 0) → A told Fact → B told Fact) →
+      (addr : ℕ) (steps : List LiveStep) (told : List Told) → StopsAt A setup addr steps told →
+      StopsAt B setup addr steps told
+  at_weaker A B to addr steps told (inl none) = inl (none.0, to [] (IsIdle setup addr) none.1)
+  at_weaker A B to addr steps told (inr h) = inr (record {
+    before = h.before;
+    after = h.after;
+    said = h.said;
+    added = h.added;
+    steps_are = h.steps_are;
+    told_is = h.told_is;
+    first = gone_weaker (A [] (HasJob setup addr false)) (B [] (HasJob setup addr false))
+        (to [] (HasJob setup addr false)) until_of.Ended addr h.before h.said h.first;
+    next = still_weaker A B to addr h.said h.after h.added h.next;
+  })
+
+  up_to_weaker : (many : ℕ) (A B : Knows) →
+      ((told : List Told) (Fact : Desk → List Entry → Type 0) → A told Fact → B told Fact) → (steps : List LiveStep)
+      (told : List Told) → StopsUpTo many A setup steps told → StopsUpTo many B setup steps told
+  up_to_weaker zero A B to steps told h = h
+  up_to_weaker (suc many) A B to steps told h = record {
+    before = h.before;
+    after = h.after;
+    said = h.said;
+    added = h.added;
+    steps_are = h.steps_are;
+    told_is = h.told_is;
+    first = up_to_weaker many A B to h.before h.said h.first;
+    next = at_weaker (λ more. A (h.said ++ more)) (λ more. B (h.said ++ more)) (λ more Fact. to (h.said ++ more) Fact) many
+        h.after h.added h.next;
+  }
+
+  pub by_weaker : (ends : AtEnd) (A B : Knows) →
+      ((told : List Told) (Fact : Desk → List Entry → Type 0) → A told Fact → B told Fact) → (steps : List LiveStep)
+      (told : List Told) → StopsBy ends A setup steps told → StopsBy ends B setup steps told
+  by_weaker at_end.Leave A B to steps told h = h
+  by_weaker at_end.Stop A B to steps told h = up_to_weaker 256 A B to steps told h
+
+  pub serves_lines_weaker : (A B : Knows) →
+      ((told : List Told) (Fact : Desk → List Entry → Type 0) → A told Fact → B told Fact) → (opening : Notice)
+      (findings : List Finding) (ends : AtEnd) (lines : List Said) (steps : List LiveStep) (told : List Told) →
+      ServesLines A setup opening findings ends lines steps told →
+      ServesLines B setup opening findings ends lines steps told
+  serves_lines_weaker A B to opening findings ends lines steps told h = record {
+    before = h.before;
+    after = h.after;
+    said = h.said;
+    added = h.added;
+    steps_are = h.steps_are;
+    told_is = h.told_is;
+    first = plays_weaker A B to setup opening findings lines h.before h.said h.first;
+    next = by_weaker ends (λ more. A (h.said ++ more)) (λ more. B (h.said ++ more)) (λ more Fact. to (h.said ++ more) Fact)
+        h.after h.added h.next;
+  }
+
+-- of a sink, and of hosts
+module _ {K : Type 0} (written : K → Option (List ℕ)) (puts : K → List ℕ → Result (Unit {0}) Failed → K → Type 0)
+    {D : Type 0} {g : Ghosts D} where
+  -- an end that a stop brings
+  pub ended_by : (S : List Told → Type 0) (how : Served) (P : AtEnd → List LiveStep → List Told → Type 0) (ends : AtEnd)
+      (a b : K) (old new : Host D g) → LivesOn written puts S (P ends) (Err how) a b old new →
+      LivesOn written puts S (P (ends_by how ends)) (Err how) a b old new
+  ended_by S served.Unwritten P ends a b old new h = h
+  ended_by S served.Disk P ends a b old new h = h
+  ended_by S served.Done P ends a b old new h = absurd h
+  ended_by S (served.Refused number kind) P ends a b old new h = absurd h
+  ended_by S served.Unread P ends a b old new h = absurd h
+  ended_by S (served.OtherSize len) P ends a b old new h = absurd h
+  ended_by S served.Alien P ends a b old new h = absurd h
+  ended_by S (served.BadRecord index) P ends a b old new h = absurd h
+
+  -- one before which nothing was stopped
+  pub played_to : (S : List Told → Type 0) (how : Served) → (how ≡ served.Done → ⊥) → (knows : Knows) (setup : Setup)
+      (opening : Notice) (findings : List Finding) (ends : AtEnd) (lines : List Said) (a b : K) (old new : Host D g) →
+      LivesTo written puts S (PlaysLines knows setup opening findings lines) how a b old new →
+      LivesTo written puts S (ServesLines knows setup opening findings (ends_by how ends) lines) how a b old new
+  played_to S served.Done other knows setup opening findings ends lines a b old new h = absurd (other refl)
+  played_to S (served.Refused number kind) other knows setup opening findings ends lines a b old new h =
+      lives_weaker written puts S (Ok tt) a b old new (PlaysLines knows setup opening findings lines)
+      (ServesLines knows setup opening findings at_end.Leave lines) (end_none knows setup opening findings lines) h
+  played_to S served.Unread other knows setup opening findings ends lines a b old new h =
+      lives_weaker written puts S (Ok tt) a b old new (PlaysLines knows setup opening findings lines)
+      (ServesLines knows setup opening findings at_end.Leave lines) (end_none knows setup opening findings lines) h
+  played_to S served.Unwritten other knows setup opening findings ends lines a b old new h =
+      lives_front written puts S served.Unwritten a b old new (PlaysLines knows setup opening findings lines)
+      (ServesLines knows setup opening findings ends lines) (end_front knows setup opening findings ends lines) h
+  played_to S served.Disk other knows setup opening findings ends lines a b old new h =
+      lives_front written puts S served.Disk a b old new (PlaysLines knows setup opening findings lines)
+      (ServesLines knows setup opening findings ends lines) (end_front knows setup opening findings ends lines) h
+  played_to S (served.OtherSize len) other knows setup opening findings ends lines a b old new h = absurd h
+  played_to S served.Alien other knows setup opening findings ends lines a b old new h = absurd h
+  played_to S (served.BadRecord index) other knows setup opening findings ends lines a b old new h = absurd h
+
+-- of hosts and desks, from one to another
+module _ {D : Type 0} {g : Ghosts D} (host mid : Host D g) (same : setup_of mid ≡ setup_of host) (was desk : Desk) where
+  known_on : (s1 : List LiveStep) (t1 : List Told) → GoesTo host mid was desk s1 t1 → (told : List Told)
+      (Fact : Desk → List Entry → Type 0) → KnownAfter mid desk told Fact → KnownAfter host was (t1 ++ told) Fact
+  known_on s1 t1 goes told Fact known = known_then host mid same was desk s1 t1 told goes Fact known
+
+  no_job_on : (addr : ℕ) (s1 : List LiveStep) (t1 : List Told) → GoesTo host mid was desk s1 t1 →
+      IsKnown mid desk (HasJob (setup_of mid) addr false) → KnownAfter host was t1 (HasJob (setup_of host) addr false)
+  no_job_on addr s1 t1 goes known =
+      known_later host mid was desk s1 t1 goes (HasJob (setup_of host) addr false)
+      (subst (λ setup. IsKnown mid desk (HasJob setup addr false)) same known)
+
+  -- a stop is taken or not, and its job makes attempts
+  pub given_then : (addr : ℕ) (s1 s2 : List LiveStep) (t1 t2 : List Told) →
+      TellsOne (live.command (command.Stop addr)) s1 t1 → GoesTo host mid was desk s1 t1 →
+      GoesOnTo (IsKnown mid desk (HasJob (setup_of mid) addr false)) until_of.Ended addr s2 t2 →
+      GivesStop (KnownAfter host was) (setup_of host) addr (s1 ++ s2) (t1 ++ t2)
+  given_then addr s1 s2 t1 t2 h goes k =
+      then_by (TellsOne (live.command (command.Stop addr)))
+      (λ said. GoesOnTo (KnownAfter host was said (HasJob (setup_of host) addr false)) until_of.Ended addr) s1 s2 t1 t2 h
+      (gone_weaker (IsKnown mid desk (HasJob (setup_of mid) addr false))
+      (KnownAfter host was t1 (HasJob (setup_of host) addr false)) (no_job_on addr s1 t1 goes) until_of.Ended addr s2 t2 k)
+
+  -- a job makes attempts, and then a stop is given
+  pub running_then : (addr : ℕ) (s1 s2 : List LiveStep) (t1 t2 : List Told) →
+      GoesOnTo (IsKnown host was (HasJob (setup_of host) addr false)) until_of.Ended addr s1 t1 →
+      GoesTo host mid was desk s1 t1 → GivesStop (KnownAfter mid desk) (setup_of mid) addr s2 t2 →
+      StopsRunning (KnownAfter host was) (setup_of host) addr (s1 ++ s2) (t1 ++ t2)
+  running_then addr s1 s2 t1 t2 h goes k =
+      then_by (GoesOnTo (KnownAfter host was [] (HasJob (setup_of host) addr false)) until_of.Ended addr)
+      (StopsStill (KnownAfter host was) (setup_of host) addr) s1 s2 t1 t2
+      (gone_weaker (IsKnown host was (HasJob (setup_of host) addr false))
+      (KnownAfter host was [] (HasJob (setup_of host) addr false))
+      (known_now host was (HasJob (setup_of host) addr false)) until_of.Ended addr s1 t1 h)
+      (inr (gives_weaker (KnownAfter mid desk) (λ more. KnownAfter host was (t1 ++ more)) (known_on s1 t1 goes)
+      (setup_of host) addr s2 t2 (subst (λ setup. GivesStop (KnownAfter mid desk) setup addr s2 t2) same k)))
+
+  -- or none is given
+  pub running_none : (addr : ℕ) (had : Bool) (s1 : List LiveStep) (t1 : List Told) →
+      GoesOnTo (IsKnown host was (HasJob (setup_of host) addr false)) until_of.Ended addr s1 t1 →
+      GoesTo host mid was desk s1 t1 → (had ≡ true → IsKnown host was (HasJob (setup_of host) addr true)) →
+      (had ≡ false → IsKnown mid desk (IsIdle (setup_of mid) addr)) →
+      StopsRunning (KnownAfter host was) (setup_of host) addr s1 t1
+  running_none addr had s1 t1 h goes has idle = record {
+    before = s1;
+    after = [];
+    said = t1;
+    added = [];
+    steps_are = sym (append-nil s1);
+    told_is = sym (append-nil t1);
+    first = gone_weaker (IsKnown host was (HasJob (setup_of host) addr false))
+        (KnownAfter host was [] (HasJob (setup_of host) addr false))
+        (known_now host was (HasJob (setup_of host) addr false)) until_of.Ended addr s1 t1 h;
+    next = inl ((refl, refl), by_job had refl);
+  }
+    where
+      by_job : (b : Bool) → had ≡ b →
+          KnownAfter host was t1 (IsIdle (setup_of host) addr) ⊎ KnownAfter host was [] (HasJob (setup_of host) addr true)
+      by_job true is = inr (known_now host was (HasJob (setup_of host) addr true) (has is))
+      by_job false is =
+          inl (known_later host mid was desk s1 t1 goes (IsIdle (setup_of host) addr)
+          (subst (λ setup. IsKnown mid desk (IsIdle setup addr)) same (idle is)))
+
+  -- the first addresses, and the next one
+  pub up_to_then : (addr next : ℕ) → suc addr ≡ next → (s1 s2 : List LiveStep) (t1 t2 : List Told) →
+      StopsUpTo addr (KnownAfter host was) (setup_of host) s1 t1 → GoesTo host mid was desk s1 t1 →
+      StopsAt (KnownAfter mid desk) (setup_of mid) addr s2 t2 →
+      StopsUpTo next (KnownAfter host was) (setup_of host) (s1 ++ s2) (t1 ++ t2)
+  up_to_then addr next is s1 s2 t1 t2 h goes k =
+      subst (λ n. StopsUpTo n (KnownAfter host was) (setup_of host) (s1 ++ s2) (t1 ++ t2)) is
+      (then_by (StopsUpTo addr (KnownAfter host was) (setup_of host))
+      (λ said. StopsAt (λ more. KnownAfter host was (said ++ more)) (setup_of host) addr) s1 s2 t1 t2 h
+      (at_weaker (setup_of host) (KnownAfter mid desk) (λ more. KnownAfter host was (t1 ++ more)) (known_on s1 t1 goes) addr
+      s2 t2 (subst (λ setup. StopsAt (KnownAfter mid desk) setup addr s2 t2) same k)))
+
+  -- lines, and the end
+  pub end_then : (opening : Notice) (findings : List Finding) (ends : AtEnd) (lines : List Said) (s1 s2 : List LiveStep)
+      (t1 t2 : List Told) → PlaysLines (KnownAfter host was) (setup_of host) opening findings lines s1 t1 →
+      GoesTo host mid was desk s1 t1 → StopsBy ends (KnownAfter mid desk) (setup_of mid) s2 t2 →
+      ServesLines (KnownAfter host was) (setup_of host) opening findings ends lines (s1 ++ s2) (t1 ++ t2)
+  end_then opening findings ends lines s1 s2 t1 t2 h goes k =
+      then_by (PlaysLines (KnownAfter host was) (setup_of host) opening findings lines)
+      (λ said. StopsBy ends (λ more. KnownAfter host was (said ++ more)) (setup_of host)) s1 s2 t1 t2 h
+      (by_weaker (setup_of host) ends (KnownAfter mid desk) (λ more. KnownAfter host was (t1 ++ more)) (known_on s1 t1 goes)
+      s2 t2 (subst (λ setup. StopsBy ends (KnownAfter mid desk) setup s2 t2) same k))

@@ -1,0 +1,27 @@
+use Rattle.std.proofs.Common.{◌∷◌, [], refl, sym, subst}
+use Rattle.cct_live_service.specs.declared.notice.Notice.TheVariants as notice_of
+use Rattle.cct_live_service.specs.AtDesk.{Both, IsApart}
+use Rattle.cct_live_service.specs.Doing.{IsOrder}
+use Rattle.cct_live_service.specs.Linked.{AreQuiet}
+use Rattle.cct_live_service.specs.Parts.{Acts}
+use Rattle.cct_live_service.specs.Told.{notice}
+use Rattle.cct_live_service.proofs.Parts.{acts_told}
+use Rattle.cct_live_service.proofs.Telling.{told_one}
+use Rattle.cct_live_service.proofs.commands.order.Goals as goal
+
+pub returns : goal.returns
+returns g c =
+    let sink = g.K.Sink in
+    let host = c.args.host.now in
+    let out = c.args.out.now in
+    let known = c.order_told-told.result in
+    let what = notice (notice_of.Order c.args.id known) in
+    record {
+      acts = subst (λ r. Acts sink.written sink.puts sink.faults (Both AreQuiet IsApart) (IsOrder c.args.id) r out c.tell.new.out host host)
+          (sym c.by_writing.ensures)
+          (acts_told sink.written sink.puts sink.faults (Both AreQuiet IsApart) c.tell.result out c.tell.new.out host (what ∷ [])
+          (refl, λ desk. refl)
+          (IsOrder c.args.id)
+          refl (λ past keeps. (c.order_told-told.ensures.known past keeps, tt)) (told_one sink.written sink.puts out c.tell.new.out what c.tell.result c.tell.ensures.puts) c.requires.whole
+          c.tell.ensures.serves (refl, (known, refl)));
+    }

@@ -1,0 +1,51 @@
+use Rattle.std.proofs.Common.{Ok, Err}
+use Rattle.cct_host.specs.Host.{setup_of}
+use Rattle.cct_live_service.specs.Doing.{Finds, IsOfPoll, IsPoll, IsVisit}
+use Rattle.cct_live_service.proofs.Doings.{many_then}
+use Rattle.cct_live_service.proofs.Found.{finds_then, visit_finds_polled}
+use Rattle.cct_live_service.proofs.Linking.{roll_apart, roll_desk, roll_told}
+use Rattle.cct_live_service.proofs.Parts.{acts_weaker}
+use Rattle.cct_live_service.proofs.poll.ask_then_visit.Goals as goal
+
+pub returns-in-Ok : goal.returns-in-Ok
+returns-in-Ok g c =
+    let sink = g.K.Sink in
+    let link = g.L.CountedLink in
+    let known = c.args.roll.now.findings in
+    let roll = c.ask_if_unspent.new.roll in
+    let now = roll.findings in
+    let line = c.ask_if_unspent.new.link in
+    let last = c.visit_doubtful.new.link in
+    let desk = c.args.desk.now in
+    let new = c.visit_doubtful.new.desk in
+    let result = c.visit_doubtful.result in
+    let between = c.ask_if_unspent.new.out in
+    let out = c.visit_doubtful.new.out in
+    let mid = c.ask_if_unspent.new.host in
+    let host = c.visit_doubtful.new.host in
+    record {
+      acts = roll_desk sink.written sink.puts sink.faults g.L.Link.gives link.sent link.failures c.args.roll.now roll roll
+          c.args.link.now line last desk desk new result c.args.out.now between out c.args.host.now mid host
+          (Finds known now IsPoll) (Finds now now IsPoll) (Finds known now IsPoll)
+          (finds_then known now now IsPoll IsPoll IsPoll (many_then IsOfPoll))
+          (roll_apart sink.written sink.puts sink.faults g.L.Link.gives link.sent link.failures (setup_of c.args.host.now).devices
+          c.args.roll.now roll c.args.link.now line desk (Ok tt) c.args.out.now between c.args.host.now mid
+          (Finds known now IsPoll) c.in-Ok.ensures.acts)
+          (roll_told sink.written sink.puts sink.faults g.L.Link.gives link.sent link.failures (setup_of mid).devices roll line
+          last desk new result between out mid host (Finds now now IsPoll)
+          (acts_weaker sink.written sink.puts sink.faults result between out mid host IsVisit (Finds now now IsPoll)
+          (visit_finds_polled now) c.visit_doubtful.ensures.acts));
+    }
+
+pub returns-in-Err : goal.returns-in-Err
+returns-in-Err g c =
+    let sink = g.K.Sink in
+    let link = g.L.CountedLink in
+    let known = c.args.roll.now.findings in
+    let now = c.ask_if_unspent.new.roll.findings in
+    record {
+      acts = roll_apart sink.written sink.puts sink.faults g.L.Link.gives link.sent link.failures
+          (setup_of c.args.host.now).devices c.args.roll.now c.ask_if_unspent.new.roll c.args.link.now
+          c.ask_if_unspent.new.link c.args.desk.now (Err c.in-Err.how) c.args.out.now c.ask_if_unspent.new.out c.args.host.now
+          c.ask_if_unspent.new.host (Finds known now IsPoll) c.in-Err.ensures.acts;
+    }

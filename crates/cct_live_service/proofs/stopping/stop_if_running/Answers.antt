@@ -1,0 +1,40 @@
+use Rattle.std.proofs.Common.{◌∙◌, ap, inl, inr, refl, sym}
+use Rattle.cct_host.specs.Host.{setup_of}
+use Rattle.cct_live_service.specs.Doing.{StopsAt, StopsRunning}
+use Rattle.cct_live_service.specs.Known.{IsIdle, KnownAfter}
+use Rattle.cct_live_service.specs.Opening.{is_running}
+use Rattle.cct_live_service.proofs.KnownLater.{known_now}
+use Rattle.cct_live_service.proofs.Linking.{link_none}
+use Rattle.cct_live_service.proofs.Parts.{acts_weaker}
+use Rattle.cct_live_service.proofs.stopping.stop_if_running.Goals as goal
+
+pub returns-then-runs : goal.returns-then-runs
+returns-then-runs g c =
+    let sink = g.K.Sink in
+    let addr = c.args.addr in
+    let host = c.args.host.now in
+    let knows = KnownAfter host c.args.desk.now in
+    record {
+      acts = acts_weaker sink.written sink.puts sink.faults c.stop.result c.args.out.now c.stop.new.out host c.stop.new.host
+          (StopsRunning knows (setup_of host) addr) (StopsAt knows (setup_of host) addr) (λ steps told h. inr h)
+          c.stop.ensures.acts;
+    }
+
+pub returns-else-runs : goal.returns-else-runs
+returns-else-runs g c =
+    let sink = g.K.Sink in
+    let link = g.L.CountedLink in
+    let addr = c.args.addr in
+    let host = c.args.host.now in
+    let desk = c.args.desk.now in
+    let setup = setup_of host in
+    record {
+      acts = link_none sink.written sink.puts sink.faults g.L.Link.gives link.sent link.failures c.args.link.now desk
+          c.args.out.now host (StopsAt (KnownAfter host desk) setup addr) c.requires.whole
+          (inl (
+            (refl, refl),
+            known_now host desk (IsIdle setup addr)
+                (λ past keeps. ap is_running (sym (c.epoch_at.ensures.stands past keeps)) ∙ sym c.runs.ensures
+                ∙ c.if-runs.false),
+          ));
+    }

@@ -1,0 +1,14 @@
+use Rattle.std.proofs.Common.{Ok}
+use Rattle.cct_live_service.specs.AtDesk.{Both, FollowsDesk}
+use Rattle.cct_live_service.specs.Doing.{IsVisit}
+use Rattle.cct_live_service.specs.Linked.{Exchanges}
+use Rattle.cct_live_service.specs.Parts.{Acts}
+use Rattle.cct_live_service.proofs.visit.read_out.Given as goal
+
+-- The host lives on.
+abbrev pub invariant-loop-round : goal.invariant-loop-round
+invariant-loop-round g l =
+    let sink = g.K.Sink in
+    let link = g.L.CountedLink in
+    Acts sink.written sink.puts sink.faults (Both (Exchanges g.L.Link.gives link.sent link.failures l.fn.link l.link) (FollowsDesk (Ok tt) l.fn.desk l.desk))
+    IsVisit (Ok tt) l.fn.out l.out l.fn.host l.host

@@ -1,0 +1,75 @@
+-- What is known at a point of a service: what holds of the desk and of all that happened.
+use Rattle.std.specs.Prelude.{◌≡◌, ℕ, Bool, true, false, List, ◌++◌, Option, Some, None, is_some}
+use Rattle.cct_model.specs.terms.device.Setup.{Setup}
+use Rattle.cct_model.specs.lines.record.Record.{Record}
+use Rattle.cct_model.specs.lines.entry.Entry.{Entry}
+use Rattle.cct_model.specs.declared.change.Due.{Due}
+use Rattle.cct_model.specs.declared.change.Phase.{Phase}
+use Rattle.cct_model.specs.declared.change.Phase.TheVariants.{Begun, Opened}
+use Rattle.cct_model.specs.declared.change.Session.{Session}
+use Rattle.cct_model.specs.Change.{Desk}
+use Rattle.cct_disk.specs.declared.disk.Disk.{Ghosts}
+use Rattle.cct_journal.specs.declared.format.TheConstants.{MOST_RECORDS}
+use Rattle.cct_host.specs.declared.host.Host.{Host}
+use Rattle.cct_host.specs.Host.{Keeps, setup_of}
+use Rattle.cct_host.specs.Standing.{command_at, epoch_at}
+use Rattle.cct_laws_live.specs.Life.{IsLife}
+use Rattle.cct_laws_live.specs.LiveStep.{LiveStep}
+use Rattle.cct_live_service.specs.AtDesk.{AtDesk}
+use Rattle.cct_live_service.specs.Opening.{is_running}
+use Rattle.cct_live_service.specs.Since.{Given, StandsSince}
+use Rattle.cct_live_service.specs.Told.{Told, news_of}
+
+-- After what was told, what is known of the desk and of all that happened.
+abbrev pub Knows : Type 1
+Knows = List Told → (Desk → List Entry → Type 0) → Type 0
+
+-- The address of a payment that isn't settled: its job is running, or its order is open.
+abbrev pub waits_in : Due → Phase → Option ℕ
+waits_in due Begun = Some due.payment.addr
+waits_in due Opened = Some due.payment.addr
+waits_in due phase = None
+
+-- The same of the payment of a session, if there is one.
+abbrev pub waits_for : Option Due → Option ℕ
+waits_for None = None
+waits_for (Some due) = waits_in due due.phase
+
+-- A job is at an address, if it is one.
+abbrev pub works_at : Setup → List Entry → Option ℕ → Bool
+works_at setup past None = false
+works_at setup past (Some addr) = is_some (command_at setup past addr)
+
+-- A session has nothing to do: none runs, or the job of its payment is still at its hopper.
+abbrev pub rests : Setup → List Entry → Option Session → Bool
+rests setup past None = true
+rests setup past (Some s) = works_at setup past (waits_for s.due)
+
+-- The session at a desk has nothing to do, or it has, after all that happened.
+abbrev pub Rests : Setup → Bool → Desk → List Entry → Type 0
+Rests setup rest desk past = rests setup past desk.session ≡ rest
+
+-- A job is at an address, or none is.
+abbrev pub HasJob : Setup → ℕ → Bool → Desk → List Entry → Type 0
+HasJob setup addr has desk past = is_some (command_at setup past addr) ≡ has
+
+-- No acceptor runs at an address.
+abbrev pub IsIdle : Setup → ℕ → Desk → List Entry → Type 0
+IsIdle setup addr desk past = is_running (epoch_at setup past addr) ≡ false
+
+module _ {D : Type 0} {g : Ghosts D} where
+  -- It holds of a desk and of all that this host has.
+  abbrev pub IsKnown : Host D g → Desk → (Desk → List Entry → Type 0) → Type 0
+  IsKnown host desk Fact = (past : List Entry) → Keeps host past → Fact desk past
+
+  -- It holds after what was told since a host and a desk were so, whatever was given and found.
+  abbrev pub KnownAfter : Host D g → Desk → Knows
+  KnownAfter host desk told Fact =
+      (now : Desk) × AtDesk desk now told
+      × ((given : Given D) (found : List Record) (before : List LiveStep) (past : List Entry)
+      → IsLife MOST_RECORDS (setup_of host) found before past → StandsSince host given found past
+      → Fact now (news_of told ++ past))
+
+  -- Whether the session has nothing to do.
+  abbrev pub Rested : Host D g → Desk → Bool → Type 0
+  Rested host desk rest = IsKnown host desk (Rests (setup_of host) rest)

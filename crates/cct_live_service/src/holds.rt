@@ -1,0 +1,100 @@
+//! Which bills are held, as far as the readings of bill acceptors tell (ccTalk Generic Specification 4, part 3, header 159).
+ghost use Rattle.std.specs.Prelude.{◌≡◌};
+ghost use Rattle.std.specs.Option.{option_map};
+ghost use Rattle.cct_model.specs.Reply.{reply_shown};
+ghost use Rattle.cct_live_service.specs.Held.{asks_bills, bills_told, credits_of, newest_hold};
+
+use cct_model::{CheckKind, Credits, Pair, Reply, ReplyForm};
+use cct_msg::wanted_reply;
+
+/// The header of a reading of a bill acceptor's events (ccTalk Generic Specification 4, part 3).
+const READ_BILLS: u8 = 159;
+
+/// The second byte of the event of a bill that is held, whose place is the first one.
+const HELD: u8 = 1;
+
+/// A bill that is held: its place, and the event counter of the reading that told it.
+#[derive(Clone, Copy, Debug, PartialEq, Eq)]
+pub struct Hold {
+    pub place: u8,
+    pub counter: u8,
+}
+
+/// The events that an exchange with a bill acceptor told: none where it asked for something else, or wasn't answered.
+pub(crate) fn bills_told(kind: CheckKind, addr: u8, sent: &[u8], heard: &[u8]) -> Option<Credits>
+    ensures { result ≡ bills_told kind addr sent.now heard.now }
+{
+    if asks_bills(sent) {
+        credits_of(wanted_reply(kind, addr, ReplyForm::Credits, sent, heard))
+    } else {
+        None
+    }
+}
+
+/// Whether a message asks for a bill acceptor's events.
+fn asks_bills(sent: &[u8]) -> bool
+    ensures { result ≡ asks_bills sent.now }
+{
+    match sent {
+        [_, _, _, header, ..] => *header == READ_BILLS,
+        _ => false,
+    }
+}
+
+/// The events that a reply tells.
+fn credits_of(reply: Option<Reply<'_>>) -> Option<Credits>
+    ensures { result ≡ credits_of (option_map reply_shown reply.entry) }
+{
+    match reply {
+        Some(Reply::Credits(credits)) => Some(credits),
+        _ => None,
+    }
+}
+
+/// The bill that the newest of these events tells as held.
+pub(crate) fn newest_hold(credits: Credits) -> Option<Hold>
+    ensures { result ≡ newest_hold credits }
+{
+    let [Pair { a: place, b: event }, _, _, _, _] = credits.pairs;
+    if place != 0 && event == HELD {
+        Some(Hold {
+            place,
+            counter: credits.counter,
+        })
+    } else {
+        None
+    }
+}
+
+/// The bill that each bill acceptor holds, by address, as its last reading told it.
+#[derive(Drop)]
+pub(crate) struct Holds {
+    held: [Option<Hold>; 256],
+}
+
+impl Holds {
+    /// None is known.
+    pub(crate) fn new() -> Holds {
+        Holds { held: [None; 256] }
+    }
+
+    /// The place of the bill that is held at an address.
+    pub(crate) fn place_at(&self, addr: u8) -> Option<u8> {
+        match self.held[usize::from(addr)] {
+            Some(hold) => Some(hold.place),
+            None => None,
+        }
+    }
+
+    /// A reading at an address tells this. Whether it is a bill that wasn't told yet.
+    pub(crate) fn note(&mut self, addr: u8, hold: Option<Hold>) -> bool {
+        let is_new = hold.is_some() && hold != self.held[usize::from(addr)];
+        self.held[usize::from(addr)] = hold;
+        is_new
+    }
+
+    /// No bill is held at an address any more.
+    pub(crate) fn clear(&mut self, addr: u8) {
+        self.held[usize::from(addr)] = None;
+    }
+}

@@ -1,0 +1,164 @@
+//! The acceptors that run are stopped at the end.
+ghost use Rattle.std.specs.Prelude.{◌≡◌, List, false};
+ghost use Rattle.cct_host.specs.Host.{Keeps, has_failed, setup_of};
+ghost use Rattle.cct_host.specs.Standing.{epoch_at};
+ghost use Rattle.cct_model.specs.lines.entry.Entry.{Entry};
+ghost use Rattle.cct_live_service.specs.AtDesk.{Both, FollowsDesk};
+ghost use Rattle.cct_live_service.specs.Doing.{GivesStop, StopsAt, StopsBy, StopsRunning, StopsUpTo};
+ghost use Rattle.cct_live_service.specs.Known.{KnownAfter};
+ghost use Rattle.cct_live_service.specs.Opening.{is_running};
+ghost use Rattle.cct_live_service.specs.Linked.{Exchanges};
+ghost use Rattle.cct_live_service.specs.Parts.{Acts};
+
+use crate::attempts::{Until, go_on};
+use crate::commands::answer;
+use crate::page::Page;
+use crate::served::Served;
+use crate::standing::runs;
+use cct_disk::Disk;
+use cct_edge::Sink;
+use cct_host::Host;
+use cct_host_change::Desk;
+use cct_live_port::CountedLink;
+use cct_model::{Command, End, Entry};
+
+/// What is done with the acceptors that run where the input ended, or said `end`.
+#[derive(Clone, Copy, Debug, PartialEq, Eq)]
+pub enum AtEnd {
+    /// They go on accepting, and their epochs run.
+    Leave,
+    /// Each is stopped first: a job that is there makes attempts up to its end, and then a `stop`. One that doesn't answer three
+    /// times in succession is left as it is.
+    Stop,
+}
+
+/// Stops the acceptors that run, where it is wanted.
+pub(crate) fn stop_at_end<K: Sink, D: Disk, L: CountedLink>(
+    host: &mut Host<'_, D>,
+    ends: AtEnd,
+    desk: &mut Desk,
+    link: &mut L,
+    out: &mut K,
+    page: &mut Page,
+) -> Result<(), Served>
+    requires whole { has_failed host.old ≡ false }
+    ensures acts { Acts K.written K.puts K.faults (Both (Exchanges L.gives L.sent L.failures link.old link.new)
+        (FollowsDesk result desk.old desk.new))
+        (StopsBy ends (KnownAfter host.old desk.old) (setup_of host.old)) result out.old out.new host.old host.new }
+{
+    match ends {
+        AtEnd::Leave => Ok(()),
+        AtEnd::Stop => stop_all(host, desk, link, out, page),
+    }
+}
+
+/// Stops each acceptor that runs, in rising order of address.
+fn stop_all<K: Sink, D: Disk, L: CountedLink>(
+    host: &mut Host<'_, D>,
+    desk: &mut Desk,
+    link: &mut L,
+    out: &mut K,
+    page: &mut Page,
+) -> Result<(), Served>
+    requires whole { has_failed host.old ≡ false }
+    ensures acts { Acts K.written K.puts K.faults (Both (Exchanges L.gives L.sent L.failures link.old link.new)
+        (FollowsDesk result desk.old desk.new))
+        (StopsUpTo 256 (KnownAfter host.old desk.old) (setup_of host.old)) result out.old out.new host.old host.new }
+{
+    for addr in 0..=u8::MAX {
+        match stop_if_running(host, addr, desk, link, out, page) {
+            Ok(()) => {}
+            Err(how) => return Err(how),
+        }
+    }
+    Ok(())
+}
+
+/// Stops the acceptor at an address, if one runs there.
+fn stop_if_running<K: Sink, D: Disk, L: CountedLink>(
+    host: &mut Host<'_, D>,
+    addr: u8,
+    desk: &mut Desk,
+    link: &mut L,
+    out: &mut K,
+    page: &mut Page,
+) -> Result<(), Served>
+    requires whole { has_failed host.old ≡ false }
+    ensures acts { Acts K.written K.puts K.faults (Both (Exchanges L.gives L.sent L.failures link.old link.new)
+        (FollowsDesk result desk.old desk.new))
+        (StopsAt (KnownAfter host.old desk.old) (setup_of host.old) addr) result out.old out.new host.old host.new }
+{
+    if runs(host.epoch_at(addr)) {
+        stop(host, addr, desk, link, out, page)
+    } else {
+        Ok(())
+    }
+}
+
+/// The job at an address makes attempts up to its end, and then a `stop` does, unless that job got no answer or ended the epoch.
+fn stop<K: Sink, D: Disk, L: CountedLink>(
+    host: &mut Host<'_, D>,
+    addr: u8,
+    desk: &mut Desk,
+    link: &mut L,
+    out: &mut K,
+    page: &mut Page,
+) -> Result<(), Served>
+    requires whole { has_failed host.old ≡ false }
+    ensures acts { Acts K.written K.puts K.faults (Both (Exchanges L.gives L.sent L.failures link.old link.new)
+        (FollowsDesk result desk.old desk.new))
+        (StopsRunning (KnownAfter host.old desk.old) (setup_of host.old) addr) result out.old out.new host.old host.new }
+{
+    let had_job = host.command_at(addr).is_some();
+    match go_on(host, addr, Until::Ended, desk, link, out, page) {
+        Ok(()) => {}
+        Err(how) => return Err(how),
+    }
+    if is_to_stop(host, addr, had_job, page) {
+        stop_idle(host, addr, desk, link, out, page)
+    } else {
+        Ok(())
+    }
+}
+
+/// Whether the acceptor at an address still runs, and the job that was there, if one was, didn't end for want of an answer.
+fn is_to_stop<D: Disk>(host: &Host<'_, D>, addr: u8, had_job: bool, page: &Page) -> bool
+    ensures stays { result ≡ false → had_job ≡ false
+        → (past : List Entry) → Keeps host.now past → is_running (epoch_at (setup_of host.now) past addr) ≡ false }
+{
+    runs(host.epoch_at(addr)) && !(had_job && is_unanswered(page.report.as_slice()))
+}
+
+/// Whether the last of these entries tells that a job got no answer.
+fn is_unanswered(entries: &[Entry]) -> bool {
+    matches!(
+        entries,
+        [
+            ..,
+            Entry::Ended {
+                end: End::NoAnswer,
+                ..
+            }
+        ]
+    )
+}
+
+/// A `stop` is begun at an address, and makes attempts up to its end, if it is taken.
+fn stop_idle<K: Sink, D: Disk, L: CountedLink>(
+    host: &mut Host<'_, D>,
+    addr: u8,
+    desk: &mut Desk,
+    link: &mut L,
+    out: &mut K,
+    page: &mut Page,
+) -> Result<(), Served>
+    requires whole { has_failed host.old ≡ false }
+    ensures acts { Acts K.written K.puts K.faults (Both (Exchanges L.gives L.sent L.failures link.old link.new)
+        (FollowsDesk result desk.old desk.new))
+        (GivesStop (KnownAfter host.old desk.old) (setup_of host.old) addr) result out.old out.new host.old host.new }
+{
+    match answer(host, &Command::Stop { addr }, out, page) {
+        Ok(()) => go_on(host, addr, Until::Ended, desk, link, out, page),
+        Err(how) => Err(how),
+    }
+}

@@ -1,0 +1,44 @@
+//! The room for the exchanges of a survey.
+ghost use Rattle.std.specs.Prelude.{◌≡◌, ◌&&◌};
+ghost use Rattle.cct_live_survey.specs.Room.{is_bare};
+
+use arrayvec::ArrayVec;
+use cct_model_wire::{MOST_HEARD, MOST_SENT};
+use cct_wire::Link;
+
+/// What was sent last, and what was heard then.
+#[derive(Drop)]
+pub struct Room {
+    pub sent: ArrayVec<u8, MOST_SENT>,
+    pub heard: ArrayVec<u8, MOST_HEARD>,
+    /// Whether nothing was heard in any exchange but the echo of what was sent.
+    pub is_silent: bool,
+}
+
+impl Room {
+    /// Nothing was sent.
+    pub fn new() -> Room {
+        Room {
+            sent: ArrayVec::new(),
+            heard: ArrayVec::new(),
+            is_silent: true,
+        }
+    }
+
+    /// Sends what is in the room.
+    pub(crate) fn exchange<L: Link>(&mut self, link: &mut L)
+        ensures gives { L.gives link.old self.old.sent.items self.new.heard.items link.new }
+        ensures sent { self.new.sent.items ≡ self.old.sent.items }
+        ensures silent { self.new.is_silent ≡ (self.old.is_silent && is_bare self.new.sent.items self.new.heard.items) }
+    {
+        link.exchange(self.sent.as_slice(), &mut self.heard);
+        self.is_silent = self.is_silent && is_bare(self.sent.as_slice(), self.heard.as_slice());
+    }
+}
+
+/// Whether nothing was heard, or just the echo of what was sent.
+fn is_bare(sent: &[u8], heard: &[u8]) -> bool
+    ensures { result ≡ is_bare sent.now heard.now }
+{
+    heard.is_empty() || heard == sent
+}

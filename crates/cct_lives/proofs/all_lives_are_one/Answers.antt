@@ -1,5 +1,0 @@
-use Rattle.cct_lives.proofs.Joining.{lives_join, lives_whole}
-use Rattle.cct_lives.proofs.all_lives_are_one.Goals as goal
-
-pub returns : goal.returns
-returns c = record { goes_on = lives_join; whole = lives_whole }

@@ -1,7 +1,0 @@
-use Rattle.cct_lives.proofs.Carrying.{live_balances, live_conserved, live_covered}
-use Rattle.cct_lives.proofs.LifeBooks.{life_conserved}
-use Rattle.cct_lives.proofs.money_is_conserved_over_all_lives.Goals as goal
-
-pub returns : goal.returns
-returns c =
-    record { moments = live_conserved; balances = live_balances; covered = live_covered; life = life_conserved }

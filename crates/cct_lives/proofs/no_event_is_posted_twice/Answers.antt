@@ -1,6 +1,0 @@
-use Rattle.cct_lives.proofs.LifeLaws.{life_tallied}
-use Rattle.cct_lives.proofs.Tallying.{legal_tallied, live_tallied}
-use Rattle.cct_lives.proofs.no_event_is_posted_twice.Goals as goal
-
-pub returns : goal.returns
-returns c = record { legal = legal_tallied; live = live_tallied; life = life_tallied }

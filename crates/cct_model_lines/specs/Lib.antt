@@ -1,0 +1,23 @@
+pub use Rattle.cct_model_wire.specs.declared as terms
+pub use Rattle.cct_model_wire.specs.Message
+pub use Rattle.cct_model_wire.specs.Request
+pub use Rattle.cct_model_wire.specs.Reply
+pub use Rattle.cct_model_wire.specs.History
+pub use Rattle.cct_model_wire.specs.Setting
+pub use Rattle.cct_model_wire.specs.Acceptor
+pub use Rattle.cct_model_wire.specs.Bill
+pub use Rattle.cct_model_wire.specs.Hopper
+pub use Rattle.cct_model_wire.specs.Family
+pub use Rattle.cct_model_wire.specs.Device
+pub use Rattle.cct_model_wire.specs.Exchange
+pub use Rattle.cct_model_wire.specs.Setup
+pub mod SetupLine
+pub mod Members
+pub mod DeviceSet
+pub mod Shape
+pub mod Text
+pub mod Grammar
+pub mod Script
+pub mod Effect
+pub mod Sums
+pub mod Carried

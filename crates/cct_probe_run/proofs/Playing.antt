@@ -1,0 +1,71 @@
+-- One exchange more, one line more.
+use Rattle.std.proofs.Common.{◌≡◌, ◌∙◌, ◌+◌, ◌∷◌, ◌++◌, ap, sym, subst, ℕ, true, false, List, [], Option, Result}
+use Rattle.std.specs.List.{Contains}
+use Rattle.cct_edge.specs.declared.fault.Failed.{Failed}
+use Rattle.cct_model_wire.specs.declared.device.DeviceSetup.{DeviceSetup}
+use Rattle.cct_model_wire.specs.declared.device.Setup.{Setup}
+use Rattle.cct_probe_plan.specs.declared.plan.Say.{Say}
+use Rattle.cct_probe_plan.specs.declared.plan.Step.{Step}
+use Rattle.cct_probe_plan.specs.declared.plan.Trial.{Trial}
+use Rattle.cct_live_port.specs.Port.{Gives, with_gap}
+use Rattle.cct_probe_run.specs.declared.bench.Bench.{Bench}
+use Rattle.cct_probe_run.specs.Plays.{Begun, EndsWithWire, Given, IsNoEmptyOrder, IsOfPlan, IsStep, Plays, begins_broken, coins_of, exchanged, told, wire_text}
+
+clash : false ≡ true → ⊥
+clash e = cc
+
+-- A line that begins as another doesn't begin as a line `broken`.
+pub no_break : (line piece : List ℕ) → Begun line → piece ≡ line → begins_broken piece ≡ true → ⊥
+no_break [] piece begun is breaks = begun
+no_break (byte ∷ bytes) piece begun is breaks = clash (sym begun ∙ ap begins_broken (sym is) ∙ breaks)
+
+-- What was put ends with the line of an exchange.
+pub ends : (piece line front : List ℕ) (addr : ℕ) {told_sent told_heard sent heard : List ℕ} → piece ≡ line
+    → line ≡ front ++ wire_text addr told_sent told_heard → told_sent ≡ sent → told_heard ≡ heard → EndsWithWire piece sent heard
+ends piece line front addr {told_sent} {told_heard} {sent} {heard} is wire s h =
+    (front, addr, is ∙ wire ∙ ap (λ bytes. front ++ wire_text addr bytes told_heard) s ∙ ap (λ bytes. front ++ wire_text addr sent bytes) h)
+
+-- A step of a trial of a plan is one of the plan.
+pub step_of : (trials : List Trial) (trial : Trial) (this : Step) → Contains trials trial → Contains trial.steps.now this
+    → IsStep trials this
+step_of trials trial this of_plan of_trial = record { trial = trial; of_plan = of_plan; of_trial = of_trial }
+
+module _ {L K : Type 0} {reads : L → Option (List ℕ) → L → Type 0} {writes : L → List ℕ → Result (Unit {0}) Failed → L → Type 0}
+    {puts : K → List ℕ → Result (Unit {0}) Failed → K → Type 0} {setup : Setup} {trials : List Trial} where
+  pub one_exchange : {first before mid after : Bench L K} (device : DeviceSetup) (round : ℕ) (said : Say)
+      → IsOfPlan trials said → Contains setup.devices device → IsNoEmptyOrder said
+      → mid.port ≡ before.port → mid.out ≡ before.out → mid.leave ≡ before.leave → mid.asked ≡ before.asked + coins_of said
+      → Given reads writes setup device round said mid after
+      → Plays reads writes puts setup trials first before → Plays reads writes puts setup trials first after
+  one_exchange {first} {before} {mid} {after} device round said of_plan there no_empty port out leave asked given played =
+      exchanged before after said played (record {
+        of_plan = of_plan;
+        device = device;
+        there = there;
+        round = round;
+        bytes = given.bytes;
+        gap = given.gap;
+        gives = subst (λ p. Gives reads writes (with_gap given.gap p) after.sent.items after.heard.items after.port) port given.gives;
+        counted = given.asked ∙ asked;
+        no_empty = no_empty;
+        leave = given.leave ∙ leave;
+        out = given.out ∙ out;
+      })
+
+  pub one_put : {first before after : Bench L K} (piece : List ℕ) (result : Result (Unit {0}) Failed)
+      → puts before.out piece result after.out
+      → (begins_broken piece ≡ true → EndsWithWire piece before.sent.items before.heard.items)
+      → after.port ≡ before.port → after.sent.items ≡ before.sent.items → after.heard.items ≡ before.heard.items
+      → after.asked ≡ before.asked → after.leave ≡ before.leave
+      → Plays reads writes puts setup trials first before → Plays reads writes puts setup trials first after
+  one_put {first} {before} {after} piece result put shows port sent heard asked leave played = told before after played (record {
+    piece = piece;
+    result = result;
+    put = put;
+    shows = shows;
+    port = port;
+    sent = sent;
+    heard = heard;
+    asked = asked;
+    leave = leave;
+  })

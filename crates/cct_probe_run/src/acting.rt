@@ -1,0 +1,171 @@
+//! One step of a trial.
+ghost use Rattle.std.specs.Prelude.{List};
+ghost use Rattle.std.specs.List.{Contains};
+ghost use Rattle.cct_model_wire.specs.declared.device.Setup.{Setup};
+ghost use Rattle.cct_probe_plan.specs.declared.plan.Ask.TheVariants as ask;
+ghost use Rattle.cct_probe_plan.specs.declared.plan.Say.TheVariants as say;
+ghost use Rattle.cct_probe_plan.specs.declared.plan.Trial.{Trial};
+ghost use Rattle.cct_probe_run.specs.Plays.{IsOfPlan, IsStep, Plays};
+ghost use Rattle.cct_probe_run.specs.declared.bench.Bench.{Bench};
+
+use crate::bench::{Bench, Exchanged, Plan, Stop};
+use crate::findings::Why;
+use crate::person::Person;
+use crate::telling::prompt_of;
+use cct_edge::{Sink, Source};
+use cct_live_port::Line;
+use cct_probe_plan::{
+    Act, Ask, Common, Memory, Premise, Say, Shown, Step, Turn, Want, judge, tried_place,
+};
+
+/// How often a hopper's status is asked at most until it has no coin left to pay.
+const MOST_WAITS: u32 = 60;
+
+/// The header of a hopper's status.
+const STATUS: u8 = 166;
+
+/// What came of a step.
+#[derive(Clone, Copy, PartialEq, Eq)]
+pub(crate) enum Done {
+    /// The trial goes on.
+    On,
+    /// The last exchange shows a premise broken.
+    Broken(Premise),
+    /// The trial can't go on.
+    Untried(Why),
+}
+
+/// Does one step at a device.
+pub(crate) fn act<L: Line, K: Sink, S: Source>(
+    bench: &mut Bench<L, K>,
+    plan: Plan<'_>,
+    person: &mut Person<S>,
+    turn: Turn<'_>,
+    memory: &mut Memory,
+    step: Step,
+) -> Result<Done, Stop>
+    requires of_plan { IsStep plan.trials.now step }
+    requires there { Contains plan.setup.now.devices turn.device.now }
+    ensures plays { (first : Bench L K) → Plays L.reads L.writes K.puts plan.entry.setup.now plan.entry.trials.now first bench.old → Plays L.reads L.writes K.puts plan.entry.setup.now plan.entry.trials.now first bench.new }
+{
+    match step {
+        Step::Asks { say, want } => ask(bench, plan, turn, memory, say, want),
+        Step::Waits => wait(bench, plan, turn),
+        Step::Person(act) => prompt(bench, person, turn, act),
+    }
+}
+
+/// Makes one exchange, and tells what it shows.
+fn ask<L: Line, K: Sink>(
+    bench: &mut Bench<L, K>,
+    plan: Plan<'_>,
+    turn: Turn<'_>,
+    memory: &mut Memory,
+    say: Say,
+    want: Want,
+) -> Result<Done, Stop>
+    requires of_plan { IsOfPlan plan.trials.now say }
+    requires there { Contains plan.setup.now.devices turn.device.now }
+    ensures plays { (first : Bench L K) → Plays L.reads L.writes K.puts plan.entry.setup.now plan.entry.trials.now first bench.old → Plays L.reads L.writes K.puts plan.entry.setup.now plan.entry.trials.now first bench.new }
+{
+    if let Some(done) = exchanged(bench.exchange(plan, say, turn))? {
+        return Ok(done);
+    }
+    match judge(want, turn, memory, bench.sent(), bench.heard()) {
+        Shown::Right => {
+            bench.tell_wire(turn.told)?;
+            Ok(Done::On)
+        }
+        Shown::Silence(premise) => {
+            bench.tell_wire(turn.told)?;
+            listen(bench, plan, turn, premise)
+        }
+        Shown::Refused => {
+            bench.tell_wire(turn.told)?;
+            Ok(Done::Untried(Why::Silent))
+        }
+        Shown::Broken(premise) => Ok(Done::Broken(premise)),
+    }
+}
+
+/// What ends a step before it is judged.
+fn exchanged(exchanged: Exchanged) -> Result<Option<Done>, Stop> {
+    match exchanged {
+        Exchanged::Heard => Ok(None),
+        Exchanged::NoCoins => Ok(Some(Done::Untried(Why::Coins))),
+        Exchanged::Fault => Err(Stop::PortFault),
+    }
+}
+
+/// Listens once more where no answer came: whether it comes late. If it doesn't, this premise is broken.
+fn listen<L: Line, K: Sink>(
+    bench: &mut Bench<L, K>,
+    plan: Plan<'_>,
+    turn: Turn<'_>,
+    premise: Premise,
+) -> Result<Done, Stop>
+    requires there { Contains plan.setup.now.devices turn.device.now }
+    ensures plays { (first : Bench L K) → Plays L.reads L.writes K.puts plan.entry.setup.now plan.entry.trials.now first bench.old → Plays L.reads L.writes K.puts plan.entry.setup.now plan.entry.trials.now first bench.new }
+{
+    if let Some(done) = exchanged(bench.exchange(plan, Say::Nothing { at_once: true }, turn))? {
+        return Ok(done);
+    }
+    Ok(Done::Broken(if bench.heard().is_empty() {
+        premise
+    } else {
+        Premise::Common(Common::Prompt)
+    }))
+}
+
+/// Asks a hopper for its status until it has no coin left to pay.
+fn wait<L: Line, K: Sink>(
+    bench: &mut Bench<L, K>,
+    plan: Plan<'_>,
+    turn: Turn<'_>,
+) -> Result<Done, Stop>
+    requires of_plan { IsOfPlan plan.trials.now (say.Ask (ask.Plain 166)) }
+    requires there { Contains plan.setup.now.devices turn.device.now }
+    ensures plays { (first : Bench L K) → Plays L.reads L.writes K.puts plan.entry.setup.now plan.entry.trials.now first bench.old → Plays L.reads L.writes K.puts plan.entry.setup.now plan.entry.trials.now first bench.new }
+{
+    let say = Say::Ask(Ask::Plain { header: STATUS });
+    let turn = turn.slow();
+    for _ in 0..MOST_WAITS {
+        if let Some(done) = exchanged(bench.exchange(plan, say, turn))? {
+            return Ok(done);
+        }
+        bench.tell_wire(turn.told)?;
+        if bench.heard().len() <= bench.sent().len() {
+            return listen(bench, plan, turn, Premise::Common(Common::Answers));
+        }
+        if has_paid(bench.sent(), bench.heard()) {
+            return Ok(Done::On);
+        }
+    }
+    Ok(Done::Untried(Why::Silent))
+}
+
+/// Whether a status that was heard tells no coin left to pay: its second data byte is 0.
+fn has_paid(sent: &[u8], heard: &[u8]) -> bool {
+    match heard.get(sent.len()..) {
+        Some([_, 4, _, 0, _, 0, ..]) => true,
+        _ => false,
+    }
+}
+
+/// Asks a person to do something.
+fn prompt<L: Line, K: Sink, S: Source>(
+    bench: &mut Bench<L, K>,
+    person: &mut Person<S>,
+    turn: Turn<'_>,
+    act: Act,
+) -> Result<Done, Stop>
+    ensures plays { (setup : Setup) (trials : List Trial) (first : Bench L K) → Plays L.reads L.writes K.puts setup trials first bench.old → Plays L.reads L.writes K.puts setup trials first bench.new }
+{
+    let body = &turn.device.body;
+    bench.tell(&prompt_of(act, turn.told, body.is_bill(), tried_place(body)))?;
+    if person.has_done() {
+        Ok(Done::On)
+    } else {
+        Ok(Done::Untried(Why::Skipped))
+    }
+}

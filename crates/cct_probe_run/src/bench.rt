@@ -1,0 +1,102 @@
+//! A line with the devices of a setup, on which nothing is sent but rows of a plan, and no coin is ordered without leave.
+
+ghost use Rattle.std.specs.Prelude.{◌≡◌, ◌≤◌};
+
+use arrayvec::ArrayVec;
+use cct_edge::{Failed, Sink};
+use cct_live_port::{Line, Port};
+use cct_model_lines::{MOST_HEARD, MOST_SENT, Setup};
+use cct_probe_plan::Trial;
+
+/// What may be done.
+#[derive(Clone, Copy)]
+pub struct Leave {
+    /// How many coins may be ordered of all hoppers together.
+    pub coins: u16,
+    /// Whether a person is there.
+    pub hands: bool,
+    /// Whether that person has time.
+    pub long: bool,
+    /// Whether lines of exchanges are left out, but for those that show a premise broken.
+    pub is_quiet: bool,
+}
+
+/// Why trials stop.
+#[derive(Clone, Copy, PartialEq, Eq)]
+pub enum Stop {
+    /// The sink failed.
+    Unwritten,
+    /// The port failed.
+    PortFault,
+    /// There was no room for one finding more.
+    Full,
+}
+
+impl From<Failed> for Stop {
+    fn from(_: Failed) -> Stop {
+        Stop::Unwritten
+    }
+}
+
+/// What came of an exchange.
+#[derive(Clone, Copy, PartialEq, Eq)]
+pub(crate) enum Exchanged {
+    /// It was made.
+    Heard,
+    /// It would have ordered more coins than may be, so it wasn't.
+    NoCoins,
+    /// The port failed.
+    Fault,
+}
+
+/// The devices, and what is tried.
+#[derive(Clone, Copy)]
+pub struct Plan<'s> {
+    pub setup: &'s Setup,
+    pub trials: &'s [Trial],
+}
+
+/// The line, and where is told what comes.
+#[derive(Drop)]
+pub struct Bench<L, K> {
+    pub(crate) port: Port<L>,
+    pub(crate) out: K,
+    pub(crate) sent: ArrayVec<u8, MOST_SENT>,
+    pub(crate) heard: ArrayVec<u8, MOST_HEARD>,
+    pub(crate) leave: Leave,
+    /// How many coins were ordered.
+    pub(crate) asked: u16,
+    ghost within_leave: { asked ≤ leave.coins },
+}
+
+impl<L: Line, K: Sink> Bench<L, K> {
+    /// Nothing was sent.
+    pub fn new(port: Port<L>, out: K, leave: Leave) -> Bench<L, K>
+        ensures none { result.asked ≡ 0 }
+        ensures leave { result.leave ≡ leave }
+    {
+        Bench {
+            port,
+            out,
+            sent: ArrayVec::new(),
+            heard: ArrayVec::new(),
+            leave,
+            asked: 0,
+        }
+    }
+
+    /// The bytes that were sent last.
+    pub(crate) fn sent(&self) -> &[u8] {
+        self.sent.as_slice()
+    }
+
+    /// The bytes that were heard then.
+    pub(crate) fn heard(&self) -> &[u8] {
+        self.heard.as_slice()
+    }
+
+    /// Whether so many coins may still be ordered.
+    pub(crate) fn may_order(&self, coins: u8) -> bool {
+        u16::from(coins) <= self.leave.coins - self.asked
+    }
+}

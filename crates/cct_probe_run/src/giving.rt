@@ -1,0 +1,120 @@
+//! What a bench does: one exchange of a plan, or one line.
+ghost use Rattle.std.specs.Prelude.{◌≡◌, ◌≤◌, List, true};
+ghost use Rattle.std.specs.List.{Contains};
+ghost use Rattle.cct_model_wire.specs.declared.device.Setup.{Setup};
+ghost use Rattle.cct_probe_plan.specs.declared.plan.Trial.{Trial};
+ghost use Rattle.cct_probe_run.specs.Plays.{Begun, Given, IsNoEmptyOrder, IsOfPlan, Plays, coins_of};
+ghost use Rattle.cct_probe_run.specs.declared.bench.Bench.{Bench};
+
+use crate::bench::{Bench, Exchanged, Plan, Stop};
+use crate::telling::{begin_broken, push_wire};
+use cct_edge::Sink;
+use cct_live_port::Line;
+use cct_probe_plan::{Ask, Premise, Say, Turn, write_say};
+use cct_text::TextLine;
+use cct_wire::Link;
+
+impl<L: Line, K: Sink> Bench<L, K> {
+    /// Makes one exchange with a device, if it orders no more coins than may be.
+    pub(crate) fn exchange(&mut self, plan: Plan<'_>, say: Say, turn: Turn<'_>) -> Exchanged
+        requires of_plan { IsOfPlan plan.trials.now say }
+        requires there { Contains plan.setup.now.devices turn.device.now }
+        ensures plays { (first : Bench L K) → Plays L.reads L.writes K.puts plan.entry.setup.now plan.entry.trials.now first self.old → Plays L.reads L.writes K.puts plan.entry.setup.now plan.entry.trials.now first self.new }
+    {
+        let coins = coins_of(say);
+        if !is_order(say) || coins > self.leave.coins - self.asked {
+            return Exchanged::NoCoins;
+        }
+        self.asked += coins;
+        self.give(plan, say, turn)
+    }
+
+    /// Makes one exchange with a device.
+    fn give(&mut self, plan: Plan<'_>, say: Say, turn: Turn<'_>) -> Exchanged
+        ensures gives { Given L.reads L.writes plan.entry.setup.now turn.entry.device.now turn.entry.round say self.old self.new }
+    {
+        write_say(say, plan.setup, turn, &mut self.sent);
+        self.port.set_gap(gap_before(say, turn));
+        let faults = self.port.faults();
+        self.port.exchange(self.sent.as_slice(), &mut self.heard);
+        if self.port.faults() > faults {
+            Exchanged::Fault
+        } else {
+            Exchanged::Heard
+        }
+    }
+
+    /// Tells a line that tells no premise broken, by one put.
+    pub(crate) fn tell(&mut self, line: &TextLine) -> Result<(), Stop>
+        requires other { Begun line.now }
+        ensures plays { (setup : Setup) (trials : List Trial) (first : Bench L K) → Plays L.reads L.writes K.puts setup trials first self.old → Plays L.reads L.writes K.puts setup trials first self.new }
+    {
+        self.out.put(line.as_slice())?;
+        Ok(())
+    }
+
+    /// Tells the last exchange.
+    pub(crate) fn tell_wire(&mut self, addr: u8) -> Result<(), Stop>
+        ensures plays { (setup : Setup) (trials : List Trial) (first : Bench L K) → Plays L.reads L.writes K.puts setup trials first self.old → Plays L.reads L.writes K.puts setup trials first self.new }
+    {
+        if self.leave.is_quiet {
+            return Ok(());
+        }
+        let line = self.wire_line(addr);
+        self.tell(&line)
+    }
+
+    /// The line of the last exchange.
+    fn wire_line(&self, addr: u8) -> TextLine
+        ensures begun { Begun result }
+    {
+        let mut line = TextLine::new();
+        push_wire(&mut line, addr, self.sent.as_slice(), self.heard.as_slice());
+        line
+    }
+
+    /// Tells that the last exchange shows a premise broken, by one put.
+    pub(crate) fn tell_broken(
+        &mut self,
+        addr: u8,
+        premise: Premise,
+        name: &[u8],
+    ) -> Result<(), Stop>
+        ensures plays { (setup : Setup) (trials : List Trial) (first : Bench L K) → Plays L.reads L.writes K.puts setup trials first self.old → Plays L.reads L.writes K.puts setup trials first self.new }
+    {
+        let mut line = TextLine::new();
+        begin_broken(&mut line, addr, premise, name);
+        let (sent, heard) = (self.sent.as_slice(), self.heard.as_slice());
+        push_wire(&mut line, addr, sent, heard);
+        self.out.put(line.as_slice())?;
+        Ok(())
+    }
+}
+
+/// How many coins are ordered by what is said.
+fn coins_of(say: Say) -> u16
+    ensures value { result ≡ coins_of say }
+{
+    match say {
+        Say::Ask(Ask::Dispense { coins, .. }) => u16::from(coins),
+        Say::Ask(_) | Say::Odd(_) | Say::Nothing { .. } => 0,
+    }
+}
+
+/// Whether what is said is no order of no coin.
+fn is_order(say: Say) -> bool
+    ensures { result ≡ true → IsNoEmptyOrder say }
+{
+    match say {
+        Say::Ask(Ask::Dispense { coins, .. }) => coins > 0,
+        Say::Ask(_) | Say::Odd(_) | Say::Nothing { .. } => true,
+    }
+}
+
+/// How many silent reads stand before an exchange.
+fn gap_before(say: Say, turn: Turn<'_>) -> u16 {
+    match say {
+        Say::Nothing { at_once } => { if at_once { 0 } else { 1 } }
+        Say::Ask(_) | Say::Odd(_) => turn.gap,
+    }
+}

@@ -1,0 +1,253 @@
+//! All trials at all devices.
+ghost use Rattle.std.specs.List.{Contains};
+ghost use Rattle.cct_probe_run.specs.Plays.{IsOfPlan, Plays};
+ghost use Rattle.cct_probe_run.specs.declared.bench.Bench.{Bench};
+
+use crate::bench::{Bench, Exchanged, Plan, Stop};
+use crate::findings::{Findings, Standing, Why};
+use crate::person::{Clock, Person};
+use crate::summary::{is_any_broken, tell_coins, tell_device, tell_promises};
+use crate::trying::{is_for, try_out};
+use cct_edge::{Sink, Source};
+use cct_live_port::Line;
+use cct_model_lines::DeviceSetup;
+use cct_probe_plan::{Common, Memory, Part, Premise, Say, Step, Trial, Turn};
+
+const ALONE: Premise = Premise::Common(Common::Alone);
+
+const ONCE: Premise = Premise::Common(Common::Once);
+
+const PROMPT: Premise = Premise::Common(Common::Prompt);
+
+/// How all trials ended.
+#[derive(Clone, Copy, PartialEq, Eq)]
+pub enum Ended {
+    /// No premise was shown broken.
+    Kept,
+    /// Some was.
+    Broken,
+    /// No device answered.
+    NothingHeard,
+}
+
+/// Does the trials of the plan at each device of the setup, one after the other, then those of the line; and tells at last
+/// which promises hold.
+pub fn run<L: Line, K: Sink, S: Source, C: Clock>(
+    bench: &mut Bench<L, K>,
+    plan: Plan<'_>,
+    person: &mut Person<S>,
+    clock: &mut C,
+) -> Result<Ended, Stop>
+    ensures plays { (first : Bench L K) → Plays L.reads L.writes K.puts plan.entry.setup.now plan.entry.trials.now first bench.old → Plays L.reads L.writes K.puts plan.entry.setup.now plan.entry.trials.now first bench.new }
+{
+    let mut findings = Findings::new();
+    let mut is_heard = false;
+    for device in plan.setup.devices.as_slice() {
+        if run_device(bench, plan, person, clock, &mut findings, device)? {
+            is_heard = true;
+        }
+    }
+    if !is_heard {
+        return Ok(Ended::NothingHeard);
+    }
+    if let Some(device) = plan.setup.devices.as_slice().first() {
+        run_line(bench, plan, person, clock, &mut findings, device)?;
+    }
+    tell_promises(bench, &findings)?;
+    Ok(if is_any_broken(&findings) {
+        Ended::Broken
+    } else {
+        Ended::Kept
+    })
+}
+
+/// Does the trials of a device. It answers whether the device answered.
+fn run_device<L: Line, K: Sink, S: Source, C: Clock>(
+    bench: &mut Bench<L, K>,
+    plan: Plan<'_>,
+    person: &mut Person<S>,
+    clock: &mut C,
+    findings: &mut Findings,
+    device: &DeviceSetup,
+) -> Result<bool, Stop>
+    requires there { Contains plan.setup.now.devices device.now }
+    ensures plays { (first : Bench L K) → Plays L.reads L.writes K.puts plan.entry.setup.now plan.entry.trials.now first bench.old → Plays L.reads L.writes K.puts plan.entry.setup.now plan.entry.trials.now first bench.new }
+{
+    let mut memory = Memory::new();
+    let mut is_there = true;
+    for (at, trial) in plan.trials.iter().enumerate() {
+        if !is_of_device(trial, device) {
+            continue;
+        }
+        if !is_there {
+            findings.note(device.addr, trial.premise, Standing::Untried(Why::Absent))?;
+            continue;
+        }
+        let answered = try_out(
+            bench,
+            plan,
+            person,
+            clock,
+            findings,
+            &mut memory,
+            device,
+            device.addr,
+            trial,
+        )?;
+        is_there = answered || at > 0;
+        if trial.premise == ALONE {
+            memory.gap = gap_after(findings, device.addr);
+        }
+        close(bench, plan, device, Part::Closing, memory.gap)?;
+    }
+    note_always(findings, device.addr, is_there)?;
+    tell_device(bench, findings, device.addr)?;
+    tell_coins(bench, device, &memory)?;
+    Ok(is_there)
+}
+
+/// How many silent reads stand before each message to a device from now on: one where a reply may come late or twice.
+fn gap_after(findings: &Findings, addr: u8) -> u16 {
+    if findings.is_broken(addr, ALONE)
+        || findings.is_broken(addr, ONCE)
+        || findings.is_broken(addr, PROMPT)
+    {
+        1
+    } else {
+        0
+    }
+}
+
+/// Notes the premises for which there is no trial, since each exchange may show them broken.
+fn note_always(findings: &mut Findings, addr: u8, is_there: bool) -> Result<(), Stop> {
+    let standing = if is_there {
+        Standing::Kept
+    } else {
+        Standing::Untried(Why::Absent)
+    };
+    findings.note(addr, PROMPT, standing)?;
+    findings.note(addr, Premise::Common(Common::Form), standing)
+}
+
+/// Whether a trial is one of a device, and for this one.
+fn is_of_device(trial: &Trial, device: &DeviceSetup) -> bool {
+    matches!(trial.part, Part::Device | Part::Timed) && is_for(trial.who, &device.body)
+}
+
+/// Does the trials of the line.
+fn run_line<L: Line, K: Sink, S: Source, C: Clock>(
+    bench: &mut Bench<L, K>,
+    plan: Plan<'_>,
+    person: &mut Person<S>,
+    clock: &mut C,
+    findings: &mut Findings,
+    device: &DeviceSetup,
+) -> Result<(), Stop>
+    requires there { Contains plan.setup.now.devices device.now }
+    ensures plays { (first : Bench L K) → Plays L.reads L.writes K.puts plan.entry.setup.now plan.entry.trials.now first bench.old → Plays L.reads L.writes K.puts plan.entry.setup.now plan.entry.trials.now first bench.new }
+{
+    let mut memory = Memory::new();
+    for trial in plan.trials {
+        if trial.part == Part::Line {
+            try_out(
+                bench,
+                plan,
+                person,
+                clock,
+                findings,
+                &mut memory,
+                device,
+                0,
+                trial,
+            )?;
+        }
+    }
+    tell_device(bench, findings, 0)
+}
+
+/// Leaves each device as it may stay, whatever it answers.
+pub fn leave<L: Line, K: Sink>(bench: &mut Bench<L, K>, plan: Plan<'_>)
+    ensures plays { (first : Bench L K) → Plays L.reads L.writes K.puts plan.entry.setup.now plan.entry.trials.now first bench.old → Plays L.reads L.writes K.puts plan.entry.setup.now plan.entry.trials.now first bench.new }
+{
+    for device in plan.setup.devices.as_slice() {
+        let _ = close(bench, plan, device, Part::Leaving, 1);
+    }
+}
+
+/// Does what the plan has for the end of a trial, or of all, whatever comes.
+fn close<L: Line, K: Sink>(
+    bench: &mut Bench<L, K>,
+    plan: Plan<'_>,
+    device: &DeviceSetup,
+    part: Part,
+    gap: u16,
+) -> Result<(), Stop>
+    requires there { Contains plan.setup.now.devices device.now }
+    ensures plays { (first : Bench L K) → Plays L.reads L.writes K.puts plan.entry.setup.now plan.entry.trials.now first bench.old → Plays L.reads L.writes K.puts plan.entry.setup.now plan.entry.trials.now first bench.new }
+{
+    for trial in plan.trials {
+        if trial.part == part && is_for(trial.who, &device.body) {
+            close_by(bench, plan, device, gap, trial)?;
+        }
+    }
+    Ok(())
+}
+
+/// Makes the exchanges of a trial, whatever comes. It stops only where the port fails.
+fn close_by<L: Line, K: Sink>(
+    bench: &mut Bench<L, K>,
+    plan: Plan<'_>,
+    device: &DeviceSetup,
+    gap: u16,
+    trial: &Trial,
+) -> Result<(), Stop>
+    requires of_plan { Contains plan.trials.now trial.now }
+    requires there { Contains plan.setup.now.devices device.now }
+    ensures plays { (first : Bench L K) → Plays L.reads L.writes K.puts plan.entry.setup.now plan.entry.trials.now first bench.old → Plays L.reads L.writes K.puts plan.entry.setup.now plan.entry.trials.now first bench.new }
+{
+    let turn = Turn {
+        device,
+        told: device.addr,
+        round: 0,
+        premise: trial.premise,
+        gap,
+    };
+    let mut put = Ok(());
+    for step in trial.steps {
+        let Step::Asks { say, .. } = *step else {
+            continue;
+        };
+        let closed = close_once(bench, plan, turn, say);
+        if closed == Err(Stop::PortFault) {
+            return closed;
+        }
+        if put.is_ok() {
+            put = closed;
+        }
+    }
+    put
+}
+
+/// Makes one exchange, whatever comes. Where nothing comes it listens once more, so that a late reply isn't heard in the next.
+fn close_once<L: Line, K: Sink>(
+    bench: &mut Bench<L, K>,
+    plan: Plan<'_>,
+    turn: Turn<'_>,
+    say: Say,
+) -> Result<(), Stop>
+    requires of_plan { IsOfPlan plan.trials.now say }
+    requires there { Contains plan.setup.now.devices turn.device.now }
+    ensures plays { (first : Bench L K) → Plays L.reads L.writes K.puts plan.entry.setup.now plan.entry.trials.now first bench.old → Plays L.reads L.writes K.puts plan.entry.setup.now plan.entry.trials.now first bench.new }
+{
+    if bench.exchange(plan, say, turn) == Exchanged::Fault {
+        return Err(Stop::PortFault);
+    }
+    let put = bench.tell_wire(turn.told);
+    if bench.heard().len() > bench.sent().len() {
+        return put;
+    }
+    if bench.exchange(plan, Say::Nothing { at_once: true }, turn) == Exchanged::Fault {
+        return Err(Stop::PortFault);
+    }
+    put
+}

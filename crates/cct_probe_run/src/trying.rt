@@ -1,0 +1,205 @@
+//! One trial at one device.
+ghost use Rattle.std.specs.Prelude.{List};
+ghost use Rattle.std.specs.List.{Contains};
+ghost use Rattle.cct_model_wire.specs.declared.device.Setup.{Setup};
+ghost use Rattle.cct_probe_plan.specs.declared.plan.Trial.{Trial};
+ghost use Rattle.cct_probe_run.specs.Plays.{Plays};
+ghost use Rattle.cct_probe_run.specs.declared.bench.Bench.{Bench};
+
+use crate::acting::{Done, act};
+use crate::bench::{Bench, Plan, Stop};
+use crate::findings::{Findings, Standing, Why};
+use crate::person::{Clock, Person};
+use crate::telling::{line_of, numbers_of};
+use cct_edge::{Sink, Source};
+use cct_live_port::Line;
+use cct_model_lines::{DeviceBody, DeviceSetup};
+use cct_probe_plan::{Common, Memory, Need, Part, Premise, Trial, Turn, Who};
+
+/// How long the silent read before a message takes, in milliseconds.
+const SILENT_MILLIS: u64 = 100;
+
+/// How long answers took.
+#[derive(Clone, Copy)]
+struct Spans {
+    longest: u64,
+    sum: u64,
+    many: u64,
+}
+
+/// Whether a trial is for a device.
+pub(crate) fn is_for(who: Who, body: &DeviceBody) -> bool {
+    match who {
+        Who::All => true,
+        Who::Takers => body.takes_money(),
+        Who::Acceptors => body.is_acceptor(),
+        Who::Bills => body.is_bill(),
+        Who::Hoppers => body.is_hopper(),
+    }
+}
+
+/// Why a trial isn't begun, if it isn't.
+fn lacks<L: Line, K: Sink>(bench: &Bench<L, K>, need: Need) -> Option<Why> {
+    match need {
+        Need::Nothing => None,
+        Need::Hands if bench.leave.hands => None,
+        Need::Hands => Some(Why::Hands),
+        Need::Long if !bench.leave.long => Some(Why::Long),
+        Need::Long if !bench.leave.hands => Some(Why::Hands),
+        Need::Long => None,
+        Need::Coins(coins) if bench.may_order(coins) => None,
+        Need::Coins(_) => Some(Why::Coins),
+    }
+}
+
+/// Does a trial at a device, tells what it shows, and notes it. It answers whether the device answered.
+pub(crate) fn try_out<L: Line, K: Sink, S: Source, C: Clock>(
+    bench: &mut Bench<L, K>,
+    plan: Plan<'_>,
+    person: &mut Person<S>,
+    clock: &mut C,
+    findings: &mut Findings,
+    memory: &mut Memory,
+    device: &DeviceSetup,
+    told: u8,
+    trial: &Trial,
+) -> Result<bool, Stop>
+    requires of_plan { Contains plan.trials.now trial.now }
+    requires there { Contains plan.setup.now.devices device.now }
+    ensures plays { (first : Bench L K) → Plays L.reads L.writes K.puts plan.entry.setup.now plan.entry.trials.now first bench.old → Plays L.reads L.writes K.puts plan.entry.setup.now plan.entry.trials.now first bench.new }
+{
+    if let Some(why) = lacks(bench, trial.need) {
+        findings.note(told, trial.premise, Standing::Untried(why))?;
+        return Ok(true);
+    }
+    tell_begin(bench, told, trial)?;
+    let done = go(bench, plan, person, clock, memory, device, told, trial)?;
+    conclude(bench, findings, told, trial, done)
+}
+
+/// Tells that a trial begins.
+fn tell_begin<L: Line, K: Sink>(
+    bench: &mut Bench<L, K>,
+    told: u8,
+    trial: &Trial,
+) -> Result<(), Stop>
+    ensures plays { (setup : Setup) (trials : List Trial) (first : Bench L K) → Plays L.reads L.writes K.puts setup trials first bench.old → Plays L.reads L.writes K.puts setup trials first bench.new }
+{
+    bench.tell(&line_of(b"trial", told, &[trial.name]))?;
+    if let Need::Coins(coins) = trial.need {
+        bench.tell(&numbers_of(b"pays", told, &[u64::from(coins)]))?;
+    }
+    Ok(())
+}
+
+/// Does the rounds of a trial, up to the step that ends it.
+fn go<L: Line, K: Sink, S: Source, C: Clock>(
+    bench: &mut Bench<L, K>,
+    plan: Plan<'_>,
+    person: &mut Person<S>,
+    clock: &mut C,
+    memory: &mut Memory,
+    device: &DeviceSetup,
+    told: u8,
+    trial: &Trial,
+) -> Result<Done, Stop>
+    requires of_plan { Contains plan.trials.now trial.now }
+    requires there { Contains plan.setup.now.devices device.now }
+    ensures plays { (first : Bench L K) → Plays L.reads L.writes K.puts plan.entry.setup.now plan.entry.trials.now first bench.old → Plays L.reads L.writes K.puts plan.entry.setup.now plan.entry.trials.now first bench.new }
+{
+    let mut spans = Spans {
+        longest: 0,
+        sum: 0,
+        many: 0,
+    };
+    for round in 0..trial.rounds {
+        let turn = Turn {
+            device,
+            told,
+            round,
+            premise: trial.premise,
+            gap: memory.gap,
+        };
+        let begun = clock.millis();
+        let done = go_round(bench, plan, person, turn, memory, trial)?;
+        if done != Done::On {
+            return Ok(done);
+        }
+        take_span(
+            &mut spans,
+            clock
+                .millis()
+                .saturating_sub(begun)
+                .saturating_sub(SILENT_MILLIS * u64::from(memory.gap)),
+        );
+    }
+    if trial.part == Part::Timed {
+        tell_spans(bench, told, spans)?;
+    }
+    Ok(Done::On)
+}
+
+/// One span more.
+fn take_span(spans: &mut Spans, span: u64) {
+    spans.longest = spans.longest.max(span);
+    spans.sum = spans.sum.saturating_add(span);
+    spans.many = spans.many.saturating_add(1);
+}
+
+/// Tells the longest span and the mean one.
+fn tell_spans<L: Line, K: Sink>(bench: &mut Bench<L, K>, told: u8, spans: Spans) -> Result<(), Stop>
+    ensures plays { (setup : Setup) (trials : List Trial) (first : Bench L K) → Plays L.reads L.writes K.puts setup trials first bench.old → Plays L.reads L.writes K.puts setup trials first bench.new }
+{
+    let mean = if spans.many == 0 {
+        0
+    } else {
+        spans.sum / spans.many
+    };
+    bench.tell(&numbers_of(b"time", told, &[spans.longest, mean]))
+}
+
+/// Does one round of a trial, up to the step that ends it.
+fn go_round<L: Line, K: Sink, S: Source>(
+    bench: &mut Bench<L, K>,
+    plan: Plan<'_>,
+    person: &mut Person<S>,
+    turn: Turn<'_>,
+    memory: &mut Memory,
+    trial: &Trial,
+) -> Result<Done, Stop>
+    requires of_plan { Contains plan.trials.now trial.now }
+    requires there { Contains plan.setup.now.devices turn.device.now }
+    ensures plays { (first : Bench L K) → Plays L.reads L.writes K.puts plan.entry.setup.now plan.entry.trials.now first bench.old → Plays L.reads L.writes K.puts plan.entry.setup.now plan.entry.trials.now first bench.new }
+{
+    for step in trial.steps {
+        let done = act(bench, plan, person, turn, memory, *step)?;
+        if done != Done::On {
+            return Ok(done);
+        }
+    }
+    Ok(Done::On)
+}
+
+/// Tells and notes what came of a trial.
+fn conclude<L: Line, K: Sink>(
+    bench: &mut Bench<L, K>,
+    findings: &mut Findings,
+    told: u8,
+    trial: &Trial,
+    done: Done,
+) -> Result<bool, Stop>
+    ensures plays { (setup : Setup) (trials : List Trial) (first : Bench L K) → Plays L.reads L.writes K.puts setup trials first bench.old → Plays L.reads L.writes K.puts setup trials first bench.new }
+{
+    match done {
+        Done::On => findings.note(told, trial.premise, Standing::Kept)?,
+        Done::Untried(why) => findings.note(told, trial.premise, Standing::Untried(why))?,
+        Done::Broken(premise) => {
+            bench.tell_broken(told, premise, trial.name)?;
+            findings.note(told, premise, Standing::Broken)?;
+            if premise != trial.premise {
+                findings.note(told, trial.premise, Standing::Untried(Why::Silent))?;
+            }
+        }
+    }
+    Ok(done != Done::Broken(Premise::Common(Common::Answers)))
+}

@@ -1,5 +1,0 @@
-use Rattle.std.proofs.Common.{length}
-use Rattle.cct_survey.proofs.twins.+twin_of.Given as goal
-
-abbrev pub decreases-twin_of : goal.decreases-twin_of
-decreases-twin_of l = length l.others.now

@@ -1,7 +1,0 @@
-use Rattle.std.proofs.Common.{◌∙◌, ap, length, sym, arith}
-use Rattle.cct_terms.specs.Places.{places_of}
-use Rattle.cct_terms.proofs.Places.{no_place}
-use Rattle.cct_terms.proofs.device.Devices.new.Goals as goal
-
-pub invariant_of-result : goal.invariant_of-result
-invariant_of-result c = (omega (arith, ap length c.new.ensures), no_place ∙ ap places_of (sym c.new.ensures))

@@ -1,8 +1,0 @@
--- What was done so far is of the plan.
-use Rattle.cct_trial_run.specs.Plays.{Plays}
-use Rattle.cct_trial_run.specs.declared.bench.Bench.{Bench}
-use Rattle.cct_trial_run.proofs.runner.run_device.Given as goal
-
-abbrev pub invariant-loop-at : goal.invariant-loop-at
-invariant-loop-at g l =
-    (first : Bench g.row.L.Denot g.row.K.Denot) → Plays g.L.Line.reads g.L.Line.writes g.K.Sink.puts l.plan.setup.now l.plan.trials.now first l.fn.bench → Plays g.L.Line.reads g.L.Line.writes g.K.Sink.puts l.plan.setup.now l.plan.trials.now first l.bench

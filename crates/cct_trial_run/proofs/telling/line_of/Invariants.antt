@@ -1,6 +1,0 @@
--- The line doesn't begin as a line `broken`.
-use Rattle.cct_trial_run.specs.Plays.{Begun}
-use Rattle.cct_trial_run.proofs.telling.line_of.Given as goal
-
-abbrev pub invariant-loop-word : goal.invariant-loop-word
-invariant-loop-word l = Begun l.line

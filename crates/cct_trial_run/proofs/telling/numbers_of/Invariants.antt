@@ -1,6 +1,0 @@
--- The line doesn't begin as a line `broken`.
-use Rattle.cct_trial_run.specs.Plays.{Begun}
-use Rattle.cct_trial_run.proofs.telling.numbers_of.Given as goal
-
-abbrev pub invariant-loop-number : goal.invariant-loop-number
-invariant-loop-number l = Begun l.line
