@@ -31,10 +31,10 @@ FAMILIES = {
 
 # By its test in `tests_of` of cct_model, the reason for which a command is refused where the test fails.
 REASONS = {
-    "at_a_device": "nodevice", "at_a_taker": "wrongkind", "at_an_acceptor": "wrongkind", "at_a_bill_acceptor": "wrongkind",
-    "at_a_hopper": "wrongkind", "with_no_job": "busy", "with_no_epoch": "epochruns", "with_an_epoch": "noepoch",
-    "with_values": "novalue PLACE", "with_no_order": "orderopen ORDER", "with_an_order": "noorder",
-    "with_a_payout": "nopayout", "with_new_id": "oldid LAST", "with_coins": "short HAVE", "with_price": "short HAVE",
+    "AtADevice": "nodevice", "AtATaker": "wrongkind", "AtAnAcceptor": "wrongkind", "AtABillAcceptor": "wrongkind",
+    "AtAHopper": "wrongkind", "WithNoJob": "busy", "WithNoEpoch": "epochruns", "WithAnEpoch": "noepoch",
+    "WithValues": "novalue PLACE", "WithNoOrder": "orderopen ORDER", "WithAnOrder": "noorder",
+    "WithAPayout": "nopayout", "WithNewId": "oldid LAST", "WithCoins": "short HAVE", "WithPrice": "short HAVE",
 }
 
 # By its name in a definition of cct_record, what a field of a record is. Those that have no row are called as there.
@@ -272,8 +272,8 @@ def reasons(root: Path) -> list[str]:
     rows = []
     for command in sorted(tests, key=list(tests).index):
         told = []
-        for test in re.findall(r"\b(?:at|with)_\w+", tests[command]):
-            if test != "with_room":
+        for test in re.findall(r"\b(?:At|With)[A-Z]\w+", tests[command]):
+            if test != "WithRoom":
                 told.append(REASONS[test])
             elif need := room_of(jobs[command]):
                 told.append(f"journalfull USED HELD {need}")

@@ -23,17 +23,19 @@ use Rattle.cct_model.specs.Rows.{has_waits}
 use Rattle.cct_model.specs.Job.{address_of}
 use Rattle.cct_model.specs.Line.{Line}
 use Rattle.cct_model.specs.Order.{order}
+use Rattle.cct_model.specs.declared.tests.Test.{Test}
+use Rattle.cct_model.specs.declared.tests.Test.TheVariants.{AtADevice, AtATaker, AtAnAcceptor, AtABillAcceptor, AtAHopper, WithAnEpoch, WithAnOrder}
 use Rattle.cct_model.specs.Refusal.{View, first_of, id_refusal, is_busy, last_id, lines_for, running_id, running_refusal, settle_refusal, state_fails, state_refusal, state_tests, unless, view_of}
 use Rattle.cct_model.specs.Transcript.{lines_of, sale_lines, scan_lines}
 use Rattle.cct_jobs.specs.declared.job.Job.{Job}
 use Rattle.cct_host.specs.declared.orders.OrderState.{OrderState}
 use Rattle.cct_jobs.specs.Ahead.{ahead}
-use Rattle.cct_jobs.specs.Jobs.{IsRunning, MayBegin, Stands, end_of_job, is_of_device, order_of}
+use Rattle.cct_jobs.specs.Jobs.{AreMet, IsMet, IsRunning, MayBegin, Stands, end_of_job, is_of_device, order_of, is_halt}
 use Rattle.cct_jobs.specs.Sales.{StandsSale}
 use Rattle.cct_jobs.specs.Scans.{StandsScan}
 use Rattle.cct_host.specs.Desk.{Keeps, Works}
 use Rattle.cct_host.specs.Place.{Place, device, sales, scans}
-use Rattle.cct_host.specs.Running.{begins_id, busy_by, command_of, halting_refusal, halts_in, is_halt, is_running, refusal_beside, sale_refusal, seen_at}
+use Rattle.cct_host.specs.Running.{begins_id, busy_by, command_of, halting_refusal, halts_in, is_running, refusal_beside, sale_refusal, seen_at}
 use Rattle.cct_laws.proofs.jobs.Tests.{Pass, all_pass, test_holds}
 use Rattle.cct_jobs.proofs.Halts.{halts_known}
 use Rattle.cct_jobs.proofs.Needs.{end_known}
@@ -156,53 +158,30 @@ pub may_begin : (devices : List DeviceSetup) (d : DeviceSetup) (job : Option Job
     → device_at devices (address_of c) ≡ Some d → refusal_beside d job state owed last c ≡ None
     → MayBegin c devices state (order_of owed.order)
 may_begin devices d job state owed last c no_halt of_device there free =
-    by_command c no_halt of_device there (all_pass (state_fails (seen_at d job state owed last)) (state_tests c) free)
+    (no_halt, all_met (state_tests c) (all_pass fails (state_tests c) free))
   where
-    at_acceptor : (addr : ℕ) → device_at devices addr ≡ Some d → unless (is_acceptor d.body) WrongKind ≡ None
-        → IsTrue (acceptor_there (device_at devices addr))
-    at_acceptor addr there kind = acceptor_is_there _ d there (test_holds (is_acceptor d.body) WrongKind kind)
+    fails : Test → Option CommandNo
+    fails = state_fails (seen_at d job state owed last)
 
-    at_taker : (addr : ℕ) → device_at devices addr ≡ Some d → unless (is_taker d.body) WrongKind ≡ None
-        → IsTrue (taker_there (device_at devices addr))
-    at_taker addr there kind = taker_is_there _ d there (test_holds (is_taker d.body) WrongKind kind)
+    met : (t : Test) → fails t ≡ None → IsMet (device_at devices (address_of c)) state (order_of owed.order) t
+    met AtADevice passes = subst (λ f. IsTrue (is_some f)) (sym there) refl
+    met AtATaker passes = taker_is_there _ d there (test_holds (is_taker d.body) WrongKind passes)
+    met AtAnAcceptor passes = acceptor_is_there _ d there (test_holds (is_acceptor d.body) WrongKind passes)
+    met AtABillAcceptor passes = bill_is_there _ d there (test_holds (is_bill d.body) WrongKind passes)
+    met AtAHopper passes = hopper_is_there _ d there (test_holds (is_hopper d.body) WrongKind passes)
+    met WithAnEpoch passes = runs_where_free state passes
+    met WithAnOrder passes = owed_where_free (order_of owed.order) passes
+    met t passes = tt
 
-    at_bill : (addr : ℕ) → device_at devices addr ≡ Some d → unless (is_bill d.body) WrongKind ≡ None
-        → IsTrue (bill_there (device_at devices addr))
-    at_bill addr there kind = bill_is_there _ d there (test_holds (is_bill d.body) WrongKind kind)
-
-    at_hopper : (addr : ℕ) → device_at devices addr ≡ Some d → unless (is_hopper d.body) WrongKind ≡ None
-        → IsTrue (hopper_there (device_at devices addr))
-    at_hopper addr there kind = hopper_is_there _ d there (test_holds (is_hopper d.body) WrongKind kind)
-
-    by_command : (c : Command) → is_halt c ≡ false → is_of_device c ≡ true → device_at devices (address_of c) ≡ Some d
-        → Pass (state_fails (seen_at d job state owed last)) (state_tests c) → MayBegin c devices state (order_of owed.order)
-    by_command (command.Start addr mask) no_halt of_device there passes = at_taker addr there passes.1.0
-    by_command (command.Path addr place path) no_halt of_device there passes = at_acceptor addr there passes.1.0
-    by_command (command.Route addr way) no_halt of_device there passes = at_bill addr there passes.1.0
-    by_command (command.Round addr) no_halt of_device there passes =
-        (at_taker addr there passes.1.0, runs_where_free state passes.1.1.1.0)
-    by_command (command.Stop addr) no_halt of_device there passes =
-        (at_taker addr there passes.1.0, runs_where_free state passes.1.1.1.0)
-    by_command (command.Ident addr) no_halt of_device there passes = subst (λ f. IsTrue (is_some f)) (sym there) refl
-    by_command (command.Pay addr id count) no_halt of_device there passes = at_hopper addr there passes.1.0
-    by_command (command.Settle addr) no_halt of_device there passes =
-        (at_hopper addr there passes.1.0, owed_where_free (order_of owed.order) passes.1.1.1.0)
-    by_command c no_halt of_device there passes = absurd cc
+    all_met : (ts : List Test) → Pass fails ts
+        → AreMet (device_at devices (address_of c)) state (order_of owed.order) ts
+    all_met [] passes = tt
+    all_met (t ∷ ts) passes = (met t passes.0, all_met ts passes.1)
 
 -- a command that begins a job begins its own
-begins_own : (c : Command) (devices : List DeviceSetup) (state : EpochState) (owed : Option OpenOrder)
-    (before : model.Job) → MayBegin c devices state owed → model.begun c before ≡ model.works c []
-begins_own command.Scan devices state owed before may = refl
-begins_own (command.Vend id price) devices state owed before may = refl
-begins_own (command.Ident addr) devices state owed before may = refl
-begins_own (command.Round addr) devices state owed before may = refl
-begins_own (command.Path addr place path) devices state owed before may = refl
-begins_own (command.Route addr way) devices state owed before may = refl
-begins_own (command.Start addr mask) devices state owed before may = refl
-begins_own (command.Stop addr) devices state owed before may = refl
-begins_own (command.Pay addr id count) devices state owed before may = refl
-begins_own (command.Settle addr) devices state owed before may = refl
-begins_own c devices state owed before may = absurd may
+begins_own : (c : Command) (before : model.Job) → is_halt c ≡ false → model.begun c before ≡ model.works c []
+begins_own (command.Halt addr) before no_halt = absurd cc
+begins_own c before no_halt = refl
 
 there_by : (same : Bool) (e d : DeviceSetup) (rest : Option DeviceSetup) (addr : ℕ) → (e.addr == addr) ≡ same
     → cond same (Some e) rest ≡ Some d → (rest ≡ Some d → d.addr ≡ addr) → d.addr ≡ addr
@@ -230,13 +209,13 @@ command_taken setup d c before job state owed after last past is_last of_device 
     stands keeps = (
       sym free ∙ refusal_is setup d before state owed last past c is_last runs of_device there keeps,
       taken_keeps (device d) c job state after past (sym (address_there setup.devices (address_of c) d there))
-          (begins_own c setup.devices state (order_of owed.order) _ may)
+          (begins_own c _ may.0)
           (subst (λ n. Stands d job c [] n (order (lines_of d past))) keeps.knows.0
           (subst (Stands d job c [] state) keeps.knows.1 stands)) (
             keeps.knows.0,
             ap order_of ordered ∙ keeps.knows.1,
-            named ∙ ap (running_id d) (sym (begins_own c setup.devices state (order_of owed.order) _ may)),
-            begun ∙ ap command_of (sym (begins_own c setup.devices state (order_of owed.order) _ may)),
+            named ∙ ap (running_id d) (sym (begins_own c _ may.0)),
+            begun ∙ ap command_of (sym (begins_own c _ may.0)),
           ),
     )
 

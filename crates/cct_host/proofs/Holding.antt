@@ -27,7 +27,7 @@ use Rattle.cct_jobs.specs.declared.job.Job.TheVariants.{StartPuts, RoundPuts, St
 use Rattle.cct_jobs.specs.declared.job.Need.{Need}
 use Rattle.cct_jobs.specs.declared.job.Need.TheVariants as need
 use Rattle.cct_jobs.specs.Ahead.{ahead, coins_in, price_in}
-use Rattle.cct_jobs.specs.Jobs.{IsPut, after_put, end_in, end_of_job, is_of_device, need_of, order_of, put_in}
+use Rattle.cct_jobs.specs.Jobs.{IsPut, after_put, end_in, end_of_job, is_of_device, need_of, order_of, put_in, is_halt}
 use Rattle.cct_jobs.specs.Onward.{KeepsTo}
 use Rattle.cct_jobs.specs.Sales.{StandsSale}
 use Rattle.cct_host.specs.declared.orders.OrderState.{OrderState}
@@ -36,7 +36,7 @@ use Rattle.cct_host.specs.declared.desk.JobDesk.{JobDesk}
 use Rattle.cct_host.specs.Desk.{Frees}
 use Rattle.cct_host.specs.Exchange.{Exchanges, Puts}
 use Rattle.cct_host.specs.Held.{coins_by, due_by, held_by, order_left, price_by, puts_left, sells_only}
-use Rattle.cct_host.specs.Running.{Settles, busy_by, halting_refusal, is_halt, is_running, needed, refusal_beside, rows_begun, sale_refusal, seen_at}
+use Rattle.cct_host.specs.Running.{Settles, busy_by, halting_refusal, is_running, needed, refusal_beside, rows_begun, sale_refusal, seen_at}
 use Rattle.cct_laws.proofs.jobs.Tests.{Pass, all_pass}
 use Rattle.cct_host.proofs.Commands.{owed_where_free}
 

@@ -21,11 +21,11 @@ use Rattle.cct_model.specs.Refusal.{running_id, sale_id}
 use Rattle.cct_model.specs.Transcript.{lines_of, owner, sale_lines, sold_line}
 use Rattle.cct_jobs.specs.declared.job.Job.{Job}
 use Rattle.cct_host.specs.declared.orders.OrderState.{OrderState}
-use Rattle.cct_jobs.specs.Jobs.{Stands, order_of}
+use Rattle.cct_jobs.specs.Jobs.{Stands, order_of, is_halt}
 use Rattle.cct_jobs.specs.Sales.{StandsSale}
 use Rattle.cct_host.specs.Desk.{Keeps, Knows, Works}
 use Rattle.cct_host.specs.Place.{IsAsBefore, Place, StandsAt, addr_of, device, line_at, lines_at, sales, scans}
-use Rattle.cct_host.specs.Running.{Settles, command_of, orders_left, is_halt}
+use Rattle.cct_host.specs.Running.{Settles, command_of, orders_left}
 use Rattle.cct_host.proofs.Lines.{IsQuiet, job_asked, own_ended, own_put, own_taken}
 
 -- a line more of a job is of the same payment

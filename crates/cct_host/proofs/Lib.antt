@@ -1,3 +1,4 @@
+pub mod Testing
 pub mod Attempts
 pub mod Begun
 pub mod Commands

@@ -11,11 +11,14 @@ use Rattle.cct_model.specs.lines.entry.End.{End}
 use Rattle.cct_model.specs.lines.entry.Entry.{Entry}
 use Rattle.cct_model.specs.lines.entry.Entry.TheVariants as entry
 use Rattle.cct_model.specs.declared.judging.EpochState.{EpochState}
+use Rattle.cct_model.specs.declared.tests.Test.{Test}
+use Rattle.cct_model.specs.declared.tests.Test.TheVariants.{WithCoins, WithPrice, WithRoom}
 use Rattle.cct_model.specs.Device.{is_hopper}
 use Rattle.cct_model.specs.Exchange.{device_at}
 use Rattle.cct_model.specs.Job.{address_of}
 use Rattle.cct_model.specs.Job as model
 use Rattle.cct_model.specs.Rows.{TableRow, has_waits, need_in, rows_for}
+use Rattle.cct_model.specs.Money.{coins_of}
 use Rattle.cct_model.specs.Refusal.{View, first_of, id_refusal, money_in, state_fails, state_tests, tests_of, unless}
 use Rattle.cct_jobs.specs.declared.job.Job.{Job}
 use Rattle.cct_host.specs.declared.orders.OrderState.{OrderState}
@@ -30,15 +33,6 @@ is_running (Some job) = not (is_some (end_of_job job))
 -- The test that no job is at a place.
 abbrev pub busy_by : Option Job → Option CommandNo
 busy_by job = unless (not (is_some job)) Busy
-
--- The tests of a command to a device that its kind knows it, or doesn't, and that no job is there; and then a further one.
-abbrev pub kind_refusal : Bool → Option Job → Option CommandNo → Option CommandNo
-kind_refusal knows job further = option_or (unless knows WrongKind) (option_or (busy_by job) further)
-
--- A command that halts a job, and begins none.
-abbrev pub is_halt : Command → Bool
-is_halt (command.Halt addr) = true
-is_halt c = false
 
 -- A command that begins an order or a sale, which its id has to be new for.
 abbrev pub begins_id : Command → Bool
@@ -85,6 +79,17 @@ needed setup c = need_in (rows_begun setup c)
 -- What a command reserves until its order is opened or its sale is put.
 abbrev pub amount_of : Setup → Command → ℕ
 amount_of setup c = money_in setup (tests_of c)
+
+-- What a test wants available.
+abbrev pub amount_in : Setup → Test → ℕ
+amount_in setup (WithCoins addr count) = coins_of setup addr count
+amount_in setup (WithPrice price) = price
+amount_in setup test = 0
+
+-- It is the test of the room.
+abbrev pub is_room : Test → Bool
+is_room WithRoom = true
+is_room test = false
 
 -- The command whose job is at a place, if one is.
 abbrev pub command_of : model.Job → Option Command

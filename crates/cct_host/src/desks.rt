@@ -1,5 +1,5 @@
 //! The host's desks: a job at each address, the epochs of its acceptors, and the open orders of its hoppers.
-ghost use Rattle.std.specs.Prelude.{◌≡◌, ◌==◌, ◌<◌, ◌≤◌, ℕ, List, [], ◌∷◌, ◌+◌, ◌-◌, ◌*◌, IfSome, OnErr, OnOk, Option, Some, None, false, length, max, true};
+ghost use Rattle.std.specs.Prelude.{◌≡◌, ◌==◌, ◌<◌, ◌≤◌, ℕ, List, [], ◌∷◌, ◌+◌, ◌-◌, ◌*◌, IfSome, OnErr, OnOk, Option, Some, None, false, is_some, length, max, true};
 ghost use Rattle.std.specs.List.{All, position};
 ghost use Rattle.arrayvec.specs.ArrayVec.{array_vec_len};
 ghost use Rattle.cct_model.specs.Exchange.{device_at};
@@ -157,6 +157,13 @@ impl<'s> Desks<'s> {
                 self.last_before(command),
             ),
         }
+    }
+
+    /// Whether a device is at the address of a command.
+    pub(crate) fn is_there(&self, command: &Command) -> bool
+        ensures { result ≡ is_some (device_at (setup_of self.now).devices (address_of command.now)) }
+    {
+        self.setup.device_at(command.address()).is_some()
     }
 
     /// The last id: the greatest of the records, of the running payments and of the running sale, 0 where there is none.

@@ -20,6 +20,9 @@ ghost use Rattle.cct_host.specs.Desks as all_desks;
 ghost use Rattle.cct_host.specs.Parts.{BelongTogether, BelongTogether-prop, GoOnTogether};
 ghost use Rattle.cct_model.specs.Rows.{puts_in};
 ghost use Rattle.cct_host.specs.Running.{amount_of, needed, rows_begun};
+ghost use Rattle.std.specs.Prelude.{true};
+ghost use Rattle.cct_model.specs.Refusal.{asks_room, listed, money_in};
+ghost use Rattle.cct_host.specs.Running.{amount_in, is_room};
 
 use crate::Desks;
 use crate::advance::advance;
@@ -33,7 +36,9 @@ use cct_jobs::Sending;
 use cct_journal::Journal;
 use cct_journal_carry::{Tally, coins_of};
 use cct_ledger::Ledger;
-use cct_model::{Command, CommandNo, CrashAt, Entry, Record, Setup, Totals};
+use cct_model::{
+    Command, CommandNo, CrashAt, Entry, Record, Setup, Test, Totals, need_of, room_tests,
+};
 use cct_wire::Link;
 
 /// The host: the desks of its jobs, over a journal of its records, with the ledger of what they are worth and the tally of
@@ -149,19 +154,45 @@ impl<'s, D: Disk> Host<'s, D> {
             → option_or (refusals.state_refusal (setup_of self.now) past command.now) result
             ≡ refusals.refusal (capacity_in self.now) (setup_of self.now) past command.now }
     {
-        match *command {
-            Command::Start { .. } => self.full_refusal(1),
-            Command::Round { .. } => self.full_refusal(1),
-            Command::Stop { .. } => self.full_refusal(2),
-            Command::Pay { addr, count, .. } => {
-                let wanted = coins_of(self.desks.setup(), addr, count);
-                self.short_refusal(wanted).or(self.full_refusal(2))
+        let there = self.desks.is_there(command);
+        self.room_failing(&room_tests(command), need_of(command, there))
+    }
+
+    /// Why the first of these tests of the money and the room fails, if one does, where so much room is wanted.
+    #[tactic(auto, using(crate::proofs::Testing::first_more))]
+    fn room_failing(&self, tests: &[Option<Test>], need: u32) -> Option<CommandNo>
+        ensures affords { result ≡ None → money_in (setup_of self.now) (listed tests.now)
+            ≤ ledgers.available_of self.now.ledger }
+        ensures fits { result ≡ None → asks_room (listed tests.now) ≡ true
+            → journals.used_of self.now.journal + all_desks.held_of self.now.desks + need ≤ capacity_in self.now }
+        ensures stands { (past : List Entry) → Keeps self.now past
+            → result ≡ refusals.first_of (refusals.room_fails (capacity_in self.now) (setup_of self.now) past need)
+            (listed tests.now) }
+    {
+        match tests {
+            [] => None,
+            [None, more @ ..] => self.room_failing(more, need),
+            [Some(test), more @ ..] => match self.room_fails(test, need) {
+                Some(why) => Some(why),
+                None => self.room_failing(more, need),
+            },
+        }
+    }
+
+    /// Why a test of the money or of the room fails, if it does.
+    fn room_fails(&self, test: &Test, need: u32) -> Option<CommandNo>
+        ensures affords { result ≡ None → amount_in (setup_of self.now) test.now ≤ ledgers.available_of self.now.ledger }
+        ensures fits { result ≡ None → is_room test.now ≡ true
+            → journals.used_of self.now.journal + all_desks.held_of self.now.desks + need ≤ capacity_in self.now }
+        ensures stands { (past : List Entry) → Keeps self.now past
+            → result ≡ refusals.room_fails (capacity_in self.now) (setup_of self.now) past need test.now }
+    {
+        match *test {
+            Test::WithCoins { addr, count } => {
+                self.short_refusal(coins_of(self.desks.setup(), addr, count))
             }
-            Command::Settle { .. } => self.full_refusal(0),
-            Command::Vend { price, .. } => {
-                self.short_refusal(u64::from(price))
-                    .or(self.full_refusal(1))
-            }
+            Test::WithPrice { price } => self.short_refusal(u64::from(price)),
+            Test::WithRoom => self.full_refusal(need),
             _ => None,
         }
     }

@@ -1,18 +1,18 @@
 //! Why a command to a desk is refused: the first reason that holds.
-ghost use Rattle.std.specs.Prelude.{◌≡◌, Option, true};
-ghost use Rattle.std.specs.Option.{option_or};
+ghost use Rattle.std.specs.Prelude.{◌≡◌, Option, Some, true};
 ghost use Rattle.cct_model.specs.terms.device.Setup.{Setup};
 ghost use Rattle.cct_model.specs.Exchange.{device_at};
 ghost use Rattle.cct_model.specs.Job.{address_of};
-ghost use Rattle.cct_model.specs.Refusal.{id_refusal, order_refusal, running_refusal, settle_refusal, start_refusal};
+ghost use Rattle.cct_model.specs.Refusal.{epoch_refusal, first_of, id_refusal, listed, order_refusal, running_refusal, settle_refusal, state_fails, unless, value_refusal};
+ghost use Rattle.cct_model.specs.lines.command.CommandNo.TheVariants.{NoPayout, WrongKind};
 ghost use Rattle.cct_jobs.specs.Jobs.{is_of_device, order_of};
 ghost use Rattle.cct_host.specs.Desk.{RefusesAbove};
 ghost use Rattle.cct_host.specs.Place as places;
-ghost use Rattle.cct_host.specs.Running.{busy_by, halting_refusal, halts_in, kind_refusal, refusal_beside, sale_refusal};
+ghost use Rattle.cct_host.specs.Running.{busy_by, halting_refusal, halts_in, refusal_beside, sale_refusal, seen_at};
 
 use crate::desk::JobDesk;
 use cct_journal_carry::valueless;
-use cct_model::{Command, CommandNo, DeviceSetup, EpochState};
+use cct_model::{Command, CommandNo, DeviceSetup, EpochState, Test, state_tests};
 
 impl JobDesk {
     /// Why a command to the device of this desk is refused, if it is: the first reason that holds, whatever room there
@@ -69,44 +69,73 @@ impl JobDesk {
     ) -> Option<CommandNo>
         ensures { result ≡ refusal_beside device.now self.now.job self.now.epoch self.now.orders last command.now }
     {
-        let body = &device.body;
-        match *command {
-            Command::Start { mask, .. } => {
-                self.kind_refusal(body.takes_money(), self.start_refusal(device, mask))
-            }
-            Command::Round { .. } => self.kind_refusal(body.takes_money(), self.running_refusal()),
-            Command::Stop { .. } => self.kind_refusal(body.takes_money(), self.running_refusal()),
-            Command::Path { .. } => self.kind_refusal(body.is_acceptor(), None),
-            Command::Route { .. } => self.kind_refusal(body.is_bill(), self.running_refusal()),
-            Command::Pay { id, .. } => {
-                self.kind_refusal(body.is_hopper(), self.pay_refusal(id, last))
-            }
-            Command::Settle { .. } => self.kind_refusal(body.is_hopper(), self.settle_refusal()),
-            Command::Halt { .. } => self.halting_refusal(device),
-            Command::Ident { .. } => self.busy(),
-            Command::Scan => self.busy(),
-            Command::Vend { id, .. } => self.sale_refusal(id, last),
-        }
+        self.first_failing(&state_tests(command), device, last)
     }
 
-    /// Why a command to a device is refused that some kinds of devices know, if it is: the device is of another kind, or a
-    /// job is there; a further reason is the last.
-    fn kind_refusal(&self, knows: bool, further: Option<CommandNo>) -> Option<CommandNo>
-        ensures { result ≡ kind_refusal knows self.now.job further }
+    /// Why the first of these tests of the state fails, if one does.
+    #[tactic(auto, using(crate::proofs::Testing::first_more))]
+    fn first_failing(
+        &self,
+        tests: &[Option<Test>],
+        device: &DeviceSetup,
+        last: u32,
+    ) -> Option<CommandNo>
+        ensures { result ≡ first_of (state_fails (seen_at device.now self.now.job self.now.epoch self.now.orders last))
+            (listed tests.now) }
     {
-        if knows {
-            self.busy().or(further)
-        } else {
-            Some(CommandNo::WrongKind)
+        match tests {
+            [] => None,
+            [None, more @ ..] => self.first_failing(more, device, last),
+            [Some(test), more @ ..] => match self.fails(test, device, last) {
+                Some(why) => Some(why),
+                None => self.first_failing(more, device, last),
+            },
         }
     }
 
-    /// Why a payment is refused beside the open order and the last id: an order is open, or its id isn't new.
-    fn pay_refusal(&self, id: u32, last: u32) -> Option<CommandNo>
-        ensures { result ≡ option_or (order_refusal (order_of self.now.orders.order)) (id_refusal id last) }
+    /// Why a test of the state fails, if it does.
+    fn fails(&self, test: &Test, device: &DeviceSetup, last: u32) -> Option<CommandNo>
+        ensures { result ≡ state_fails (seen_at device.now self.now.job self.now.epoch self.now.orders last)
+            test.now }
+    {
+        let body = &device.body;
+        match *test {
+            Test::AtADevice => None,
+            Test::AtATaker => of_kind(body.takes_money()),
+            Test::AtAnAcceptor => of_kind(body.is_acceptor()),
+            Test::AtABillAcceptor => of_kind(body.is_bill()),
+            Test::AtAHopper => of_kind(body.is_hopper()),
+            Test::WithNoJob => self.busy(),
+            Test::WithNoEpoch => self.epoch_refusal(),
+            Test::WithAnEpoch => self.running_refusal(),
+            Test::WithValues { mask } => value_refusal(device, mask),
+            Test::WithNoOrder => self.order_refusal(),
+            Test::WithAnOrder => self.settle_refusal(),
+            Test::WithAPayout => self.payout_refusal(),
+            Test::WithNewId { id } => id_refusal(id, last),
+            Test::WithCoins { .. } => None,
+            Test::WithPrice { .. } => None,
+            Test::WithRoom => None,
+        }
+    }
+
+    /// Why a halt is refused because of the job: it can't be halted.
+    fn payout_refusal(&self) -> Option<CommandNo>
+        ensures { result ≡ unless (halts_in self.now.job) NoPayout }
+    {
+        if self.can_halt() {
+            None
+        } else {
+            Some(CommandNo::NoPayout)
+        }
+    }
+
+    /// Why a payment is refused beside the open order: there is one.
+    fn order_refusal(&self) -> Option<CommandNo>
+        ensures { result ≡ order_refusal (order_of self.now.orders.order) }
     {
         match &self.orders.order {
-            None => id_refusal(id, last),
+            None => None,
             Some(owed) => Some(CommandNo::OrderOpen { id: owed.order.id }),
         }
     }
@@ -121,15 +150,12 @@ impl JobDesk {
         }
     }
 
-    /// Why a start with a mask is refused beside the epoch: one runs, or a place of the mask has no value.
-    fn start_refusal(&self, device: &DeviceSetup, mask: u16) -> Option<CommandNo>
-        ensures { result ≡ start_refusal mask device.now self.now.epoch }
+    /// Why a start is refused beside the epoch: one runs.
+    fn epoch_refusal(&self) -> Option<CommandNo>
+        ensures { result ≡ epoch_refusal self.now.epoch }
     {
         match self.epoch {
-            EpochState::Idle => match valueless(&device.body, mask) {
-                None => None,
-                Some(place) => Some(CommandNo::NoValue { place }),
-            },
+            EpochState::Idle => None,
             EpochState::Running { .. } => Some(CommandNo::EpochRuns),
         }
     }
@@ -152,6 +178,27 @@ impl JobDesk {
             None => None,
             Some(_) => Some(CommandNo::Busy),
         }
+    }
+}
+
+/// Why a command is refused because of the kind of its device: it isn't of a kind that knows the command.
+fn of_kind(knows: bool) -> Option<CommandNo>
+    ensures { result ≡ unless knows WrongKind }
+{
+    if knows {
+        None
+    } else {
+        Some(CommandNo::WrongKind)
+    }
+}
+
+/// Why a start with a mask is refused beside its device: a place of the mask has no value.
+fn value_refusal(device: &DeviceSetup, mask: u16) -> Option<CommandNo>
+    ensures { result ≡ value_refusal mask (Some device.now) }
+{
+    match valueless(&device.body, mask) {
+        None => None,
+        Some(place) => Some(CommandNo::NoValue { place }),
     }
 }
 

@@ -20,6 +20,8 @@ use Rattle.cct_model.specs.declared.judging.Judged.TheVariants as judged_of
 use Rattle.cct_model.specs.declared.judging.EpochState.{EpochState}
 use Rattle.cct_model.specs.declared.judging.EpochState.TheVariants.{Idle, Running}
 use Rattle.cct_model.specs.declared.judging.OpenOrder.{OpenOrder}
+use Rattle.cct_model.specs.declared.tests.Test.{Test}
+use Rattle.cct_model.specs.declared.tests.Test.TheVariants.{AtADevice, AtATaker, AtAnAcceptor, AtABillAcceptor, AtAHopper, WithAnEpoch, WithAnOrder}
 use Rattle.cct_model.specs.lines.command.Command.{Command}
 use Rattle.cct_model.specs.lines.command.Command.TheVariants as command
 use Rattle.cct_model.specs.lines.entry.End.{End}
@@ -34,6 +36,7 @@ use Rattle.cct_model.specs.Line.{Line, exchange}
 use Rattle.cct_model.specs.Job.{address_of, sends, puts, accepts_before, accepts_read, credits_read, credits_request, mask_read, settled_events, tries, path_set, path_read}
 use Rattle.cct_model.specs.Rows.{end_kept, end_of, left, rest, row}
 use Rattle.cct_model.specs.Order.{close, is_marked, life_read}
+use Rattle.cct_model.specs.Refusal.{state_tests}
 use Rattle.cct_model.specs.Scan.{poll_of}
 use Rattle.cct_model.specs.Transcript.{got_by, opened_at, owner}
 use Rattle.cct_record.specs.Body.{Encodable}
@@ -271,23 +274,32 @@ is_of_device command.Scan = false
 is_of_device (command.Vend id price) = false
 is_of_device c = true
 
--- The commands that begin a job: a scan, a sale, the identification of a device of the setup, a start at one that takes
--- money, a round and a stop where its epoch runs, the setting of a path at a coin acceptor, the routing of a bill at a bill
--- acceptor, a payment at a hopper, and a settlement where its order is open.
+-- A command that halts a job, and begins none.
+abbrev pub is_halt : Command → Bool
+is_halt (command.Halt addr) = true
+is_halt c = false
+
+-- A test of a command is met, as far as the job that it begins looks at it: its device is of a kind that the command is for,
+-- an epoch runs, or an order is open.
+abbrev pub IsMet : Option DeviceSetup → EpochState → Option OpenOrder → Test → Type 0
+IsMet found state owed AtADevice = IsTrue (is_some found)
+IsMet found state owed AtATaker = IsTrue (taker_there found)
+IsMet found state owed AtAnAcceptor = IsTrue (acceptor_there found)
+IsMet found state owed AtABillAcceptor = IsTrue (bill_there found)
+IsMet found state owed AtAHopper = IsTrue (hopper_there found)
+IsMet found state owed WithAnEpoch = IsRunning state
+IsMet found state owed WithAnOrder = IsTrue (is_some owed)
+IsMet found state owed test = ⊤
+
+-- Each of these tests is met.
+abbrev pub AreMet : Option DeviceSetup → EpochState → Option OpenOrder → List Test → Type 0
+AreMet found state owed [] = ⊤
+AreMet found state owed (test ∷ tests) = IsMet found state owed test × AreMet found state owed tests
+
+-- The commands that begin a job: any but a halt whose tests are met.
 abbrev pub MayBegin : Command → List DeviceSetup → EpochState → Option OpenOrder → Type 0
-MayBegin command.Scan devices state owed = ⊤
-MayBegin (command.Vend id price) devices state owed = ⊤
-MayBegin (command.Ident addr) devices state owed = IsTrue (is_some (device_at devices addr))
-MayBegin (command.Start addr mask) devices state owed = IsTrue (taker_there (device_at devices addr))
-MayBegin (command.Path addr place path) devices state owed = IsTrue (acceptor_there (device_at devices addr))
-MayBegin (command.Route addr way) devices state owed = IsTrue (bill_there (device_at devices addr))
-MayBegin (command.Round addr) devices state owed =
-    IsTrue (taker_there (device_at devices addr)) × IsRunning state
-MayBegin (command.Stop addr) devices state owed = IsTrue (taker_there (device_at devices addr)) × IsRunning state
-MayBegin (command.Pay addr id count) devices state owed = IsTrue (hopper_there (device_at devices addr))
-MayBegin (command.Settle addr) devices state owed =
-    IsTrue (hopper_there (device_at devices addr)) × IsTrue (is_some owed)
-MayBegin c devices state owed = ⊥
+MayBegin c devices state owed =
+    (is_halt c ≡ false) × AreMet (device_at devices (address_of c)) state owed (state_tests c)
 
 -- The reply of an address under a check in the form that is wanted, if any, in what was heard after a piece was sent.
 abbrev pub reply_wanted : CheckKind → ℕ → Option ReplyForm → List ℕ → List ℕ → Option Reply

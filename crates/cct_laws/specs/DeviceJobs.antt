@@ -19,7 +19,9 @@ use Rattle.cct_model.specs.Hopper.{taken_of}
 use Rattle.cct_model.specs.Device.{IsBill, IsHopper, reply_of}
 use Rattle.cct_model.specs.Line.{Line, ended}
 use Rattle.cct_model.specs.Job.{works, job, address_of}
-use Rattle.cct_model.specs.Refusal.{Test, at_a_device, at_a_taker, at_an_acceptor, at_a_bill_acceptor, at_a_hopper, with_no_job, tests_of, start_refusal, running_refusal}
+use Rattle.cct_model.specs.declared.tests.Test.{Test}
+use Rattle.cct_model.specs.declared.tests.Test.TheVariants.{AtADevice, AtATaker, AtAnAcceptor, AtABillAcceptor, AtAHopper, WithNoJob}
+use Rattle.cct_model.specs.Refusal.{tests_of, start_refusal, running_refusal}
 use Rattle.cct_model.specs.Script.{IsCommand}
 
 -- What becomes of a request to a device over an honest wire, as what the device heard and what the host got. The devices
@@ -52,23 +54,23 @@ with_ended (Some end) lines = ended end ∷ lines
 
 -- A test that a device is at the address.
 abbrev pub wants_device : Test → Bool
-wants_device at_a_device = true
+wants_device AtADevice = true
 wants_device test = false
 
 -- A test that no job is there.
 abbrev pub wants_no_job : Test → Bool
-wants_no_job with_no_job = true
+wants_no_job WithNoJob = true
 wants_no_job test = false
 
 -- A test that the device is of another family than this.
 abbrev pub wants_other : Family → Test → Bool
-wants_other family.Acceptor at_a_hopper = true
-wants_other family.Acceptor at_a_bill_acceptor = true
-wants_other family.Hopper at_a_taker = true
-wants_other family.Hopper at_an_acceptor = true
-wants_other family.Hopper at_a_bill_acceptor = true
-wants_other family.Bill at_a_hopper = true
-wants_other family.Bill at_an_acceptor = true
+wants_other family.Acceptor AtAHopper = true
+wants_other family.Acceptor AtABillAcceptor = true
+wants_other family.Hopper AtATaker = true
+wants_other family.Hopper AtAnAcceptor = true
+wants_other family.Hopper AtABillAcceptor = true
+wants_other family.Bill AtAHopper = true
+wants_other family.Bill AtAnAcceptor = true
 wants_other which test = false
 
 -- A command begins a job at a device of a family: among its tests are that a device is there and that no job is, and

@@ -23,7 +23,9 @@ use Rattle.cct_model.specs.Job.{Job, free, works, job, epoch, Row, sends, puts, 
 use Rattle.cct_model.specs.Rows.{row, end_of, closes_order}
 use Rattle.cct_model.specs.Records.{greatest_id, epoch_in, order_in}
 use Rattle.cct_model.specs.Money.{coins_of, posted_in, reserved_in, paid_in, sold_in, reserved_by, reserved_by_sale, reserved_at_work, totals, available}
-use Rattle.cct_model.specs.Refusal.{Test, with_coins, with_price, with_room, tests_of, state_tests, first_of, View, unless, id_refusal, state_fails, job_holds, order_holds, holds_at, sale_holds, held, need_for, full_refusal, short_refusal, running_id, sale_id, greatest_running, last_id, room_fails, is_busy, lines_for, halts_at, view_of, refusal}
+use Rattle.cct_model.specs.declared.tests.Test.{Test}
+use Rattle.cct_model.specs.declared.tests.Test.TheVariants.{WithCoins, WithPrice, WithRoom}
+use Rattle.cct_model.specs.Refusal.{tests_of, state_tests, first_of, View, unless, id_refusal, state_fails, job_holds, order_holds, holds_at, sale_holds, held, need_for, full_refusal, short_refusal, running_id, sale_id, greatest_running, last_id, room_fails, is_busy, lines_for, halts_at, view_of, refusal}
 use Rattle.cct_model.specs.Legal.{with_end, RowEntries, NextEntries, ScanEntries, SaleEntries, BareNext, OfNext, EntriesOfNext, record_due, due_of, due_of_sale, due_there, due_at, RestartEntries, EntriesOfRestart}
 use Rattle.cct_model.specs.Transcript.{got_by, lines_of, sale_lines, scan_lines}
 use Rattle.cct_laws.proofs.money.FromRecordsAlone.{epoch_recorded, order_recorded}
@@ -151,10 +153,10 @@ short_same setup past other wanted alike =
 
 room_same : (capacity : ℕ) (setup : Setup) (past other : List Entry) (need : ℕ) (test : Test) → Alike past other →
     room_fails capacity setup past need test ≡ room_fails capacity setup other need test
-room_same capacity setup past other need (with_coins addr count) alike =
+room_same capacity setup past other need (WithCoins addr count) alike =
     short_same setup past other (coins_of setup addr count) alike
-room_same capacity setup past other need (with_price price) alike = short_same setup past other price alike
-room_same capacity setup past other need with_room alike = full_same setup past other need capacity alike
+room_same capacity setup past other need (WithPrice price) alike = short_same setup past other price alike
+room_same capacity setup past other need WithRoom alike = full_same setup past other need capacity alike
 room_same capacity setup past other need test alike = refl
 
 pub refusal_same : (capacity : ℕ) (setup : Setup) (past other : List Entry) (c : Command) → Alike past other →

@@ -16,7 +16,9 @@ use Rattle.cct_model.specs.Exchange.{device_at}
 use Rattle.cct_model.specs.Job.{address_of}
 use Rattle.cct_model.specs.Legal.{LegalFrom}
 use Rattle.cct_model.specs.Records.{records}
-use Rattle.cct_model.specs.Refusal.{Test, with_room, first_of, full_refusal, held, need_for, refusal, room_fails, room_refusal, state_refusal, tests_of}
+use Rattle.cct_model.specs.declared.tests.Test.{Test}
+use Rattle.cct_model.specs.declared.tests.Test.TheVariants.{WithRoom}
+use Rattle.cct_model.specs.Refusal.{first_of, full_refusal, held, need_for, refusal, room_fails, room_refusal, state_refusal, tests_of}
 use Rattle.cct_model.specs.Script.{IsInRange}
 use Rattle.cct_model.specs.Setup.{IsSoundSetup}
 use Rattle.cct_laws.specs.Ids.{Ids}
@@ -48,7 +50,7 @@ module _ (small large : ℕ) (less : small ≤ large) (setup : Setup) (past : Li
 
   test_wider : (need : ℕ) (test : Test) → room_fails small setup past need test ≡ None →
       room_fails large setup past need test ≡ None
-  test_wider need with_room is = full_wider need is
+  test_wider need WithRoom is = full_wider need is
   test_wider need test is = is
 
   tests_wider : (need : ℕ) (tests : List Test) → Pass (room_fails small setup past need) tests →

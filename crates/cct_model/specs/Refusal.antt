@@ -1,5 +1,6 @@
 -- Why a command is refused: the tests of each, in their order.
 use Rattle.std.specs.Prelude.{ℕ, ◌+◌, max, ◌==◌, ◌&&◌, nat_le, Bool, true, false, not, is_some, List, [], ◌∷◌, length, find, unwrap_or, if◌then◌else◌, Option, Some, None}
+use Rattle.std.specs.List.{filter_map}
 use Rattle.std.specs.Option.{option_map, option_or}
 use Rattle.cct_model.specs.terms.device.DeviceBody.{DeviceBody}
 use Rattle.cct_model.specs.terms.device.DeviceSetup.{DeviceSetup}
@@ -12,6 +13,8 @@ use Rattle.cct_model.specs.lines.entry.Entry.{Entry}
 use Rattle.cct_model.specs.declared.judging.EpochState.{EpochState}
 use Rattle.cct_model.specs.declared.judging.EpochState.TheVariants.{Idle, Running}
 use Rattle.cct_model.specs.declared.judging.OpenOrder.{OpenOrder}
+use Rattle.cct_model.specs.declared.tests.Test.{Test}
+use Rattle.cct_model.specs.declared.tests.Test.TheVariants.{AtADevice, AtATaker, AtAnAcceptor, AtABillAcceptor, AtAHopper, WithNoJob, WithNoEpoch, WithAnEpoch, WithValues, WithNoOrder, WithAnOrder, WithAPayout, WithNewId, WithCoins, WithPrice, WithRoom}
 use Rattle.cct_model.specs.Setting.{has_place}
 use Rattle.cct_model.specs.Device.{value_at}
 use Rattle.cct_model.specs.Exchange.{acceptor_there, bill_there, device_at, hopper_there, taker_there}
@@ -23,62 +26,61 @@ use Rattle.cct_model.specs.Records.{records, greatest_id}
 use Rattle.cct_model.specs.Money.{sum_over, coins_of, available}
 use Rattle.cct_model.specs.Transcript.{lines_of, scan_lines, sale_lines}
 
--- A test of a command. Of the device: one is at the address, one that takes money, a coin acceptor, a bill acceptor, a
--- hopper. Of its state: no job is there; no epoch
--- runs, or one does; each place of a mask has a value; no order is open, or one is; there is a payout that could be
--- stopped; an id is new. Of the money: the value of so many coins of the hopper at an address is available, or a price is.
--- Of the room: there is some for its records.
-pub data Test : Type 0 where
-  at_a_device : Test
-  at_a_taker : Test
-  at_an_acceptor : Test
-  at_a_bill_acceptor : Test
-  at_a_hopper : Test
-  with_no_job : Test
-  with_no_epoch : Test
-  with_an_epoch : Test
-  with_values : (mask : ℕ) → Test
-  with_no_order : Test
-  with_an_order : Test
-  with_a_payout : Test
-  with_new_id : (id : ℕ) → Test
-  with_coins : (addr : ℕ) (count : ℕ) → Test
-  with_price : (price : ℕ) → Test
-  with_room : Test
-
 -- The tests of a command in their order: those of the state stand before those of the money and of the room.
 abbrev pub tests_of : Command → List Test
 tests_of (command.Start addr mask) =
-    at_a_device ∷ at_a_taker ∷ with_no_job ∷ with_no_epoch ∷ with_values mask ∷ with_room ∷ []
-tests_of (command.Round addr) = at_a_device ∷ at_a_taker ∷ with_no_job ∷ with_an_epoch ∷ with_room ∷ []
-tests_of (command.Stop addr) = at_a_device ∷ at_a_taker ∷ with_no_job ∷ with_an_epoch ∷ with_room ∷ []
+    AtADevice ∷ AtATaker ∷ WithNoJob ∷ WithNoEpoch ∷ WithValues mask ∷ WithRoom ∷ []
+tests_of (command.Round addr) = AtADevice ∷ AtATaker ∷ WithNoJob ∷ WithAnEpoch ∷ WithRoom ∷ []
+tests_of (command.Stop addr) = AtADevice ∷ AtATaker ∷ WithNoJob ∷ WithAnEpoch ∷ WithRoom ∷ []
 tests_of (command.Pay addr id count) =
-    at_a_device ∷ at_a_hopper ∷ with_no_job ∷ with_no_order ∷ with_new_id id ∷ with_coins addr count ∷ with_room ∷ []
-tests_of (command.Settle addr) = at_a_device ∷ at_a_hopper ∷ with_no_job ∷ with_an_order ∷ with_room ∷ []
-tests_of (command.Halt addr) = at_a_device ∷ at_a_hopper ∷ with_a_payout ∷ []
-tests_of command.Scan = with_no_job ∷ []
-tests_of (command.Ident addr) = at_a_device ∷ with_no_job ∷ []
-tests_of (command.Path addr place path) = at_a_device ∷ at_an_acceptor ∷ with_no_job ∷ []
-tests_of (command.Route addr way) = at_a_device ∷ at_a_bill_acceptor ∷ with_no_job ∷ with_an_epoch ∷ []
-tests_of (command.Vend id price) = with_no_job ∷ with_new_id id ∷ with_price price ∷ with_room ∷ []
+    AtADevice ∷ AtAHopper ∷ WithNoJob ∷ WithNoOrder ∷ WithNewId id ∷ WithCoins addr count ∷ WithRoom ∷ []
+tests_of (command.Settle addr) = AtADevice ∷ AtAHopper ∷ WithNoJob ∷ WithAnOrder ∷ WithRoom ∷ []
+tests_of (command.Halt addr) = AtADevice ∷ AtAHopper ∷ WithAPayout ∷ []
+tests_of command.Scan = WithNoJob ∷ []
+tests_of (command.Ident addr) = AtADevice ∷ WithNoJob ∷ []
+tests_of (command.Path addr place path) = AtADevice ∷ AtAnAcceptor ∷ WithNoJob ∷ []
+tests_of (command.Route addr way) = AtADevice ∷ AtABillAcceptor ∷ WithNoJob ∷ WithAnEpoch ∷ []
+tests_of (command.Vend id price) = WithNoJob ∷ WithNewId id ∷ WithPrice price ∷ WithRoom ∷ []
+
+-- Those that there are.
+abbrev pub listed : List (Option Test) → List Test
+listed tests = filter_map (λ t. t) tests
+
+-- Among these is the test of the room.
+abbrev pub asks_room : List Test → Bool
+asks_room [] = false
+asks_room (WithRoom ∷ tests) = true
+asks_room (test ∷ tests) = asks_room tests
 
 -- The tests of the state among these: they stand before those of the money and of the room.
 abbrev pub of_state : List Test → List Test
 of_state [] = []
-of_state (with_coins addr count ∷ tests) = []
-of_state (with_price price ∷ tests) = []
-of_state (with_room ∷ tests) = []
+of_state (WithCoins addr count ∷ tests) = []
+of_state (WithPrice price ∷ tests) = []
+of_state (WithRoom ∷ tests) = []
 of_state (test ∷ tests) = test ∷ of_state tests
 
 -- The tests of the state of a command.
 abbrev pub state_tests : Command → List Test
 state_tests c = of_state (tests_of c)
 
+-- The tests of the money and of the room among these.
+abbrev pub of_room : List Test → List Test
+of_room [] = []
+of_room (WithCoins addr count ∷ tests) = WithCoins addr count ∷ tests
+of_room (WithPrice price ∷ tests) = WithPrice price ∷ tests
+of_room (WithRoom ∷ tests) = WithRoom ∷ tests
+of_room (test ∷ tests) = of_room tests
+
+-- The tests of the money and of the room of a command.
+abbrev pub room_tests : Command → List Test
+room_tests c = of_room (tests_of c)
+
 -- The money that these tests want available, 0 where they want none.
 abbrev pub money_in : Setup → List Test → ℕ
 money_in setup [] = 0
-money_in setup (with_coins addr count ∷ tests) = coins_of setup addr count
-money_in setup (with_price price ∷ tests) = price
+money_in setup (WithCoins addr count ∷ tests) = coins_of setup addr count
+money_in setup (WithPrice price ∷ tests) = price
 money_in setup (test ∷ tests) = money_in setup tests
 
 -- The reason of the first of these tests that fails, or none.
@@ -140,19 +142,19 @@ id_refusal id last = if nat_le id last then Some (OldId last) else None
 
 -- The reason why a test of the state fails, if it does.
 abbrev pub state_fails : View → Test → Option CommandNo
-state_fails v at_a_device = unless (is_some v.found) NoDevice
-state_fails v at_a_taker = unless (taker_there v.found) WrongKind
-state_fails v at_an_acceptor = unless (acceptor_there v.found) WrongKind
-state_fails v at_a_bill_acceptor = unless (bill_there v.found) WrongKind
-state_fails v at_a_hopper = unless (hopper_there v.found) WrongKind
-state_fails v with_no_job = unless (not v.is_busy) Busy
-state_fails v with_no_epoch = epoch_refusal v.state
-state_fails v with_an_epoch = running_refusal v.state
-state_fails v (with_values mask) = value_refusal mask v.found
-state_fails v with_no_order = order_refusal v.owed
-state_fails v with_an_order = settle_refusal v.owed
-state_fails v with_a_payout = unless v.is_payout NoPayout
-state_fails v (with_new_id id) = id_refusal id v.last
+state_fails v AtADevice = unless (is_some v.found) NoDevice
+state_fails v AtATaker = unless (taker_there v.found) WrongKind
+state_fails v AtAnAcceptor = unless (acceptor_there v.found) WrongKind
+state_fails v AtABillAcceptor = unless (bill_there v.found) WrongKind
+state_fails v AtAHopper = unless (hopper_there v.found) WrongKind
+state_fails v WithNoJob = unless (not v.is_busy) Busy
+state_fails v WithNoEpoch = epoch_refusal v.state
+state_fails v WithAnEpoch = running_refusal v.state
+state_fails v (WithValues mask) = value_refusal mask v.found
+state_fails v WithNoOrder = order_refusal v.owed
+state_fails v WithAnOrder = settle_refusal v.owed
+state_fails v WithAPayout = unless v.is_payout NoPayout
+state_fails v (WithNewId id) = id_refusal id v.last
 state_fails v test = None
 
 -- How many records the job at a device may still put, beside its epoch.
@@ -221,9 +223,9 @@ last_id setup past =
 -- The reason why a test of the money or of the room fails, if it does, over a journal that takes so many records, where
 -- the command wants room for so many.
 abbrev pub room_fails : ℕ → Setup → List Entry → ℕ → Test → Option CommandNo
-room_fails capacity setup past need (with_coins addr count) = short_refusal setup past (coins_of setup addr count)
-room_fails capacity setup past need (with_price price) = short_refusal setup past price
-room_fails capacity setup past need with_room = full_refusal setup past need capacity
+room_fails capacity setup past need (WithCoins addr count) = short_refusal setup past (coins_of setup addr count)
+room_fails capacity setup past need (WithPrice price) = short_refusal setup past price
+room_fails capacity setup past need WithRoom = full_refusal setup past need capacity
 room_fails capacity setup past need test = None
 
 -- A job is running.

@@ -1,6 +1,6 @@
 -- What a record does to the books: whose it is, what becomes of the epoch and of the open order there, the coins that it
 -- posts and tells to be lost, and what it sells.
-use Rattle.std.specs.Prelude.{ℕ, Bool, true, false, List, [], Option, Some, None}
+use Rattle.std.specs.Prelude.{ℕ, List, [], Option, Some, None}
 use Rattle.cct_model_lines.specs.terms.coin.Coin.{Coin}
 use Rattle.cct_model_lines.specs.terms.wire.TheConstants.{HOST}
 use Rattle.cct_model_lines.specs.declared.record.Record.{Record}

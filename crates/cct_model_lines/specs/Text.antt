@@ -6,7 +6,6 @@ use Rattle.cct_model_lines.specs.terms.coin.Coin.{Coin}
 use Rattle.cct_model_lines.specs.declared.record.Record.{Record}
 use Rattle.cct_model_lines.specs.declared.record.Record.TheVariants as record_of
 use Rattle.cct_model_lines.specs.declared.command.Command.{Command}
-use Rattle.cct_model_lines.specs.declared.command.Command.TheVariants as command
 use Rattle.cct_model_lines.specs.declared.command.CommandNo.{CommandNo}
 use Rattle.cct_model_lines.specs.declared.command.CommandNo.TheVariants as refusal
 use Rattle.cct_model_lines.specs.declared.command.WireFault.{WireFault}
@@ -23,6 +22,9 @@ use Rattle.cct_model_lines.specs.declared.entry.SumOf.TheVariants as sum_of
 use Rattle.cct_model_lines.specs.declared.entry.Entry.{Entry}
 use Rattle.cct_model_lines.specs.declared.entry.Entry.TheVariants as entry
 use Rattle.cct_model_lines.specs.DeviceSet.{has, all_addresses}
+use Rattle.cct_model_lines.specs.declared.shape.Field.{Field}
+use Rattle.cct_model_lines.specs.declared.shape.Field.TheVariants.{Nothing, Number, Mask}
+use Rattle.cct_model_lines.specs.Shape.{shape_of}
 
 -- The last digits of a number: one, and so many more at most.
 abbrev pub last_digits : ℕ → ℕ → List ℕ
@@ -90,20 +92,16 @@ record_fields (record_of.Odd id before after) =
     codes "odd" ∷ number_text id ∷ number_text before ∷ number_text after ∷ []
 record_fields (record_of.Sold id price) = codes "sold" ∷ number_text id ∷ number_text price ∷ []
 
--- The fields of a command, which are those of its line in a script.
+-- The text of a field, where there is one.
+abbrev pub field_texts : Field → List (List ℕ)
+field_texts Nothing = []
+field_texts (Number number least most) = number_text number ∷ []
+field_texts (Mask mask) = mask_field mask ∷ []
+
+-- The fields of a command: its word, and what its line spells after it.
 abbrev pub command_fields : Command → List (List ℕ)
-command_fields (command.Start addr mask) = codes "start" ∷ number_text addr ∷ mask_field mask ∷ []
-command_fields (command.Round addr) = codes "round" ∷ number_text addr ∷ []
-command_fields (command.Stop addr) = codes "stop" ∷ number_text addr ∷ []
-command_fields (command.Pay addr id count) = codes "pay" ∷ number_text addr ∷ number_text id ∷ number_text count ∷ []
-command_fields (command.Settle addr) = codes "settle" ∷ number_text addr ∷ []
-command_fields (command.Halt addr) = codes "halt" ∷ number_text addr ∷ []
-command_fields command.Scan = codes "scan" ∷ []
-command_fields (command.Ident addr) = codes "ident" ∷ number_text addr ∷ []
-command_fields (command.Path addr place path) =
-    codes "path" ∷ number_text addr ∷ number_text place ∷ number_text path ∷ []
-command_fields (command.Route addr way) = codes "route" ∷ number_text addr ∷ number_text way ∷ []
-command_fields (command.Vend id price) = codes "vend" ∷ number_text id ∷ number_text price ∷ []
+command_fields c =
+    (shape_of c).word ∷ field_texts (shape_of c).first ++ field_texts (shape_of c).second ++ field_texts (shape_of c).third
 
 -- The fields of the reason why a command is refused.
 abbrev pub reason_fields : CommandNo → List (List ℕ)

@@ -25,3 +25,4 @@ pub use entry::{
 };
 pub use record::Record;
 pub use setup::SetupLine;
+pub use shape::Field;

@@ -1,5 +1,5 @@
 -- The fields of an entry are read back as the entry, and none of them has a space.
-use Rattle.std.proofs.Common.{◌≡◌, ℕ, ◌/◌, ◌%◌, ◌≤◌, true, List, [], ◌∷◌, ◌++◌, map, Option, Some, Result, refl, ap, ◌∙◌, arith}
+use Rattle.std.proofs.Common.{◌≡◌, ℕ, ◌/◌, ◌%◌, ◌≤◌, true, List, [], ◌∷◌, map, Option, Some, Result, refl, ap, ◌∙◌, arith}
 use Rattle.std.specs.List.{filter_map, cons_option}
 use Rattle.std.specs.Result.{result_unwrap_or}
 use Rattle.hex.specs.Hex.{IsBytes}
@@ -7,17 +7,15 @@ use Rattle.hex.proofs.HexLemmas.{decode_of-encode_lower}
 use Rattle.cct_model_lines.specs.terms.coin.Coin.{Coin}
 use Rattle.cct_model_lines.specs.declared.record.Record.{Record}
 use Rattle.cct_model_lines.specs.declared.record.Record.TheVariants as record_of
-use Rattle.cct_model_lines.specs.declared.command.Command.{Command}
-use Rattle.cct_model_lines.specs.declared.command.Command.TheVariants as command
 use Rattle.cct_model_lines.specs.declared.command.CommandNo.{CommandNo}
 use Rattle.cct_model_lines.specs.declared.command.CommandNo.TheVariants as refusal
 use Rattle.cct_model_lines.specs.declared.command.WireFault.{WireFault}
 use Rattle.cct_model_lines.specs.declared.command.WireFault.TheVariants as fault
 use Rattle.cct_model_lines.specs.declared.entry.LineKind.{LineKind}
 use Rattle.cct_model_lines.specs.declared.entry.LineKind.TheVariants as kind
-use Rattle.cct_model_lines.specs.Text.{number_text, piece_field, mask_field, coin_text, coins_field, record_fields, command_fields, reason_fields, fault_fields, kind_field}
-use Rattle.cct_text.specs.Reading.{parts_at, number_in, piece_in, mask_of, mask_in, coin_of, coins_in, record_in, Ordered, command_in, reason_in, fault_in, kind_in}
-use Rattle.cct_text.specs.Written.{IsMask, IsRecord, IsCommand, IsFault}
+use Rattle.cct_model_lines.specs.Text.{number_text, piece_field, mask_field, coin_text, coins_field, record_fields, reason_fields, fault_fields, kind_field}
+use Rattle.cct_text.specs.Reading.{parts_at, number_in, piece_in, mask_of, mask_in, coin_of, coins_in, record_in, reason_in, fault_in, kind_in}
+use Rattle.cct_text.specs.Written.{IsMask, IsRecord, IsFault}
 use Rattle.cct_text.proofs.Cuts.{all_above, EachAbove, above_append, above_weaker, number_above, number_field, piece_above, mask_above, mask_bytes, joined_above, cut_joined}
 use Rattle.cct_text.proofs.Numbers.{number_back}
 
@@ -167,46 +165,6 @@ record_above (record_of.Closed id paid unpaid) h =
 record_above (record_of.Odd id before after) h =
     (refl, (number_field id, (number_field before, (number_field after, tt))))
 record_above (record_of.Sold id price) h = (refl, (number_field id, (number_field price, tt)))
-
--- commands
-
-pub command_back : (c : Command) (rest : List (List ℕ)) → IsCommand c → command_in (command_fields c ++ rest) ≡ Some (c, rest)
-command_back (command.Start addr mask) rest h =
-    let make : ℕ → ℕ → Option Ordered = λ a m. Some (command.Start a m, rest) in
-    one_back (λ a. make a (mask_in (mask_field mask))) addr ∙ ap (make addr) (mask_back mask h)
-command_back (command.Round addr) rest h =
-    let make : ℕ → Option Ordered = λ a. Some (command.Round a, rest) in one_back make addr
-command_back (command.Stop addr) rest h =
-    let make : ℕ → Option Ordered = λ a. Some (command.Stop a, rest) in one_back make addr
-command_back (command.Pay addr id count) rest h =
-    let make : ℕ → ℕ → ℕ → Option Ordered = λ a i n. Some (command.Pay a i n, rest) in three_back make addr id count
-command_back (command.Settle addr) rest h =
-    let make : ℕ → Option Ordered = λ a. Some (command.Settle a, rest) in one_back make addr
-command_back (command.Halt addr) rest h =
-    let make : ℕ → Option Ordered = λ a. Some (command.Halt a, rest) in one_back make addr
-command_back command.Scan rest h = refl
-command_back (command.Ident addr) rest h =
-    let make : ℕ → Option Ordered = λ a. Some (command.Ident a, rest) in one_back make addr
-command_back (command.Path addr place path) rest h =
-    let make : ℕ → ℕ → ℕ → Option Ordered = λ a p q. Some (command.Path a p q, rest) in three_back make addr place path
-command_back (command.Route addr way) rest h =
-    let make : ℕ → ℕ → Option Ordered = λ a w. Some (command.Route a w, rest) in two_back make addr way
-command_back (command.Vend id price) rest h =
-    let make : ℕ → ℕ → Option Ordered = λ i p. Some (command.Vend i p, rest) in two_back make id price
-
-pub command_above : (c : Command) → IsCommand c → EachAbove 32 (command_fields c)
-command_above (command.Start addr mask) h = (refl, (number_field addr, (mask_above mask h, tt)))
-command_above (command.Round addr) h = (refl, (number_field addr, tt))
-command_above (command.Stop addr) h = (refl, (number_field addr, tt))
-command_above (command.Pay addr id count) h = (refl, (number_field addr, (number_field id, (number_field count, tt))))
-command_above (command.Settle addr) h = (refl, (number_field addr, tt))
-command_above (command.Halt addr) h = (refl, (number_field addr, tt))
-command_above command.Scan h = (refl, tt)
-command_above (command.Ident addr) h = (refl, (number_field addr, tt))
-command_above (command.Path addr place path) h =
-    (refl, (number_field addr, (number_field place, (number_field path, tt))))
-command_above (command.Route addr way) h = (refl, (number_field addr, (number_field way, tt)))
-command_above (command.Vend id price) h = (refl, (number_field id, (number_field price, tt)))
 
 -- reasons
 

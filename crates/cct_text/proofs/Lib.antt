@@ -6,5 +6,6 @@ pub mod WrittenDigits
 pub mod Cuts
 pub mod Back
 pub mod Devices
+pub mod CommandFields
 pub mod Whole
 pub mod ScriptLines

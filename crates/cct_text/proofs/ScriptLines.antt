@@ -15,10 +15,11 @@ use Rattle.cct_model_lines.specs.declared.entry.LineKind.TheVariants as kind
 use Rattle.cct_model_lines.specs.declared.entry.Entry.TheVariants as entry
 use Rattle.cct_model_lines.specs.Grammar.{address_in, digits_from, is_digit, mask_in, number_in, ranged, step_at, step_fields, step_line}
 use Rattle.cct_model_lines.specs.Script.{IsCommand}
-use Rattle.cct_model_lines.specs.Text.{command_fields, line_of, mask_field, number_text}
+use Rattle.cct_model_lines.specs.Shape.{shape_of}
+use Rattle.cct_model_lines.specs.Text.{command_fields, field_texts, line_of, mask_field, number_text}
 use Rattle.cct_text.specs.ScriptLine.{IsByte, IsTyped, command_line}
 use Rattle.cct_text.specs.Written as written
-use Rattle.cct_text.proofs.Back.{command_above}
+use Rattle.cct_text.proofs.CommandFields.{command_above}
 use Rattle.cct_text.proofs.Cuts.{EachAbove, cut_joined, mask_bytes}
 use Rattle.cct_text.proofs.Numbers.{number_by_steps}
 
@@ -145,8 +146,8 @@ fields_give (command.Vend id price) h r =
 
 -- a command that is typed has a mask that fits
 typed_fits : (c : Command) → IsTyped c → written.IsCommand c
-typed_fits (command.Start addr mask) h = h.1
-typed_fits c h = tt
+typed_fits (command.Start addr mask) h = (tt, h.1, tt)
+typed_fits c h = (tt, tt, tt)
 
 -- fields that give a command, joined by spaces, are a line that gives it
 joined_give : (fields : List (List ℕ)) (s : Step) → EachAbove 32 fields → step_fields fields ≡ Ok s
@@ -169,16 +170,6 @@ word_before word field fields = append_assoc word (32 ∷ join_with_byte 32 (fie
 -- the line of a command that was taken is its script's line after the word `ok`
 pub taken_is : (c : Command) → line_of (entry.Taken c) ≡ codes "ok " ++ command_line c ++ 10 ∷ []
 unfolding line_of
-taken_is (command.Start addr mask) = word_before (codes "ok") (codes "start") (number_text addr ∷ mask_field mask ∷ [])
-taken_is (command.Round addr) = word_before (codes "ok") (codes "round") (number_text addr ∷ [])
-taken_is (command.Stop addr) = word_before (codes "ok") (codes "stop") (number_text addr ∷ [])
-taken_is (command.Pay addr id count) =
-    word_before (codes "ok") (codes "pay") (number_text addr ∷ number_text id ∷ number_text count ∷ [])
-taken_is (command.Settle addr) = word_before (codes "ok") (codes "settle") (number_text addr ∷ [])
-taken_is (command.Halt addr) = word_before (codes "ok") (codes "halt") (number_text addr ∷ [])
-taken_is command.Scan = refl
-taken_is (command.Ident addr) = word_before (codes "ok") (codes "ident") (number_text addr ∷ [])
-taken_is (command.Path addr place path) =
-    word_before (codes "ok") (codes "path") (number_text addr ∷ number_text place ∷ number_text path ∷ [])
-taken_is (command.Route addr way) = word_before (codes "ok") (codes "route") (number_text addr ∷ number_text way ∷ [])
-taken_is (command.Vend id price) = word_before (codes "ok") (codes "vend") (number_text id ∷ number_text price ∷ [])
+taken_is c =
+    let s = shape_of c in
+    word_before (codes "ok") s.word (field_texts s.first ++ field_texts s.second ++ field_texts s.third)

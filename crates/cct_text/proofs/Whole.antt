@@ -14,7 +14,8 @@ use Rattle.cct_model_lines.specs.Text.{number_text, piece_field, coins_field, co
 use Rattle.cct_text.specs.Reading.{parts_at, number_in, piece_in, coins_in, made, either, taken_by, refused_by, command_in, read_fields, read_line, read_text}
 use Rattle.cct_text.specs.Written.{IsEnd, IsWritten}
 use Rattle.cct_text.proofs.Cuts.{all_above, EachAbove, above_weaker, each_append, number_field, piece_above, joined_above, cut_joined, has_none}
-use Rattle.cct_text.proofs.Back.{each_weaker, one_back, two_back, three_back, four_back, five_back, piece_back, coins_back, coins_field_above, record_back, record_above, command_back, command_above, reason_back, reason_above, fault_back, fault_above, kind_back, kind_above}
+use Rattle.cct_text.proofs.Back.{each_weaker, one_back, two_back, three_back, four_back, five_back, piece_back, coins_back, coins_field_above, record_back, record_above, reason_back, reason_above, fault_back, fault_above, kind_back, kind_above}
+use Rattle.cct_text.proofs.CommandFields.{command_back, command_above}
 use Rattle.cct_text.proofs.Devices.{listed_back, listed_field_above}
 
 -- ends

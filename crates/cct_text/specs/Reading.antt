@@ -9,7 +9,10 @@ use Rattle.cct_model_lines.specs.terms.coin.Coin.{Coin}
 use Rattle.cct_model_lines.specs.declared.record.Record.{Record}
 use Rattle.cct_model_lines.specs.declared.record.Record.TheVariants as record_of
 use Rattle.cct_model_lines.specs.declared.command.Command.{Command}
-use Rattle.cct_model_lines.specs.declared.command.Command.TheVariants as command
+use Rattle.cct_model_lines.specs.declared.shape.Field.{Field}
+use Rattle.cct_model_lines.specs.declared.shape.Field.TheVariants.{Nothing, Number, Mask}
+use Rattle.cct_model_lines.specs.Shape.{Shape, commands, shape_named}
+use Rattle.cct_model_lines.specs.Grammar.{◌>>=◌}
 use Rattle.cct_model_lines.specs.declared.command.CommandNo.{CommandNo}
 use Rattle.cct_model_lines.specs.declared.command.CommandNo.TheVariants as refusal
 use Rattle.cct_model_lines.specs.declared.command.WireFault.{WireFault}
@@ -164,46 +167,25 @@ record_in (word ∷ rest) = record_by word rest
 abbrev pub Ordered : Type 0
 Ordered = Command × List (List ℕ)
 
--- A command of one number, the first field.
-abbrev pub by_one : (ℕ → Command) → List (List ℕ) → Option Ordered
-by_one make (a ∷ rest) = Some (make (number_in a), rest)
-by_one make _ = None
+-- The number of a field like this one, whatever it is, and the fields after it.
+abbrev pub number_first : Field → List (List ℕ) → Option (ℕ × List (List ℕ))
+number_first Nothing fields = Some (0, fields)
+number_first (Number number least most) (field ∷ fields) = Some (number_in field, fields)
+number_first (Mask mask) (field ∷ fields) = Some (mask_in field, fields)
+number_first field [] = None
 
--- A command of two numbers, the first two fields.
-abbrev pub by_two : (ℕ → ℕ → Command) → List (List ℕ) → Option Ordered
-by_two make (a ∷ b ∷ rest) = Some (make (number_in a) (number_in b), rest)
-by_two make _ = None
-
--- A command of three numbers, the first three fields.
-abbrev pub by_three : (ℕ → ℕ → ℕ → Command) → List (List ℕ) → Option Ordered
-by_three make (a ∷ b ∷ c ∷ rest) = Some (make (number_in a) (number_in b) (number_in c), rest)
-by_three make _ = None
-
--- The command of an address and a mask, the first two fields.
-abbrev pub by_mask : List (List ℕ) → Option Ordered
-by_mask (addr ∷ mask ∷ rest) = Some (command.Start (number_in addr) (mask_in mask), rest)
-by_mask _ = None
-
--- The command of a word and the fields after it.
-abbrev pub command_by : List ℕ → List (List ℕ) → Option Ordered
-command_by word rest =
-    if bytes_eq word (codes "start") then by_mask rest
-    else if bytes_eq word (codes "round") then by_one command.Round rest
-    else if bytes_eq word (codes "stop") then by_one command.Stop rest
-    else if bytes_eq word (codes "pay") then by_three command.Pay rest
-    else if bytes_eq word (codes "settle") then by_one command.Settle rest
-    else if bytes_eq word (codes "halt") then by_one command.Halt rest
-    else if bytes_eq word (codes "scan") then Some (command.Scan, rest)
-    else if bytes_eq word (codes "ident") then by_one command.Ident rest
-    else if bytes_eq word (codes "path") then by_three command.Path rest
-    else if bytes_eq word (codes "route") then by_two command.Route rest
-    else if bytes_eq word (codes "vend") then by_two command.Vend rest
-    else None
+-- The command of a shape with the numbers of the fields, and the fields after those.
+abbrev pub ordered_by : Shape → List (List ℕ) → Option Ordered
+ordered_by s fields = do
+  first ← number_first s.first fields
+  second ← number_first s.second first.1
+  third ← number_first s.third second.1
+  Some (s.made first.0 second.0 third.0, third.1)
 
 -- The command that fields begin with.
 abbrev pub command_in : List (List ℕ) → Option Ordered
 command_in [] = None
-command_in (word ∷ rest) = command_by word rest
+command_in (word ∷ rest) = shape_named commands word >>= (λ s. ordered_by s rest)
 
 -- The reason of a word and the fields after it.
 abbrev pub reason_by : List ℕ → List (List ℕ) → Option CommandNo

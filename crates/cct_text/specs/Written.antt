@@ -4,7 +4,9 @@ use Rattle.hex.specs.Hex.{IsBytes}
 use Rattle.cct_model_lines.specs.declared.record.Record.{Record}
 use Rattle.cct_model_lines.specs.declared.record.Record.TheVariants as record_of
 use Rattle.cct_model_lines.specs.declared.command.Command.{Command}
-use Rattle.cct_model_lines.specs.declared.command.Command.TheVariants as command
+use Rattle.cct_model_lines.specs.declared.shape.Field.{Field}
+use Rattle.cct_model_lines.specs.declared.shape.Field.TheVariants.{Mask}
+use Rattle.cct_model_lines.specs.Shape.{shape_of}
 use Rattle.cct_model_lines.specs.declared.command.WireFault.{WireFault}
 use Rattle.cct_model_lines.specs.declared.command.WireFault.TheVariants as fault
 use Rattle.cct_model_lines.specs.declared.entry.Listed.{Listed}
@@ -24,10 +26,14 @@ IsRecord (record_of.Epoch addr mask accepts) = IsMask mask
 IsRecord (record_of.Broken addr seen counter lost accepts posted) = IsMask seen
 IsRecord r = ⊤
 
--- The mask of a command fits.
+-- What a field spells has its digits: a mask fits.
+abbrev pub IsField : Field → Type 0
+IsField (Mask mask) = IsMask mask
+IsField field = ⊤
+
+-- The masks of a command fit.
 abbrev pub IsCommand : Command → Type 0
-IsCommand (command.Start addr mask) = IsMask mask
-IsCommand c = ⊤
+IsCommand c = IsField (shape_of c).first × IsField (shape_of c).second × IsField (shape_of c).third
 
 -- The piece of a wire fault has bytes.
 abbrev pub IsFault : WireFault → Type 0

@@ -1,40 +1,38 @@
 //! Commands, the reasons why they are refused, and wire faults.
 ghost use Rattle.std.specs.Prelude.{◌≡◌, ℕ, ◌+◌, ◌<◌, ◌≤◌, List, [], ◌∷◌, ◌++◌, length};
 ghost use Rattle.cct_model_lines.specs.declared.entry.Entry.TheVariants.{Fault};
-ghost use Rattle.cct_model_lines.specs.Text.{command_fields, reason_fields, fields_of};
+ghost use Rattle.cct_model_lines.specs.Text.{command_fields, field_texts, reason_fields, fields_of};
 ghost use Rattle.cct_text.specs.Joined.{each_after};
 ghost use Rattle.cct_text.specs.Adding.{Adds, HasFields};
 
-use crate::fields::{write_address, write_mask, write_numbers, write_pair, write_piece};
+use crate::fields::{write_number, write_numbers, write_piece};
 use crate::text::TextLine;
-use cct_model_lines::{Command, CommandNo, MOST_TEXT, WireFault};
+use cct_model_lines::{Command, CommandNo, Field, MOST_TEXT, WireFault};
 
 /// Writes the fields of a command.
 pub(crate) fn write_command(line: &mut TextLine, command: &Command)
     requires { length line.old + 80 ≤ MOST_TEXT }
     ensures { Adds line.old line.new (each_after 32 (command_fields command.now)) 80 }
 {
-    match command {
-        Command::Start { addr, mask } => write_mask(line, b" start", *addr, *mask),
-        Command::Round { addr } => write_address(line, b" round", *addr),
-        Command::Stop { addr } => write_address(line, b" stop", *addr),
-        Command::Pay { addr, id, count } => write_numbers(
-            line,
-            b" pay",
-            &[u64::from(*addr), u64::from(*id), u64::from(*count)],
-        ),
-        Command::Settle { addr } => write_address(line, b" settle", *addr),
-        Command::Halt { addr } => write_address(line, b" halt", *addr),
-        Command::Scan => line.push(b" scan"),
-        Command::Ident { addr } => write_address(line, b" ident", *addr),
-        Command::Path { addr, place, path } => write_numbers(
-            line,
-            b" path",
-            &[u64::from(*addr), u64::from(*place), u64::from(*path)],
-        ),
-        Command::Route { addr, way } => write_pair(line, b" route", *addr, *way),
-        Command::Vend { id, price } => {
-            write_numbers(line, b" vend", &[u64::from(*id), u64::from(*price)]);
+    line.push(b" ");
+    line.push(command.word());
+    let (first, second, third) = command.fields();
+    write_field(line, first);
+    write_field(line, second);
+    write_field(line, third);
+}
+
+/// Writes what a field spells as the next field, where there is one.
+fn write_field(line: &mut TextLine, field: Field)
+    requires { length line.old + 21 ≤ MOST_TEXT }
+    ensures { Adds line.old line.new (each_after 32 (field_texts field)) 21 }
+{
+    match field {
+        Field::Nothing => {}
+        Field::Number { number, .. } => write_number(line, u64::from(number)),
+        Field::Mask { mask } => {
+            line.push(b" ");
+            line.push_hex(&mask.to_be_bytes());
         }
     }
 }

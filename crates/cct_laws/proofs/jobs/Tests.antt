@@ -8,7 +8,8 @@ use Rattle.cct_model.specs.lines.command.CommandNo.{CommandNo}
 use Rattle.cct_model.specs.lines.entry.Entry.{Entry}
 use Rattle.cct_model.specs.Exchange.{device_at}
 use Rattle.cct_model.specs.Job.{address_of}
-use Rattle.cct_model.specs.Refusal.{Test, first_of, tests_of, view_for, state_fails, room_fails, state_refusal, room_refusal, refusal, state_tests, unless, need_for}
+use Rattle.cct_model.specs.declared.tests.Test.{Test}
+use Rattle.cct_model.specs.Refusal.{first_of, tests_of, view_for, state_fails, room_fails, state_refusal, room_refusal, refusal, state_tests, unless, need_for}
 
 -- each of these tests passes
 abbrev pub Pass : (Test → Option CommandNo) → List Test → Type 0

@@ -9,10 +9,12 @@ use Rattle.cct_model.specs.lines.command.CommandNo.TheVariants.{Short, JournalFu
 use Rattle.cct_model.specs.lines.entry.Entry.{Entry}
 use Rattle.cct_model.specs.Exchange.{device_at}
 use Rattle.cct_model.specs.Job.{ident_requests, address_of}
-use Rattle.cct_model.specs.Rows.{need_in}
+use Rattle.cct_model.specs.Rows.{need_in, puts_in, rows_for}
 use Rattle.cct_model.specs.Records.{records}
 use Rattle.cct_model.specs.Money.{coins_of, available}
-use Rattle.cct_model.specs.Refusal.{Test, with_coins, with_price, with_room, tests_of, money_in, held, need_for, full_refusal, short_refusal, room_fails, refusal}
+use Rattle.cct_model.specs.declared.tests.Test.{Test}
+use Rattle.cct_model.specs.declared.tests.Test.TheVariants.{WithCoins, WithPrice, WithRoom}
+use Rattle.cct_model.specs.Refusal.{asks_room, tests_of, money_in, held, need_for, full_refusal, short_refusal, room_fails, refusal}
 use Rattle.cct_model.proofs.Rows.{told_fact}
 use Rattle.cct_laws.proofs.money.Reserved.{spent_by}
 use Rattle.cct_laws.proofs.jobs.Tests.{Pass, tests_pass}
@@ -36,30 +38,27 @@ short_pass setup past wanted is =
     leb-true wanted (available setup past)
     (test_pass (nat_le wanted (available setup past)) (Short (available setup past)) is)
 
--- which commands have the test for room
-abbrev asks_room : List Test → Bool
-asks_room [] = false
-asks_room (with_room ∷ tests) = true
-asks_room (test ∷ tests) = asks_room tests
-
--- those without it want none
-unasked : (found : Option DeviceSetup) (c : Command) → asks_room (tests_of c) ≡ false → need_for found c ≡ 0
+-- the commands without the test for room want none, and put nothing
+pub unasked : (found : Option DeviceSetup) (c : Command) → asks_room (tests_of c) ≡ false →
+    (need_for found c ≡ 0) × (puts_in (rows_for found c) ≡ 0)
 unasked found (command.Start addr mask) none = absurd cc
 unasked found (command.Round addr) none = absurd cc
 unasked found (command.Stop addr) none = absurd cc
 unasked found (command.Pay addr id count) none = absurd cc
 unasked found (command.Settle addr) none = absurd cc
 unasked found (command.Vend id price) none = absurd cc
-unasked (Some d) (command.Ident addr) none =
-    told_fact (λ rows. need_in rows ≡ 0) refl (λ q behind rows same. same) (ident_requests d.body)
-unasked (Some d) c none = refl
-unasked None c none = refl
+unasked (Some d) (command.Ident addr) none = (
+  told_fact (λ rows. need_in rows ≡ 0) refl (λ q behind rows same. same) (ident_requests d.body),
+  told_fact (λ rows. puts_in rows ≡ 0) refl (λ q behind rows same. same) (ident_requests d.body),
+)
+unasked (Some d) c none = (refl, refl)
+unasked None c none = (refl, refl)
 
 room_by : (capacity : ℕ) (setup : Setup) (past : List Entry) (need : ℕ) (tests : List Test) →
     Pass (room_fails capacity setup past need) tests → asks_room tests ≡ true →
     length (records past) + held setup past + need ≤ capacity
 room_by capacity setup past need [] passes asks = absurd cc
-room_by capacity setup past need (with_room ∷ tests) passes asks = full_pass setup past need capacity passes.0
+room_by capacity setup past need (WithRoom ∷ tests) passes asks = full_pass setup past need capacity passes.0
 room_by capacity setup past need (test ∷ tests) passes asks = room_by capacity setup past need tests passes.1 asks
 
 -- a command that is taken has room for its records, where there is room for those that are held, and what it spends is
@@ -77,7 +76,7 @@ room_for capacity setup past c lets room = by_test (asks_room (tests_of c)) refl
         room_by capacity setup past need (tests_of c) (tests_pass capacity setup past c lets).room asks
     by_test false asks =
         none_more (length (records past) + held setup past) need
-        (unasked (device_at setup.devices (address_of c)) c asks) room
+        (unasked (device_at setup.devices (address_of c)) c asks).0 room
       where
         none_more : (many wanted : ℕ) → wanted ≡ 0 → many ≤ capacity → many + wanted ≤ capacity
         none_more many wanted none le = omega (arith, none, le)
@@ -85,9 +84,9 @@ room_for capacity setup past c lets room = by_test (asks_room (tests_of c)) refl
 money_by : (capacity : ℕ) (setup : Setup) (past : List Entry) (need : ℕ) (tests : List Test) →
     Pass (room_fails capacity setup past need) tests → money_in setup tests ≤ available setup past
 money_by capacity setup past need [] passes = omega arith
-money_by capacity setup past need (with_coins addr count ∷ tests) passes =
+money_by capacity setup past need (WithCoins addr count ∷ tests) passes =
     short_pass setup past (coins_of setup addr count) passes.0
-money_by capacity setup past need (with_price price ∷ tests) passes = short_pass setup past price passes.0
+money_by capacity setup past need (WithPrice price ∷ tests) passes = short_pass setup past price passes.0
 money_by capacity setup past need (test ∷ tests) passes = money_by capacity setup past need tests passes.1
 
 pub money_for : (capacity : ℕ) (setup : Setup) (past : List Entry) (c : Command) →

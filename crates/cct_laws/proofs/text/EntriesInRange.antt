@@ -73,8 +73,8 @@ AllTold past = EachEntry (λ older e. IsTold e) past
 
 -- such an entry is written
 command_written : (c : Command) → FitsCommand c → IsCommand c
-command_written (command.Start addr mask) h = omega (arith, h.1.1)
-command_written c h = tt
+command_written (command.Start addr mask) h = (tt, omega (arith, h.1.1), tt)
+command_written c h = (tt, tt, tt)
 
 pub told_written : (e : Entry) → IsTold e → IsWritten e
 told_written (entry.Taken c) h = command_written c h

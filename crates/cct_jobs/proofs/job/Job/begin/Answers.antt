@@ -1,8 +1,16 @@
-use Rattle.std.proofs.Common.{◌∙◌, ◌<◌, ◌^◌, ap, refl, subst, sym}
+use Rattle.std.proofs.Common.{◌∙◌, ◌<◌, ◌^◌, ap, refl, subst, sym, rules}
 use Rattle.cct_jobs.specs.declared.target.Target.{Target}
 use Rattle.cct_jobs.specs.Ahead.{ahead}
 use Rattle.cct_jobs.proofs.Begins.{begun_ahead, first_stage}
 use Rattle.cct_jobs.proofs.job.Job.begin.Goals as goal
+
+pub first_stage-requires : goal.first_stage-requires
+first_stage-requires c = record {
+  of_device = search rules;
+  may_begin = (c.args.setup.now.devices, c.requires.may_begin);
+  life = c.requires.life;
+  counts = c.requires.counts;
+}
 
 pub returns-in_default-clause-device : goal.returns-in_default-clause-device
 returns-in_default-clause-device c = λ d there serial here.
