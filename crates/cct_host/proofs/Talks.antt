@@ -11,8 +11,11 @@ use Rattle.cct_model.specs.Line.{Line}
 use Rattle.cct_model.specs.Scan.{poll_of}
 use Rattle.cct_jobs.specs.declared.job.Job.{Job}
 use Rattle.cct_jobs.specs.declared.job.Sending.{Sending}
+use Rattle.cct_jobs.specs.Jobs.{end_of_job}
 use Rattle.cct_jobs.specs.Onward.{HearsDevice, HearsPolled, SendsPoll, SendsToDevice}
-use Rattle.cct_host.specs.Exchange.{Converses, Fills, Talks}
+use Rattle.cct_jobs.proofs.Needs.{end_known, scan_end_known}
+use Rattle.cct_jobs.proofs.Sales.{sale_end_known}
+use Rattle.cct_host.specs.Exchange.{Converses, Ends, Fills, Talks}
 use Rattle.cct_host.specs.Place.{Place, StandsAt, device, line_at, sales, scans}
 
 -- what was spelled
@@ -70,3 +73,10 @@ converses gives before after addr old new report pushed e said index index_is pu
   goes = fills.goes;
   talks = fills.talks;
 }
+
+-- the end that a job brings is that of its newest line
+pub ends_known : (job : Job) → Ends job (end_of_job job)
+ends_known job (device d) c line since state owed stands =
+    end_known d job c (line ∷ since) state owed (end_of_job job) refl stands
+ends_known job scans c line since state owed stands = scan_end_known job (line ∷ since) (end_of_job job) refl stands
+ends_known job sales c line since state owed stands = sale_end_known job c (line ∷ since) (end_of_job job) refl stands

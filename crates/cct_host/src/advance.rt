@@ -1,5 +1,5 @@
 //! One attempt of a job, over the parts of a host: a record is put before its entry is told.
-ghost use Rattle.std.specs.Prelude.{◌≡◌, ◌≤◌, ◌<◌, ◌+◌, ◌-◌, ◌^◌, ◌∷◌, ◌++◌, ℕ, List, Option, Some, IfSome, OnErr, OnOk, true, false, length};
+ghost use Rattle.std.specs.Prelude.{◌≡◌, ◌≤◌, ◌<◌, ◌+◌, ◌-◌, ◌^◌, ◌∷◌, ◌++◌, ℕ, List, Option, Some, None, IfSome, OnErr, OnOk, true, false, length};
 ghost use Rattle.arrayvec.specs.ArrayVec.{array_vec_len};
 ghost use Rattle.cct_edge.specs.Faults.{HasCause};
 ghost use Rattle.cct_model.specs.lines.entry.Entry.{Entry};
@@ -61,12 +61,82 @@ pub(crate) fn advance<D: Disk, L: Link>(
         (journals.disk_of journal.new) }
 {
     let found = desks.find(addr);
+    if desks.puts_there(addr, found) {
+        put_and_go_on(desks, ledger, tally, journal, addr, found, link, report)
+    } else {
+        ask(desks, ledger, addr, found, link, report);
+        Ok(())
+    }
+}
+
+/// The job at an address puts the record that it is about to put, and goes on. In a function of its own its record takes no
+/// room where none is due.
+#[inline(never)]
+fn put_and_go_on<D: Disk, L: Link>(
+    desks: &mut Desks<'_>,
+    ledger: &mut Ledger<'_>,
+    tally: &mut Tally<'_>,
+    journal: &mut Journal<D>,
+    addr: u8,
+    found: Option<usize>,
+    link: &mut L,
+    report: &mut ArrayVec<Entry, 8>,
+) -> Result<(), Failed>
+    requires room { array_vec_len report.old ≤ 6 }
+    requires whole { journals.has_failed journal.old ≡ false }
+    requires together { BelongTogether desks.old ledger.old tally.old journal.old }
+    requires found { all_desks.FindsDesk desks.old addr found }
+
+    // what holds of the parts of a host
+    ensures setup { all_desks.setup_of desks.new ≡ all_desks.setup_of desks.old }
+    ensures together { BelongTogether desks.new ledger.new tally.new journal.new }
+
+    // the attempt
+    ensures advances { OnOk result (Advances L.gives link.old link.new addr desks.old desks.new ledger.old ledger.new
+        tally.old tally.new journal.old journal.new report.old.items report.new.items) }
+
+    // a put that failed
+    ensures fails { OnErr result (FailsToPut addr desks.old desks.new ledger.old ledger.new tally.old tally.new
+        journal.old journal.new) }
+    ensures report { OnErr result (report.new ≡ report.old) }
+    ensures link { OnErr result (link.new ≡ link.old) }
+
+    // the disk
+    ensures cause { HasCause (D.faults (journals.disk_of journal.old)) (D.faults (journals.disk_of journal.new)) result }
+    ensures goes_on { GoesOn D.size D.honest D.seen D.cuts (journals.disk_of journal.old)
+        (journals.disk_of journal.new) }
+{
     let due = desks.due_there(addr, found);
     put(journal, &due, tally.carry())?;
     go_on(desks, ledger, addr, found, &due, link, report);
     enter(ledger, &due);
     count(tally, &due);
     Ok(())
+}
+
+/// The job at an address, which has no record to put, makes its attempt, and the ledger frees what it reserves no more.
+fn ask<L: Link>(
+    desks: &mut Desks<'_>,
+    ledger: &mut Ledger<'_>,
+    addr: u8,
+    found: Option<usize>,
+    link: &mut L,
+    report: &mut ArrayVec<Entry, 8>,
+)
+    requires room { array_vec_len report.old ≤ 6 }
+    requires found { all_desks.FindsDesk desks.old addr found }
+    requires due { all_desks.due_on desks.old addr ≡ None }
+    requires reserved { ledgers.reserved_of ledger.old ≡ all_desks.reserved_of desks.old }
+    ensures together { GoOnTogether desks.old desks.new ledger.old ledger.new }
+    ensures left { all_desks.puts_of desks.new ≤ all_desks.puts_of desks.old }
+    ensures nexts { all_desks.Nexts L.gives link.old link.new addr desks.old desks.new report.old.items
+        report.new.items }
+{
+    let reserved = desks.reserved_there(addr, found);
+    desks.ask_there(addr, found, link, report);
+    if reserved > 0 {
+        ledger.release(reserved - desks.reserved_there(addr, found));
+    }
 }
 
 /// Puts the record that is due, if one is, into a journal that takes it, with the carry of those before it.

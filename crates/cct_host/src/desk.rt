@@ -195,6 +195,7 @@ impl JobDesk {
 
     /// The job makes one attempt of one row over a link, with the record that it is about to put, if there is one; with
     /// no job the address is idle. It gives the id that its put used, or 0.
+    #[tactic(auto, using(crate::proofs::Counts::counted_by))]
     pub(crate) fn next<L: Link>(
         &mut self,
         addr: u8,
@@ -208,35 +209,9 @@ impl JobDesk {
             self.new result report.old.items report.new.items }
         ensures frees { Frees self.old.job self.new }
     {
-        match self.job {
-            None => {
-                report.push(Entry::Idle { addr });
-                0
-            }
-            Some(_) => self.attempt(addr, due, link, report),
-        }
-    }
-
-    /// The job makes one attempt of its row, a put if a record is due, and gives the id that its put used, or 0.
-    #[tactic(auto, using(crate::proofs::Counts::counted_by))]
-    fn attempt<L: Link>(
-        &mut self,
-        addr: u8,
-        due: &Option<Record>,
-        link: &mut L,
-        report: &mut ArrayVec<Entry, 8>,
-    ) -> u32
-        requires there { is_some self.old.job ≡ true }
-        requires due { due.now ≡ due_by self.old.job }
-        requires room { array_vec_len report.old ≤ 6 }
-        ensures attempts { Attempts L.gives link.old link.new addr self.old.job self.old.epoch self.old.orders
-            self.new result report.old.items report.new.items }
-        ensures frees { Frees self.old.job self.new }
-    {
         match due {
             None => {
-                exchange(&mut self.job, addr, link, report);
-                self.orders = self.orders_left();
+                self.ask(addr, link, report);
                 0
             }
             Some(entry) => {
@@ -244,9 +219,36 @@ impl JobDesk {
                 self.epoch = epoch_by(entry, self.epoch);
                 self.orders.order = self.order_after();
                 put(&mut self.job, entry, addr, report);
-                self.orders = self.orders_left();
+                leave_orders(&self.job, &mut self.orders);
                 id
             }
+        }
+    }
+
+    /// The job, which has no record to put, makes one exchange over a link; with no job the address is idle.
+    pub(crate) fn ask<L: Link>(&mut self, addr: u8, link: &mut L, report: &mut ArrayVec<Entry, 8>)
+        requires due { due_by self.old.job ≡ None }
+        requires room { array_vec_len report.old ≤ 6 }
+        ensures attempts { Attempts L.gives link.old link.new addr self.old.job self.old.epoch self.old.orders
+            self.new 0 report.old.items report.new.items }
+        ensures frees { Frees self.old.job self.new }
+    {
+        match self.job {
+            None => report.push(Entry::Idle { addr }),
+            Some(_) => {
+                exchange(&mut self.job, addr, link, report);
+                leave_orders(&self.job, &mut self.orders);
+            }
+        }
+    }
+
+    /// Whether the job is about to put a record.
+    pub(crate) fn puts(&self) -> bool
+        ensures { result ≡ is_some (due_by self.now.job) }
+    {
+        match &self.job {
+            Some(job) => job.puts(),
+            None => false,
         }
     }
 
@@ -259,19 +261,15 @@ impl JobDesk {
             None => self.orders.order,
         }
     }
+}
 
-    /// What is recorded of the payment, the sale or the job that is still running.
-    fn orders_left(&self) -> OrderState
-        ensures { result ≡ orders_left self.now.job self.now.orders }
-    {
-        match self.job {
-            None => OrderState {
-                order: self.orders.order,
-                id: 0,
-                begun: None,
-            },
-            Some(_) => self.orders,
-        }
+/// Without a job nothing is recorded of one any more.
+fn leave_orders(job: &Option<Job>, orders: &mut OrderState)
+    ensures { orders.new ≡ orders_left job.now orders.old }
+{
+    if job.is_none() {
+        orders.id = 0;
+        orders.begun = None;
     }
 }
 

@@ -255,6 +255,30 @@ impl<'s> Desks<'s> {
         }
     }
 
+    /// Whether the job at an address is about to put a record, where the desk at the address is found.
+    pub(crate) fn puts_there(&self, addr: u8, found: Option<usize>) -> bool
+        requires found { FindsDesk self.now addr found }
+        ensures value { result ≡ is_some (due_on self.now addr) }
+        ensures stands { (past : List Entry) → StandsFor self.now past
+            → result ≡ is_some (due_at (setup_of self.now) past addr) }
+    {
+        match found {
+            Some(index) => self.devices[index].puts(),
+            None => self.bare_puts(addr),
+        }
+    }
+
+    /// Whether the job at an address without a device is about to put a record: it is a sale.
+    fn bare_puts(&self, addr: u8) -> bool
+        ensures { result ≡ is_some (due_at_desk self.now.sale addr None) }
+    {
+        if addr == HOST {
+            self.sale.puts()
+        } else {
+            false
+        }
+    }
+
     /// The record that the job at an address without a device is about to put, if it is about to put one: it is a sale.
     fn bare_due(&self, addr: u8) -> Option<Record>
         ensures value { result ≡ due_at_desk self.now.sale addr None }
@@ -347,6 +371,27 @@ impl<'s> Desks<'s> {
                 self.last = used.max(self.last);
             }
             None => self.bare_next(addr, due, link, report),
+        }
+    }
+
+    /// The same, where the job there has no record to put.
+    pub(crate) fn ask_there<L: Link>(
+        &mut self,
+        addr: u8,
+        found: Option<usize>,
+        link: &mut L,
+        report: &mut ArrayVec<Entry, 8>,
+    )
+        requires room { array_vec_len report.old ≤ 6 }
+        requires found { FindsDesk self.old addr found }
+        requires due { due_on self.old addr ≡ None }
+        ensures found { FindsDesk self.new addr found }
+        ensures frees { FreesIn addr self.old self.new }
+        ensures nexts { Nexts L.gives link.old link.new addr self.old self.new report.old.items report.new.items }
+    {
+        match found {
+            Some(index) => self.devices[index].ask(addr, link, report),
+            None => self.bare_next(addr, &None, link, report),
         }
     }
 

@@ -97,7 +97,7 @@ pub(crate) fn exchange<L: Link>(
         None => unreachable!(),
     };
     if is_done {
-        *at_desk = None;
+        leave(at_desk);
     }
 }
 
@@ -126,22 +126,42 @@ pub(crate) fn put(
         None => unreachable!(),
     };
     if is_done {
-        *at_desk = None;
+        leave(at_desk);
     }
 }
 
+/// A job leaves its desk.
+#[inline(never)]
+fn leave(at_desk: &mut Option<Job>)
+    ensures { at_desk.new ≡ None }
+{
+    *at_desk = None;
+}
+
 /// A job that is done adds its end to the report, and one that runs adds nothing. The answer is whether it is done.
+#[tactic(auto, using(crate::proofs::Talks::ends_known))]
 fn tell_end(job: &Job, addr: u8, report: &mut ArrayVec<Entry, 8>) -> bool
     requires { array_vec_len report.old < 8 }
     ensures done { result ≡ is_some (end_of_job job.now) }
     ensures ends { Ends job.now (end_of_job job.now) }
     ensures tells { TellsEnd (end_of_job job.now) addr report.old.items report.new.items }
 {
+    let is_done = job.is_done();
+    if is_done {
+        add_end(job, addr, report);
+    }
+    is_done
+}
+
+/// Adds the end of a job that is done to the report. An end is wide: in a function of its own it is made where it is told.
+#[inline(never)]
+fn add_end(job: &Job, addr: u8, report: &mut ArrayVec<Entry, 8>)
+    requires room { array_vec_len report.old < 8 }
+    requires done { is_some (end_of_job job.now) ≡ true }
+    ensures tells { TellsEnd (end_of_job job.now) addr report.old.items report.new.items }
+{
     match job.end() {
-        None => false,
-        Some(end) => {
-            report.push(Entry::Ended { addr, end });
-            true
-        }
+        Some(end) => report.push(Entry::Ended { addr, end }),
+        None => unreachable!(),
     }
 }

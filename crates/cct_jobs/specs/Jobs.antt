@@ -108,6 +108,25 @@ IsOfReading (Looks read_by recorded before read) = ⊤
 IsOfReading (CountsAfter read_by recorded before read seen) = ⊤
 IsOfReading stage = ⊥
 
+-- A row of a payment or a settlement that another question follows.
+abbrev pub pays_on : Payout → Bool
+pays_on (Enables id count halted) = true
+pays_on (Dispenses serial own halted) = true
+pays_on (Waits closing own) = true
+pays_on row = false
+
+-- A row of a reading that another question follows.
+abbrev pub reads_on : Stage → Bool
+reads_on (CountsBefore read_by recorded) = true
+reads_on (Reads read_by recorded before) = true
+reads_on (Looks read_by recorded before read) = true
+reads_on stage = false
+
+-- A stage that another question follows.
+abbrev pub asks_on : Stage → Bool
+asks_on (Pays row) = pays_on row
+asks_on stage = reads_on stage
+
 -- The stage is one of the setting of a sorter path.
 abbrev pub IsOfPath : Stage → Type 0
 IsOfPath (PathSets place path) = ⊤
@@ -143,6 +162,11 @@ need_of (OrderCloses entry end) = need.Put entry
 need_of (SalePuts id price) = need.Put (record_of.Sold id price)
 need_of (Done end) = need.Done end
 need_of job = need.Exchange
+
+-- A row that asks a device, and no scan's.
+abbrev pub asks_device : Job → Bool
+asks_device (Asks device stage failed) = true
+asks_device job = false
 
 -- What the job of a command needs first: a sale puts its record, and any other job sends a request.
 abbrev pub first_need : Command → Need

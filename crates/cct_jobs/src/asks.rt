@@ -1,19 +1,13 @@
 //! What a job hears from the device that it asked: the wanted reply, or a failed try.
-ghost use Rattle.std.specs.Prelude.{Option, ◌≡◌, List, ℕ, ◌∷◌, Some, None, false};
-ghost use Rattle.cct_model.specs.lines.command.Command.{Command};
-ghost use Rattle.cct_model.specs.terms.device.DeviceSetup.{DeviceSetup};
-ghost use Rattle.cct_model.specs.declared.judging.EpochState.{EpochState};
-ghost use Rattle.cct_model.specs.declared.judging.OpenOrder.{OpenOrder};
-ghost use Rattle.cct_model.specs.Exchange.{ask};
-ghost use Rattle.cct_model.specs.Line.{Line};
+ghost use Rattle.std.specs.Prelude.{◌≡◌, ℕ, Some, None, false, true};
 ghost use Rattle.cct_model.specs.Reply.{reply_shown};
 ghost use Rattle.cct_model.specs.Request.{form_of};
 ghost use Rattle.cct_msg.specs.Forms.{form_shown};
 ghost use Rattle.cct_jobs.specs.declared.stage.Stage.TheVariants.{Pays};
 ghost use Rattle.cct_model.specs.Rows.{sent_once};
-ghost use Rattle.cct_jobs.specs.Ahead.{payout_ahead, stage_ahead};
-ghost use Rattle.cct_jobs.specs.Jobs.{Asking, FitsAccepts, FitsLife, Stands, line_heard, request_of};
-ghost use Rattle.cct_jobs.specs.Onward.{KeepsTo, LeadsTo};
+ghost use Rattle.cct_jobs.specs.Ahead.{ahead, payout_ahead, stage_ahead};
+ghost use Rattle.cct_jobs.specs.Jobs.{FitsAccepts, FitsLife, asks_device, asks_on, request_of};
+ghost use Rattle.cct_jobs.specs.Onward.{HearsDevice, HearsPolled, KeepsTo, LeadsTo};
 
 use crate::job::Job;
 use crate::payout::Payout;
@@ -34,23 +28,49 @@ pub(crate) fn first_try(device: Target, stage: Stage) -> Job
 }
 
 /// The job heard what followed the request of its stage, and goes on.
-pub(crate) fn heard(
-    job: &mut Job,
-    device: Target,
-    stage: Stage,
-    failed: u8,
-    sent: &[u8],
-    heard: &[u8],
-)
-    ensures device { (d : DeviceSetup) (c : Command) (since : List Line) (state : EpochState)
-        (owed : Option OpenOrder) → Asking d device stage failed c since state owed
-        → sent.now ≡ ask d.kind d.addr (request_of device.family stage)
-        → Stands d job.new c (line_heard d sent.now heard.now ∷ since) state owed }
-    ensures keeps { KeepsTo (stage_ahead device stage) job.new }
+pub(crate) fn heard(job: &mut Job, sent: &[u8], heard: &[u8])
+    requires asks { asks_device job.old ≡ true }
+    ensures device { HearsDevice job.old sent.now heard.now job.new }
+    ensures scan { HearsPolled job.old sent.now heard.now job.new }
+    ensures keeps { KeepsTo (ahead job.old) job.new }
 {
-    match device.reply(stage.wanted(device.family), sent, heard) {
-        Some(reply) => answered(job, device, stage, &reply),
-        None => *job = unanswered(device, stage, failed),
+    match job {
+        Job::Asks {
+            device,
+            stage,
+            failed,
+        } => match device.reply(stage.wanted(device.family), sent, heard) {
+            Some(reply) => {
+                if asks_on(device, stage, &reply) {
+                    *failed = 0;
+                } else {
+                    let (device, stage) = (*device, *stage);
+                    answered(job, device, stage, &reply);
+                }
+            }
+            None => {
+                let (device, stage, failed) = (*device, *stage, *failed);
+                *job = unanswered(device, stage, failed);
+            }
+        },
+        _ => unreachable!(),
+    }
+}
+
+/// A stage that another question follows got the wanted reply, and the job comes to that one where it stands. The answer is
+/// whether the stage is one of these.
+fn asks_on(device: &Target, stage: &mut Stage, reply: &Reply<'_>) -> bool
+    requires wanted { form_shown (reply_shown reply.now) ≡ form_of (request_of device.now.family stage.old) }
+    requires accepts { FitsAccepts (reply_shown reply.now) }
+    ensures which { result ≡ asks_on stage.old }
+    ensures stays { result ≡ false → stage.new ≡ stage.old }
+    ensures device { result ≡ true → (failed : ℕ)
+        → LeadsTo device.now stage.old failed (Some (reply_shown reply.now)) (Job.Asks device.now stage.new 0) }
+    ensures keeps { result ≡ true → KeepsTo (stage_ahead device.now stage.old) (Job.Asks device.now stage.new 0) }
+{
+    match stage {
+        Stage::Pays { row } => payment::pays_on(row, reply),
+        _ => reading::reads_on(device, stage, reply),
     }
 }
 
@@ -98,6 +118,7 @@ fn tried_again(device: Target, stage: Stage, failed: u8) -> Job
 /// The stage of the job got the wanted reply, and the job goes on: each kind of job has its own way.
 #[tactic(auto, using(crate::proofs::Keeping::none_keep))]
 fn answered(job: &mut Job, device: Target, stage: Stage, reply: &Reply<'_>)
+    requires other { asks_on stage ≡ false }
     requires wanted { form_shown (reply_shown reply.now) ≡ form_of (request_of device.family stage) }
     requires life { FitsLife (reply_shown reply.now) }
     requires accepts { FitsAccepts (reply_shown reply.now) }
@@ -110,14 +131,12 @@ fn answered(job: &mut Job, device: Target, stage: Stage, reply: &Reply<'_>)
         Stage::StartCounts { .. } => start::answered(job, device, stage, reply),
         Stage::StartSets { .. } => start::answered(job, device, stage, reply),
         Stage::StopInhibits { .. } => reading::answered(job, device, stage, reply),
-        Stage::CountsBefore { .. } => reading::answered(job, device, stage, reply),
-        Stage::Reads { .. } => reading::answered(job, device, stage, reply),
-        Stage::Looks { .. } => reading::answered(job, device, stage, reply),
         Stage::CountsAfter { .. } => reading::answered(job, device, stage, reply),
         Stage::IdentAsks { question } => ident::told(job, device, question),
         Stage::PathSets { .. } => path::answered(job, device, stage, reply),
         Stage::PathReads { .. } => path::answered(job, device, stage, reply),
         Stage::Routes { .. } => *job = Job::Done(End::Routed),
         Stage::Pays { row } => payment::answered(job, device, row, reply),
+        _ => unreachable!(),
     }
 }

@@ -1,5 +1,5 @@
 //! A job, by the row at which it stands.
-ghost use Rattle.std.specs.Prelude.{◌≡◌, ◌≤◌, ◌<◌, List, ℕ, ◌∷◌, Option, Some, None, IfSome, true, false};
+ghost use Rattle.std.specs.Prelude.{◌≡◌, ◌≤◌, ◌<◌, List, ℕ, ◌∷◌, Option, Some, None, IfSome, is_some, true, false};
 ghost use Rattle.cct_model.specs.lines.command.Command.{Command};
 ghost use Rattle.cct_model.specs.lines.command.Command.TheVariants as command;
 ghost use Rattle.cct_model.specs.terms.device.DeviceSetup.{DeviceSetup};
@@ -15,7 +15,7 @@ ghost use Rattle.cct_model.specs.Order.{order_by};
 ghost use Rattle.cct_model.specs.Scan.{end_of_scan};
 ghost use Rattle.cct_record.specs.Body.{Encodable};
 ghost use Rattle.cct_jobs.specs.Ahead.{ahead, coins_in, price_in};
-ghost use Rattle.cct_jobs.specs.Jobs.{IsPut, Needs, PutsFit, Stands, after_halt, after_put, end_of_job, need_of, newest_end, order_of, owed_after, put_in, sending_of};
+ghost use Rattle.cct_jobs.specs.Jobs.{IsPut, Needs, PutsFit, Stands, after_halt, after_put, asks_device, end_of_job, need_of, newest_end, order_of, owed_after, put_in, sending_of};
 ghost use Rattle.cct_jobs.specs.Sales.{NeedsSale, StandsSale, newest_sale_end};
 ghost use Rattle.cct_jobs.specs.Scans.{NeedsScan, StandsScan};
 ghost use Rattle.cct_jobs.specs.Onward.{GoesOnAfterPut, GoesOnAfterSale, HearsDevice, HearsPolled, KeepsTo, SendsPoll, SendsToDevice};
@@ -150,6 +150,31 @@ impl Job {
         self.record()
     }
 
+    /// Whether the job is about to put a record.
+    #[inline]
+    pub fn puts(&self) -> bool
+        ensures value { result ≡ is_some (put_in (need_of self.now)) }
+    {
+        matches!(
+            self,
+            Job::StartPuts { .. }
+                | Job::RoundPuts { .. }
+                | Job::StopPuts { .. }
+                | Job::StopEnds { .. }
+                | Job::OrderOpens { .. }
+                | Job::OrderCloses { .. }
+                | Job::SalePuts { .. }
+        )
+    }
+
+    /// Whether the job is done.
+    #[inline]
+    pub fn is_done(&self) -> bool
+        ensures value { result ≡ is_some (end_of_job self.now) }
+    {
+        matches!(self, Job::Done(_))
+    }
+
     /// The end of a job that is done, or none while it runs.
     #[tactic(auto, using(crate::proofs::Needs::end_known, crate::proofs::Needs::scan_end_known, crate::proofs::Sales::sale_end_known))]
     pub fn end(&self) -> Option<End>
@@ -243,14 +268,22 @@ impl Job {
         ensures keeps { KeepsTo (ahead self.old) self.new }
     {
         match self {
-            Job::Asks {
-                device,
-                stage,
-                failed,
-            } => {
-                let (device, stage, failed) = (*device, *stage, *failed);
-                asks::heard(self, device, stage, failed, sent, heard);
-            }
+            Job::Asks { .. } => asks::heard(self, sent, heard),
+            _ => self.hear_polled(sent, heard),
+        }
+    }
+
+    /// A scan's request was sent, and it hears this. Scans are rare, and their sets wide: in a function of its own they take
+    /// no room where a device answers.
+    #[inline(never)]
+    fn hear_polled(&mut self, sent: &[u8], heard: &[u8])
+        requires asks { need_of self.old ≡ Need.Exchange }
+        requires polls { asks_device self.old ≡ false }
+        ensures device { HearsDevice self.old sent.now heard.now self.new }
+        ensures scan { HearsPolled self.old sent.now heard.now self.new }
+        ensures keeps { KeepsTo (ahead self.old) self.new }
+    {
+        match self {
             Job::ScanCallsSimple { failed } => {
                 *self = scan::simple_call_heard(*failed, sent, heard);
             }

@@ -1,7 +1,7 @@
 //! The payment of an order, and the settlement of one that stayed open: the hopper is enabled, its life count read, the
 //! order opened and its coins dispensed once; when nothing is left to pay, the life count tells how many coins fell
 //! (ccTalk Generic Specification 4, part 3, headers 164, 166, 167, 168 and 172).
-ghost use Rattle.std.specs.Prelude.{◌≡◌, ◌<◌, ◌^◌, ℕ, Option, Some, true};
+ghost use Rattle.std.specs.Prelude.{◌≡◌, ◌<◌, ◌^◌, ℕ, Option, Some, false, true};
 ghost use Rattle.cct_model.specs.declared.judging.OpenOrder.{OpenOrder};
 ghost use Rattle.cct_model.specs.terms.request.ReplyForm.TheVariants as form;
 ghost use Rattle.cct_model.specs.Reply as shown;
@@ -11,7 +11,7 @@ ghost use Rattle.cct_msg.specs.Forms.{form_shown};
 ghost use Rattle.cct_jobs.specs.declared.stage.Stage.TheVariants.{Pays};
 ghost use Rattle.cct_jobs.specs.declared.payout.Payout.TheVariants.{Counts, Dispenses, Recounts, Waits};
 ghost use Rattle.cct_jobs.specs.Ahead.{nothing_left, payout_ahead};
-ghost use Rattle.cct_jobs.specs.Jobs.{FitsLife, closing_end, halted_row, halted_tries, payout_request, settling};
+ghost use Rattle.cct_jobs.specs.Jobs.{FitsLife, closing_end, halted_row, halted_tries, pays_on, payout_request, settling};
 ghost use Rattle.cct_jobs.specs.declared.payout.Closing.{Closing};
 ghost use Rattle.cct_jobs.specs.declared.target.Target.{Target};
 ghost use Rattle.cct_model.specs.Rows as rows;
@@ -26,27 +26,52 @@ use crate::target::Target;
 use cct_model::{End, OpenOrder, Record, Reply};
 use cct_order::close;
 
-/// The row of the payment or the settlement got the wanted reply, and the job goes on.
+/// The payment or the settlement got the wanted reply to a row that another question follows, and comes to that one where it
+/// stands. The answer is whether its row is one of these.
+pub(crate) fn pays_on(row: &mut Payout, reply: &Reply<'_>) -> bool
+    requires wanted { form_shown (reply_shown reply.now) ≡ form_of (payout_request row.old) }
+    ensures which { result ≡ pays_on row.old }
+    ensures stays { result ≡ false → row.new ≡ row.old }
+    ensures device { result ≡ true → (device : Target) (failed : ℕ)
+        → LeadsTo device (Pays row.old) failed (Some (reply_shown reply.now)) (Job.Asks device (Pays row.new) 0) }
+    ensures keeps { result ≡ true → (device : Target)
+        → KeepsClosing (payout_ahead device row.old) (Job.Asks device (Pays row.new) 0) }
+{
+    match row {
+        Payout::Enables { id, count, halted } => {
+            let (id, count, halted) = (*id, *count, *halted);
+            *row = Payout::Counts { id, count, halted };
+            true
+        }
+        Payout::Dispenses { owed, halted, .. } => {
+            let next = settling(Closing::Payment, *owed, *halted);
+            *row = next;
+            true
+        }
+        Payout::Waits { closing, owed } => {
+            let next = waited(*closing, *owed, is_paid_out(reply));
+            *row = next;
+            true
+        }
+        _ => false,
+    }
+}
+
+/// The row of the payment or the settlement got the wanted reply, and the job goes on to a row that is none of these.
 pub(crate) fn answered(job: &mut Job, device: Target, row: Payout, reply: &Reply<'_>)
+    requires last { pays_on row ≡ false }
     requires wanted { form_shown (reply_shown reply.now) ≡ form_of (payout_request row) }
     requires life { FitsLife (reply_shown reply.now) }
     ensures device { (failed : ℕ) → LeadsTo device (Pays row) failed (Some (reply_shown reply.now)) job.new }
     ensures keeps { KeepsClosing (payout_ahead device row) job.new }
 {
     match row {
-        Payout::Enables { id, count, halted } => {
-            let row = Payout::Counts { id, count, halted };
-            *job = first_try(device, Stage::Pays { row });
-        }
         Payout::Counts { id, count, halted } => {
             *job = opens(device, id, count, halted, life_in(reply));
         }
-        Payout::Dispenses { owed, halted, .. } => *job = dispensed(device, owed, halted),
-        Payout::Waits { closing, owed } => {
-            *job = waited(device, closing, owed, is_paid_out(reply));
-        }
         Payout::Stops { closing, owed } => *job = settles(device, closing, owed, false),
         Payout::Recounts { owed, .. } => *job = closes(owed, life_in(reply)),
+        _ => unreachable!(),
     }
 }
 
@@ -54,12 +79,19 @@ pub(crate) fn answered(job: &mut Job, device: Target, row: Payout, reply: &Reply
 fn settles(device: Target, closing: Closing, owed: Owed, halted: bool) -> Job
     ensures { result ≡ Job.Asks device (Pays (settling closing owed halted)) 0 }
 {
-    let row = if halted {
+    let row = settling(closing, owed, halted);
+    first_try(device, Stage::Pays { row })
+}
+
+/// The row that waits for the last coin, or that stops the hopper before.
+fn settling(closing: Closing, owed: Owed, halted: bool) -> Payout
+    ensures { result ≡ settling closing owed halted }
+{
+    if halted {
         Payout::Stops { closing, owed }
     } else {
         Payout::Waits { closing, owed }
-    };
-    first_try(device, Stage::Pays { row })
+    }
 }
 
 /// The payment after its dispense was sent, whatever was heard of it.
@@ -72,19 +104,18 @@ pub(crate) fn dispensed(device: Target, owed: Owed, halted: bool) -> Job
     settles(device, Closing::Payment, owed, halted)
 }
 
-/// The payment or the settlement after it was told whether nothing is left to pay.
+/// The row of the payment or the settlement after it was told whether nothing is left to pay.
 #[tactic(auto, using(crate::proofs::Payments::status_paid, crate::proofs::Payments::status_goes_on))]
-fn waited(device: Target, closing: Closing, owed: Owed, is_paid_out: bool) -> Job
-    ensures device { (failed : ℕ) (y : shown.Reply) → is_paid_out ≡ nothing_left y
-        → LeadsTo device (Pays (Waits closing owed)) failed (Some y) result }
-    ensures keeps { KeepsClosing rows.settling result }
+fn waited(closing: Closing, owed: Owed, is_paid_out: bool) -> Payout
+    ensures device { (device : Target) (failed : ℕ) (y : shown.Reply) → is_paid_out ≡ nothing_left y
+        → LeadsTo device (Pays (Waits closing owed)) failed (Some y) (Job.Asks device (Pays result) 0) }
+    ensures keeps { (device : Target) → KeepsClosing rows.settling (Job.Asks device (Pays result) 0) }
 {
-    let row = if is_paid_out {
+    if is_paid_out {
         Payout::Recounts { closing, owed }
     } else {
         Payout::Waits { closing, owed }
-    };
-    first_try(device, Stage::Pays { row })
+    }
 }
 
 /// The payment after it read the life count of its hopper: its order is to be opened.

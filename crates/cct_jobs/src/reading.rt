@@ -2,15 +2,15 @@
 //! accept counter again; what they mean is put, unless a coin or a bill was accepted in between. A stop inhibits all before,
 //! and puts the epoch's end after (ccTalk Generic Specification 4, parts 2 and 3, headers 225, 228, 229 and 230, and 159 at
 //! a bill acceptor).
-ghost use Rattle.std.specs.Prelude.{◌≡◌, ℕ, Some};
+ghost use Rattle.std.specs.Prelude.{◌≡◌, ℕ, Some, false, true};
 ghost use Rattle.cct_model.specs.terms.request.ReplyForm.TheVariants as form;
 ghost use Rattle.cct_model.specs.Reply as shown;
 ghost use Rattle.cct_model.specs.Reply.{reply_shown};
 ghost use Rattle.cct_model.specs.Request.{form_of};
 ghost use Rattle.cct_msg.specs.Forms.{form_shown};
-ghost use Rattle.cct_jobs.specs.declared.stage.Stage.TheVariants.{CountsAfter, CountsBefore, Looks, Reads};
+ghost use Rattle.cct_jobs.specs.declared.stage.Stage.TheVariants.{CountsAfter, CountsBefore};
 ghost use Rattle.cct_jobs.specs.Ahead.{stage_ahead, reading_ahead};
-ghost use Rattle.cct_jobs.specs.Jobs.{FitsAccepts, IsOfReading, request_of, round_after, stop_after};
+ghost use Rattle.cct_jobs.specs.Jobs.{FitsAccepts, IsOfReading, reads_on, request_of, round_after, stop_after};
 ghost use Rattle.cct_jobs.specs.Onward.{KeepsTo, LeadsTo};
 
 use crate::asks::first_try;
@@ -22,9 +22,68 @@ use crate::target::Target;
 use cct_epoch::{Judged, judge};
 use cct_model::{Credits, End, Reply};
 
-/// The stage of the round or the stop got the wanted reply, and the job goes on.
+/// The round or the stop got the wanted reply to a row that another question follows, and comes to that one where it stands.
+/// The answer is whether its row is one of these.
+pub(crate) fn reads_on(device: &Target, stage: &mut Stage, reply: &Reply<'_>) -> bool
+    requires wanted { form_shown (reply_shown reply.now) ≡ form_of (request_of device.now.family stage.old) }
+    requires accepts { FitsAccepts (reply_shown reply.now) }
+    ensures which { result ≡ reads_on stage.old }
+    ensures stays { result ≡ false → stage.new ≡ stage.old }
+    ensures device { result ≡ true → (failed : ℕ)
+        → LeadsTo device.now stage.old failed (Some (reply_shown reply.now)) (Job.Asks device.now stage.new 0) }
+    ensures keeps { result ≡ true → KeepsTo (stage_ahead device.now stage.old) (Job.Asks device.now stage.new 0) }
+{
+    match stage {
+        Stage::CountsBefore { read_by, recorded } => {
+            let (read_by, recorded) = (*read_by, *recorded);
+            let before = count_in(reply);
+            *stage = Stage::Reads {
+                read_by,
+                recorded,
+                before,
+            };
+            true
+        }
+        Stage::Reads {
+            read_by,
+            recorded,
+            before,
+        } => {
+            let (read_by, recorded, before) = (*read_by, *recorded, *before);
+            let credits = noted(device.family, credits_in(reply));
+            *stage = Stage::Looks {
+                read_by,
+                recorded,
+                before,
+                credits,
+            };
+            true
+        }
+        Stage::Looks {
+            read_by,
+            recorded,
+            before,
+            credits,
+        } => {
+            let (read_by, recorded, before, credits) = (*read_by, *recorded, *before, *credits);
+            let mask_seen = mask_in(reply);
+            *stage = Stage::CountsAfter {
+                read_by,
+                recorded,
+                before,
+                credits,
+                mask_seen,
+            };
+            true
+        }
+        _ => false,
+    }
+}
+
+/// The stage of the round or the stop got the wanted reply, and the job goes on to a row that is none of these.
 pub(crate) fn answered(job: &mut Job, device: Target, stage: Stage, reply: &Reply<'_>)
     requires row { IsOfReading stage }
+    requires last { reads_on stage ≡ false }
     requires wanted { form_shown (reply_shown reply.now) ≡ form_of (request_of device.family stage) }
     requires accepts { FitsAccepts (reply_shown reply.now) }
     ensures device { (failed : ℕ) → LeadsTo device stage failed (Some (reply_shown reply.now)) job.new }
@@ -32,23 +91,6 @@ pub(crate) fn answered(job: &mut Job, device: Target, stage: Stage, reply: &Repl
 {
     match stage {
         Stage::StopInhibits { recorded } => *job = counts(device, ReadBy::Stop, recorded),
-        Stage::CountsBefore { read_by, recorded } => {
-            *job = reads(device, read_by, recorded, count_in(reply));
-        }
-        Stage::Reads {
-            read_by,
-            recorded,
-            before,
-        } => {
-            let credits = noted(device.family, credits_in(reply));
-            *job = looks(device, read_by, recorded, before, credits);
-        }
-        Stage::Looks {
-            read_by,
-            recorded,
-            before,
-            credits,
-        } => *job = counts_again(device, read_by, recorded, before, credits, mask_in(reply)),
         Stage::CountsAfter {
             read_by,
             recorded,
@@ -70,64 +112,6 @@ pub(crate) fn counts(device: Target, read_by: ReadBy, recorded: Recorded) -> Job
     ensures { result ≡ Job.Asks device (CountsBefore read_by recorded) 0 }
 {
     first_try(device, Stage::CountsBefore { read_by, recorded })
-}
-
-/// The round or the stop at its credits.
-fn reads(device: Target, read_by: ReadBy, recorded: Recorded, before: Counted) -> Job
-    ensures { result ≡ Job.Asks device (Reads read_by recorded before) 0 }
-{
-    first_try(
-        device,
-        Stage::Reads {
-            read_by,
-            recorded,
-            before,
-        },
-    )
-}
-
-/// The round or the stop at its look at the mask.
-fn looks(
-    device: Target,
-    read_by: ReadBy,
-    recorded: Recorded,
-    before: Counted,
-    credits: Credits,
-) -> Job
-    ensures { result ≡ Job.Asks device (Looks read_by recorded before credits) 0 }
-{
-    first_try(
-        device,
-        Stage::Looks {
-            read_by,
-            recorded,
-            before,
-            credits,
-        },
-    )
-}
-
-/// The round or the stop at its second accept counter.
-fn counts_again(
-    device: Target,
-    read_by: ReadBy,
-    recorded: Recorded,
-    before: Counted,
-    credits: Credits,
-    mask_seen: u16,
-) -> Job
-    ensures { result ≡ Job.Asks device (CountsAfter read_by recorded before credits mask_seen) 0 }
-{
-    first_try(
-        device,
-        Stage::CountsAfter {
-            read_by,
-            recorded,
-            before,
-            credits,
-            mask_seen,
-        },
-    )
 }
 
 /// The inhibit mask that the reply to the question for it is.

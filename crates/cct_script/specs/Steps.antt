@@ -62,11 +62,10 @@ order_step word fields =
     else if bytes_eq word (codes "scan") then ok_or (alone (step.Command command.Scan) fields) kind.Form
     else other_step word fields
 
--- The next attempt of a job, what is wrong on the wire, and the commands of an epoch; then the others.
+-- What is wrong on the wire, and the commands of an epoch; then the others.
 unfoldable pub epoch_step : List ℕ → List (List ℕ) → Result Step LineKind
 epoch_step word fields =
-    if bytes_eq word (codes "next") then ok_or (step_at step.Next fields) kind.Form
-    else if bytes_eq word (codes "fault") then ok_or (fault_step fields) kind.Form
+    if bytes_eq word (codes "fault") then ok_or (fault_step fields) kind.Form
     else if bytes_eq word (codes "start") then ok_or (start_step fields) kind.Form
     else if bytes_eq word (codes "round") then ok_or (step_at (λ a. step.Command (command.Round a)) fields) kind.Form
     else if bytes_eq word (codes "stop") then ok_or (step_at (λ a. step.Command (command.Stop a)) fields) kind.Form
@@ -82,3 +81,9 @@ device_step word fields =
     else if bytes_eq word (codes "jam") then ok_or (step_at step.Jam fields) kind.Form
     else if bytes_eq word (codes "reset") then ok_or (step_at step.Reset fields) kind.Form
     else epoch_step word fields
+
+-- The next attempt of a job; then the others.
+unfoldable pub next_step : List ℕ → List (List ℕ) → Result Step LineKind
+next_step word fields =
+    if bytes_eq word (codes "next") then ok_or (step_at step.Next fields) kind.Form
+    else device_step word fields

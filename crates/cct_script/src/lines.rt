@@ -64,6 +64,7 @@ impl Lines {
     }
 
     /// Finds the next line, and tells how many of the bytes at the front of the buffer it has.
+    #[inline(always)]
     fn find<S: Source>(&mut self, source: &mut S) -> Result<Option<usize>, LinesNo>
         ensures gives { Gives (standing_of self.old) (standing_of self.new)
             (S.left source.old) (S.left source.new) (line_in self.new.buffer result) }
@@ -133,6 +134,7 @@ impl Lines {
     /// `TooMany` comes exactly where 1,048,576 lines were given and a byte follows; else `Long` exactly where the next
     /// 1,201 bytes have no line feed; else `Cut` exactly where the input ends after one or more bytes without a line
     /// feed. What was taken stays held after a refusal.
+    #[inline(always)]
     pub fn line<S: Source>(&mut self, source: &mut S) -> Result<Line<'_>, LinesNo>
         // Each line once, in order and whole, and each end exactly where it is. Bytes are taken only while those held
         // have no line feed, each time into all the room that is left, and none after a take that failed.

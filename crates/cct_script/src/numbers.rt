@@ -32,18 +32,19 @@ fn number_in(field: &[u8], most: u64) -> Option<u64>
 fn digits_in(digits: &[u8], most: u64) -> Option<u64>
     ensures { result ≡ option_and_then (within 0 most) (digits_from 0 digits.now) }
 {
-    let most = u128::from(most);
-    let mut number: u128 = 0;
+    let mut number: u64 = 0;
     for byte in digits {
         if !byte.is_ascii_digit() {
             return None;
         }
-        number = 10 * number + u128::from(*byte - b'0');
+        number = number
+            .checked_mul(10)?
+            .checked_add(u64::from(*byte - b'0'))?;
         if number > most {
             return None;
         }
     }
-    Some(number as u64)
+    Some(number)
 }
 
 /// The number of one byte, from `least` up to `most`, that a field spells.

@@ -4,7 +4,7 @@ ghost use Rattle.cct_model_lines.specs.Grammar.{step_line};
 ghost use Rattle.cct_model_lines.specs.Script.{IsInRange};
 ghost use Rattle.cct_model_lines.specs.declared.command.Step.TheVariants as steps;
 ghost use Rattle.cct_script.specs.Fields.{fields_after};
-ghost use Rattle.cct_script.specs.Steps.{ReadsInto, desk_step, device_step, epoch_step, order_step, other_step};
+ghost use Rattle.cct_script.specs.Steps.{ReadsInto, desk_step, device_step, epoch_step, next_step, order_step, other_step};
 
 use crate::fields::first_field;
 use crate::step_fields::{
@@ -24,8 +24,6 @@ const FALL: &[u8] = b"fall";
 const JAM: &[u8] = b"jam";
 
 const RESET: &[u8] = b"reset";
-
-const NEXT: &[u8] = b"next";
 
 const FAULT: &[u8] = b"fault";
 
@@ -63,6 +61,21 @@ const SERVE: &[u8] = b"serve";
 
 const END: &[u8] = b"end";
 
+/// Puts into `step` what the word of a step line says that is `next`: the next attempt of a job; or another word. Most
+/// lines have this one, so it is looked for first.
+#[tactic(auto, unfolding(crate::specs::Steps::next_step))]
+fn next_step(word: &[u8], rest: Option<&[u8]>, step: &mut Step) -> Result<(), LineKind>
+    ensures { ReadsInto result step.new (next_step word.now (fields_after rest.entry)) }
+{
+    match word {
+        [b'n', b'e', b'x', b't'] => {
+            set_next(addr(rest)?, step);
+            Ok(())
+        }
+        _ => device_step(word, rest, step),
+    }
+}
+
 /// Puts into `step` what the word of a step line says that is `coin`, `alien`, `bill`, `fall`, `jam` or `reset`: what
 /// happens to a device; or another word.
 #[tactic(auto, unfolding(crate::specs::Steps::device_step))]
@@ -81,14 +94,13 @@ fn device_step(word: &[u8], rest: Option<&[u8]>, step: &mut Step) -> Result<(), 
     Ok(())
 }
 
-/// Puts into `step` what the word of a step line says that is `next`, `fault`, `start`, `round` or `stop`: the next
-/// attempt of a job, what is wrong on the wire, or a command of an epoch; or another word.
+/// Puts into `step` what the word of a step line says that is `fault`, `start`, `round` or `stop`: what is wrong on the
+/// wire, or a command of an epoch; or another word.
 #[tactic(auto, unfolding(crate::specs::Steps::epoch_step))]
 fn epoch_step(word: &[u8], rest: Option<&[u8]>, step: &mut Step) -> Result<(), LineKind>
     ensures { ReadsInto result step.new (epoch_step word.now (fields_after rest.entry)) }
 {
     match word {
-        _ if word == NEXT => set_next(addr(rest)?, step),
         _ if word == FAULT => fault_into(rest, step).ok_or(LineKind::Form)?,
         _ if word == START => start_into(rest, step).ok_or(LineKind::Form)?,
         _ if word == ROUND => *step = Step::Command(Command::Round { addr: addr(rest)? }),
@@ -179,7 +191,7 @@ pub fn read_step_into(line: &[u8], step: &mut Step) -> Result<(), LineKind>
     ensures ranged { OnOk result (IsInRange step.new) }
 {
     let (word, rest) = first_field(line);
-    device_step(word, rest, step)
+    next_step(word, rest, step)
 }
 
 /// What a step line says, without its line feed. `Word` where the first field is no word of a step line, else `Form`

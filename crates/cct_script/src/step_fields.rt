@@ -138,6 +138,7 @@ pub(crate) fn start_into(rest: Option<&[u8]>, step: &mut Step) -> Option<()>
 
 /// `pay A ID COUNT`
 #[tactic(auto, using(crate::proofs::Forms::no_pay))]
+#[inline(always)]
 pub(crate) fn pay_into(rest: Option<&[u8]>, step: &mut Step) -> Option<()>
     ensures { Sets result step.new (pay_step (fields_after rest.entry)) IsInRange }
 {

@@ -1,6 +1,5 @@
 use Rattle.std.proofs.Common.{◌∙◌, ◌∷◌, Some, ap, refl, subst, sym}
-use Rattle.cct_model.specs.terms.request.TheConstants.{ENABLE_CODE}
-use Rattle.cct_model.specs.terms.request.Request.TheVariants.{Enable, StopNow}
+use Rattle.cct_model.specs.terms.request.Request.TheVariants.{StopNow}
 use Rattle.cct_model.specs.Line.{exchange}
 use Rattle.cct_model.specs.Reply.{reply_shown}
 use Rattle.cct_model.specs.Request.{form_of}
@@ -8,7 +7,7 @@ use Rattle.cct_jobs.specs.declared.payout.Payout.{Payout}
 use Rattle.cct_jobs.specs.declared.stage.Stage.TheVariants.{Pays}
 use Rattle.cct_jobs.specs.declared.job.Job.{Job}
 use Rattle.cct_jobs.specs.Jobs.{Asking, Stands, payout_request}
-use Rattle.cct_jobs.proofs.Payments.{enabled_counts, stop_waits}
+use Rattle.cct_jobs.proofs.Payments.{stop_waits}
 use Rattle.cct_jobs.proofs.Stages.{as_answered}
 use Rattle.cct_jobs.proofs.payment.answered.Goals as goal
 
@@ -16,10 +15,6 @@ pub life_in-requires-clause-wanted : goal.life_in-requires-clause-wanted
 unfolding form_of
 life_in-requires-clause-wanted c =
     c.requires.wanted ∙ ap (λ (r : Payout). form_of (payout_request r)) c.in-Counts.is
-
-pub is_paid_out-requires : goal.is_paid_out-requires
-unfolding form_of
-is_paid_out-requires c = c.requires.wanted ∙ ap (λ (r : Payout). form_of (payout_request r)) c.in-Waits.is
 
 pub life_in-requires-in-Recounts-clause-wanted : goal.life_in-requires-in-Recounts-clause-wanted
 unfolding form_of
@@ -32,32 +27,12 @@ returns-in-Counts-clause-device c = λ failed d command since state owed at.
     (c.opens.ensures.device failed d command since state owed
     (subst (λ (r : Payout). Asking d c.args.device (Pays r) failed command since state owed) c.in-Counts.is at))
 
-pub returns-in-Dispenses-clause-device : goal.returns-in-Dispenses-clause-device
-returns-in-Dispenses-clause-device c = λ failed d command since state owed at.
-    as_answered d _ command since state owed _ _ _ _ (ap payout_request c.in-Dispenses.is) refl
-    (c.dispensed.ensures.device c.in-Dispenses.serial failed (Some _) d command since state owed
-    (subst (λ (r : Payout). Asking d c.args.device (Pays r) failed command since state owed) c.in-Dispenses.is at))
-
-pub returns-in-Waits-clause-device : goal.returns-in-Waits-clause-device
-returns-in-Waits-clause-device c = λ failed d command since state owed at.
-    as_answered d _ command since state owed _ _ _ _ (ap payout_request c.in-Waits.is) refl
-    (c.waited.ensures.device failed _ c.is_paid_out.ensures d command since state owed
-    (subst (λ (r : Payout). Asking d c.args.device (Pays r) failed command since state owed) c.in-Waits.is at))
-
 pub returns-in-Recounts-clause-device : goal.returns-in-Recounts-clause-device
 returns-in-Recounts-clause-device c = λ failed d command since state owed at.
     as_answered d _ command since state owed _ _ _ _ (ap payout_request c.in-Recounts.is)
     c.life_in-in-Recounts.ensures.value
     (c.closes.ensures.device c.args.device c.in-Recounts.closing failed d command since state owed
     (subst (λ (r : Payout). Asking d c.args.device (Pays r) failed command since state owed) c.in-Recounts.is at))
-
-pub returns-in-Enables-clause-device : goal.returns-in-Enables-clause-device
-returns-in-Enables-clause-device c = λ failed d command since state owed at.
-    as_answered d _ command since state owed _ _ _ _ (ap payout_request c.in-Enables.is) refl
-    (subst (λ (job : Job). Stands d job command (exchange (Some (Enable ENABLE_CODE)) (Some (reply_shown c.args.reply.now)) ∷ since) state owed)
-    (sym c.first_try.ensures)
-    (enabled_counts (reply_shown c.args.reply.now)
-    (subst (λ (r : Payout). Asking d c.args.device (Pays r) failed command since state owed) c.in-Enables.is at)))
 
 pub returns-in-Stops-clause-device : goal.returns-in-Stops-clause-device
 unfolding form_of

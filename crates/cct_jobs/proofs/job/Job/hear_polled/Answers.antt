@@ -1,20 +1,10 @@
-use Rattle.std.proofs.Common.{◌∙◌, ap, subst}
+use Rattle.std.proofs.Common.{subst}
 use Rattle.cct_model.specs.terms.wire.CheckKind.TheVariants.{Simple, Crc}
-use Rattle.cct_model.specs.Exchange.{ask}
 use Rattle.cct_jobs.specs.declared.job.Job.{Job}
-use Rattle.cct_jobs.specs.declared.job.Job.TheVariants.{Asks, ScanCallsSimple, ScanCallsCrc, ScanPollsSimple, ScanPollsCrc}
-use Rattle.cct_jobs.specs.Jobs.{Stands}
+use Rattle.cct_jobs.specs.declared.job.Job.TheVariants.{ScanCallsSimple, ScanCallsCrc, ScanPollsSimple, ScanPollsCrc}
 use Rattle.cct_jobs.specs.Scans.{StandsScan}
-use Rattle.cct_jobs.proofs.Needs.{poll_asked, poll_sent, stage_asked}
-use Rattle.cct_jobs.proofs.job.Job.hear.Goals as goal
-
-pub returns-in-Asks-clause-device : goal.returns-in-Asks-clause-device
-returns-in-Asks-clause-device c = λ d command since state owed q stands row is_ask.
-    let a = c.in-Asks in
-    let at : Stands d (Asks a.device a.stage a.failed) command since state owed =
-    subst (λ (job : Job). Stands d job command since state owed) a.is stands in
-    c.heard.ensures.device d command since state owed at
-    (is_ask ∙ ap (ask d.kind d.addr) (stage_asked owed q at row))
+use Rattle.cct_jobs.proofs.Needs.{poll_asked, poll_sent}
+use Rattle.cct_jobs.proofs.job.Job.hear_polled.Goals as goal
 
 pub returns-in-ScanCallsSimple-clause-scan : goal.returns-in-ScanCallsSimple-clause-scan
 returns-in-ScanCallsSimple-clause-scan c = λ since check addr stands row is_ask.
