@@ -159,7 +159,7 @@ def gate(root: Path) -> list[str]:
     crates = [row for row in rows if row.startswith("| `")]
 
     def seconds(row: str) -> int:
-        return sum(int(cell.replace(",", "")) for cell in markdown.cells(row)[1:3] if cell)
+        return sum(int(cell.replace(",", "")) for cell in markdown.cells(row)[1:4] if cell)
 
     crates.sort(key=seconds, reverse=True)
     return [head, line, *crates[:DEAREST], *(row for row in rows if not row.startswith("| `"))]

@@ -49,6 +49,23 @@ def mistaken(programs: dict[str, Path], short: bool) -> None:
     line.close()
 
 
+# Words that ask for nothing.
+WRONG_WORDS = ("", "machine", "machine tty more", "machine tty --answer 1001", "machine tty --gap -1", "machine tty --echo maybe",
+               "setup", "setup tty --journal day.jnl", "adopt", "adopt machine tty", "adopt machine --quiet")
+# Every option of a host at a time; the setup isn't there.
+ALL_WORDS = "none --journal day.jnl --echo find --answer 1000 --gap 1 --quiet --trust-setup --stop-at-end tty"
+
+
+def words(programs: dict[str, Path], short: bool) -> None:
+    """Words that ask for nothing are refused, before a file is looked for."""
+    line = Line(programs["cct_live"], [Acceptor(2)])
+    for text, code in [(text, 2) for text in WRONG_WORDS] + [(ALL_WORDS, 3), ("setup none --echo no", 3), ("adopt none", 3)]:
+        done = subprocess.run([line.program, *text.split()], cwd=line.folder, stdin=subprocess.DEVNULL, capture_output=True,
+                              timeout=MOST_SECONDS)
+        want(f"the words {text}", done.returncode, code)
+    line.close()
+
+
 def cooked(end: End) -> None:
     """Sets a port as a terminal that is new: whole lines, and an echo."""
     mode = termios.tcgetattr(end.theirs)

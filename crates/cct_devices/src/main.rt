@@ -6,8 +6,6 @@ mod answer;
 mod events;
 mod machine;
 mod status;
-#[cfg(test)]
-mod tests;
 
 use crate::answer::answer;
 use crate::events::Events;

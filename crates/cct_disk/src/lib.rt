@@ -14,8 +14,3 @@ pub use file::{FileDisk, InUse, Lockable, MADE_LEN};
 pub use memory::MemDisk;
 pub use settle::Settle;
 pub use torn::TornDisk;
-
-#[cfg(test)]
-mod file_tests;
-#[cfg(test)]
-mod tests;

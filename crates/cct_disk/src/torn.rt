@@ -45,10 +45,8 @@ impl TornDisk {
     ) -> Result<TornDisk, AllocError>
         ensures { IfOk result (λ s. s ≡ record { memory = blank len fails.items; choice = choice }) }
     {
-        Ok(TornDisk {
-            memory: MemDisk::new(alloc, len, fails)?,
-            choice,
-        })
+        let memory = MemDisk::new(alloc, len, fails)?;
+        Ok(TornDisk { memory, choice })
     }
 }
 

@@ -16,8 +16,6 @@ mod orders;
 mod outside;
 mod quiet;
 mod rolling;
-#[cfg(test)]
-mod tests;
 mod words;
 
 use crate::adopting::adopt;

@@ -1,21 +1,17 @@
-//! Tests of the bench: runs, as many devices as there may be, coins that are lost, power cuts within a script, disks
-//! that fail, bytes that are damaged or forged, the words of the command line, reports, upgrades and loads.
+//! Tests of the bench: runs, audits, reports, loads and upgrades over a source that gives little or fails, a sink that fails, and
+//! disks whose calls fail or whose power is cut. What a whole run writes is played by `tools/check_runs`.
 #![tactic(auto)]
 
 #[cfg(test)]
-mod commands;
+mod audits;
 #[cfg(test)]
 mod crashes;
-#[cfg(test)]
-mod damaged;
-#[cfg(test)]
-mod devices;
 #[cfg(test)]
 mod faults;
 #[cfg(test)]
 mod loads;
 #[cfg(test)]
-mod losses;
+mod reports;
 #[cfg(test)]
 mod runs;
 #[cfg(test)]

@@ -1,10 +1,8 @@
-//! Runs over a source that gives little at a time or ends too early, over a source and a sink that fail, over a disk that isn't
-//! as a journal wants it, and on after half of it is full.
+//! Runs over a source that gives little at a time or ends too early, and over a source and a sink that fail.
 use cct_bench::{Status, bench};
 use cct_disk::{Disk, MemDisk};
 use cct_edge::{MemSink, MemSource};
-use cct_journal::Journal;
-use std::alloc::Global;
+use std::alloc::{AllocError, Global};
 use std::test::Fail;
 
 /// Each word of a script that is played, once at least.
@@ -93,8 +91,8 @@ pub(crate) fn play<D: Disk + Drop>(
 }
 
 /// A blank disk of so many bytes whose calls with these numbers fail.
-pub(crate) fn disk(alloc: Global, len: u64, fails: &[u64]) -> Result<MemDisk, Fail> {
-    Ok(MemDisk::new(alloc, len, fails.to_vec(alloc)?)?)
+pub(crate) fn disk(alloc: Global, len: u64, fails: &[u64]) -> Result<MemDisk, AllocError> {
+    MemDisk::new(alloc, len, fails.to_vec(alloc)?)
 }
 
 /// Plays a script over a blank disk, from a source that gives at most so many bytes a take, with the takes and puts of
@@ -208,77 +206,6 @@ fn refuses_a_script_that_is_cut_at_any_byte(rt: HostRuntime) -> Result<(), Fail>
     Ok(())
 }
 
-/// Words, a disk by its length and a place of it that isn't blank, and how a run ends. What comes first of these decides.
-const REFUSED: [(&[&str], u64, Option<u64>, Status, &[u8]); 7] = [
-    (
-        &["run", "now"],
-        DISK,
-        None,
-        Status::WordsRefused,
-        b"words\n",
-    ),
-    (&["now"], 64, Some(0), Status::WordsRefused, b"words\n"),
-    (&["run"], 64, None, Status::DiskSize, b"disksize 64\n"),
-    (&["run"], 64, Some(0), Status::DiskSize, b"disksize 64\n"),
-    (&["run"], 0, None, Status::DiskSize, b"disksize 0\n"),
-    (
-        &["run"],
-        DISK,
-        Some(100),
-        Status::NotBlank,
-        b"notblank 100\n",
-    ),
-    (
-        &["run"],
-        DISK,
-        Some(DISK - 1),
-        Status::NotBlank,
-        b"notblank 2097151\n",
-    ),
-];
-
-#[test]
-fn words_and_disk_come_before_the_script(rt: HostRuntime) -> Result<(), Fail> {
-    let alloc = rt.alloc();
-    for (words, len, place, status, text) in REFUSED {
-        let mut blank = disk(alloc, len, &[])?;
-        match place {
-            Some(place) => {
-                assert!(rt; place < blank.len());
-                blank.poke(place, 1);
-            }
-            None => {}
-        }
-        let script = b"no script".to_vec(alloc)?;
-        let (ended, written, _) = play(alloc, words, script, 4096, &[1], &[], blank)?;
-        assert_eq!(rt; ended, status);
-        assert_eq!(rt; written.as_slice(), text);
-    }
-    Ok(())
-}
-
-/// A take, a put or a call of the disk that fails, how the run of a posted coin ends then, how many lines of its
-/// transcript are written, and the last line. All of its script comes by the first take.
-const ONE_FAULT: [(&[u64], &[u64], &[u64], Status, usize, &[u8]); 3] = [
-    (&[], &[3], &[], Status::WriteFault, 2, b""),
-    (&[2], &[], &[], Status::ReadFault, 21, b"readfault\n"),
-    (&[], &[], &[1], Status::DiskFault, 0, b"diskfault\n"),
-];
-
-#[test]
-fn one_fault_ends_a_run(rt: HostRuntime) -> Result<(), Fail> {
-    let alloc = rt.alloc();
-    for (takes, puts, calls, status, lines, last) in ONE_FAULT {
-        let blank = disk(alloc, DISK, calls)?;
-        let script = POSTED.to_vec(alloc)?;
-        let (ended, written, _) = play(alloc, &["run"], script, 4096, takes, puts, blank)?;
-        let text = lines_and(alloc, POSTED_TEXT, lines, last)?;
-        assert_eq!(rt; ended, status);
-        assert_eq!(rt; written.as_slice(), text.as_slice());
-    }
-    Ok(())
-}
-
 /// How many calls of the disk the run of a posted coin makes: 512 reads of a blank disk, four that begin its first half,
 /// and four for each of two puts.
 pub(crate) const CALLS: u64 = 524;
@@ -298,39 +225,4 @@ pub(crate) fn play_posted(alloc: Global, call: u64) -> Result<(Status, Vec<u8>, 
         &[],
         blank,
     )
-}
-
-/// How many records a half takes; so many rounds fill it with the record of the epoch, and put one more.
-const ROUNDS: u32 = 32_732;
-
-/// The event counter is then 92, the number of rounds modulo 255. No event is new to a host that starts again.
-const TURNED_TEXT: &[u8] = b"\nput reading 2 92 0 32732 1/1\nposted 2\ncrash 32733\nok round 2\n\
-      wire 2 020001e11c 020001e11c01030200dc7f009f\n\
-      wire 2 020001e518 020001e518010b02005c010101010101010101018c\n\
-      wire 2 020001e617 020001e61701020200fffffd\nwire 2 020001e11c 020001e11c01030200dc7f009f\nclean 2\n\
-      idle 2\n";
-
-/// The carry has the sums of all that were put before.
-const TURNED_REPORT: &[u8] = b"record 32732 reading 2 92 0 32732 1/1\ntotal 32732 0 0 0 0\n";
-
-#[test]
-fn a_full_half_is_followed_by_the_other(rt: HostRuntime) -> Result<(), Fail> {
-    let alloc = rt.alloc();
-    let mut script = lines_and(alloc, POSTED, START_LINES, b"")?;
-    for _ in 0..ROUNDS {
-        script.extend_from_slice(b"coin 2 1\nround 2\nnext 2\nnext 2\nnext 2\nnext 2\nnext 2\n")?;
-    }
-    script.extend_from_slice(b"crash 0\nround 2\nnext 2\nnext 2\nnext 2\nnext 2\nnext 2\nend\n")?;
-    let blank = disk(alloc, DISK, &[])?;
-    let (status, written, disk) = play(alloc, &["run"], script, 4096, &[], &[], blank)?;
-    assert_eq!(rt; status, Status::Done);
-    assert!(rt; written.as_slice().ends_with(TURNED_TEXT));
-    let nothing = Vec::new(alloc);
-    let (status, report, disk) = play(alloc, &["report"], nothing, 1, &[1], &[], disk)?;
-    assert_eq!(rt; (status, report.as_slice()), (Status::Done, TURNED_REPORT));
-    match Journal::reopen(disk) {
-        Ok((journal, used)) => assert_eq!(rt; (journal.base(), used), (ROUNDS, ROUNDS + 1)),
-        Err((_, why)) => return Err(Fail::from(why)),
-    }
-    Ok(())
 }

@@ -13,7 +13,7 @@ use cct_live_service::{AtEnd, Beside, OrderTold, Outside, Page, Served, serve};
 use cct_live_survey::Roll;
 use cct_model::{LineKind, MOST_HEARD, Setup};
 use cct_wire::Link;
-use std::alloc::Global;
+use std::alloc::{AllocError, Global};
 use std::test::Fail;
 
 /// A link that gives the echo and the next of the replies of a host's day; but of an exchange with one of these numbers, the
@@ -92,8 +92,8 @@ impl Beside<MemDisk> for Nobody {
 }
 
 /// A blank disk for a journal.
-fn blank(alloc: Global) -> Result<MemDisk, Fail> {
-    Ok(MemDisk::new(alloc, MADE_LEN, Vec::new(alloc))?)
+fn blank(alloc: Global) -> Result<MemDisk, AllocError> {
+    MemDisk::new(alloc, MADE_LEN, Vec::new(alloc))
 }
 
 /// What a service writes without its lines `wire` and `unsent`, how it ends, and the disk. The first reply is that of this index.

@@ -93,31 +93,3 @@ pub(crate) fn played(
         Err((_, why)) => Err(Fail::from(why)),
     }
 }
-
-/// A coin is posted, and a second round finds nothing to post.
-const POSTED: &str =
-    "acceptor 2 simple 1 0\nvalue 2 1 100 XX100A\nvalue 2 2 100 XX100A\nvalue 2 3 100 XX100A\n\
-      value 2 4 100 XX100A\nvalue 2 5 100 XX100A\nvalue 2 6 100 XX100A\nvalue 2 7 100 XX100A\n\
-      value 2 8 100 XX100A\nvalue 2 9 100 XX100A\nvalue 2 10 100 XX100A\nvalue 2 11 100 XX100A\n\
-      value 2 12 100 XX100A\nvalue 2 13 100 XX100A\nvalue 2 14 100 XX100A\nvalue 2 15 100 XX100A\n\
-      value 2 16 100 XX100A\nbegin\nstart 2 ffff\nnext 2\nnext 2\nnext 2\nnext 2\nnext 2\ncoin 2 5\n\
-      round 2\nnext 2\nnext 2\nnext 2\nnext 2\nnext 2\nround 2\nnext 2\nnext 2\nnext 2\nnext 2\nend\n";
-
-const POSTED_TEXT: &str = "ok start 2 ffff\nwire 2 02000101fc 02000101fc01000200fd\n\
-      wire 2 020001e518 020001e518010b02000000000000000000000000f2\n\
-      wire 2 020001e11c 020001e11c01030200000000fa\nput epoch 2 ffff 0\n\
-      wire 2 020201e7ffff16 020201e7ffff1601000200fd\nstarted 2\naccepted 2 5 1\nok round 2\n\
-      wire 2 020001e11c 020001e11c01030200010000f9\n\
-      wire 2 020001e518 020001e518010b02000105010000000000000000eb\n\
-      wire 2 020001e617 020001e61701020200fffffd\nwire 2 020001e11c 020001e11c01030200010000f9\n\
-      put reading 2 1 0 1 5/1\nposted 2\nok round 2\nwire 2 020001e11c 020001e11c01030200010000f9\n\
-      wire 2 020001e518 020001e518010b02000105010000000000000000eb\n\
-      wire 2 020001e617 020001e61701020200fffffd\nwire 2 020001e11c 020001e11c01030200010000f9\nclean 2\n";
-
-#[test]
-fn a_coin_is_posted_by_a_turn(rt: HostRuntime) -> Result<(), Fail> {
-    let (text, journal) = played(&rt, rt.alloc(), POSTED)?;
-    assert_eq!(rt; text.as_str(), POSTED_TEXT);
-    assert_eq!(rt; (journal.used(), journal.base()), (2, 1));
-    Ok(())
-}

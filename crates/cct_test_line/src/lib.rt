@@ -1,15 +1,10 @@
 //! Tests of a port over a line that is played: what it takes for a reply, what it drops as a late one, and how long it waits. And
 //! of a host over it to devices, whose replies come late: where the port waits long enough each coin is posted once and each
 //! order is closed with what fell, and where it doesn't a coin is posted twice, or an order is closed with a wrong number.
-//!
-//! Beside them a host that calls nothing, asked by a caller who makes its calls: over turns of the journal, in a second life, and
-//! where the power is cut before any of them.
 #![tactic(auto)]
 
 #[cfg(test)]
 mod account;
-#[cfg(test)]
-mod caller;
 #[cfg(test)]
 mod day;
 #[cfg(test)]
@@ -17,14 +12,10 @@ mod hasty;
 #[cfg(test)]
 mod late;
 #[cfg(test)]
-mod noted;
-#[cfg(test)]
 mod port;
 #[cfg(test)]
 mod silence;
 #[cfg(test)]
 mod steps;
-#[cfg(test)]
-mod stepwise;
 #[cfg(test)]
 mod wire;

@@ -11,7 +11,7 @@ use cct_edge::Failed;
 use cct_journal::{CreateNo, Journal, JournalNo, OpenNo, Replay};
 use cct_journal_carry::Tally;
 use cct_model_lines::{Carry, Record};
-use std::alloc::Global;
+use std::alloc::{AllocError, Global};
 use std::process::Abort;
 use std::test::Fail;
 
@@ -82,8 +82,8 @@ const CUTS: [(u8, u64, u8, &[u8; 31], u32); 24] = [
     (4, 37, 165, &BODY, 1),
 ];
 
-fn disk(alloc: Global, len: u64, fails: &[u64]) -> Result<MemDisk, Fail> {
-    Ok(MemDisk::new(alloc, len, fails.to_vec(alloc)?)?)
+fn disk(alloc: Global, len: u64, fails: &[u64]) -> Result<MemDisk, AllocError> {
+    MemDisk::new(alloc, len, fails.to_vec(alloc)?)
 }
 
 // A new journal on a disk of at most 4,096 bytes. It makes five calls: one reads the disk, four begin the first half.

@@ -1,6 +1,6 @@
 // Journals of two halves, laid byte by byte, as they are opened again.
 use cct_disk::{Disk, MemDisk};
-use cct_journal::{Journal, OpenNo, ReadNo};
+use cct_journal::{Journal, OldJournal, OldNo, OpenNo, ReadNo};
 use cct_model_lines::{Carry, CarryEpoch, CarryEpochs, CarryOrder, CarryOrders, Record};
 use std::alloc::Global;
 use std::process::Abort;
@@ -178,6 +178,22 @@ fn a_short_disk_is_alien(rt: HostRuntime) -> Result<(), Fail> {
     assert!(rt; matches!(found(disk_with(alloc, short, &[])?), Err(OpenNo::Alien)));
     let least = image.get(..2368).ok_or("2,368 bytes")?;
     check_found(&rt, alloc, least, 0, 0)
+}
+
+#[test]
+fn a_short_disk_has_no_older_journal(rt: HostRuntime) -> Result<(), Fail> {
+    let alloc = rt.alloc();
+    let image = changed(new_journal(), &[(15, 1), (24, 0)]);
+    let short = image.get(..2367).ok_or("2,367 bytes")?;
+    assert!(rt;
+        matches!(
+            OldJournal::open(disk_with(alloc, short, &[])?),
+            Err((_, OldNo::Alien))
+        )
+    );
+    let least = image.get(..2368).ok_or("2,368 bytes")?;
+    assert!(rt; OldJournal::open(disk_with(alloc, least, &[])?).is_ok());
+    Ok(())
 }
 
 // What changes a journal that turned once, and what is found then: nothing, or the base and the number of records.

@@ -15,7 +15,7 @@ use cct_journal::{Journal, JournalNo, Replay};
 use cct_journal_carry::Tally;
 use cct_ledger::Ledger;
 use cct_model::{Carry, CarryEpoch, CarryEpochs, CarryOrder, CarryOrders, Record, Setup, Totals};
-use std::alloc::Global;
+use std::alloc::{AllocError, Global};
 use std::process::Abort;
 use std::test::Fail;
 
@@ -135,8 +135,8 @@ fn look_at(alloc: Global, journal: &mut Journal<TornDisk>) -> Result<Found, Fail
 }
 
 /// A blank disk of so many bytes, whose calls with these numbers fail; a write of them is torn by this choice.
-fn disk(alloc: Global, len: u64, (fails, torn): (&[u64], u64)) -> Result<TornDisk, Fail> {
-    Ok(TornDisk::new(alloc, len, fails.to_vec(alloc)?, torn)?)
+fn disk(alloc: Global, len: u64, (fails, torn): (&[u64], u64)) -> Result<TornDisk, AllocError> {
+    TornDisk::new(alloc, len, fails.to_vec(alloc)?, torn)
 }
 
 /// A new journal with the first so many records, three at most, each counted, on a disk whose calls fail in this way.

@@ -1,6 +1,6 @@
 //! Tests of a service over devices on a bus of which some don't answer, and over a link that fails. And of what comes before it:
-//! what a survey finds of devices that aren't as the setup says, the setup that is drafted of a line, what coins and bills are
-//! worth, and the setup beside a journal, which is read back as it was written. And of pictures of runs.
+//! what a survey finds of devices that aren't as the setup says, the setup that is drafted of a line, and the setup beside a
+//! journal, which is read back as it was written.
 #![tactic(auto)]
 
 #[cfg(test)]
@@ -12,8 +12,6 @@ mod line;
 #[cfg(test)]
 mod lossy;
 #[cfg(test)]
-mod pictures;
-#[cfg(test)]
 mod polls;
 #[cfg(test)]
 mod roll;
@@ -23,8 +21,6 @@ mod setups;
 mod telling;
 #[cfg(test)]
 mod texts;
-#[cfg(test)]
-mod worth;
 #[cfg(test)]
 mod worths;
 #[cfg(test)]

@@ -27,8 +27,6 @@ pub(crate) struct Trouble {
     /// A coin of place 1 falls into the acceptor at address 2 before each exchange there with a number that this divides; never
     /// where it is 0.
     pub(crate) coin_each: u32,
-    /// A bill of place 1 is put into the bill acceptor at this address before the exchange of this number.
-    pub(crate) bill: Option<(u8, u32)>,
     /// The write of these exchanges fails.
     pub(crate) unsent: &'static [u32],
 }
@@ -38,7 +36,6 @@ pub(crate) const QUIET: Trouble = Trouble {
     dead: &[],
     after: 0,
     coin_each: 0,
-    bill: None,
     unsent: &[],
 };
 
@@ -60,11 +57,6 @@ impl Troubled<'_> {
         let is_due = coin_each != 0 && self.exchanges % coin_each == 0;
         if is_due && addr == 2 && self.bus.knows(addr, Happening::Coin { place: 1 }) {
             self.bus.coin(addr, 1);
-        }
-        if let Some((addr, number)) = self.trouble.bill {
-            if number == self.exchanges && self.bus.knows(addr, Happening::Bill { place: 1 }) {
-                self.bus.bill(addr, 1);
-            }
         }
     }
 

@@ -23,26 +23,6 @@ fn without_wire(alloc: Global, text: &[u8]) -> Result<Vec<u8>, AllocError> {
     Ok(told)
 }
 
-/// A bill that is held is told once, and in the standing of its device.
-#[test]
-fn a_held_bill_is_told_once(rt: HostRuntime) -> Result<(), Fail> {
-    let alloc = rt.alloc();
-    let setup = setup_of(alloc, MACHINE)?;
-    let trouble = Trouble {
-        bill: Some((4, 4)),
-        ..QUIET
-    };
-    let lines = b"start 4 0001\ndo 4\npoll\npoll\nstatus\n";
-    let (out, _) = written(alloc, &setup, trouble, AtEnd::Leave, lines)?;
-    assert_eq!(rt;
-        without_wire(alloc, out.bytes())?.as_slice(),
-        b"made 0 0 0\nok start 4 0001\nput epoch 4 0001 0\nstarted 4\nok round 4\nheld 4 1\nput reading 4 1 0 0 -\nposted 4\n\
-ok round 4\nclean 4\ndevice 2 - - -\ndevice 4 - 0001 -\nheld 4 1\nlast 0\nroom 4294967293\n"
-            .as_slice()
-    );
-    Ok(())
-}
-
 /// A message that wasn't written is told so, and that the line is back.
 #[test]
 fn an_unsent_message_is_told(rt: HostRuntime) -> Result<(), Fail> {
@@ -79,19 +59,6 @@ fn orders_and_refused_lines(rt: HostRuntime) -> Result<(), Fail> {
     );
     assert_eq!(rt; around.refused, 2);
     assert_eq!(rt; around.first, Some(b'a'));
-    Ok(())
-}
-
-/// The acceptors that run are stopped at the end, where that is wanted.
-#[test]
-fn acceptors_are_stopped_at_the_end(rt: HostRuntime) -> Result<(), Fail> {
-    let alloc = rt.alloc();
-    let setup = setup_of(alloc, MACHINE)?;
-    let lines = b"start 2 0001\ndo 2\nend\n";
-    let (left, _) = written(alloc, &setup, QUIET, AtEnd::Leave, lines)?;
-    let (stopped, _) = written(alloc, &setup, QUIET, AtEnd::Stop, lines)?;
-    assert!(rt; left.bytes().ends_with(b"started 2\n"));
-    assert!(rt; stopped.bytes().ends_with(b"stopped 2\n"));
     Ok(())
 }
 

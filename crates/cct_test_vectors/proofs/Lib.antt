@@ -9,3 +9,4 @@ mod Bodies
 mod OldBodies
 mod Carries
 mod Plans
+mod Worths
