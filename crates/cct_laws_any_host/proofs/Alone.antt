@@ -26,7 +26,8 @@ use Rattle.cct_laws.proofs.wire.Exchanges.{heard_is, heard_under}
 use Rattle.cct_laws.proofs.wire.HeardBytes.{none_under}
 use Rattle.cct_laws.proofs.wire.HonestFaults.{honest_means}
 use Rattle.cct_audit_taps.specs.Taps.{is_message, is_of_other, is_to, other_answers, tap_of}
-use Rattle.cct_laws_any_host.proofs.Wire.{alone_answers, and_false, damaged_answers, empty_message, no_poll_to, none_some, placed_to}
+use Rattle.cct_laws.proofs.wire.Exchanges.{damaged_answers, empty_message}
+use Rattle.cct_laws_any_host.proofs.Wire.{alone_answers, and_false, no_poll_to, none_some, placed_to}
 
 -- whom a message names
 

@@ -39,7 +39,7 @@ use Rattle.cct_laws.specs.Honesty.{DamagesHonestly, IsAddressPoll, IsNoMessage}
 use Rattle.cct_laws.specs.Law.{IsOf}
 use Rattle.cct_laws.specs.Takers.{told_events}
 use Rattle.cct_laws.proofs.wire.Echoes.{echo_known, echo_off}
-use Rattle.cct_laws.proofs.wire.Exchanges.{heard_is, heard_under}
+use Rattle.cct_laws.proofs.wire.Exchanges.{damaged_answers, empty_message, heard_is, heard_under, one_gives, silent_to}
 use Rattle.cct_laws.proofs.wire.HeardBytes.{ask_to, asks_nothing, damaged_asks, none_under}
 use Rattle.cct_laws.proofs.wire.HonestFaults.{honest_means}
 use Rattle.cct_laws.proofs.wire.Replies.{acceptor_is, bill_is, hopper_is, replied_credits, replied_life, replied_mask, replied_status, start_of, taker_is}
@@ -99,89 +99,6 @@ unfolding asks_of
 first_is d piece q other is = first_by d piece q (message d.kind piece) refl other is
 
 -- ---- the asked device alone answers
-
-skips_by : (f : DeviceSetup → List ℕ) (e x : DeviceSetup) (devices put : List DeviceSetup) (first : Bool) → f e ≡ [] →
-    flat_map f put ≡ flat_map f devices → flat_map f (cond first (e ∷ x ∷ devices) (x ∷ put)) ≡ flat_map f (x ∷ devices)
-skips_by f e x devices put true none later = rw none refl
-skips_by f e x devices put false none later = ap (λ rest. f x ++ rest) later
-
-put_skips : (f : DeviceSetup → List ℕ) (e : DeviceSetup) (devices : List DeviceSetup) → f e ≡ [] →
-    flat_map f (put_by_address e devices) ≡ flat_map f devices
-put_skips f e [] none = rw none refl
-put_skips f e (x ∷ devices) none =
-    skips_by f e x devices (put_by_address e devices) (nat_le e.addr x.addr) none (put_skips f e devices none)
-
-front_empty : (xs ys : List ℕ) → xs ++ ys ≡ [] → (xs ≡ []) × (ys ≡ [])
-front_empty [] ys e = (refl, e)
-front_empty (x ∷ xs) ys e = absurd cc
-
-alone_by : (f : DeviceSetup → List ℕ) (e x : DeviceSetup) (devices put : List DeviceSetup) (first : Bool) →
-    f x ++ flat_map f devices ≡ [] → (flat_map f devices ≡ [] → flat_map f put ≡ f e) →
-    flat_map f (cond first (e ∷ x ∷ devices) (x ∷ put)) ≡ f e
-alone_by f e x devices put true none later = ap (λ rest. f e ++ rest) none ∙ append-nil (f e)
-alone_by f e x devices put false none later =
-    let parts = front_empty (f x) (flat_map f devices) none in
-    ap (λ front. front ++ flat_map f put) parts.0 ∙ later parts.1
-
-put_alone : (f : DeviceSetup → List ℕ) (e : DeviceSetup) (devices : List DeviceSetup) → flat_map f devices ≡ [] →
-    flat_map f (put_by_address e devices) ≡ f e
-put_alone f e [] none = append-nil (f e)
-put_alone f e (x ∷ devices) none =
-    alone_by f e x devices (put_by_address e devices) (nat_le e.addr x.addr) none (put_alone f e devices)
-
-there_by : (here : Bool) (e : DeviceSetup) (rest : Option DeviceSetup) → cond here (Some e) rest ≡ None →
-    (here ≡ false) × (rest ≡ None)
-there_by true e rest none = absurd cc
-there_by false e rest none = (refl, none)
-
-differs : (m n : ℕ) → (m == n) ≡ false → m ≢ n
-differs m n test = λ e. clash (sym test ∙ eq-eqb m n e)
-  where
-    clash : false ≡ true → ⊥
-    clash e = cc
-
-nobody_gives : (f : DeviceSetup → List ℕ) (addr : ℕ) (devices : List DeviceSetup) →
-    ((e : DeviceSetup) → e.addr ≢ addr → f e ≡ []) → device_at devices addr ≡ None →
-    flat_map f (by_address devices) ≡ []
-nobody_gives f addr [] silent none = refl
-nobody_gives f addr (e ∷ devices) silent none =
-    let there = there_by (e.addr == addr) e (device_at devices addr) none in
-    put_skips f e (by_address devices) (silent e (differs e.addr addr there.0))
-    ∙ nobody_gives f addr devices silent there.1
-
-one_by : (f : DeviceSetup → List ℕ) (addr : ℕ) (e d : DeviceSetup) (devices : List DeviceSetup) (here : Bool) →
-    (e.addr == addr) ≡ here → ((e : DeviceSetup) → e.addr ≢ addr → f e ≡ []) →
-    device_at devices e.addr ≡ None → (device_at devices addr ≡ Some d → flat_map f (by_address devices) ≡ f d) →
-    cond here (Some e) (device_at devices addr) ≡ Some d →
-    flat_map f (put_by_address e (by_address devices)) ≡ f d
-one_by f addr e d devices true test silent alone later found =
-    let no_more : device_at devices addr ≡ None = ap (device_at devices) (sym (eqb-true e.addr addr test)) ∙ alone in
-    put_alone f e (by_address devices) (nobody_gives f addr devices silent no_more) ∙ ap f (same_some e d found)
-one_by f addr e d devices false test silent alone later found =
-    put_skips f e (by_address devices) (silent e (differs e.addr addr test)) ∙ later found
-
-one_gives : (f : DeviceSetup → List ℕ) (addr : ℕ) (d : DeviceSetup) (devices : List DeviceSetup) →
-    ((e : DeviceSetup) → e.addr ≢ addr → f e ≡ []) → AreDistinct devices → device_at devices addr ≡ Some d →
-    flat_map f (by_address devices) ≡ f d
-one_gives f addr d [] silent distinct found = absurd cc
-one_gives f addr d (e ∷ devices) silent distinct found =
-    one_by f addr e d devices (e.addr == addr) refl silent distinct.0
-    (one_gives f addr d devices silent distinct.1) found
-
--- nobody answers what asks nothing
-silent_to : (d : DeviceSetup) (past : List Met) (piece : List ℕ) → asks_of d piece ≡ None →
-    unwrap_or (answer d past piece) [] ≡ []
-silent_to d past piece none = rw none refl
-
-all_silent : (f : DeviceSetup → List ℕ) (devices : List DeviceSetup) → ((e : DeviceSetup) → f e ≡ []) →
-    flat_map f devices ≡ []
-all_silent f [] silent = refl
-all_silent f (e ∷ devices) silent = rw (silent e) (all_silent f devices silent)
-
-pub damaged_answers : (setup : Setup) (past : List Entry) (piece : List ℕ) → IsNoMessage piece →
-    answers setup past piece ≡ []
-damaged_answers setup past piece none =
-    all_silent _ (by_address setup.devices) (λ e. silent_to e (met e past) piece (damaged_asks e piece none))
 
 -- a request that a device heard, whoever sent it, with its reply
 record Replies (setup : Setup) (d : DeviceSetup) (past : List Entry) (sent : List ℕ) (q : Request) (y : Reply)
@@ -256,11 +173,6 @@ got_after kind addr wanted sent rest = ap (option_and_then (read_from kind addr 
 none_read : (kind : CheckKind) (addr : ℕ) (wanted : ReplyForm) (piece : List ℕ) → message kind piece ≡ None →
     read_from kind addr wanted piece ≡ None
 none_read kind addr wanted piece none = ap (option_and_then (reply_from wanted addr)) none
-
-pub empty_message : (kind : CheckKind) → message kind [] ≡ None
-unfolding message
-empty_message Simple = refl
-empty_message Crc = refl
 
 nothing_after : (kind : CheckKind) (addr : ℕ) (wanted : ReplyForm) (after : Option (List ℕ)) (z : Reply) →
     ((rest : List ℕ) → after ≡ Some rest → message kind rest ≡ None) →

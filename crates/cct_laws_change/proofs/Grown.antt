@@ -34,8 +34,8 @@ use Rattle.cct_laws.proofs.jobs.StepBrings.{AtDevice, AtWork, Brought, Comes, Is
 use Rattle.cct_laws.proofs.jobs.SeenAtOne.{not_zero}
 use Rattle.cct_laws.proofs.jobs.LeftAlone.{AreSame, came_quiet, off_host, records_end, same_came, same_elsewhere, same_end, same_lines, same_put, same_taken, same_wire}
 use Rattle.cct_laws.proofs.money.RecordsHeldByAll.{held_kept, held_moved, held_restarted, holds_restarted, holds_same}
-use Rattle.cct_laws.proofs.money.Books.{Books, due_follows, selling_holds}
-use Rattle.cct_laws.proofs.money.Counting.{Moves}
+use Rattle.cct_laws.proofs.money.Books.{Books, due_follows, held_sale_kept, selling_holds}
+use Rattle.cct_laws.proofs.money.Counting.{Moves, same_at_work, same_held}
 use Rattle.cct_laws.proofs.money.Covered.{sold_spoken, spoken_in}
 use Rattle.cct_laws.proofs.money.JobsCanPut.{scan_unsold}
 use Rattle.cct_laws.proofs.money.NoLongerReserved.{sale_reserves}
@@ -117,29 +117,16 @@ grows_sold setup past later spent need sound s = record {
       (reserved_by_sale setup (job (sale_lines past))) (reserved_by_sale setup (job (sale_lines later)))
       (posted_in setup (records past)) (posted_in setup (records later)) spent (spoken_both setup past)
       (spoken_both setup later)
-      (same_apart _ _ (reserved_by_sale setup (job (sale_lines past))) (reserved_by_sale setup (job (sale_lines later))) work)
+      (same_apart _ _ (reserved_by_sale setup (job (sale_lines past))) (reserved_by_sale setup (job (sale_lines later)))
+      (same_at_work setup past later sound s.devices))
       s.spends;
   holds =
       holds_moved (length (records past)) (length (records later)) (held setup past) (held setup later)
       (sale_holds (job (sale_lines past))) (sale_holds (job (sale_lines later))) need
-      (same_apart _ _ (sale_holds (job (sale_lines past))) (sale_holds (job (sale_lines later))) many) s.holds;
+      (same_apart _ _ (sale_holds (job (sale_lines past))) (sale_holds (job (sale_lines later)))
+      (same_held setup past later sound s.devices)) s.holds;
 }
   where
-    work : sum_over (λ e. reserved_by setup e (job (lines_of e later))) setup.devices
-        ≡ sum_over (λ e. reserved_by setup e (job (lines_of e past))) setup.devices
-    work =
-        sum_same_each (λ e. reserved_by setup e (job (lines_of e later)))
-        (λ e. reserved_by setup e (job (lines_of e past))) setup.devices
-        (all_found (λ e. reserved_by setup e (job (lines_of e later)) ≡ reserved_by setup e (job (lines_of e past)))
-        setup.devices sound.distinct (λ e own. ap (reserved_by setup e) (s.devices e own).jobs))
-
-    many : sum_over (holds_at later) setup.devices ≡ sum_over (holds_at past) setup.devices
-    many =
-        sum_same_each (holds_at later) (holds_at past) setup.devices
-        (all_found (λ e. holds_at later e ≡ holds_at past e) setup.devices sound.distinct
-        (λ e own. holds_same e (lines_of e later) (lines_of e past) (s.devices e own).jobs (s.devices e own).epochs
-        (s.devices e own).orders))
-
     same_apart : (few few_later here here_later : ℕ) → few_later ≡ few →
         (few_later + here_later) + here ≤ (few + here) + here_later
     same_apart few few_later here here_later same = omega (arith, same)
@@ -301,26 +288,6 @@ kept_spends capacity setup d past c since r sound ids own books at_work is_row =
     fewer all all_later spoken_later spoken_now at_work_later posted posted_later posted_now both first second whole =
         omega (arith, both, first, second, whole)
 
--- and one that kept the record of a sale
-held_sale : (setup : Setup) (past : List Entry) (n id price : ℕ) (since : List Line) → IsSoundSetup setup →
-    Selling past id price since →
-    suc (held setup (entry.Kept (record_of.Sold id price) ∷ entry.Crash n ∷ past)) ≤ held setup past
-held_sale setup past n id price since sound selling =
-    let later = entry.Kept (record_of.Sold id price) ∷ entry.Crash n ∷ past in
-    let devices : sum_over (holds_at later) setup.devices ≤ sum_over (holds_at past) setup.devices =
-    sum_grows_each (holds_at later) (holds_at past) setup.devices
-    (all_found (λ e. holds_at later e ≤ holds_at past e) setup.devices sound.distinct
-    (λ e own.
-    subst (λ b. holds_of e (cond b (put (record_of.Sold id price) ∷ []) [] ++ restarted ∷ lines_of e past)
-    ≤ holds_of e (lines_of e past))
-    (sym (ne_eqb HOST e.addr (off_host setup e sound own))) (holds_restarted e (lines_of e past)))) in
-    let before = selling_holds past id price since selling in
-    one_sold (sum_over (holds_at later) setup.devices) (sum_over (holds_at past) setup.devices)
-    (sale_holds (job (sale_lines past))) devices before
-  where
-    one_sold : (few many here : ℕ) → few ≤ many → here ≡ 1 → suc (few + 0) ≤ many + here
-    one_sold few many here le one = omega (arith, le, one)
-
 one_kept : (many later now : ℕ) → suc later ≤ now → suc many + later ≤ many + now
 one_kept many later now le = omega (arith, le)
 
@@ -433,7 +400,7 @@ grows_step capacity setup past _ _ sound ids books (lost_in_sale at choice id pr
     (reserved_by_sale setup (job (sale_lines past))) (spoken_both setup past)
     (sold_spoken setup (records past) id price) (sale_reserves setup past id price since selling))
     (one_kept (length (records past)) (held setup later) (held setup past)
-    (held_sale setup past (suc (length (records past))) id price since sound selling))
+    (held_sale_kept setup past (suc (length (records past))) id price since sound selling))
   where
     sold_spends : (all spoken spoken_later posted devices sale : ℕ) → all ≡ spoken + (devices + sale) →
         spoken_later ≡ spoken + price → sale ≡ price → spoken_later + posted ≤ all + (0 + posted)

@@ -13,7 +13,7 @@ use Rattle.cct_model_lines.specs.Text.{line_of, text}
 use Rattle.cct_text.specs.Writing.{Puts, PutsLine, Writes, Wrote, IsNothing}
 
 -- some puts, and then more
-puts_then : {K : Type 0} (puts : K → List ℕ → Result (Unit {0}) Failed → K → Type 0) (a b c : K) (xs ys : List (List ℕ))
+pub puts_then : {K : Type 0} (puts : K → List ℕ → Result (Unit {0}) Failed → K → Type 0) (a b c : K) (xs ys : List (List ℕ))
     (result : Result (Unit {0}) Failed) →
     Puts puts a xs (Ok tt) b → Puts puts b ys result c → Puts puts a (xs ++ ys) result c
 puts_then puts a b c [] ys result h k = subst (λ from. Puts puts from ys result c) h.1 k
@@ -21,7 +21,7 @@ puts_then puts a b c (x ∷ xs) ys result (inl h) k = inl (h.0, h.1, puts_then p
 puts_then puts a b c (x ∷ xs) ys result (inr h) k = cc h.1
 
 -- puts that broke off do so whatever was to be put after
-puts_more : {K : Type 0} (puts : K → List ℕ → Result (Unit {0}) Failed → K → Type 0) (a b : K) (xs ys : List (List ℕ))
+pub puts_more : {K : Type 0} (puts : K → List ℕ → Result (Unit {0}) Failed → K → Type 0) (a b : K) (xs ys : List (List ℕ))
     (failed : Failed) →
     Puts puts a xs (Err failed) b → Puts puts a (xs ++ ys) (Err failed) b
 puts_more puts a b [] ys failed h = cc h.0
@@ -56,12 +56,12 @@ writes_then written puts a b c xs ys result h k = record {
   told = told_then (written a) (written b) (written c) xs ys result h.told k.told;
 }
 
-put_one : {K : Type 0} (puts : K → List ℕ → Result (Unit {0}) Failed → K → Type 0) (a b : K) (x : List ℕ)
+pub put_one : {K : Type 0} (puts : K → List ℕ → Result (Unit {0}) Failed → K → Type 0) (a b : K) (x : List ℕ)
     (result : Result (Unit {0}) Failed) → puts a x result b → Puts puts a (x ∷ []) result b
 put_one puts a b x (Ok tt) h = inl (b, h, (refl, refl))
 put_one puts a b x (Err failed) h = inr (failed, refl, h)
 
-told_one : (a b : Option (List ℕ)) (x : List ℕ) (result : Result (Unit {0}) Failed) → OnOk result (Appends a b x)
+pub told_one : (a b : Option (List ℕ)) (x : List ℕ) (result : Result (Unit {0}) Failed) → OnOk result (Appends a b x)
     → OnErr result (AppendsFront a b x) →
     MatchResult result (λ _. Appends a b x) (λ _. AppendsFront a b x)
 told_one a b x (Ok done) ok err = ok

@@ -151,7 +151,7 @@ pub selling_holds : (past : List Entry) (id price : ℕ) (since : List Line) →
 selling_holds past id price since selling = ap sale_holds selling.job_is ∙ ap puts_in selling.first
 
 -- a power cut with the record of a sale kept
-held_sale_kept : (setup : Setup) (past : List Entry) (n id price : ℕ) (since : List Line) → IsSoundSetup setup →
+pub held_sale_kept : (setup : Setup) (past : List Entry) (n id price : ℕ) (since : List Line) → IsSoundSetup setup →
     Selling past id price since →
     suc (held setup (entry.Kept (record_of.Sold id price) ∷ entry.Crash n ∷ past)) ≤ held setup past
 held_sale_kept setup past n id price since sound selling =

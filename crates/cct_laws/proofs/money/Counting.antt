@@ -98,6 +98,27 @@ pub record Sells (setup : Setup) (past later : List Entry) (spent need : ℕ) : 
       length (records later) + sale_holds (job (sale_lines later))
       ≤ length (records past) + sale_holds (job (sale_lines past)) + need
 
+-- where the lines of no device changed, the running jobs reserve the same
+pub same_at_work : (setup : Setup) (past later : List Entry) → IsSoundSetup setup →
+    ((e : DeviceSetup) → IsOf setup e → AreSame (lines_of e later) (lines_of e past)) →
+    sum_over (λ e. reserved_by setup e (job (lines_of e later))) setup.devices
+    ≡ sum_over (λ e. reserved_by setup e (job (lines_of e past))) setup.devices
+same_at_work setup past later sound same =
+    sum_same_each (λ e. reserved_by setup e (job (lines_of e later)))
+    (λ e. reserved_by setup e (job (lines_of e past))) setup.devices
+    (all_found (λ e. reserved_by setup e (job (lines_of e later)) ≡ reserved_by setup e (job (lines_of e past)))
+    setup.devices sound.distinct (λ e own. ap (reserved_by setup e) (same e own).jobs))
+
+-- and as many records are held for them
+pub same_held : (setup : Setup) (past later : List Entry) → IsSoundSetup setup →
+    ((e : DeviceSetup) → IsOf setup e → AreSame (lines_of e later) (lines_of e past)) →
+    sum_over (holds_at later) setup.devices ≡ sum_over (holds_at past) setup.devices
+same_held setup past later sound same =
+    sum_same_each (holds_at later) (holds_at past) setup.devices
+    (all_found (λ e. holds_at later e ≡ holds_at past e) setup.devices sound.distinct
+    (λ e own. holds_same e (lines_of e later) (lines_of e past) (same e own).jobs (same e own).epochs
+    (same e own).orders))
+
 pub counts_sold : (capacity : ℕ) (setup : Setup) (past later : List Entry) (spent need : ℕ) → IsSoundSetup setup →
     spoken_for setup past + spent ≤ posted_in setup (records past) →
     length (records past) + held setup past + need ≤ capacity → Sells setup past later spent need →
@@ -110,29 +131,16 @@ counts_sold capacity setup past later spent need sound covered full s = record {
       (reserved_at_work setup later) (reserved_by_sale setup (job (sale_lines past)))
       (reserved_by_sale setup (job (sale_lines later))) (posted_in setup (records past)) (posted_in setup (records later))
       spent (spoken_both setup past) (spoken_both setup later)
-      (same_apart _ _ (reserved_by_sale setup (job (sale_lines past))) (reserved_by_sale setup (job (sale_lines later))) work)
+      (same_apart _ _ (reserved_by_sale setup (job (sale_lines past))) (reserved_by_sale setup (job (sale_lines later)))
+      (same_at_work setup past later sound s.devices))
       s.spends covered;
   room =
       room_moved (length (records past)) (length (records later)) (held setup past) (held setup later)
       (sale_holds (job (sale_lines past))) (sale_holds (job (sale_lines later))) need capacity
-      (same_apart _ _ (sale_holds (job (sale_lines past))) (sale_holds (job (sale_lines later))) many) s.holds full;
+      (same_apart _ _ (sale_holds (job (sale_lines past))) (sale_holds (job (sale_lines later)))
+      (same_held setup past later sound s.devices)) s.holds full;
 }
   where
-    work : sum_over (λ e. reserved_by setup e (job (lines_of e later))) setup.devices
-        ≡ sum_over (λ e. reserved_by setup e (job (lines_of e past))) setup.devices
-    work =
-        sum_same_each (λ e. reserved_by setup e (job (lines_of e later)))
-        (λ e. reserved_by setup e (job (lines_of e past))) setup.devices
-        (all_found (λ e. reserved_by setup e (job (lines_of e later)) ≡ reserved_by setup e (job (lines_of e past)))
-        setup.devices sound.distinct (λ e own. ap (reserved_by setup e) (s.devices e own).jobs))
-
-    many : sum_over (holds_at later) setup.devices ≡ sum_over (holds_at past) setup.devices
-    many =
-        sum_same_each (holds_at later) (holds_at past) setup.devices
-        (all_found (λ e. holds_at later e ≡ holds_at past e) setup.devices sound.distinct
-        (λ e own. holds_same e (lines_of e later) (lines_of e past) (s.devices e own).jobs (s.devices e own).epochs
-        (s.devices e own).orders))
-
     same_apart : (few few_later here here_later : ℕ) → few_later ≡ few →
         (few_later + here_later) + here ≤ (few + here) + here_later
     same_apart few few_later here here_later same = omega (arith, same)

@@ -155,7 +155,7 @@ one_by f addr e d devices true test silent alone later found =
 one_by f addr e d devices false test silent alone later found =
     put_skips f e (by_address devices) (silent e (differs e.addr addr test)) ∙ later found
 
-one_gives : (f : DeviceSetup → List ℕ) (addr : ℕ) (d : DeviceSetup) (devices : List DeviceSetup) →
+pub one_gives : (f : DeviceSetup → List ℕ) (addr : ℕ) (d : DeviceSetup) (devices : List DeviceSetup) →
     ((e : DeviceSetup) → e.addr ≢ addr → f e ≡ []) → AreDistinct devices → device_at devices addr ≡ Some d →
     flat_map f (by_address devices) ≡ f d
 one_gives f addr d [] silent distinct found = absurd cc
@@ -164,7 +164,7 @@ one_gives f addr d (e ∷ devices) silent distinct found =
     (one_gives f addr d devices silent distinct.1) found
 
 -- a device at another address is silent
-silent_to : (d : DeviceSetup) (past : List Met) (piece : List ℕ) → asks_of d piece ≡ None →
+pub silent_to : (d : DeviceSetup) (past : List Met) (piece : List ℕ) → asks_of d piece ≡ None →
     unwrap_or (answer d past piece) [] ≡ []
 silent_to d past piece none = rw none refl
 
@@ -260,12 +260,12 @@ all_silent : (f : DeviceSetup → List ℕ) (devices : List DeviceSetup) → ((e
 all_silent f [] silent = refl
 all_silent f (e ∷ devices) silent = rw (silent e) (all_silent f devices silent)
 
-damaged_answers : (setup : Setup) (past : List Entry) (piece : List ℕ) → IsNoMessage piece →
+pub damaged_answers : (setup : Setup) (past : List Entry) (piece : List ℕ) → IsNoMessage piece →
     answers setup past piece ≡ []
 damaged_answers setup past piece none =
     all_silent _ (by_address setup.devices) (λ e. silent_to e (met e past) piece (damaged_asks e piece none))
 
-empty_message : (kind : CheckKind) → message kind [] ≡ None
+pub empty_message : (kind : CheckKind) → message kind [] ≡ None
 unfolding message
 empty_message Simple = refl
 empty_message Crc = refl
