@@ -23,6 +23,9 @@ ENABLE_OF_OTHER = 'tap 030101a4a5b2 030101a4a5b201000200fd'
 IDLE = 'tap 030001a656 030001a6560104030000000000f8'
 PAID_TWO = 'tap 030001a656 030001a6560104030001010200f4'
 PAID_THREE = 'tap 030001a656 030001a6560104030001000300f4'
+# It took two dispense requests since its last reset, or as many as come before the first one again.
+COUNTED_TWO = 'tap 030001a656 030001a6560104030002000000f6'
+COUNTED_LAST = 'tap 030001a656 030001a65601040300ff000000f9'
 # Its life count.
 LIFE_99 = 'tap 030001a854 030001a8540103030063000096'
 LIFE_100 = 'tap 030001a854 030001a8540103030064000095'
@@ -48,6 +51,16 @@ def a_right_hopper_breaks_nothing(play):
         'SERIAL_NUMBER; RESET; PAY_REFUSED',
         'RESET; ENABLE_UNSURE; PAY_THREE',
         'RESET_UNSURE; PAY_THREE',
+        # The event counter goes from 255 to 1, counts a request that may have been taken or not, and is 0 after a
+        # reset that nobody saw.
+        'COUNTED_LAST; PAY_THREE; PAID_THREE',
+        'PAID_THREE; PAY_UNSURE; COUNTED_TWO',
+        'COUNTED_TWO; PAY_UNSURE; COUNTED_TWO',
+        'COUNTED_TWO; IDLE; PAY_THREE; PAID_THREE',
+        'COUNTED_TWO; PAY_THREE; IDLE',
+        'COUNTED_TWO; PAY_THREE; PAID_THREE',
+        'COUNTED_TWO; PAY_REFUSED; COUNTED_TWO',
+        'COUNTED_TWO; RESET; PAY_UNSURE; PAY_UNSURE; COUNTED_TWO',
     )), globals())
 
 
@@ -64,6 +77,11 @@ def what_a_hopper_breaks_is_said(play):
         ('RESET; LIFE_100; LIFE_102', 'broken 3 life 2 3'),
         ('IDLE; LIFE_100; PAY_THREE; LIFE_104', 'broken 3 life 2 4'),
         ('LIFE_100; PAY_THREE; PAID_THREE; LIFE_102', 'broken 3 life 1 4'),
+        # The event counter rises while nothing was to be paid, stays though a request was taken, or outlives a reset.
+        ('IDLE; PAID_THREE', 'broken 3 counter 1 2'),
+        ('COUNTED_TWO; PAY_THREE; COUNTED_TWO', 'broken 3 counter 1 3'),
+        ('COUNTED_TWO; RESET; COUNTED_TWO', 'broken 3 counter 2 3'),
+        ('COUNTED_LAST; PAY_UNSURE; COUNTED_TWO', 'broken 3 counter 1 3'),
         # Another device answers: what the hopper heard isn't known, but for its serial number.
         ('RESET; LIFE_100; PAY_OF_OTHER; LIFE_103; LIFE_104', 'broken 3 alone 3 3'),
         ('DISABLE; ENABLE_OF_OTHER; PAY_THREE', 'broken 3 alone 2 2'),

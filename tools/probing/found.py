@@ -10,7 +10,7 @@ from tally import want
 # What the gate plays: the others take longer, or are much like one of these.
 SHORT = ("events_over_a_reset", "mask_over_a_reset", "master_over_a_reset", "mask_of_eight_bits", "count_over_a_reset",
          "mask_over_power", "counter_through_0", "counter_stands_still", "six_events", "coin_beside_the_mask", "another_coin",
-         "second_route", "life_stays", "life_over_a_reset", "life_over_power", "any_serial", "before_enabling",
+         "another_bill", "second_route", "life_stays", "life_over_a_reset", "life_over_power", "any_serial", "before_enabling",
          "while_it_pays", "pays_on", "status_over_a_reset", "late", "twice", "two_at_one_address", "any_check_byte",
          "four_bytes", "any_header", "another_serial", "any_address", "a_byte_unasked", "deaf_to_one_question")
 

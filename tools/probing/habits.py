@@ -141,6 +141,14 @@ class RoutesAgain(Notes):
         return ACK
 
 
+class LateBills(Notes):
+    """It tells its bills late."""
+
+    def replies(self, piece, now):
+        asked_of = message(self.check, piece)
+        return [(seconds + LATE_SECONDS * bool(asked_of and asked_of[2] == 157), told) for seconds, told in super().replies(piece, now)]
+
+
 class StacksAll(Notes):
     """It stacks a bill that is to be given back."""
 
@@ -439,7 +447,11 @@ def of_bills() -> dict[str, Habit]:
     """Habits of bill acceptors."""
     def habit(device, premise, trial, header, tells, rest=HANDS, data=None):
         return Habit(device, premise, trial, asked(device, header, tells, data), rest)
+    late, other = LateBills(6, "simple"), Notes(6, "crc")
+    other.coins = {1: ("EU0005A", 500), 2: ("EU0020A", 2000)}
     return {
+        "another_bill": Habit(other, "places", "places", asked(other, 157, is_(b"EU0020A"), b"\x02"), (), setup=[Notes(6, "crc")]),
+        "late_bills": Habit(late, "prompt", "places", listened(late, 0)),
         "second_route": habit(RoutesAgain(6, "simple"), "route", "stack", 154, is_(b""), data=b"\x01"),
         "second_route_back": habit(RoutesAgain(6, "crc"), "route", "back", 154, is_(b""), data=b"\x00"),
         "stacks_all": habit(StacksAll(6, "simple"), "route", "back", 159, lambda data: data[1:3] == b"\x01\x00"),

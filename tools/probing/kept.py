@@ -10,6 +10,7 @@ import time
 from collections import deque
 from pathlib import Path
 
+from devices import NAK
 from host import clear_folder, new_folder
 from line import End, Pump
 from premises import PROMISES, of_all, promised
@@ -158,7 +159,10 @@ def proved(programs: dict[str, Path], what: str, names: list[str], echoes: bool,
     line = ProvedLine(programs, setup, echoes)
     run = line.run(*rest)
     devices = named_in(setup)
-    untried = set() if "--long" in rest else {(str(one.address), "wrap", "long") for one in devices if one.word != "hopper"}
+    # Header 157 isn't known to them.
+    untried = {(str(one.address), "places", "silent") for one in devices if one.word == "bills"}
+    if "--long" not in rest:
+        untried |= {(str(one.address), "wrap", "long") for one in devices if one.word != "hopper"}
     want_all_kept(what, run, devices, untried)
     if not untried:
         all_hold(what, run)
@@ -187,13 +191,47 @@ def good_part(make, what: str, echoes: bool, at_pace: bool):
     return part
 
 
+class SilentOnBills(Notes):
+    """It doesn't answer when it is asked for its bills."""
+
+    def answer(self, header, data, now):
+        return None if header == 157 else super().answer(header, data, now)
+
+
+class RefusesBills(Notes):
+    """It refuses to tell its bills."""
+
+    def tell_bill(self, data):
+        return NAK
+
+
+class FewBills(Notes):
+    """It tells its bills, and doesn't answer for a place that has none."""
+
+    def answer(self, header, data, now):
+        return None if header == 157 and data[0] not in self.coins else super().answer(header, data, now)
+
+
+def bills_told(programs: dict[str, Path], short: bool) -> None:
+    """Where a bill acceptor doesn't tell its bills they aren't tried; where it has no bill it need not say so."""
+    for make, untold in ((SilentOnBills, True), (RefusesBills, True), (FewBills, False)):
+        device = make(6)
+        bench = Bench(programs["cct_probe"], [device])
+        run = bench.run()
+        untried = {*(("6", premise, "hands") for premise in ("accepts", "power", "count", "empty", "route")), ("6", "wrap", "long"),
+                   *([("6", "places", "silent")] if untold else [])}
+        want_all_kept(make.__name__, run, [device], untried)
+        left_well(make.__name__, [device])
+        bench.close()
+
+
 PARTS = {
     "machine": machine, "machine_with_echo": machine_with_echo,
-    "long_acceptor": proved_part("acceptor", False, True), "long_bills": proved_part("bills", True, True),
+    "bills_told": bills_told, "long_acceptor": proved_part("acceptor", False, True), "long_bills": proved_part("bills", True, True),
     **{name: proved_part(name, "crc" in name, False) for name in LINES},
     **{f"good_{what}": good_part(make, f"a good {what}", echoes, at_pace) for what, make, echoes, at_pace in (
         ("coins", lambda: Coins(2), False, True), ("crc_coins", lambda: Coins(2, "crc"), True, False),
         ("notes", lambda: Notes(6, "crc"), True, True), ("simple_notes", lambda: Notes(6, "simple"), False, False),
         ("payer", lambda: Payer(3), True, True), ("crc_payer", lambda: Payer(3, "crc"), False, False))},
 }
-SHORT = ("acceptor", "bills", "crc_hopper", "good_crc_coins", "good_simple_notes", "good_payer")
+SHORT = ("acceptor", "bills", "bills_told", "crc_hopper", "good_crc_coins", "good_simple_notes", "good_payer")

@@ -4,7 +4,7 @@ COMMON = ("answers", "prompt", "once", "alone", "form", "check", "cut", "unknown
 TAKER = ("empty", "inhibited", "master", "mask", "accepts", "wrap", "count", "power")
 OF_KIND = {
     "acceptor": (*COMMON, *TAKER, "events", "places"),
-    "bills": (*COMMON, *TAKER, "route"),
+    "bills": (*COMMON, *TAKER, "places", "route"),
     "hopper": (*COMMON, "rises", "life", "lasts", "serial", "enable", "busy", "stop", "status"),
 }
 LINE = ("others", "quiet")

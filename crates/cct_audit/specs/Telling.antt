@@ -24,6 +24,7 @@ premise_word premise.Reset = codes "reset"
 premise_word premise.Serial = codes "serial"
 premise_word premise.Enable = codes "enable"
 premise_word premise.Life = codes "life"
+premise_word premise.Counter = codes "counter"
 premise_word premise.Alone = codes "alone"
 
 -- The line of a premise that is broken: `broken A PREMISE FIRST LAST`.

@@ -130,8 +130,8 @@ fn write_broken(line: &mut TextLine, addr: u8, premise: Premise, first: u32, las
 
 /// Adds the word of a premise as the next field.
 fn write_premise(line: &mut TextLine, premise: Premise)
-    requires { length line.old + 7 ≤ MOST_TEXT }
-    ensures { Adds line.old line.new (32 ∷ premise_word premise) 7 }
+    requires { length line.old + 8 ≤ MOST_TEXT }
+    ensures { Adds line.old line.new (32 ∷ premise_word premise) 8 }
 {
     match premise {
         Premise::Buffer => line.push(b" buffer"),
@@ -140,6 +140,7 @@ fn write_premise(line: &mut TextLine, premise: Premise)
         Premise::Serial => line.push(b" serial"),
         Premise::Enable => line.push(b" enable"),
         Premise::Life => line.push(b" life"),
+        Premise::Counter => line.push(b" counter"),
         Premise::Alone => line.push(b" alone"),
     }
 }

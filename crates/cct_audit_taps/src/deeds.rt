@@ -14,19 +14,34 @@ use cct_msg::wanted_reply;
 #[derive(Clone, Copy)]
 pub enum Deed {
     /// Its serial number (header 242).
-    Serial { serial: u32 },
+    Serial {
+        serial: u32,
+    },
     /// It was asked to pay from now on (164), heard or not.
     Enabled,
-    /// It acknowledged a reset (1), or that it may not pay (164): it has no coin left to pay.
+    /// It acknowledged that it may not pay (164): it has no coin left to pay.
     Shut,
+    /// It acknowledged a reset (1): nor has it then.
+    ResetTaken,
     /// It acknowledged a dispense request (167).
-    Dispensed { serial: u32, count: u8 },
+    Dispensed {
+        serial: u32,
+        count: u8,
+    },
     /// It was asked to dispense, and no acknowledgement was heard: it may have heard it or not.
-    Asked { count: u8 },
-    /// How many coins it has left to pay, and how many it paid of its last payout (166).
-    Status { remaining: u8, paid: u8 },
+    Asked {
+        count: u8,
+    },
+    /// Its event counter, how many coins it has left to pay, and how many it paid of its last payout (166).
+    Status {
+        counter: u8,
+        remaining: u8,
+        paid: u8,
+    },
     /// Its life count (168).
-    Life { count: u32 },
+    Life {
+        count: u32,
+    },
     /// Another device answered: what this one heard isn't known.
     OtherAnswers,
     /// Nothing of these.
@@ -82,7 +97,7 @@ fn own_deed(kind: CheckKind, addr: u8, sent: &[u8], heard: &[u8]) -> Deed
         Some(Request::GetLife) => life_deed(wanted_reply(kind, addr, ReplyForm::Life, sent, heard)),
         Some(Request::ResetDevice) => if_done(
             wanted_reply(kind, addr, ReplyForm::Ack, sent, heard),
-            Deed::Shut,
+            Deed::ResetTaken,
             Deed::Nothing,
         ),
         _ => Deed::Nothing,
@@ -106,11 +121,16 @@ fn status_deed(reply: Option<Reply<'_>>) -> Deed
     match reply {
         Some(
             Reply::Status {
+                counter,
                 remaining,
                 paid,
                 ..
             },
-        ) => Deed::Status { remaining, paid },
+        ) => Deed::Status {
+            counter,
+            remaining,
+            paid,
+        },
         _ => Deed::Nothing,
     }
 }

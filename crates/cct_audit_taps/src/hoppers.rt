@@ -1,13 +1,15 @@
 //! Whether a hopper does what is taken for granted of it, as far as taps show that: it pays under its own serial number alone, and not
-//! before it is enabled; and its life count rises by the coins that fall, also over a reset and over a power cut.
+//! before it is enabled; its life count rises by the coins that fall, also over a reset and over a power cut; and its event counter by
+//! the dispense requests that it takes, since its last reset.
 ghost use Rattle.std.specs.Prelude.{◌≡◌, ◌≤◌, ◌++◌, [], length};
 ghost use Rattle.cct_model.specs.Order.{life_between};
-ghost use Rattle.cct_audit_taps.specs.Deeds.{asked_since, broken_enable, broken_life, broken_serial, greater, hopper_broken_by, hopper_on, least_of, life_known, more_coins, no_hopper, paid_since, rest_on, rise_fits, serial_first, serial_on, shut_on};
+ghost use Rattle.cct_audit_taps.specs.Deeds.{asked_since, broken_counter, broken_enable, broken_life, broken_serial, counted_from, counter_fits, counter_known, greater, hopper_broken_by, hopper_on, least_of, life_known, more_coins, no_hopper, one_more, paid_since, request_since, rest_on, rise_fits, serial_first, serial_on, shut_on};
 
 use crate::deeds::Deed;
 use crate::said::{Premise, Said};
 use crate::signs::alone_broken;
 use arrayvec::ArrayVec;
+use cct_epoch::distance;
 
 /// How many values the life count has, which is three bytes long.
 const COUNTS: u32 = 1 << 24;
@@ -34,6 +36,18 @@ pub struct KnownLife {
     pub has_begun: bool,
 }
 
+/// The last event counter of a hopper, or 0 at a reset, and what came since.
+#[derive(Clone, Copy, Debug, PartialEq, Eq)]
+pub struct KnownCounter {
+    /// The number of the tap.
+    pub number: u32,
+    pub counter: u8,
+    /// How many dispense requests it acknowledged since; 255 is 255 or more.
+    pub least: u8,
+    /// How many it was sent since; 255 is 255 or more.
+    pub most: u8,
+}
+
 /// What is known of a hopper.
 #[derive(Clone, Copy, Debug, PartialEq, Eq)]
 pub struct KnownHopper {
@@ -43,6 +57,7 @@ pub struct KnownHopper {
     /// How many coins it has left to pay, at most.
     pub rest: u8,
     pub life: Option<KnownLife>,
+    pub counter: Option<KnownCounter>,
 }
 
 /// What is known before any tap: no payout is of more than 255 coins.
@@ -54,6 +69,7 @@ pub fn no_hopper() -> KnownHopper
         shut: None,
         rest: 255,
         life: None,
+        counter: None,
     }
 }
 
@@ -66,6 +82,7 @@ pub fn hopper_on(number: u32, deed: Deed, known: KnownHopper) -> KnownHopper
         shut: shut_on(number, deed, known.shut),
         rest: rest_on(deed, known.rest),
         life: life_known(number, deed, known.rest, known.life),
+        counter: counter_known(number, deed, known.counter),
     }
 }
 
@@ -78,6 +95,7 @@ fn serial_on(number: u32, deed: Deed, known: Option<KnownSerial>) -> Option<Know
         Deed::Dispensed { serial, .. } => serial_first(number, serial, known),
         Deed::Enabled => known,
         Deed::Shut => known,
+        Deed::ResetTaken => known,
         Deed::Asked { .. } => known,
         Deed::Status { .. } => known,
         Deed::Life { .. } => known,
@@ -103,6 +121,7 @@ fn shut_on(number: u32, deed: Deed, known: Option<u32>) -> Option<u32>
     match deed {
         Deed::Enabled => None,
         Deed::Shut => Some(number),
+        Deed::ResetTaken => Some(number),
         Deed::OtherAnswers => None,
         Deed::Serial { .. } => known,
         Deed::Dispensed { .. } => known,
@@ -119,6 +138,7 @@ fn rest_on(deed: Deed, rest: u8) -> u8
 {
     match deed {
         Deed::Shut => 0,
+        Deed::ResetTaken => 0,
         Deed::Dispensed { count, .. } => count,
         Deed::Asked { count } => greater(rest, count),
         Deed::Status { remaining, .. } => remaining,
@@ -156,6 +176,7 @@ fn life_known(number: u32, deed: Deed, rest: u8, known: Option<KnownLife>) -> Op
         Deed::Serial { .. } => known,
         Deed::Enabled => known,
         Deed::Shut => known,
+        Deed::ResetTaken => known,
         Deed::Nothing => known,
     }
 }
@@ -206,6 +227,60 @@ fn least_of(begun: bool, paid: u8, least: u8) -> u8
     if begun { greater(least, paid) } else { least }
 }
 
+/// The last event counter, and what came since.
+fn counter_known(number: u32, deed: Deed, known: Option<KnownCounter>) -> Option<KnownCounter>
+    ensures { result ≡ counter_known number deed known }
+{
+    match deed {
+        Deed::Status { counter, .. } => Some(counted_from(number, counter)),
+        Deed::ResetTaken => Some(counted_from(number, 0)),
+        Deed::Dispensed { .. } => request_since(true, known),
+        Deed::Asked { .. } => request_since(false, known),
+        Deed::OtherAnswers => None,
+        Deed::Serial { .. } => known,
+        Deed::Enabled => known,
+        Deed::Shut => known,
+        Deed::Life { .. } => known,
+        Deed::Nothing => known,
+    }
+}
+
+/// An event counter that is known at a tap of a number.
+fn counted_from(number: u32, counter: u8) -> KnownCounter
+    ensures { result ≡ counted_from number counter }
+{
+    KnownCounter {
+        number,
+        counter,
+        least: 0,
+        most: 0,
+    }
+}
+
+/// An event counter after which a dispense request was sent; and whether the hopper took that.
+fn request_since(taken: bool, known: Option<KnownCounter>) -> Option<KnownCounter>
+    ensures { result ≡ request_since taken known }
+{
+    let counted = known?;
+    Some(KnownCounter {
+        number: counted.number,
+        counter: counted.counter,
+        least: if taken {
+            one_more(counted.least)
+        } else {
+            counted.least
+        },
+        most: one_more(counted.most),
+    })
+}
+
+/// One request more, 255 at most.
+fn one_more(requests: u8) -> u8
+    ensures { result ≡ one_more requests }
+{
+    if requests == 255 { 255 } else { requests + 1 }
+}
+
 /// Reports which premises about the hopper at an address a tap of a number shows broken.
 pub fn tell_hopper(
     addr: u8,
@@ -224,11 +299,12 @@ pub fn tell_hopper(
             tell_enable(addr, number, known.shut, report);
         }
         Deed::Life { count } => tell_life(addr, number, count, known.life, report),
+        Deed::Status { counter, .. } => tell_counter(addr, number, counter, known.counter, report),
         Deed::OtherAnswers => report.push(alone_broken(addr, number)),
         Deed::Enabled => {}
         Deed::Shut => {}
+        Deed::ResetTaken => {}
         Deed::Asked { .. } => {}
-        Deed::Status { .. } => {}
         Deed::Nothing => {}
     }
 }
@@ -309,4 +385,35 @@ pub fn fallen_between(before: u32, now: u32) -> u32
 {
     let counts = u64::from(COUNTS);
     ((u64::from(now) + counts).saturating_sub(u64::from(before)) % counts) as u32
+}
+
+/// Reports an event counter that counts other requests than the hopper may have taken.
+fn tell_counter(
+    addr: u8,
+    number: u32,
+    counter: u8,
+    known: Option<KnownCounter>,
+    report: &mut ArrayVec<Said, 4>,
+)
+    requires { report.old.items ≡ [] }
+    ensures { report.new.items ≡ broken_counter addr number counter known }
+{
+    if let Some(before) = known {
+        if !counter_fits(counter, &before) {
+            report.push(Said::Broken {
+                addr,
+                premise: Premise::Counter,
+                first: before.number,
+                last: number,
+            });
+        }
+    }
+}
+
+/// Whether an event counter fits the dispense requests since: those since a reset that nobody saw, or all of them.
+fn counter_fits(counter: u8, known: &KnownCounter) -> bool
+    ensures { result ≡ counter_fits counter known.now }
+{
+    let taken = distance(known.counter, counter);
+    counter <= known.most || (known.least <= taken && taken <= known.most)
 }

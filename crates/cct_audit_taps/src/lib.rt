@@ -12,7 +12,8 @@ mod signs;
 pub use asking::is_message;
 pub use deeds::{Deed, deed_at};
 pub use hoppers::{
-    KnownHopper, KnownLife, KnownSerial, fallen_between, hopper_on, no_hopper, tell_hopper,
+    KnownCounter, KnownHopper, KnownLife, KnownSerial, fallen_between, hopper_on, no_hopper,
+    tell_hopper,
 };
 pub use money::Money;
 pub use said::{Premise, Said};

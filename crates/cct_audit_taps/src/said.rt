@@ -18,6 +18,8 @@ pub enum Premise {
     Enable,
     /// Its life count rises by one with each coin that falls, and else stays.
     Life,
+    /// Its event counter rises by one with each dispense request that it takes, from 255 to 1, and else stays; a reset clears it.
+    Counter,
     /// No other device answers what is sent to it.
     Alone,
 }

@@ -1,6 +1,6 @@
 -- No premise is told to be broken of a hopper, over a run of any host: what is known of its serial number, of whether it may
--- pay, of what it has left to pay and of its life count is so.
-use Rattle.std.proofs.Common.{◌≡◌, ◌⊎◌, inl, inr, ℕ, zero, suc, ◌+◌, ◌-◌, ◌%◌, ◌^◌, ◌<◌, ◌≤◌, ◌==◌, ◌&&◌, not, nat_le, Bool, true, false, cond, List, [], ◌∷◌, ◌++◌, length, map, refl, ap, ap₂, sym, ◌∙◌, subst, arith, eq-eqb, le_refl, Option, Some, None}
+-- pay, of what it has left to pay, of its life count and of its event counter is so.
+use Rattle.std.proofs.Common.{◌≡◌, ◌⊎◌, inl, inr, ℕ, zero, suc, ◌+◌, ◌-◌, ◌%◌, ◌^◌, ◌<◌, ◌≤◌, ◌==◌, ◌&&◌, ◌||◌, not, nat_le, Bool, true, false, cond, List, [], ◌∷◌, ◌++◌, length, map, refl, ap, ap₂, sym, ◌∙◌, subst, arith, eq-eqb, le_refl, Option, Some, None}
 use Rattle.std.specs.Prelude.{⊤}
 use Rattle.std.proofs.lemmas.Bool.Decides.{nat_tests}
 use Rattle.cct_model.specs.terms.request.TheConstants.{ENABLE_CODE}
@@ -12,14 +12,16 @@ use Rattle.cct_model.specs.terms.request.ReplyForm.{ReplyForm}
 use Rattle.cct_model.specs.terms.request.ReplyForm.TheVariants as form
 use Rattle.cct_model.specs.lines.command.Step.{Step}
 use Rattle.cct_model.specs.lines.entry.Entry.{Entry}
+use Rattle.cct_model.specs.Acceptor.{counter}
 use Rattle.cct_model.specs.Device.{IsHopper}
 use Rattle.cct_model.specs.Exchange.{asks_of, got}
-use Rattle.cct_model.specs.History.{Met, heard}
+use Rattle.cct_model.specs.History.{Met, heard, unless_reset}
 use Rattle.cct_model.specs.History as history
 use Rattle.cct_model.specs.Honest.{HonestPast, IsHonestFault}
-use Rattle.cct_model.specs.Hopper.{dispense_reply, dropped, enabled, last_paid, remaining, stops, taken_of}
+use Rattle.cct_model.specs.Hopper.{dispense_reply, dropped, enabled, last_paid, payouts, payouts_by, remaining, stops, taken_of}
 use Rattle.cct_model.specs.Line.{Line}
 use Rattle.cct_model.specs.Order.{life_between}
+use Rattle.cct_model.specs.Reading.{distance}
 use Rattle.cct_model.specs.Reply.{Reply}
 use Rattle.cct_model.specs.Reply as reply
 use Rattle.cct_model.specs.Setup.{IsSoundSetup}
@@ -29,15 +31,17 @@ use Rattle.cct_laws.specs.Law.{IsOf}
 use Rattle.cct_laws.proofs.wire.Replies.{start_of}
 use Rattle.cct_laws.proofs.jobs.StepBrings.{Comes, takes_coin, leaves_coin, takes_bill, leaves_bill, leaves_alien, drops_coin, drops_none, jams, jams_none, is_reset}
 use Rattle.cct_audit_taps.specs.declared.deeds.Deed.{Deed}
-use Rattle.cct_audit_taps.specs.declared.deeds.Deed.TheVariants.{Serial, Enabled, Shut, Dispensed, Asked, Status, Life, OtherAnswers, Nothing}
+use Rattle.cct_audit_taps.specs.declared.deeds.Deed.TheVariants.{Serial, Enabled, Shut, ResetTaken, Dispensed, Asked, Status, Life, OtherAnswers, Nothing}
+use Rattle.cct_audit_taps.specs.declared.hoppers.KnownCounter.{KnownCounter}
 use Rattle.cct_audit_taps.specs.declared.hoppers.KnownHopper.{KnownHopper}
 use Rattle.cct_audit_taps.specs.declared.hoppers.KnownLife.{KnownLife}
 use Rattle.cct_audit_taps.specs.declared.hoppers.KnownSerial.{KnownSerial}
 use Rattle.cct_audit_taps.specs.declared.said.Premise.TheVariants as premise
 use Rattle.cct_audit_taps.specs.declared.said.Said.{Said}
 use Rattle.cct_audit_taps.specs.declared.said.Said.TheVariants.{Broken}
-use Rattle.cct_audit_taps.specs.Deeds.{asked_since, broken_enable, broken_life, broken_serial, deed, deed_by, greater, hopper_after, hopper_broken_at, hopper_broken_by, hopper_on, if_done, least_of, life_deed, more_coins, paid_since, rise_fits, serial_deed, serial_first, status_deed}
+use Rattle.cct_audit_taps.specs.Deeds.{asked_since, broken_counter, broken_enable, broken_life, broken_serial, counted_from, counter_fits, deed, deed_by, greater, hopper_after, hopper_broken_at, hopper_broken_by, hopper_on, if_done, least_of, life_deed, more_coins, one_more, paid_since, request_since, rise_fits, serial_deed, serial_first, status_deed}
 use Rattle.cct_audit_taps.specs.Taps.{Tap, asks_at, life_by, life_in, tap_of}
+use Rattle.cct_epoch.proofs.Counters.{distance_near}
 use Rattle.cct_laws_any_host.specs.Wild.{WildStep, WildFrom, taps}
 use Rattle.cct_laws_any_host.proofs.Alone.{none_other}
 use Rattle.cct_laws_any_host.proofs.Fallen.{since_exact}
@@ -49,39 +53,47 @@ at_most m n is = subst (λ k. m ≤ k) is (le_refl m)
 
 -- ---- what it meets
 
--- what it may yet pay, what fell, and what was paid of the last payout go on together
+-- so many dispense requests were taken as before, or a reset came
+abbrev Stays : ℕ → List Met → List Met → Type 0
+Stays own ms ns = (payouts own ns ≡ payouts own ms) ⊎ (payouts own ns ≡ 0)
+
+-- what it may yet pay, what fell, what was paid of the last payout, and the requests that it took go on together
 record Keeps (own : ℕ) (ms ns : List Met) : Type 0 where
   rest : remaining own ns ≤ remaining own ms
   both : dropped own ns + remaining own ns ≤ dropped own ms + remaining own ms
   grows : dropped own ms ≤ dropped own ns
   paid : last_paid own ns + dropped own ms ≤ last_paid own ms + dropped own ns
+  stays : Stays own ms ns
 
 less_keeps : (own : ℕ) (ms ns : List Met) → remaining own ns ≤ remaining own ms → last_paid own ns ≤ last_paid own ms →
-    dropped own ns ≡ dropped own ms → Keeps own ms ns
-less_keeps own ms ns rest paid drops = record {
+    dropped own ns ≡ dropped own ms → Stays own ms ns → Keeps own ms ns
+less_keeps own ms ns rest paid drops stays = record {
   rest = rest;
   both = omega (arith, rest, drops);
   grows = omega (arith, drops);
   paid = omega (arith, paid, drops);
+  stays = stays;
 }
 
-same_keeps : (own : ℕ) (ms ns : List Met) → shown own ns ≡ shown own ms → dropped own ns ≡ dropped own ms → Keeps own ms ns
-same_keeps own ms ns same drops =
+same_keeps : (own : ℕ) (ms ns : List Met) → shown own ns ≡ shown own ms → dropped own ns ≡ dropped own ms →
+    Stays own ms ns → Keeps own ms ns
+same_keeps own ms ns same drops stays =
     less_keeps own ms ns
     (at_most (remaining own ns) (remaining own ms) (ap (λ (s : Shown). s.remains) same))
-    (at_most (last_paid own ns) (last_paid own ms) (ap (λ (s : Shown). s.paid) same)) drops
+    (at_most (last_paid own ns) (last_paid own ms) (ap (λ (s : Shown). s.paid) same)) drops stays
 
 some_left : (n : ℕ) → (n == 0) ≡ false → 1 ≤ n
 some_left zero is = absurd cc
 some_left (suc n) is = omega arith
 
 one_falls : (own : ℕ) (ms ns : List Met) → 1 ≤ remaining own ms → remaining own ns ≡ remaining own ms - 1 →
-    last_paid own ns ≡ suc (last_paid own ms) → dropped own ns ≡ suc (dropped own ms) → Keeps own ms ns
-one_falls own ms ns some rest paid drops = record {
+    last_paid own ns ≡ suc (last_paid own ms) → dropped own ns ≡ suc (dropped own ms) → Stays own ms ns → Keeps own ms ns
+one_falls own ms ns some rest paid drops stays = record {
   rest = omega (arith, rest);
   both = omega (arith, some, rest, drops);
   grows = omega (arith, drops);
   paid = omega (arith, paid, drops);
+  stays = stays;
 }
 
 fall_keeps : (own : ℕ) (ms : List Met) → Keeps own ms (history.fall ∷ ms)
@@ -91,13 +103,13 @@ fall_keeps own ms = by_test (remaining own ms == 0) refl
     by_test true is =
         same_keeps own ms (history.fall ∷ ms)
         (shown_fall own ms ∙ ap (λ b. cond b (shown own ms) (with_paid (shown own ms))) is)
-        (ap (λ b. cond b (dropped own ms) (suc (dropped own ms))) is)
+        (ap (λ b. cond b (dropped own ms) (suc (dropped own ms))) is) (inl refl)
     by_test false is =
         let next : shown own (history.fall ∷ ms) ≡ with_paid (shown own ms) =
         shown_fall own ms ∙ ap (λ b. cond b (shown own ms) (with_paid (shown own ms))) is in
         one_falls own ms (history.fall ∷ ms) (some_left (remaining own ms) is)
         (ap (λ (s : Shown). s.remains) next) (ap (λ (s : Shown). s.paid) next)
-        (ap (λ b. cond b (dropped own ms) (suc (dropped own ms))) is)
+        (ap (λ b. cond b (dropped own ms) (suc (dropped own ms))) is) (inl refl)
 
 ended_paid : (none by_jam : Bool) (s : Shown) → (cond none s (with_unpaid by_jam s)).paid ≡ s.paid
 ended_paid true by_jam s = refl
@@ -109,16 +121,16 @@ jam_keeps own ms =
     (subst (λ n. n ≤ remaining own ms) (sym (remaining_jam own ms)) (omega arith))
     (at_most (last_paid own (history.jam ∷ ms)) (last_paid own ms)
     (ap (λ (s : Shown). s.paid) (shown_jam own ms) ∙ ended_paid (remaining own ms == 0) true (shown own ms)))
-    refl
+    refl (inl refl)
 
 coin_keeps : (own place : ℕ) (ms : List Met) → Keeps own ms (history.coin place ∷ ms)
-coin_keeps own place ms = same_keeps own ms (history.coin place ∷ ms) (shown_coin own place ms) refl
+coin_keeps own place ms = same_keeps own ms (history.coin place ∷ ms) (shown_coin own place ms) refl (inl refl)
 
 alien_keeps : (own : ℕ) (ms : List Met) → Keeps own ms (history.alien ∷ ms)
-alien_keeps own ms = same_keeps own ms (history.alien ∷ ms) (shown_alien own ms) refl
+alien_keeps own ms = same_keeps own ms (history.alien ∷ ms) (shown_alien own ms) refl (inl refl)
 
 reset_keeps : (own : ℕ) (ms : List Met) → Keeps own ms (history.reset ∷ ms)
-reset_keeps own ms = less_keeps own ms (history.reset ∷ ms) (omega arith) (omega arith) refl
+reset_keeps own ms = less_keeps own ms (history.reset ∷ ms) (omega arith) (omega arith) refl (inr refl)
 
 -- what it hears
 stop_paid : (stop : Bool) (s : Shown) → (cond stop (after_end false s) s).paid ≤ s.paid
@@ -170,14 +182,32 @@ both_after : (own : ℕ) (ms : List Met) (q : Option Request) (now : ℕ) → Le
 both_after own ms q now (inl less) = omega (arith, less)
 both_after own ms q now (inr parts) = omega (arith, parts.1)
 
-heard_keeps : (own : ℕ) (ms : List Met) (q : Option Request) → dose_of q ≡ 0 → Keeps own ms (heard q ∷ ms)
-heard_keeps own ms q none =
+-- what is no dispense request
+abbrev AsksNone : Option Request → Type 0
+AsksNone (Some (Dispense serial count)) = ⊥
+AsksNone q = ⊤
+
+none_dose : (q : Option Request) → AsksNone q → dose_of q ≡ 0
+none_dose None asks = refl
+none_dose (Some (Dispense serial count)) asks = absurd asks
+none_dose (Some q) asks = refl
+
+stays_heard : (own : ℕ) (ms : List Met) (q : Option Request) → AsksNone q → Stays own ms (heard q ∷ ms)
+stays_heard own ms None asks = inl refl
+stays_heard own ms (Some (Dispense serial count)) asks = absurd asks
+stays_heard own ms (Some ResetDevice) asks = inr refl
+stays_heard own ms (Some q) asks = inl refl
+
+heard_keeps : (own : ℕ) (ms : List Met) (q : Option Request) → AsksNone q → Keeps own ms (heard q ∷ ms)
+heard_keeps own ms q asks =
+    let none : dose_of q ≡ 0 = none_dose q asks in
     less_keeps own ms (heard q ∷ ms)
-    (subst (λ n. remaining own (heard q ∷ ms) ≤ n) (no_more (remaining own ms)) (both_after own ms q _ (left_after own ms q)))
-    (paid_after own ms q) refl
+    (subst (λ n. remaining own (heard q ∷ ms) ≤ n) (no_more (remaining own ms) none)
+    (both_after own ms q _ (left_after own ms q)))
+    (paid_after own ms q) refl (stays_heard own ms q asks)
   where
-    no_more : (n : ℕ) → n + dose_of q ≡ n
-    no_more n = omega (arith, none)
+    no_more : (n : ℕ) → dose_of q ≡ 0 → n + dose_of q ≡ n
+    no_more n none = omega (arith, none)
 
 -- ---- what is known of it
 
@@ -201,11 +231,33 @@ abbrev IfCounts : ℕ → ℕ → List Met → Option KnownLife → Type 0
 IfCounts own start ms None = ⊤
 IfCounts own start ms (Some k) = Counts own start ms k
 
+-- an event counter was shown when so many requests had been taken
+record Since (taken : ℕ) (k : KnownCounter) : Type 0 where
+  base : ℕ
+  counter_is : k.counter ≡ counter base
+  least_is : base + k.least ≤ taken
+  most_is : taken ≤ base + k.most
+
+-- of the requests since, where they are few, so many were taken; or a reset came
+abbrev Tallies : ℕ → KnownCounter → Type 0
+Tallies taken k = k.most < 255 → (taken ≤ k.most) ⊎ Since taken k
+
+abbrev IfTallies : ℕ → Option KnownCounter → Type 0
+IfTallies taken None = ⊤
+IfTallies taken (Some k) = Tallies taken k
+
 record Knows (own start : ℕ) (ms : List Met) (k : KnownHopper) : Type 0 where
   serial_is : IfSerial own k.serial
   shut_is : IfShut ms k.shut
   rest_is : remaining own ms ≤ k.rest
   life_is : IfCounts own start ms k.life
+  counter_is : IfTallies (payouts own ms) k.counter
+
+still_tallies : (taken now : ℕ) (found : Option KnownCounter) → (now ≡ taken) ⊎ (now ≡ 0) → IfTallies taken found →
+    IfTallies now found
+still_tallies taken now None stays tallies = tt
+still_tallies taken now (Some k) (inl same) tallies = subst (λ n. Tallies n k) (sym same) tallies
+still_tallies taken now (Some k) (inr none) tallies = λ few. inl (omega (arith, none))
 
 still_counts : (own start : ℕ) (ms ns : List Met) (found : Option KnownLife) → Keeps own ms ns → IfCounts own start ms found →
     IfCounts own start ns found
@@ -232,6 +284,7 @@ still_knows own start ms ns k keeps off knows = record {
   shut_is = still_shut ms ns k.shut off knows.shut_is;
   rest_is = omega (arith, keeps.rest, knows.rest_is);
   life_is = still_counts own start ms ns k.life keeps knows.life_is;
+  counter_is = still_tallies (payouts own ms) (payouts own ns) k.counter keeps.stays knows.counter_is;
 }
 
 comes_knows : (own start : ℕ) (d : DeviceSetup) (ms : List Met) (s : Step) (e : Entry) (m : Met) (ls : List Line)
@@ -273,10 +326,10 @@ Plain (Some (Dispense serial count)) = ⊥
 Plain (Some (Enable code)) = (code == ENABLE_CODE) ≡ false
 Plain q = ⊤
 
-plain_dose : (q : Option Request) → Plain q → dose_of q ≡ 0
-plain_dose None plain = refl
-plain_dose (Some (Dispense serial count)) plain = absurd plain
-plain_dose (Some q) plain = refl
+plain_none : (q : Option Request) → Plain q → AsksNone q
+plain_none None plain = tt
+plain_none (Some (Dispense serial count)) plain = plain
+plain_none (Some q) plain = tt
 
 plain_off : (ms : List Met) (q : Option Request) → Plain q → enabled ms ≡ false → enabled (heard q ∷ ms) ≡ false
 plain_off ms None plain off = off
@@ -299,6 +352,7 @@ nothing_fine addr number own start ns k knows = record {
     shut_is = knows.shut_is;
     rest_is = knows.rest_is;
     life_is = knows.life_is;
+    counter_is = knows.counter_is;
   };
 }
 
@@ -323,6 +377,7 @@ serial_fine addr number own start ns k serial told knows = record {
     shut_is = knows.shut_is;
     rest_is = knows.rest_is;
     life_is = knows.life_is;
+    counter_is = knows.counter_is;
   };
 }
 
@@ -336,6 +391,7 @@ enabled_fine addr number own start ms ns k keeps knows = record {
     shut_is = tt;
     rest_is = omega (arith, keeps.rest, knows.rest_is);
     life_is = still_counts own start ms ns k.life keeps knows.life_is;
+    counter_is = still_tallies (payouts own ms) (payouts own ns) k.counter keeps.stays knows.counter_is;
   };
 }
 
@@ -348,6 +404,31 @@ shut_fine addr number own start ms ns k keeps off none knows = record {
     shut_is = off;
     rest_is = at_most (remaining own ns) 0 none;
     life_is = still_counts own start ms ns k.life keeps knows.life_is;
+    counter_is = still_tallies (payouts own ms) (payouts own ns) k.counter keeps.stays knows.counter_is;
+  };
+}
+
+-- an event counter of now
+fresh_tallies : (number read taken now : ℕ) → read ≡ counter taken → (now ≡ taken) ⊎ (now ≡ 0) →
+    Tallies now (counted_from number read)
+fresh_tallies number read taken now told (inl same) = λ few. inr (record {
+  base = taken;
+  counter_is = told;
+  least_is = omega (arith, same);
+  most_is = omega (arith, same);
+})
+fresh_tallies number read taken now told (inr none) = λ few. inl (omega (arith, none))
+
+reset_fine : (addr number own start : ℕ) (ms ns : List Met) (k : KnownHopper) → Keeps own ms ns → enabled ns ≡ false →
+    remaining own ns ≡ 0 → payouts own ns ≡ 0 → Knows own start ms k → Fine addr number own start ns k ResetTaken
+reset_fine addr number own start ms ns k keeps off none fresh knows = record {
+  silent = refl;
+  known = record {
+    serial_is = knows.serial_is;
+    shut_is = off;
+    rest_is = at_most (remaining own ns) 0 none;
+    life_is = still_counts own start ms ns k.life keeps knows.life_is;
+    counter_is = λ few. inl (omega (arith, fresh));
   };
 }
 
@@ -395,9 +476,16 @@ record Doses (own : ℕ) (ms ns : List Met) (count : ℕ) : Type 0 where
   drops : dropped own ns ≡ dropped own ms
   paid : last_paid own ns ≤ last_paid own ms
   off : StaysOff ms ns
+  steps : (payouts own ns ≡ payouts own ms) ⊎ (payouts own ns ≡ suc (payouts own ms))
 
+-- what asks for so many coins at most, enables nothing and is no reset
 abbrev AsksFor : ℕ → List Met → Option Request → Type 0
-AsksFor count ms q = (dose_of q ≤ count) × StaysOff ms (heard q ∷ ms)
+AsksFor count ms q = (dose_of q ≤ count) × StaysOff ms (heard q ∷ ms) × ((n : ℕ) → unless_reset q 0 n ≡ n)
+
+taken_or_not : (took : Option ℕ) (q : Option Request) (n : ℕ) → unless_reset q 0 n ≡ n →
+    (payouts_by took q n ≡ n) ⊎ (payouts_by took q n ≡ suc n)
+taken_or_not None q n same = inl same
+taken_or_not (Some count) q n same = inr refl
 
 one_or_other : (own : ℕ) (ms : List Met) (q : Option Request) (count now : ℕ) → dose_of q ≤ count → LeftThen own ms q now →
     (now ≤ remaining own ms) ⊎ (now ≤ count)
@@ -414,7 +502,65 @@ doses_by own ms q count asks =
       drops = refl;
       paid = paid_after own ms q;
       off = asks.1;
+      steps = taken_or_not (taken_of own ms q) q (payouts own ms) (asks.2 (payouts own ms));
     }
+
+-- one request more
+more_requests : (m : ℕ) → one_more m < 255 → one_more m ≡ suc m
+more_requests m few = by_test (m == 255) refl
+  where
+    by_test : (test : Bool) → (m == 255) ≡ test → cond test 255 (m + 1) ≡ suc m
+    by_test true is = absurd (omega (arith, subst (λ b. cond b 255 (m + 1) < 255) is few))
+    by_test false is = omega arith
+
+one_least : (least base taken now : ℕ) → base + least ≤ taken → now ≡ suc taken → base + one_more least ≤ now
+one_least least base taken now before next = by_test (least == 255) refl
+  where
+    by_test : (test : Bool) → (least == 255) ≡ test → base + cond test 255 (least + 1) ≤ now
+    by_test true is = let full : least ≡ 255 = grind (arith, nat_tests) in omega (arith, before, next, full)
+    by_test false is = omega (arith, before, next)
+
+more_tallies : (taken now : ℕ) (took : Bool) (found : Option KnownCounter) → (now ≡ taken) ⊎ (now ≡ suc taken) →
+    (took ≡ true → now ≡ suc taken) → IfTallies taken found → IfTallies now (request_since took found)
+more_tallies taken now took None steps next tallies = tt
+more_tallies taken now took (Some k) steps next tallies = λ few. by_before few (more_requests k.most few)
+  where
+    grown : (now ≡ taken) ⊎ (now ≡ suc taken) → taken ≤ now
+    grown (inl same) = omega (arith, same)
+    grown (inr more) = omega (arith, more)
+
+    bounded : (now ≡ taken) ⊎ (now ≡ suc taken) → now ≤ suc taken
+    bounded (inl same) = omega (arith, same)
+    bounded (inr more) = omega (arith, more)
+
+    least : (took : Bool) → (took ≡ true → now ≡ suc taken) → (base : ℕ) → base + k.least ≤ taken →
+        base + cond took (one_more k.least) k.least ≤ now
+    least true next base before = one_least k.least base taken now before (next refl)
+    least false next base before = omega (arith, before, grown steps)
+
+    by_case : one_more k.most ≡ suc k.most → (taken ≤ k.most) ⊎ Since taken k →
+        (now ≤ one_more k.most) ⊎ Since now (record {
+          number = k.number;
+          counter = k.counter;
+          least = cond took (one_more k.least) k.least;
+          most = one_more k.most;
+        })
+    by_case one (inl few) = inl (omega (arith, few, one, bounded steps))
+    by_case one (inr since) = inr (record {
+      base = since.base;
+      counter_is = since.counter_is;
+      least_is = least took next since.base since.least_is;
+      most_is = omega (arith, since.most_is, one, bounded steps);
+    })
+
+    by_before : one_more k.most < 255 → one_more k.most ≡ suc k.most →
+        (now ≤ one_more k.most) ⊎ Since now (record {
+          number = k.number;
+          counter = k.counter;
+          least = cond took (one_more k.least) k.least;
+          most = one_more k.most;
+        })
+    by_before few one = by_case one (tallies (omega (arith, few, one)))
 
 asked_counts : (own start : ℕ) (ms ns : List Met) (taken : Bool) (count : ℕ) (found : Option KnownLife) →
     Doses own ms ns count → (taken ≡ true → last_paid own ns ≡ 0) → IfCounts own start ms found →
@@ -448,6 +594,7 @@ asked_fine addr number own start ms ns k count doses knows = record {
     shut_is = still_shut ms ns k.shut doses.off knows.shut_is;
     rest_is = greater_rest own ms ns k.rest count knows.rest_is doses.rest;
     life_is = asked_counts own start ms ns false count k.life doses (λ is. absurd cc) knows.life_is;
+    counter_is = more_tallies (payouts own ms) (payouts own ns) false k.counter doses.steps (λ is. absurd cc) knows.counter_is;
   };
 }
 
@@ -458,8 +605,8 @@ enable_silent addr number ms (Some first) on shut = let clash : true ≡ false =
 
 dispensed_fine : (addr number own start : ℕ) (ms ns : List Met) (k : KnownHopper) (serial count : ℕ) →
     Doses own ms ns count → serial ≡ own → enabled ms ≡ true → remaining own ms ≡ 0 → last_paid own ns ≡ 0 →
-    Knows own start ms k → Fine addr number own start ns k (Dispensed serial count)
-dispensed_fine addr number own start ms ns k serial count doses told on none fresh knows = record {
+    payouts own ns ≡ suc (payouts own ms) → Knows own start ms k → Fine addr number own start ns k (Dispensed serial count)
+dispensed_fine addr number own start ms ns k serial count doses told on none fresh one knows = record {
   silent = ap₂ (λ xs ys. xs ++ ys) (serial_silent addr number own serial k.serial told knows.serial_is)
       (enable_silent addr number ms k.shut on knows.shut_is);
   known = record {
@@ -467,6 +614,7 @@ dispensed_fine addr number own start ms ns k serial count doses told on none fre
     shut_is = still_shut ms ns k.shut doses.off knows.shut_is;
     rest_is = omega (arith, doses.both, none);
     life_is = asked_counts own start ms ns true count k.life doses (λ is. fresh) knows.life_is;
+    counter_is = more_tallies (payouts own ms) (payouts own ns) true k.counter doses.steps (λ is. one) knows.counter_is;
   };
 }
 
@@ -492,16 +640,73 @@ paid_counts own start ms ns paid (Some k) keeps told counts = record {
   paid_is = λ begun. omega (arith, counts.paid_is begun, keeps.grows, keeps.paid);
 }
 
-status_fine : (addr number own start : ℕ) (ms ns : List Met) (k : KnownHopper) (left paid : ℕ) → Keeps own ms ns →
-    StaysOff ms ns → left ≡ remaining own ms → paid ≡ last_paid own ms → Knows own start ms k →
-    Fine addr number own start ns k (Status left paid)
-status_fine addr number own start ms ns k left paid keeps off rest told knows = record {
-  silent = refl;
+-- an event counter fits what came since
+counter_few : (n : ℕ) → counter n ≤ n
+counter_few zero = omega arith
+counter_few (suc n) = grind (arith, nat_tests)
+
+counter_most : (n : ℕ) → counter n ≤ 255
+counter_most zero = omega arith
+counter_most (suc n) = grind (arith, nat_tests)
+
+le_test : (m n : ℕ) → m ≤ n → nat_le m n ≡ true
+le_test m n less = grind (arith, nat_tests)
+
+fits_reset : (read : ℕ) (k : KnownCounter) → read ≤ k.most → counter_fits read k ≡ true
+fits_reset read k few =
+    ap (λ b. b || (nat_le k.least (distance k.counter read) && nat_le (distance k.counter read) k.most))
+    (le_test read k.most few)
+
+fits_since : (read : ℕ) (k : KnownCounter) → k.least ≤ distance k.counter read → distance k.counter read ≤ k.most →
+    counter_fits read k ≡ true
+fits_since read k least most =
+    ap₂ (λ a b. nat_le read k.most || (a && b)) (le_test k.least (distance k.counter read) least)
+    (le_test (distance k.counter read) k.most most)
+    ∙ or_true (nat_le read k.most)
+  where
+    or_true : (b : Bool) → (b || true) ≡ true
+    or_true true = refl
+    or_true false = refl
+
+since_fits : (read taken : ℕ) (k : KnownCounter) → read ≡ counter taken → k.most < 255 → Since taken k →
+    counter_fits read k ≡ true
+since_fits read taken k told few since =
+    let came : ℕ = taken - since.base in
+    let whole : came + since.base ≡ taken = omega (arith, since.least_is) in
+    let near : came < 255 = omega (arith, few, since.most_is) in
+    let rise : distance k.counter read ≡ came =
+    ap₂ distance since.counter_is (told ∙ ap counter (sym whole)) ∙ distance_near came since.base near in
+    fits_since read k (omega (arith, rise, since.least_is)) (omega (arith, rise, since.most_is))
+
+counter_silent : (addr number read taken : ℕ) (found : Option KnownCounter) → read ≡ counter taken → IfTallies taken found →
+    broken_counter addr number read found ≡ []
+counter_silent addr number read taken None told tallies = refl
+counter_silent addr number read taken (Some k) told tallies =
+    ap (λ b. cond b [] (Broken addr premise.Counter k.number number ∷ [])) (by_test (nat_le 255 k.most) refl)
+  where
+    by_case : k.most < 255 → (taken ≤ k.most) ⊎ Since taken k → counter_fits read k ≡ true
+    by_case few (inl less) = fits_reset read k (omega (arith, told, counter_few taken, less))
+    by_case few (inr since) = since_fits read taken k told few since
+
+    by_test : (test : Bool) → nat_le 255 k.most ≡ test → counter_fits read k ≡ true
+    by_test true is =
+        let many : 255 ≤ k.most = grind (arith, nat_tests) in
+        fits_reset read k (omega (arith, told, counter_most taken, many))
+    by_test false is =
+        let few : k.most < 255 = grind (arith, nat_tests) in
+        by_case few (tallies few)
+
+status_fine : (addr number own start : ℕ) (ms ns : List Met) (k : KnownHopper) (read left paid : ℕ) → Keeps own ms ns →
+    StaysOff ms ns → read ≡ counter (payouts own ms) → left ≡ remaining own ms → paid ≡ last_paid own ms →
+    Knows own start ms k → Fine addr number own start ns k (Status read left paid)
+status_fine addr number own start ms ns k read left paid keeps off counted rest told knows = record {
+  silent = counter_silent addr number read (payouts own ms) k.counter counted knows.counter_is;
   known = record {
     serial_is = knows.serial_is;
     shut_is = still_shut ms ns k.shut off knows.shut_is;
     rest_is = omega (arith, keeps.rest, rest);
     life_is = paid_counts own start ms ns paid k.life keeps told knows.life_is;
+    counter_is = fresh_tallies number read (payouts own ms) (payouts own ns) counted keeps.stays;
   };
 }
 
@@ -509,9 +714,6 @@ status_fine addr number own start ms ns k left paid keeps off rest told knows = 
 fits_both : (rise : ℕ) (k : KnownLife) → rise ≤ k.most → k.least ≤ rise → rise_fits rise k ≡ true
 fits_both rise k most least =
     ap₂ (λ a b. a && b) (le_test rise k.most most) (le_test k.least rise least)
-  where
-    le_test : (m n : ℕ) → m ≤ n → nat_le m n ≡ true
-    le_test m n less = grind (arith, nat_tests)
 
 life_silent : (addr number own start : ℕ) (ms : List Met) (count : ℕ) (found : Option KnownLife) →
     count ≡ (start + dropped own ms) % 2 ^ 24 → IfCounts own start ms found → broken_life addr number count found ≡ []
@@ -549,6 +751,7 @@ life_fine addr number own start ms ns k count keeps off told knows = record {
       most_is = λ few. omega (arith, keeps.both, knows.rest_is);
       paid_is = λ begun. absurd cc;
     };
+    counter_is = still_tallies (payouts own ms) (payouts own ns) k.counter keeps.stays knows.counter_is;
   };
 }
 
@@ -567,7 +770,7 @@ module _ (setup : Setup) (d : DeviceSetup) (sound : IsSoundSetup setup) (own : I
 
   keeps_it : Plain (asks_at d.kind d.addr sent) → Keeps d.serial (met d past) (heard hears ∷ met d past)
   keeps_it plain =
-      heard_keeps d.serial (met d past) hears (plain_dose hears (asked_or_none d past sent honest Plain tt plain))
+      heard_keeps d.serial (met d past) hears (plain_none hears (asked_or_none d past sent honest Plain tt plain))
 
   off_still : Plain (asks_at d.kind d.addr sent) → StaysOff (met d past) (heard hears ∷ met d past)
   off_still plain = plain_off (met d past) hears (asked_or_none d past sent honest Plain tt plain)
@@ -590,11 +793,12 @@ module _ (setup : Setup) (d : DeviceSetup) (sound : IsSoundSetup setup) (own : I
 
   status_is : (y : Option Reply) → Plain (asks_at d.kind d.addr sent) →
       ((e r p u : ℕ) → y ≡ Some (reply.status e r p u) →
-      (r ≡ remaining d.serial (met d past)) × (p ≡ last_paid d.serial (met d past))) → IsFine (status_deed y)
+      (e ≡ counter (payouts d.serial (met d past))) × (r ≡ remaining d.serial (met d past))
+      × (p ≡ last_paid d.serial (met d past))) → IsFine (status_deed y)
   status_is None plain told = still_fine plain
   status_is (Some (reply.status e r p u)) plain told =
-      status_fine d.addr number d.serial (start_of d.body) (met d past) (heard hears ∷ met d past) k r p (keeps_it plain)
-      (off_still plain) (told e r p u refl).0 (told e r p u refl).1 before
+      status_fine d.addr number d.serial (start_of d.body) (met d past) (heard hears ∷ met d past) k e r p (keeps_it plain)
+      (off_still plain) (told e r p u refl).0 (told e r p u refl).1 (told e r p u refl).2 before
   status_is (Some y) plain told = still_fine plain
 
   life_is : (y : Option Reply) → Plain (asks_at d.kind d.addr sent) →
@@ -618,12 +822,22 @@ module _ (setup : Setup) (d : DeviceSetup) (sound : IsSoundSetup setup) (own : I
       (ap (λ x. remaining d.serial (heard x ∷ met d past)) (told refl) ∙ none (met d past)) before
   shut_is q (Some y) plain off none told = still_fine plain
 
+  reset_is : (y : Option Reply) → Plain (asks_at d.kind d.addr sent) → (y ≡ Some reply.ack → hears ≡ Some ResetDevice) →
+      IsFine (if_done y ResetTaken Nothing)
+  reset_is None plain told = still_fine plain
+  reset_is (Some reply.ack) plain told =
+      reset_fine d.addr number d.serial (start_of d.body) (met d past) (heard hears ∷ met d past) k (keeps_it plain)
+      (ap (λ x. enabled (heard x ∷ met d past)) (told refl))
+      (ap (λ x. remaining d.serial (heard x ∷ met d past)) (told refl))
+      (ap (λ x. payouts d.serial (heard x ∷ met d past)) (told refl)) before
+  reset_is (Some y) plain told = still_fine plain
+
   -- a request that enables
   enabled_is : (code : ℕ) → asks_at d.kind d.addr sent ≡ Some (Enable code) → IsFine Enabled
   enabled_is code asks =
       enabled_fine d.addr number d.serial (start_of d.body) (met d past) (heard hears ∷ met d past) k
       (heard_keeps d.serial (met d past) hears
-      (asked_or_none d past sent honest (λ q. dose_of q ≡ 0) refl (ap dose_of asks))) before
+      (asked_or_none d past sent honest AsksNone tt (subst AsksNone (sym asks) tt))) before
 
   none_left : (code : ℕ) → (code == ENABLE_CODE) ≡ false → (ms : List Met) →
       remaining d.serial (heard (Some (Enable code)) ∷ ms) ≡ 0
@@ -644,8 +858,8 @@ module _ (setup : Setup) (d : DeviceSetup) (sound : IsSoundSetup setup) (own : I
       Doses d.serial (met d past) (heard hears ∷ met d past) count
   doses_it serial count asks =
       doses_by d.serial (met d past) hears count
-      (asked_or_none d past sent honest (AsksFor count (met d past)) (omega arith, λ off. off)
-      (subst (AsksFor count (met d past)) (sym asks) (le_refl count, λ off. off)))
+      (asked_or_none d past sent honest (AsksFor count (met d past)) (omega arith, λ off. off, λ n. refl)
+      (subst (AsksFor count (met d past)) (sym asks) (le_refl count, λ off. off, λ n. refl)))
 
   taken_fine : (serial count took : ℕ) → asks_at d.kind d.addr sent ≡ Some (Dispense serial count) →
       taken_of d.serial (met d past) (Some (Dispense serial count)) ≡ Some took → hears ≡ Some (Dispense serial count) →
@@ -657,8 +871,11 @@ module _ (setup : Setup) (d : DeviceSetup) (sound : IsSoundSetup setup) (own : I
       ap (λ x. last_paid d.serial (heard x ∷ met d past)) heard_it
       ∙ ap (λ (s : Shown). s.paid) (shown_heard d.serial (Some (Dispense serial count)) (met d past))
       ∙ ap (λ t. (after_heard t (Some (Dispense serial count)) (shown d.serial (met d past))).paid) is in
+      let one : payouts d.serial (heard hears ∷ met d past) ≡ suc (payouts d.serial (met d past)) =
+      ap (λ x. payouts d.serial (heard x ∷ met d past)) heard_it
+      ∙ ap (λ t. payouts_by t (Some (Dispense serial count)) (payouts d.serial (met d past))) is in
       dispensed_fine d.addr number d.serial (start_of d.body) (met d past) (heard hears ∷ met d past) k serial count
-      (doses_it serial count asks) same taken.on taken.rest fresh before
+      (doses_it serial count asks) same taken.on taken.rest fresh one before
     where
       same_asked : (s c o t : ℕ) → Some (Dispense s c) ≡ Some (Dispense o t) → s ≡ o
       same_asked s c o t e = cc
@@ -699,7 +916,7 @@ module _ (setup : Setup) (d : DeviceSetup) (sound : IsSoundSetup setup) (own : I
       (λ count found. told_life setup d past sent count sound own paying honest
       (ap (λ q. life_by q replied) asks ∙ ap life_in found))
   deed_fine (Some ResetDevice) asks =
-      shut_is ResetDevice (replied form.Ack) (subst Plain (sym asks) tt) (λ ms. refl) (λ ms. refl)
+      reset_is (replied form.Ack) (subst Plain (sym asks) tt)
       (λ found. acked setup d past sent ResetDevice sound own honest (λ e. cc) asks (reset_replied d (met d past)) found)
   deed_fine (Some q) asks = still_fine (subst Plain (sym asks) tt)
 
@@ -745,7 +962,7 @@ module _ (setup : Setup) (d : DeviceSetup) (sound : IsSoundSetup setup) (own_one
       (so.known, ap₂ (λ xs ys. xs ++ ys) fine.1 so.silent)
 
   all_fine : (past : List Entry) → AllWild setup past → HonestPast past → Shows d (met d past) (taps past)
-  all_fine [] all honest = (record { serial_is = tt; shut_is = tt; rest_is = omega arith; life_is = tt }, refl)
+  all_fine [] all honest = (record { serial_is = tt; shut_is = tt; rest_is = omega arith; life_is = tt; counter_is = tt }, refl)
   all_fine (e ∷ past) all honest = one_fine past e all.0 honest (all_fine past all.1 honest.1)
 
 pub none_wrong : (setup : Setup) (steps : List WildStep) (past : List Entry) (d : DeviceSetup) →

@@ -666,14 +666,15 @@ unfolding reply_data
 status_short events remaining paid unpaid = omega arith
 
 same_status : (e r p u events rest paid unpaid : ℕ) → reply.status e r p u ≡ reply.status events rest paid unpaid →
-    (r ≡ rest) × (p ≡ paid)
-same_status e r p u events rest paid unpaid is = (cc, cc)
+    (e ≡ events) × (r ≡ rest) × (p ≡ paid)
+same_status e r p u events rest paid unpaid is = (cc, cc, cc)
 
 pub told_status : (setup : Setup) (d : DeviceSetup) (past : List Entry) (sent : List ℕ) (e r p u : ℕ) →
     IsSoundSetup setup → IsOf setup d → IsHopper d.body → IsHonestFault (pending past) sent →
     asks_at d.kind d.addr sent ≡ Some GetStatus →
     got d.kind d.addr form.Status sent (heard_after setup past sent) ≡ Some (reply.status e r p u) →
-    (r ≡ remaining d.serial (met d past)) × (p ≡ last_paid d.serial (met d past))
+    (e ≡ counter (payouts d.serial (met d past))) × (r ≡ remaining d.serial (met d past))
+    × (p ≡ last_paid d.serial (met d past))
 unfolding asks_of
 told_status setup d past sent e r p u sound own paying honest asks found =
     let ms : List Met = met d past in

@@ -24,9 +24,10 @@ use Rattle.cct_audit_taps.specs.Signs.{broken_buffer, broken_by, broken_reset, i
 use Rattle.cct_audit_taps.specs.declared.deeds.Deed.{Deed}
 use Rattle.cct_audit_taps.specs.declared.deeds.Deed.TheVariants as deeds
 use Rattle.cct_audit_taps.specs.declared.hoppers.KnownHopper.{KnownHopper}
+use Rattle.cct_audit_taps.specs.declared.hoppers.KnownCounter.{KnownCounter}
 use Rattle.cct_audit_taps.specs.declared.hoppers.KnownLife.{KnownLife}
 use Rattle.cct_audit_taps.specs.declared.hoppers.KnownSerial.{KnownSerial}
-use Rattle.cct_audit_taps.specs.Deeds.{broken_enable, broken_life, broken_serial, deed, hopper_after, hopper_broken_by, rise_fits}
+use Rattle.cct_audit_taps.specs.Deeds.{broken_counter, broken_enable, broken_life, broken_serial, counter_fits, deed, hopper_after, hopper_broken_by, rise_fits}
 use Rattle.cct_model.specs.Order.{life_between}
 use Rattle.cct_audit_taps.specs.Taps.{Tap, life_shown, quiet_shown, shown}
 use Rattle.cct_monitor.specs.Watches.{Account, Came, Watch, accounts, all_told, by_address, deeds_of, finally_by, finally_of, finally_of_all, from_begin, lives_of, looks_of, made_tap, made_watch, put_watch, quiet_looks_of, signs_of, said_by, said_of, said_of_all}
@@ -147,6 +148,11 @@ life_names addr number count None = no_names addr
 life_names addr number count (Some k) =
     none_or addr (nat_le (2 ^ 24) k.most) _ (none_or_one addr (rise_fits (life_between k.count count) k) _ refl)
 
+counter_names : (addr number counter : ℕ) (known : Option KnownCounter) → NamesAll addr (broken_counter addr number counter known)
+unfolding addr_of
+counter_names addr number counter None = no_names addr
+counter_names addr number counter (Some k) = none_or_one addr (counter_fits counter k) _ refl
+
 hopper_names : (addr number : ℕ) (s : Deed) (known : KnownHopper) → NamesAll addr (hopper_broken_by addr number s known)
 unfolding addr_of
 hopper_names addr number (deeds.Serial serial) known = serial_names addr number serial known.serial
@@ -156,8 +162,9 @@ hopper_names addr number (deeds.Dispensed serial count) known =
 hopper_names addr number (deeds.Life count) known = life_names addr number count known.life
 hopper_names addr number deeds.Enabled known = no_names addr
 hopper_names addr number deeds.Shut known = no_names addr
+hopper_names addr number deeds.ResetTaken known = no_names addr
 hopper_names addr number (deeds.Asked count) known = no_names addr
-hopper_names addr number (deeds.Status left paid) known = no_names addr
+hopper_names addr number (deeds.Status counter left paid) known = counter_names addr number counter known.counter
 hopper_names addr number deeds.OtherAnswers known = one_names addr _ refl
 hopper_names addr number deeds.Nothing known = no_names addr
 

@@ -137,6 +137,7 @@ fn is_counted(deed: &Deed) -> bool
         Deed::Serial { .. } => false,
         Deed::Enabled => false,
         Deed::Shut => false,
+        Deed::ResetTaken => false,
         Deed::Dispensed { .. } => false,
         Deed::Asked { .. } => false,
         Deed::Status { .. } => false,

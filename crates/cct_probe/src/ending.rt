@@ -113,6 +113,12 @@ impl From<Failed> for Cause {
     }
 }
 
+impl From<Stop> for Cause {
+    fn from(stop: Stop) -> Cause {
+        Cause::Trials(stop)
+    }
+}
+
 impl From<SetupNo> for Cause {
     fn from(why: SetupNo) -> Cause {
         match why {

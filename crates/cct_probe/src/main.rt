@@ -14,8 +14,8 @@ use cct_edge::{Sink, StdSink, StdSource};
 use cct_live_port::{Options, Port};
 use cct_live_terminal::Terminal;
 use cct_model_lines::Setup;
-use cct_probe_plan::TRIALS;
-use cct_probe_run::{Bench, Ended, Leave, Person, Plan, leave, run};
+use cct_probe_plan::all_trials;
+use cct_probe_run::{Bench, Ended, Leave, Person, Plan, run};
 use clap::error::ErrorKind;
 use std::fs::{File, Files};
 use std::io;
@@ -69,7 +69,7 @@ fn told(rt: &HostRuntime, done: Result<u8, Cause>) -> u8 {
     }
 }
 
-/// Tries the devices of a setup on a line, and leaves them as they may stay, however the trials end.
+/// Tries the devices of a setup on a line.
 fn probe(rt: &HostRuntime, words: Words<'_>) -> Result<u8, Cause> {
     let mut out = StdSink::new(io::writer(rt));
     out.put(b"protocol 1\n")?;
@@ -77,16 +77,12 @@ fn probe(rt: &HostRuntime, words: Words<'_>) -> Result<u8, Cause> {
     let port = open_port(rt, words)?;
     let plan = Plan {
         setup: &setup,
-        trials: &TRIALS,
+        trials: all_trials(),
     };
     let mut bench = Bench::new(port, out, leave_of(words));
     let mut person = Person::new(StdSource::new(rt.reader()));
-    let ended = run(&mut bench, plan, &mut person, &mut Watch::start(rt));
-    leave(&mut bench, plan);
-    match ended {
-        Ok(ended) => Ok(code_told(rt, ended)),
-        Err(stop) => Err(Cause::Trials(stop)),
-    }
+    let ended = run(&mut bench, plan, &mut person, &mut Watch::start(rt))?;
+    Ok(code_told(rt, ended))
 }
 
 /// The exit status after all trials. Where no device answered standard error says why that may be.

@@ -1,2 +1,4 @@
 pub mod Saying
 pub mod Judging
+pub mod Closing
+pub mod Words

@@ -1,13 +1,14 @@
 //! What an exchange shows.
 ghost use Rattle.std.specs.Prelude.{◌≡◌, [], Some, false, true};
 ghost use Rattle.cct_model_wire.specs.Exchange.{after_echo};
-ghost use Rattle.cct_probe_plan.specs.Judging.{BreaksNone};
+ghost use Rattle.cct_probe_plan.specs.Judging.{BreaksNone, IsOfEach, IsTried, NamesTried};
+ghost use Rattle.cct_probe_plan.specs.declared.premise.Premise.{Premise};
 
 use crate::memory::Memory;
-use crate::plan::{Expected, Want};
+use crate::plan::{Expected, Told, Want};
 use crate::premise::{Common, Premise};
-use crate::round::Turn;
-use crate::values::{Fits, fit_of};
+use crate::round::{Turn, place_of};
+use crate::values::{Fits, fit_of, id_at};
 use cct_frame::{FrameView, read};
 use cct_model_lines::HOST;
 use cct_wire::bare_after_echo;
@@ -19,6 +20,8 @@ pub enum Shown {
     Right,
     /// No byte came, where an answer is wanted. If none comes late either, this premise is broken.
     Silence(Premise),
+    /// No byte came, where none need come. If none comes late either, nothing is shown.
+    Untold,
     /// It was refused, so nothing is shown.
     Refused,
     /// A premise is broken.
@@ -31,7 +34,9 @@ const MALFORMED: Shown = Shown::Broken(Premise::Common(Common::Form));
 /// What an exchange shows, by what had to come.
 pub fn judge(want: Want, turn: Turn<'_>, memory: &mut Memory, sent: &[u8], heard: &[u8]) -> Shown
     // Where nothing but the echo is heard no premise is shown broken.
-    ensures { after_echo sent.now heard.now ≡ Some [] → BreaksNone result }
+    ensures none { after_echo sent.now heard.now ≡ Some [] → BreaksNone result }
+    // What is shown broken is what is tried, or what any exchange may show.
+    ensures names { NamesTried turn.entry.premise result }
 {
     let rest = match bare_after_echo(sent, heard) {
         Ok(rest) => rest,
@@ -46,7 +51,8 @@ pub fn judge(want: Want, turn: Turn<'_>, memory: &mut Memory, sent: &[u8], heard
 
 /// What the bytes after the echo show.
 fn shown_by(want: Want, turn: Turn<'_>, memory: &mut Memory, rest: &[u8]) -> Shown
-    ensures { rest.now ≡ [] → BreaksNone result }
+    ensures none { rest.now ≡ [] → BreaksNone result }
+    ensures names { NamesTried turn.entry.premise result }
 {
     match want {
         Want::Silence => right_if(rest.is_empty(), turn.premise),
@@ -57,6 +63,9 @@ fn shown_by(want: Want, turn: Turn<'_>, memory: &mut Memory, rest: &[u8]) -> Sho
             Premise::Common(Common::Alone),
         ),
         Want::Reply(expected) => reply(expected, turn, memory, rest),
+        Want::IfTold(told) if rest.is_empty() => untold(told, turn, Shown::Untold),
+        Want::IfTold(told) if is_refused(turn, rest) => untold(told, turn, Shown::Refused),
+        Want::IfTold(told) => reply(Expected::Said(told), turn, memory, rest),
         Want::Well if rest.is_empty() => Shown::Silence(turn.premise),
         Want::Well => reply(Expected::Ack, turn, memory, rest),
         Want::Taken if is_refused(turn, rest) => Shown::Refused,
@@ -64,9 +73,21 @@ fn shown_by(want: Want, turn: Turn<'_>, memory: &mut Memory, rest: &[u8]) -> Sho
     }
 }
 
+/// What it shows that this isn't told: right, if the setup has no bill of that place.
+fn untold(told: Told, turn: Turn<'_>, shown: Shown) -> Shown
+    ensures none { BreaksNone shown → BreaksNone result }
+    ensures names { (tried : Premise) → NamesTried tried shown → NamesTried tried result }
+{
+    match told {
+        Told::Bill if id_at(&turn.device.body, place_of(turn.round)).is_none() => Shown::Right,
+        _ => shown,
+    }
+}
+
 /// Right, or a premise is broken.
 fn right_if(is_right: bool, premise: Premise) -> Shown
-    ensures { is_right ≡ true → BreaksNone result }
+    ensures none { is_right ≡ true → BreaksNone result }
+    ensures names { (tried : Premise) → IsTried tried premise → NamesTried tried result }
 {
     if is_right {
         Shown::Right
@@ -84,7 +105,8 @@ fn is_again(memory: &Memory, rest: &[u8]) -> bool
 
 /// No reply may come; nothing, or a message with another header, may.
 fn refusal(turn: Turn<'_>, rest: &[u8]) -> Shown
-    ensures { rest.now ≡ [] → BreaksNone result }
+    ensures none { rest.now ≡ [] → BreaksNone result }
+    ensures names { NamesTried turn.entry.premise result }
 {
     if rest.is_empty() {
         return Shown::Right;
@@ -97,7 +119,8 @@ fn refusal(turn: Turn<'_>, rest: &[u8]) -> Shown
 
 /// A reply has to come.
 fn reply(expected: Expected, turn: Turn<'_>, memory: &mut Memory, rest: &[u8]) -> Shown
-    ensures { rest.now ≡ [] → BreaksNone result }
+    ensures none { rest.now ≡ [] → BreaksNone result }
+    ensures names { NamesTried turn.entry.premise result }
 {
     if rest.is_empty() {
         return Shown::Silence(Premise::Common(Common::Answers));
@@ -138,7 +161,9 @@ fn single<'h>(turn: Turn<'_>, rest: &'h [u8]) -> &'h [u8] {
 
 /// Which premise is broken where bytes aren't one message. Once more the same message is a reply that comes twice, and another
 /// one is that of another device.
-fn malformed(turn: Turn<'_>, rest: &[u8]) -> Premise {
+fn malformed(turn: Turn<'_>, rest: &[u8]) -> Premise
+    ensures { IsOfEach result }
+{
     let (first, second) = match rest {
         [_, many, ..] => halves(rest, usize::from(*many) + 5),
         _ => return Premise::Common(Common::Form),

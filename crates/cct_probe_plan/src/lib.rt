@@ -9,14 +9,15 @@ mod premise;
 mod round;
 mod saying;
 mod table;
+mod trials;
 mod values;
 
 pub use judging::{Shown, judge};
 pub use memory::Memory;
 pub use plan::{
-    Act, Ask, Counted, Expected, Need, Newest, Odd, Part, Say, Step, Told, Trial, Want, Who,
+    Act, Ask, Counted, Ending, Expected, Need, Newest, Odd, Part, Say, Step, Told, Trial, Want, Who,
 };
 pub use premise::{Common, OfHopper, OfLine, OfTaker, PROMISES, Premise, Promise};
 pub use round::{Turn, tried_place};
 pub use saying::write_say;
-pub use table::TRIALS;
+pub use trials::all_trials;

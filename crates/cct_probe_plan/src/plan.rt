@@ -1,6 +1,10 @@
 //! What a plan of trials is made of.
+ghost use Rattle.std.specs.Prelude.{◌≡◌};
+ghost use Rattle.cct_probe_plan.specs.Closing.{closes, is_for};
+ghost use Rattle.cct_probe_plan.specs.declared.plan.Ending.TheVariants as ending;
 
 use crate::premise::Premise;
+use cct_model_lines::DeviceBody;
 
 /// One trial: it asks its steps one after the other, in so many rounds. It ends with the first that shows a premise broken, or
 /// that isn't answered.
@@ -30,6 +34,53 @@ pub enum Part {
     Leaving,
 }
 
+/// What ends.
+#[derive(Clone, Copy, PartialEq, Eq)]
+pub enum Ending {
+    /// A trial of a device.
+    Trial,
+    /// All trials.
+    Run,
+}
+
+impl Part {
+    /// Whether it is done where this ends.
+    pub fn closes(self, ending: Ending) -> bool
+        ensures { result ≡ closes ending self }
+    {
+        match ending {
+            Ending::Trial => self.is_closing(),
+            Ending::Run => self.is_leaving(),
+        }
+    }
+
+    /// Whether it is done where a trial ends.
+    fn is_closing(self) -> bool
+        ensures { result ≡ closes ending.Trial self }
+    {
+        match self {
+            Part::Closing => true,
+            Part::Device => false,
+            Part::Timed => false,
+            Part::Line => false,
+            Part::Leaving => false,
+        }
+    }
+
+    /// Whether it is done where all trials end.
+    fn is_leaving(self) -> bool
+        ensures { result ≡ closes ending.Run self }
+    {
+        match self {
+            Part::Leaving => true,
+            Part::Device => false,
+            Part::Timed => false,
+            Part::Line => false,
+            Part::Closing => false,
+        }
+    }
+}
+
 /// Which devices a trial is for.
 #[derive(Clone, Copy)]
 pub enum Who {
@@ -41,6 +92,21 @@ pub enum Who {
     /// Acceptors of bills.
     Bills,
     Hoppers,
+}
+
+impl Who {
+    /// Whether a device is one of them.
+    pub fn has(self, body: &DeviceBody) -> bool
+        ensures { result ≡ is_for self body.now }
+    {
+        match self {
+            Who::All => true,
+            Who::Takers => body.takes_money(),
+            Who::Acceptors => body.is_acceptor(),
+            Who::Bills => body.is_bill(),
+            Who::Hoppers => body.is_hopper(),
+        }
+    }
 }
 
 /// What a trial needs.
@@ -90,6 +156,8 @@ pub enum Ask {
     Credits,
     /// The coin of the place of the round (184).
     Coin,
+    /// The bill of the place of the round (157).
+    Bill,
     /// The mask of the place of the round alone (231).
     Bit,
     /// The mask of the place that is tried alone (231).
@@ -126,6 +194,8 @@ pub enum Want {
     NobodyElse,
     /// A reply with these data.
     Reply(Expected),
+    /// A reply that tells this. Not each device knows the question: where nothing comes, or a refusal, nothing is shown.
+    IfTold(Told),
     /// An acknowledgement, by which the device shows that it hears again.
     Well,
     /// An acknowledgement of a dispense. Where it is refused nothing is shown.
@@ -164,6 +234,8 @@ pub enum Told {
     Category,
     /// The identification of the coin of the round's place, where the setup has one.
     Coin,
+    /// That of the bill, of whose seven characters the setup has the first six.
+    Bill,
     /// The mask of the round.
     Bit,
 }

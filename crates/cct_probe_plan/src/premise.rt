@@ -1,6 +1,9 @@
 //! What is relied on of devices. Each premise stands as a definition in `cct_model_wire` or `cct_laws_live_port`; what rests on it is one of
 //! the promises.
 
+ghost use Rattle.std.specs.Prelude.{◌≡◌, ◌≤◌, length};
+ghost use Rattle.cct_probe_plan.specs.Words.{common_word, hopper_word, premise_word, taker_word};
+
 /// What is promised of the machine.
 #[derive(Clone, Copy)]
 pub enum Promise {
@@ -81,7 +84,7 @@ pub enum OfTaker {
     Count,
     /// A power cut is a reset (`Met.reset` of `History`).
     Power,
-    /// The coins of its places are the setup's (`id_at` of `Acceptor`).
+    /// The coins or bills of its places are the setup's (`id_at` of `Acceptor`; `ids` of `DeviceBody`).
     Places,
     /// A held bill goes where it is routed, once (`bill_held`, `stacked_by` of `Bill`).
     Route,
@@ -110,7 +113,10 @@ pub enum OfHopper {
 
 impl Premise {
     /// The word by which it is told.
-    pub fn word(self) -> &'static [u8] {
+    pub fn word(self) -> &'static [u8]
+        ensures word { result.now ≡ premise_word self }
+        ensures short { length result.now ≤ 10 }
+    {
         match self {
             Premise::Common(premise) => premise.word(),
             Premise::Line(OfLine::Others) => b"others",
@@ -153,7 +159,10 @@ impl Premise {
 }
 
 impl Common {
-    fn word(self) -> &'static [u8] {
+    fn word(self) -> &'static [u8]
+        ensures word { result.now ≡ common_word self }
+        ensures short { length result.now ≤ 10 }
+    {
         match self {
             Common::Answers => b"answers",
             Common::Prompt => b"prompt",
@@ -174,7 +183,10 @@ impl Common {
 }
 
 impl OfTaker {
-    fn word(self) -> &'static [u8] {
+    fn word(self) -> &'static [u8]
+        ensures word { result.now ≡ taker_word self }
+        ensures short { length result.now ≤ 10 }
+    {
         match self {
             OfTaker::Empty => b"empty",
             OfTaker::Inhibited => b"inhibited",
@@ -192,7 +204,10 @@ impl OfTaker {
 }
 
 impl OfHopper {
-    fn word(self) -> &'static [u8] {
+    fn word(self) -> &'static [u8]
+        ensures word { result.now ≡ hopper_word self }
+        ensures short { length result.now ≤ 10 }
+    {
         match self {
             OfHopper::Rises => b"rises",
             OfHopper::Life => b"life",

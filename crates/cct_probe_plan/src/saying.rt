@@ -55,6 +55,7 @@ fn header_of(ask: Ask, body: &DeviceBody) -> u8
         Ask::Two { header, .. } => header,
         Ask::Credits => { if body.is_bill() { 159 } else { 229 } }
         Ask::Coin => 184,
+        Ask::Bill => 157,
         Ask::Bit | Ask::Place => 231,
         Ask::Dispense { .. } => 167,
     }
@@ -69,7 +70,7 @@ fn write_data(ask: Ask, turn: Turn<'_>, bytes: &mut ArrayVec<u8, 4>)
         Ask::Plain { .. } | Ask::Credits => {}
         Ask::One { data: byte, .. } => bytes.push(byte),
         Ask::Two { first, second, .. } => push_two([first, second], bytes),
-        Ask::Coin => bytes.push(place_of(turn.round)),
+        Ask::Coin | Ask::Bill => bytes.push(place_of(turn.round)),
         Ask::Bit => push_two(mask_of(place_of(turn.round)), bytes),
         Ask::Place => push_two(mask_of(tried_place(&turn.device.body)), bytes),
         Ask::Dispense { coins, is_own } => {

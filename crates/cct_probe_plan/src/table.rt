@@ -134,7 +134,7 @@ const SERIAL: Step = asks!(plain!(242), Expected::Said(Told::Serial));
 const ANY_SERIAL: Step = asks!(plain!(242), Expected::Any(3));
 
 /// The trials, in their order.
-pub static TRIALS: [Trial; 47] = [
+pub(crate) static TRIALS: [Trial; 48] = [
     // Each device.
     common!(b"here", Common::Answers, 3, &[POLL]),
     common!(b"serial", Common::Identity, 1, &[SERIAL]),
@@ -249,6 +249,15 @@ pub static TRIALS: [Trial; 47] = [
         need: Need::Nothing,
         rounds: 16,
         steps: &[asks!(Say::Ask(Ask::Coin), Expected::Said(Told::Coin))],
+    },
+    Trial {
+        name: b"places",
+        part: Part::Device,
+        who: Who::Bills,
+        premise: Premise::Taker(OfTaker::Places),
+        need: Need::Nothing,
+        rounds: 16,
+        steps: &[step!(Say::Ask(Ask::Bill), Want::IfTold(Told::Bill))],
     },
     // Acceptors of coins, with a person.
     by_hand!(

@@ -64,6 +64,7 @@ fn said(told: Told, turn: Turn<'_>, data: &[u8]) -> Fits {
         }
         Told::Category => of_value(is_category(turn.device, data)),
         Told::Coin => fits_coin(turn.device, place_of(turn.round), data),
+        Told::Bill => fits_bill(turn.device, place_of(turn.round), data),
         Told::Bit => same(&mask_of(place_of(turn.round)), data),
     }
 }
@@ -78,19 +79,27 @@ fn is_category(device: &DeviceSetup, data: &[u8]) -> bool {
 
 /// The identification of a coin, where the setup has one.
 fn fits_coin(device: &DeviceSetup, place: u8, data: &[u8]) -> Fits {
-    match coin_at(&device.body, place) {
+    match id_at(&device.body, place) {
         Some(id) => same(&id, data),
         None => of_form(data.len() == 6),
     }
 }
 
-/// The identification of the coin of a place, where the setup has one.
-fn coin_at(body: &DeviceBody, place: u8) -> Option<[u8; 6]> {
+/// The identification of a bill, where the setup has one: the setup leaves out the last character, the letter of the issue.
+fn fits_bill(device: &DeviceSetup, place: u8, data: &[u8]) -> Fits {
+    match (id_at(&device.body, place), data) {
+        (Some(id), [front @ .., _]) => same(&id, front),
+        (Some(_), []) => Fits::Form,
+        (None, _) => of_form(data.len() == 7),
+    }
+}
+
+/// The identification of the coin or the bill of a place, where the setup has one.
+pub(crate) fn id_at(body: &DeviceBody, place: u8) -> Option<[u8; 6]> {
     let at = usize::from(place.saturating_sub(1)) % COIN_PLACES;
     match body {
-        DeviceBody::Acceptor { values, ids, .. } if values[at] != 0 && ids[at] != NO_COIN => {
-            Some(ids[at])
-        }
+        DeviceBody::Acceptor { values, ids, .. } | DeviceBody::Bill { values, ids, .. }
+            if values[at] != 0 && ids[at] != NO_COIN => { Some(ids[at]) }
         _ => None,
     }
 }

@@ -1,2 +1,4 @@
 pub mod Playing
+pub mod Showing
+pub mod Sending
 pub mod Ordering

@@ -17,6 +17,7 @@ no_order (say.Ask (ask.One header byte)) some none = tt
 no_order (say.Ask (ask.Two header first second)) some none = tt
 no_order (say.Ask ask.Credits) some none = tt
 no_order (say.Ask ask.Coin) some none = tt
+no_order (say.Ask ask.Bill) some none = tt
 no_order (say.Ask ask.Bit) some none = tt
 no_order (say.Ask ask.Place) some none = tt
 no_order (say.Odd o) some none = tt

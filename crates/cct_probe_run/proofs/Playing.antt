@@ -9,7 +9,7 @@ use Rattle.cct_probe_plan.specs.declared.plan.Step.{Step}
 use Rattle.cct_probe_plan.specs.declared.plan.Trial.{Trial}
 use Rattle.cct_live_port.specs.Port.{Gives, with_gap}
 use Rattle.cct_probe_run.specs.declared.bench.Bench.{Bench}
-use Rattle.cct_probe_run.specs.Plays.{Begun, EndsWithWire, Given, IsNoEmptyOrder, IsOfPlan, IsStep, Plays, begins_broken, coins_of, exchanged, told, wire_text}
+use Rattle.cct_probe_run.specs.Plays.{Begun, Given, IsNoEmptyOrder, IsOfPlan, IsStep, Plays, TellsBroken, begins_broken, coins_of, exchanged, told, wire_text}
 
 clash : false ≡ true → ⊥
 clash e = cc
@@ -21,9 +21,10 @@ no_break (byte ∷ bytes) piece begun is breaks = clash (sym begun ∙ ap begins
 
 -- What was put ends with the line of an exchange.
 pub ends : (piece line front : List ℕ) (addr : ℕ) {told_sent told_heard sent heard : List ℕ} → piece ≡ line
-    → line ≡ front ++ wire_text addr told_sent told_heard → told_sent ≡ sent → told_heard ≡ heard → EndsWithWire piece sent heard
+    → line ≡ front ++ wire_text addr told_sent told_heard → told_sent ≡ sent → told_heard ≡ heard
+    → piece ≡ front ++ wire_text addr sent heard
 ends piece line front addr {told_sent} {told_heard} {sent} {heard} is wire s h =
-    (front, addr, is ∙ wire ∙ ap (λ bytes. front ++ wire_text addr bytes told_heard) s ∙ ap (λ bytes. front ++ wire_text addr sent bytes) h)
+    is ∙ wire ∙ ap (λ bytes. front ++ wire_text addr bytes told_heard) s ∙ ap (λ bytes. front ++ wire_text addr sent bytes) h
 
 -- A step of a trial of a plan is one of the plan.
 pub step_of : (trials : List Trial) (trial : Trial) (this : Step) → Contains trials trial → Contains trial.steps.now this
@@ -54,7 +55,7 @@ module _ {L K : Type 0} {reads : L → Option (List ℕ) → L → Type 0} {writ
 
   pub one_put : {first before after : Bench L K} (piece : List ℕ) (result : Result (Unit {0}) Failed)
       → puts before.out piece result after.out
-      → (begins_broken piece ≡ true → EndsWithWire piece before.sent.items before.heard.items)
+      → (begins_broken piece ≡ true → TellsBroken setup trials piece before.sent.items before.heard.items)
       → after.port ≡ before.port → after.sent.items ≡ before.sent.items → after.heard.items ≡ before.heard.items
       → after.asked ≡ before.asked → after.leave ≡ before.leave
       → Plays reads writes puts setup trials first before → Plays reads writes puts setup trials first after

@@ -1,6 +1,6 @@
 -- What was done on a line with the devices of a setup by a plan of trials: each exchange is one of its rows, coins are ordered with
--- leave alone, and what tells a premise broken tells the last exchange.
-use Rattle.std.specs.Prelude.{◌≡◌, ◌⊎◌, ℕ, ◌+◌, ◌≤◌, ◌==◌, Bool, true, false, List, [], ◌∷◌, ◌++◌, length, Option, Result}
+-- leave alone, and what tells a premise broken names a trial that may show it, and tells the last exchange, which is a row of it.
+use Rattle.std.specs.Prelude.{◌≡◌, ◌⊎◌, ℕ, ◌+◌, ◌≤◌, ◌==◌, Bool, true, false, List, [], ◌∷◌, ◌++◌, length, codes, Option, Result}
 use Rattle.std.specs.List.{Contains}
 use Rattle.cct_edge.specs.declared.fault.Failed.{Failed}
 use Rattle.cct_model_wire.specs.declared.device.DeviceSetup.{DeviceSetup}
@@ -14,8 +14,12 @@ use Rattle.cct_probe_plan.specs.declared.plan.Say.{Say}
 use Rattle.cct_probe_plan.specs.declared.plan.Step.TheVariants as step
 use Rattle.cct_probe_plan.specs.declared.plan.Step.{Step}
 use Rattle.cct_probe_plan.specs.declared.plan.Trial.{Trial}
+use Rattle.cct_probe_plan.specs.declared.premise.Premise.{Premise}
+use Rattle.cct_probe_plan.specs.Judging.{IsTried}
 use Rattle.cct_probe_plan.specs.Saying.{IsSaid}
+use Rattle.cct_probe_plan.specs.Words.{premise_word}
 use Rattle.cct_probe_run.specs.declared.bench.Bench.{Bench}
+use Rattle.cct_probe_run.specs.declared.telling.TheConstants.{MOST_NAME}
 
 -- A step of a plan says this.
 abbrev pub Says : Step → Say → Type 0
@@ -46,6 +50,7 @@ coins_in (ask.One header byte) = 0
 coins_in (ask.Two header first second) = 0
 coins_in ask.Credits = 0
 coins_in ask.Coin = 0
+coins_in ask.Bill = 0
 coins_in ask.Bit = 0
 coins_in ask.Place = 0
 coins_in (ask.Dispense coins is_own) = coins
@@ -85,9 +90,30 @@ abbrev pub wire_text : ℕ → List ℕ → List ℕ → List ℕ
 wire_text addr sent heard =
     119 ∷ 105 ∷ 114 ∷ 101 ∷ 32 ∷ number_text addr ++ 32 ∷ piece_field sent ++ 32 ∷ piece_field heard ++ 10 ∷ []
 
--- Bytes end with the line of an exchange.
-abbrev pub EndsWithWire : List ℕ → List ℕ → List ℕ → Type 0
-EndsWithWire piece sent heard = (front : List ℕ) × (addr : ℕ) × (piece ≡ front ++ wire_text addr sent heard)
+-- The line that tells a premise of a device broken, by a trial.
+abbrev pub broken_text : ℕ → Premise → List ℕ → List ℕ
+broken_text addr this name = codes "broken " ++ number_text addr ++ 32 ∷ premise_word this ++ 32 ∷ name ++ 10 ∷ []
+
+-- Bytes were sent for a row of these trials at a device of the setup, where this premise was tried or any exchange may show it.
+pub record Shows (setup : Setup) (trials : List Trial) (tried this : Premise) (sent : List ℕ) : Type 0 where
+  pub device : DeviceSetup
+  pub there : Contains setup.devices device
+  pub round : ℕ
+  pub said : Say
+  pub of_plan : IsOfPlan trials said
+  pub bytes : IsSaid said setup device round sent
+  pub premise : IsTried tried this
+
+-- Bytes tell a premise broken: they name a trial of the plan that may show it, and end with an exchange, which is a row of this trial.
+pub record TellsBroken (setup : Setup) (trials : List Trial) (piece sent heard : List ℕ) : Type 0 where
+  pub trial : Trial
+  pub of_plan : Contains trials trial
+  pub addr : ℕ
+  pub this : Premise
+  pub shows : Shows setup (trial ∷ []) trial.premise this sent
+  pub front : List ℕ
+  pub text : piece ≡ front ++ wire_text addr sent heard
+  pub names : length trial.name.now ≤ MOST_NAME → front ≡ broken_text addr this trial.name.now
 
 module _ {L K : Type 0} (reads : L → Option (List ℕ) → L → Type 0) (writes : L → List ℕ → Result (Unit {0}) Failed → L → Type 0) (setup : Setup) where
   -- One exchange was made with a device, in a round.
@@ -116,12 +142,12 @@ module _ {L K : Type 0} (reads : L → Option (List ℕ) → L → Type 0) (writ
     pub leave : after.leave ≡ before.leave
     pub out : after.out ≡ before.out
 
-  -- Something was put: if it begins as a line `broken` does, it ends with the line of the last exchange.
+  -- Something was put: if it begins as a line `broken` does, it tells the last exchange.
   pub record Tells (before after : Bench L K) : Type 0 where
     pub piece : List ℕ
     pub result : Result (Unit {0}) Failed
     pub put : puts before.out piece result after.out
-    pub shows : begins_broken piece ≡ true → EndsWithWire piece before.sent.items before.heard.items
+    pub shows : begins_broken piece ≡ true → TellsBroken setup trials piece before.sent.items before.heard.items
     pub port : after.port ≡ before.port
     pub sent : after.sent.items ≡ before.sent.items
     pub heard : after.heard.items ≡ before.heard.items

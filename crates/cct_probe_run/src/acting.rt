@@ -1,11 +1,14 @@
 //! One step of a trial.
-ghost use Rattle.std.specs.Prelude.{List};
+ghost use Rattle.std.specs.Prelude.{List, IfOk};
 ghost use Rattle.std.specs.List.{Contains};
 ghost use Rattle.cct_model_wire.specs.declared.device.Setup.{Setup};
 ghost use Rattle.cct_probe_plan.specs.declared.plan.Ask.TheVariants as ask;
+ghost use Rattle.cct_probe_plan.specs.Saying.{IsSaid};
+ghost use Rattle.cct_probe_plan.specs.declared.plan.Say.{Say};
 ghost use Rattle.cct_probe_plan.specs.declared.plan.Say.TheVariants as say;
 ghost use Rattle.cct_probe_plan.specs.declared.plan.Trial.{Trial};
 ghost use Rattle.cct_probe_run.specs.Plays.{IsOfPlan, IsStep, Plays};
+ghost use Rattle.cct_probe_run.specs.Showing.{NamesIf, ShowsIf};
 ghost use Rattle.cct_probe_run.specs.declared.bench.Bench.{Bench};
 
 use crate::bench::{Bench, Exchanged, Plan, Stop};
@@ -47,6 +50,7 @@ pub(crate) fn act<L: Line, K: Sink, S: Source>(
     requires of_plan { IsStep plan.trials.now step }
     requires there { Contains plan.setup.now.devices turn.device.now }
     ensures plays { (first : Bench L K) → Plays L.reads L.writes K.puts plan.entry.setup.now plan.entry.trials.now first bench.old → Plays L.reads L.writes K.puts plan.entry.setup.now plan.entry.trials.now first bench.new }
+    ensures shows { (trials : List Trial) → IsStep trials step → IfOk result (ShowsIf plan.entry.setup.now trials turn.entry.premise bench.new.sent.items) }
 {
     match step {
         Step::Asks { say, want } => ask(bench, plan, turn, memory, say, want),
@@ -67,10 +71,27 @@ fn ask<L: Line, K: Sink>(
     requires of_plan { IsOfPlan plan.trials.now say }
     requires there { Contains plan.setup.now.devices turn.device.now }
     ensures plays { (first : Bench L K) → Plays L.reads L.writes K.puts plan.entry.setup.now plan.entry.trials.now first bench.old → Plays L.reads L.writes K.puts plan.entry.setup.now plan.entry.trials.now first bench.new }
+    ensures shows { (trials : List Trial) → IsOfPlan trials say → IfOk result (ShowsIf plan.entry.setup.now trials turn.entry.premise bench.new.sent.items) }
 {
-    if let Some(done) = exchanged(bench.exchange(plan, say, turn))? {
-        return Ok(done);
+    match bench.exchange(plan, say, turn) {
+        Exchanged::Heard => judged(bench, plan, turn, memory, want),
+        Exchanged::NoCoins => Ok(Done::Untried(Why::Coins)),
+        Exchanged::Fault => Err(Stop::PortFault),
     }
+}
+
+/// Tells what the last exchange shows.
+fn judged<L: Line, K: Sink>(
+    bench: &mut Bench<L, K>,
+    plan: Plan<'_>,
+    turn: Turn<'_>,
+    memory: &mut Memory,
+    want: Want,
+) -> Result<Done, Stop>
+    requires there { Contains plan.setup.now.devices turn.device.now }
+    ensures plays { (first : Bench L K) → Plays L.reads L.writes K.puts plan.entry.setup.now plan.entry.trials.now first bench.old → Plays L.reads L.writes K.puts plan.entry.setup.now plan.entry.trials.now first bench.new }
+    ensures shows { (trials : List Trial) (say : Say) → IsOfPlan trials say → IsSaid say plan.entry.setup.now turn.entry.device.now turn.entry.round bench.old.sent.items → IfOk result (ShowsIf plan.entry.setup.now trials turn.entry.premise bench.new.sent.items) }
+{
     match judge(want, turn, memory, bench.sent(), bench.heard()) {
         Shown::Right => {
             bench.tell_wire(turn.told)?;
@@ -78,7 +99,11 @@ fn ask<L: Line, K: Sink>(
         }
         Shown::Silence(premise) => {
             bench.tell_wire(turn.told)?;
-            listen(bench, plan, turn, premise)
+            listen(bench, plan, turn, Done::Broken(premise))
+        }
+        Shown::Untold => {
+            bench.tell_wire(turn.told)?;
+            listen(bench, plan, turn, Done::Untried(Why::Silent))
         }
         Shown::Refused => {
             bench.tell_wire(turn.told)?;
@@ -88,33 +113,24 @@ fn ask<L: Line, K: Sink>(
     }
 }
 
-/// What ends a step before it is judged.
-fn exchanged(exchanged: Exchanged) -> Result<Option<Done>, Stop> {
-    match exchanged {
-        Exchanged::Heard => Ok(None),
-        Exchanged::NoCoins => Ok(Some(Done::Untried(Why::Coins))),
-        Exchanged::Fault => Err(Stop::PortFault),
-    }
-}
-
-/// Listens once more where no answer came: whether it comes late. If it doesn't, this premise is broken.
+/// Listens once more where no answer came: whether it comes late. If it doesn't, this is what came of the step.
 fn listen<L: Line, K: Sink>(
     bench: &mut Bench<L, K>,
     plan: Plan<'_>,
     turn: Turn<'_>,
-    premise: Premise,
+    silent: Done,
 ) -> Result<Done, Stop>
     requires there { Contains plan.setup.now.devices turn.device.now }
+    requires names { NamesIf turn.premise silent }
     ensures plays { (first : Bench L K) → Plays L.reads L.writes K.puts plan.entry.setup.now plan.entry.trials.now first bench.old → Plays L.reads L.writes K.puts plan.entry.setup.now plan.entry.trials.now first bench.new }
+    ensures shows { (trials : List Trial) → IfOk result (ShowsIf plan.entry.setup.now trials turn.entry.premise bench.new.sent.items) }
 {
-    if let Some(done) = exchanged(bench.exchange(plan, Say::Nothing { at_once: true }, turn))? {
-        return Ok(done);
+    match bench.exchange(plan, Say::Nothing { at_once: true }, turn) {
+        Exchanged::Heard if bench.heard().is_empty() => Ok(silent),
+        Exchanged::Heard => Ok(Done::Broken(Premise::Common(Common::Prompt))),
+        Exchanged::NoCoins => Ok(Done::Untried(Why::Coins)),
+        Exchanged::Fault => Err(Stop::PortFault),
     }
-    Ok(Done::Broken(if bench.heard().is_empty() {
-        premise
-    } else {
-        Premise::Common(Common::Prompt)
-    }))
 }
 
 /// Asks a hopper for its status until it has no coin left to pay.
@@ -126,16 +142,24 @@ fn wait<L: Line, K: Sink>(
     requires of_plan { IsOfPlan plan.trials.now (say.Ask (ask.Plain 166)) }
     requires there { Contains plan.setup.now.devices turn.device.now }
     ensures plays { (first : Bench L K) → Plays L.reads L.writes K.puts plan.entry.setup.now plan.entry.trials.now first bench.old → Plays L.reads L.writes K.puts plan.entry.setup.now plan.entry.trials.now first bench.new }
+    ensures shows { (trials : List Trial) → IfOk result (ShowsIf plan.entry.setup.now trials turn.entry.premise bench.new.sent.items) }
 {
     let say = Say::Ask(Ask::Plain { header: STATUS });
     let turn = turn.slow();
     for _ in 0..MOST_WAITS {
-        if let Some(done) = exchanged(bench.exchange(plan, say, turn))? {
-            return Ok(done);
+        match bench.exchange(plan, say, turn) {
+            Exchanged::Heard => {}
+            Exchanged::NoCoins => return Ok(Done::Untried(Why::Coins)),
+            Exchanged::Fault => return Err(Stop::PortFault),
         }
         bench.tell_wire(turn.told)?;
         if bench.heard().len() <= bench.sent().len() {
-            return listen(bench, plan, turn, Premise::Common(Common::Answers));
+            return listen(
+                bench,
+                plan,
+                turn,
+                Done::Broken(Premise::Common(Common::Answers)),
+            );
         }
         if has_paid(bench.sent(), bench.heard()) {
             return Ok(Done::On);
@@ -160,6 +184,7 @@ fn prompt<L: Line, K: Sink, S: Source>(
     act: Act,
 ) -> Result<Done, Stop>
     ensures plays { (setup : Setup) (trials : List Trial) (first : Bench L K) → Plays L.reads L.writes K.puts setup trials first bench.old → Plays L.reads L.writes K.puts setup trials first bench.new }
+    ensures shows { (setup : Setup) (trials : List Trial) → IfOk result (ShowsIf setup trials turn.entry.premise bench.new.sent.items) }
 {
     let body = &turn.device.body;
     bench.tell(&prompt_of(act, turn.told, body.is_bill(), tried_place(body)))?;

@@ -1,16 +1,19 @@
 //! What a bench does: one exchange of a plan, or one line.
-ghost use Rattle.std.specs.Prelude.{◌≡◌, ◌≤◌, List, true};
+ghost use Rattle.std.specs.Prelude.{◌≡◌, ◌≤◌, ◌∷◌, [], List, true};
 ghost use Rattle.std.specs.List.{Contains};
 ghost use Rattle.cct_model_wire.specs.declared.device.Setup.{Setup};
 ghost use Rattle.cct_probe_plan.specs.declared.plan.Trial.{Trial};
-ghost use Rattle.cct_probe_run.specs.Plays.{Begun, Given, IsNoEmptyOrder, IsOfPlan, Plays, coins_of};
+ghost use Rattle.cct_probe_plan.specs.Saying.{IsSaid};
+ghost use Rattle.cct_probe_run.specs.declared.bench.Exchanged.TheVariants.{Heard};
+ghost use Rattle.cct_probe_run.specs.Leaving.{Sent};
+ghost use Rattle.cct_probe_run.specs.Plays.{Begun, Given, IsNoEmptyOrder, IsNoOrder, IsOfPlan, Plays, Shows, coins_of};
 ghost use Rattle.cct_probe_run.specs.declared.bench.Bench.{Bench};
 
 use crate::bench::{Bench, Exchanged, Plan, Stop};
 use crate::telling::{begin_broken, push_wire};
 use cct_edge::Sink;
 use cct_live_port::Line;
-use cct_probe_plan::{Ask, Premise, Say, Turn, write_say};
+use cct_probe_plan::{Ask, Premise, Say, Trial, Turn, write_say};
 use cct_text::TextLine;
 use cct_wire::Link;
 
@@ -20,9 +23,14 @@ impl<L: Line, K: Sink> Bench<L, K> {
         requires of_plan { IsOfPlan plan.trials.now say }
         requires there { Contains plan.setup.now.devices turn.device.now }
         ensures plays { (first : Bench L K) → Plays L.reads L.writes K.puts plan.entry.setup.now plan.entry.trials.now first self.old → Plays L.reads L.writes K.puts plan.entry.setup.now plan.entry.trials.now first self.new }
+        ensures bytes { result ≡ Heard → IsSaid say plan.entry.setup.now turn.entry.device.now turn.entry.round self.new.sent.items }
+        ensures sent { IsNoOrder say → Sent L.reads L.writes K.puts plan.entry.setup.now turn.entry.device.now turn.entry.round say self.old self.new }
     {
         let coins = coins_of(say);
-        if !is_order(say) || coins > self.leave.coins - self.asked {
+        if !is_order(say) {
+            return Exchanged::NoCoins;
+        }
+        if coins > self.leave.coins - self.asked {
             return Exchanged::NoCoins;
         }
         self.asked += coins;
@@ -78,12 +86,12 @@ impl<L: Line, K: Sink> Bench<L, K> {
         &mut self,
         addr: u8,
         premise: Premise,
-        name: &[u8],
+        trial: &Trial,
     ) -> Result<(), Stop>
-        ensures plays { (setup : Setup) (trials : List Trial) (first : Bench L K) → Plays L.reads L.writes K.puts setup trials first self.old → Plays L.reads L.writes K.puts setup trials first self.new }
+        ensures plays { (setup : Setup) (trials : List Trial) (first : Bench L K) → Contains trials trial.now → Shows setup (trial.now ∷ []) trial.now.premise premise self.old.sent.items → Plays L.reads L.writes K.puts setup trials first self.old → Plays L.reads L.writes K.puts setup trials first self.new }
     {
         let mut line = TextLine::new();
-        begin_broken(&mut line, addr, premise, name);
+        begin_broken(&mut line, addr, premise, trial.name);
         let (sent, heard) = (self.sent.as_slice(), self.heard.as_slice());
         push_wire(&mut line, addr, sent, heard);
         self.out.put(line.as_slice())?;
@@ -94,6 +102,7 @@ impl<L: Line, K: Sink> Bench<L, K> {
 /// How many coins are ordered by what is said.
 fn coins_of(say: Say) -> u16
     ensures value { result ≡ coins_of say }
+    ensures none { IsNoOrder say → result ≡ 0 }
 {
     match say {
         Say::Ask(Ask::Dispense { coins, .. }) => u16::from(coins),
@@ -103,7 +112,8 @@ fn coins_of(say: Say) -> u16
 
 /// Whether what is said is no order of no coin.
 fn is_order(say: Say) -> bool
-    ensures { result ≡ true → IsNoEmptyOrder say }
+    ensures some { result ≡ true → IsNoEmptyOrder say }
+    ensures other { IsNoOrder say → result ≡ true }
 {
     match say {
         Say::Ask(Ask::Dispense { coins, .. }) => coins > 0,

@@ -1,17 +1,19 @@
 //! All trials at all devices.
 ghost use Rattle.std.specs.List.{Contains};
-ghost use Rattle.cct_probe_run.specs.Plays.{IsOfPlan, Plays};
+ghost use Rattle.cct_probe_run.specs.Leaving.{EndsLeft};
+ghost use Rattle.cct_probe_run.specs.Plays.{Plays};
 ghost use Rattle.cct_probe_run.specs.declared.bench.Bench.{Bench};
 
-use crate::bench::{Bench, Exchanged, Plan, Stop};
+use crate::bench::{Bench, Plan, Stop};
 use crate::findings::{Findings, Standing, Why};
+use crate::leaving::{close, leave};
 use crate::person::{Clock, Person};
 use crate::summary::{is_any_broken, tell_coins, tell_device, tell_promises};
-use crate::trying::{is_for, try_out};
+use crate::trying::try_out;
 use cct_edge::{Sink, Source};
 use cct_live_port::Line;
 use cct_model_lines::DeviceSetup;
-use cct_probe_plan::{Common, Memory, Part, Premise, Say, Step, Trial, Turn};
+use cct_probe_plan::{Common, Ending, Memory, Part, Premise, Trial};
 
 const ALONE: Premise = Premise::Common(Common::Alone);
 
@@ -30,9 +32,35 @@ pub enum Ended {
     NothingHeard,
 }
 
-/// Does the trials of the plan at each device of the setup, one after the other, then those of the line; and tells at last
-/// which promises hold.
+/// Does the trials of the plan at each device of the setup, one after the other, then those of the line; and tells
+/// which promises hold. However that ends, each device is left at last as it may stay.
 pub fn run<L: Line, K: Sink, S: Source, C: Clock>(
+    bench: &mut Bench<L, K>,
+    plan: Plan<'_>,
+    person: &mut Person<S>,
+    clock: &mut C,
+) -> Result<Ended, Stop>
+    ensures plays { (first : Bench L K) → Plays L.reads L.writes K.puts plan.entry.setup.now plan.entry.trials.now first bench.old → Plays L.reads L.writes K.puts plan.entry.setup.now plan.entry.trials.now first bench.new }
+    // At last each device is sent what the plan has for its end, also where the port fails, and nothing else to anybody.
+    ensures leaves { EndsLeft L.reads L.writes K.puts plan.entry.setup.now plan.entry.trials.now bench.old bench.new }
+{
+    let ended = try_all(bench, plan, person, clock);
+    match leave(bench, plan) {
+        Ok(()) => ended,
+        Err(stop) => ended_or(stop, ended),
+    }
+}
+
+/// How trials ended after which devices couldn't be left: so, where nothing else stopped them.
+fn ended_or(stop: Stop, ended: Result<Ended, Stop>) -> Result<Ended, Stop> {
+    match ended {
+        Ok(_) => Err(stop),
+        Err(first) => Err(first),
+    }
+}
+
+/// Does all trials, and tells which promises hold.
+fn try_all<L: Line, K: Sink, S: Source, C: Clock>(
     bench: &mut Bench<L, K>,
     plan: Plan<'_>,
     person: &mut Person<S>,
@@ -98,7 +126,7 @@ fn run_device<L: Line, K: Sink, S: Source, C: Clock>(
         if trial.premise == ALONE {
             memory.gap = gap_after(findings, device.addr);
         }
-        close(bench, plan, device, Part::Closing, memory.gap)?;
+        close(bench, plan, device, Ending::Trial, memory.gap)?;
     }
     note_always(findings, device.addr, is_there)?;
     tell_device(bench, findings, device.addr)?;
@@ -131,7 +159,7 @@ fn note_always(findings: &mut Findings, addr: u8, is_there: bool) -> Result<(), 
 
 /// Whether a trial is one of a device, and for this one.
 fn is_of_device(trial: &Trial, device: &DeviceSetup) -> bool {
-    matches!(trial.part, Part::Device | Part::Timed) && is_for(trial.who, &device.body)
+    matches!(trial.part, Part::Device | Part::Timed) && trial.who.has(&device.body)
 }
 
 /// Does the trials of the line.
@@ -163,91 +191,4 @@ fn run_line<L: Line, K: Sink, S: Source, C: Clock>(
         }
     }
     tell_device(bench, findings, 0)
-}
-
-/// Leaves each device as it may stay, whatever it answers.
-pub fn leave<L: Line, K: Sink>(bench: &mut Bench<L, K>, plan: Plan<'_>)
-    ensures plays { (first : Bench L K) → Plays L.reads L.writes K.puts plan.entry.setup.now plan.entry.trials.now first bench.old → Plays L.reads L.writes K.puts plan.entry.setup.now plan.entry.trials.now first bench.new }
-{
-    for device in plan.setup.devices.as_slice() {
-        let _ = close(bench, plan, device, Part::Leaving, 1);
-    }
-}
-
-/// Does what the plan has for the end of a trial, or of all, whatever comes.
-fn close<L: Line, K: Sink>(
-    bench: &mut Bench<L, K>,
-    plan: Plan<'_>,
-    device: &DeviceSetup,
-    part: Part,
-    gap: u16,
-) -> Result<(), Stop>
-    requires there { Contains plan.setup.now.devices device.now }
-    ensures plays { (first : Bench L K) → Plays L.reads L.writes K.puts plan.entry.setup.now plan.entry.trials.now first bench.old → Plays L.reads L.writes K.puts plan.entry.setup.now plan.entry.trials.now first bench.new }
-{
-    for trial in plan.trials {
-        if trial.part == part && is_for(trial.who, &device.body) {
-            close_by(bench, plan, device, gap, trial)?;
-        }
-    }
-    Ok(())
-}
-
-/// Makes the exchanges of a trial, whatever comes. It stops only where the port fails.
-fn close_by<L: Line, K: Sink>(
-    bench: &mut Bench<L, K>,
-    plan: Plan<'_>,
-    device: &DeviceSetup,
-    gap: u16,
-    trial: &Trial,
-) -> Result<(), Stop>
-    requires of_plan { Contains plan.trials.now trial.now }
-    requires there { Contains plan.setup.now.devices device.now }
-    ensures plays { (first : Bench L K) → Plays L.reads L.writes K.puts plan.entry.setup.now plan.entry.trials.now first bench.old → Plays L.reads L.writes K.puts plan.entry.setup.now plan.entry.trials.now first bench.new }
-{
-    let turn = Turn {
-        device,
-        told: device.addr,
-        round: 0,
-        premise: trial.premise,
-        gap,
-    };
-    let mut put = Ok(());
-    for step in trial.steps {
-        let Step::Asks { say, .. } = *step else {
-            continue;
-        };
-        let closed = close_once(bench, plan, turn, say);
-        if closed == Err(Stop::PortFault) {
-            return closed;
-        }
-        if put.is_ok() {
-            put = closed;
-        }
-    }
-    put
-}
-
-/// Makes one exchange, whatever comes. Where nothing comes it listens once more, so that a late reply isn't heard in the next.
-fn close_once<L: Line, K: Sink>(
-    bench: &mut Bench<L, K>,
-    plan: Plan<'_>,
-    turn: Turn<'_>,
-    say: Say,
-) -> Result<(), Stop>
-    requires of_plan { IsOfPlan plan.trials.now say }
-    requires there { Contains plan.setup.now.devices turn.device.now }
-    ensures plays { (first : Bench L K) → Plays L.reads L.writes K.puts plan.entry.setup.now plan.entry.trials.now first bench.old → Plays L.reads L.writes K.puts plan.entry.setup.now plan.entry.trials.now first bench.new }
-{
-    if bench.exchange(plan, say, turn) == Exchanged::Fault {
-        return Err(Stop::PortFault);
-    }
-    let put = bench.tell_wire(turn.told);
-    if bench.heard().len() > bench.sent().len() {
-        return put;
-    }
-    if bench.exchange(plan, Say::Nothing { at_once: true }, turn) == Exchanged::Fault {
-        return Err(Stop::PortFault);
-    }
-    put
 }

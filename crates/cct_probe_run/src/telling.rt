@@ -2,7 +2,7 @@
 ghost use Rattle.std.specs.Prelude.{◌≡◌, ◌≤◌, ◌+◌, ◌*◌, ◌∷◌, ◌++◌, length};
 ghost use Rattle.cct_model_lines.specs.Text.{piece_field};
 ghost use Rattle.cct_model_wire.specs.declared.wire.TheConstants.{MOST_HEARD, MOST_SENT};
-ghost use Rattle.cct_probe_run.specs.Plays.{Begun, IsOther, wire_text};
+ghost use Rattle.cct_probe_run.specs.Plays.{Begun, IsOther, broken_text, wire_text};
 
 use cct_model_lines::MOST_TEXT;
 use cct_probe_plan::{Act, Premise, Promise};
@@ -10,6 +10,9 @@ use cct_text::TextLine;
 
 /// The most bytes before the exchange in a line `broken`.
 const MOST_FRONT: usize = 1000;
+
+/// The most bytes of a trial's name that is told there.
+const MOST_NAME: usize = 100;
 
 /// Adds bytes, if there is room.
 pub(crate) fn add(line: &mut TextLine, bytes: &[u8])
@@ -140,17 +143,19 @@ fn promise_word(promise: Promise) -> &'static [u8] {
 
 /// The front of what tells that a premise is broken: a line, in the place of what the line holds.
 pub(crate) fn begin_broken(line: &mut TextLine, addr: u8, premise: Premise, name: &[u8])
+    ensures names { length name.now ≤ MOST_NAME → line.new ≡ broken_text addr premise name.now }
     ensures short { length line.new ≤ MOST_FRONT }
 {
     line.clear();
-    add(line, b"broken");
-    add_number(line, u64::from(addr));
-    add_word(line, premise.word());
-    add_word(line, name);
-    add(line, b"\n");
-    if line.as_slice().len() > MOST_FRONT {
-        line.clear();
+    line.push(b"broken ");
+    line.push_byte(addr);
+    line.push(b" ");
+    line.push(premise.word());
+    line.push(b" ");
+    if name.len() <= MOST_NAME {
+        line.push(name);
     }
+    line.push(b"\n");
 }
 
 /// Adds the line of an exchange.

@@ -1,9 +1,10 @@
 //! One trial at one device.
-ghost use Rattle.std.specs.Prelude.{List};
+ghost use Rattle.std.specs.Prelude.{[], ◌∷◌, List, IfOk};
 ghost use Rattle.std.specs.List.{Contains};
 ghost use Rattle.cct_model_wire.specs.declared.device.Setup.{Setup};
 ghost use Rattle.cct_probe_plan.specs.declared.plan.Trial.{Trial};
 ghost use Rattle.cct_probe_run.specs.Plays.{Plays};
+ghost use Rattle.cct_probe_run.specs.Showing.{ShowsIf};
 ghost use Rattle.cct_probe_run.specs.declared.bench.Bench.{Bench};
 
 use crate::acting::{Done, act};
@@ -13,8 +14,8 @@ use crate::person::{Clock, Person};
 use crate::telling::{line_of, numbers_of};
 use cct_edge::{Sink, Source};
 use cct_live_port::Line;
-use cct_model_lines::{DeviceBody, DeviceSetup};
-use cct_probe_plan::{Common, Memory, Need, Part, Premise, Trial, Turn, Who};
+use cct_model_lines::DeviceSetup;
+use cct_probe_plan::{Common, Memory, Need, Part, Premise, Trial, Turn};
 
 /// How long the silent read before a message takes, in milliseconds.
 const SILENT_MILLIS: u64 = 100;
@@ -25,17 +26,6 @@ struct Spans {
     longest: u64,
     sum: u64,
     many: u64,
-}
-
-/// Whether a trial is for a device.
-pub(crate) fn is_for(who: Who, body: &DeviceBody) -> bool {
-    match who {
-        Who::All => true,
-        Who::Takers => body.takes_money(),
-        Who::Acceptors => body.is_acceptor(),
-        Who::Bills => body.is_bill(),
-        Who::Hoppers => body.is_hopper(),
-    }
 }
 
 /// Why a trial isn't begun, if it isn't.
@@ -74,7 +64,7 @@ pub(crate) fn try_out<L: Line, K: Sink, S: Source, C: Clock>(
     }
     tell_begin(bench, told, trial)?;
     let done = go(bench, plan, person, clock, memory, device, told, trial)?;
-    conclude(bench, findings, told, trial, done)
+    conclude(bench, plan, findings, told, trial, done)
 }
 
 /// Tells that a trial begins.
@@ -106,6 +96,7 @@ fn go<L: Line, K: Sink, S: Source, C: Clock>(
     requires of_plan { Contains plan.trials.now trial.now }
     requires there { Contains plan.setup.now.devices device.now }
     ensures plays { (first : Bench L K) → Plays L.reads L.writes K.puts plan.entry.setup.now plan.entry.trials.now first bench.old → Plays L.reads L.writes K.puts plan.entry.setup.now plan.entry.trials.now first bench.new }
+    ensures shows { IfOk result (ShowsIf plan.entry.setup.now (trial.now ∷ []) trial.now.premise bench.new.sent.items) }
 {
     let mut spans = Spans {
         longest: 0,
@@ -170,6 +161,7 @@ fn go_round<L: Line, K: Sink, S: Source>(
     requires of_plan { Contains plan.trials.now trial.now }
     requires there { Contains plan.setup.now.devices turn.device.now }
     ensures plays { (first : Bench L K) → Plays L.reads L.writes K.puts plan.entry.setup.now plan.entry.trials.now first bench.old → Plays L.reads L.writes K.puts plan.entry.setup.now plan.entry.trials.now first bench.new }
+    ensures shows { IfOk result (ShowsIf plan.entry.setup.now (trial.now ∷ []) turn.entry.premise bench.new.sent.items) }
 {
     for step in trial.steps {
         let done = act(bench, plan, person, turn, memory, *step)?;
@@ -183,18 +175,21 @@ fn go_round<L: Line, K: Sink, S: Source>(
 /// Tells and notes what came of a trial.
 fn conclude<L: Line, K: Sink>(
     bench: &mut Bench<L, K>,
+    plan: Plan<'_>,
     findings: &mut Findings,
     told: u8,
     trial: &Trial,
     done: Done,
 ) -> Result<bool, Stop>
-    ensures plays { (setup : Setup) (trials : List Trial) (first : Bench L K) → Plays L.reads L.writes K.puts setup trials first bench.old → Plays L.reads L.writes K.puts setup trials first bench.new }
+    requires of_plan { Contains plan.trials.now trial.now }
+    requires shows { ShowsIf plan.setup.now (trial.now ∷ []) trial.now.premise bench.old.sent.items done }
+    ensures plays { (first : Bench L K) → Plays L.reads L.writes K.puts plan.entry.setup.now plan.entry.trials.now first bench.old → Plays L.reads L.writes K.puts plan.entry.setup.now plan.entry.trials.now first bench.new }
 {
     match done {
         Done::On => findings.note(told, trial.premise, Standing::Kept)?,
         Done::Untried(why) => findings.note(told, trial.premise, Standing::Untried(why))?,
         Done::Broken(premise) => {
-            bench.tell_broken(told, premise, trial.name)?;
+            bench.tell_broken(told, premise, trial)?;
             findings.note(told, premise, Standing::Broken)?;
             if premise != trial.premise {
                 findings.note(told, trial.premise, Standing::Untried(Why::Silent))?;

@@ -4,12 +4,30 @@ use Rattle.cct_probe_run.proofs.bench.Bench.tell_broken.Goals as goal
 
 pub returns-in_err-put : goal.returns-in_err-put
 returns-in_err-put g c = record {
-  plays = λ setup trials first played. one_put c.as_slice.result.now c.put.result c.put.ensures.one
-      (λ breaks. ends _ _ c.begin_broken.new.line c.args.addr c.as_slice.ensures c.push_wire.ensures c.as_slice-sent.ensures.value c.as_slice-heard.ensures.value) refl refl refl refl refl played;
+  plays = λ setup trials first there shows played. one_put c.as_slice.result.now c.put.result c.put.ensures.one
+      (λ breaks. record {
+        trial = c.args.trial.now;
+        of_plan = there;
+        addr = c.args.addr;
+        this = c.args.premise;
+        shows = shows;
+        front = c.begin_broken.new.line;
+        text = ends _ _ c.begin_broken.new.line c.args.addr c.as_slice.ensures c.push_wire.ensures c.as_slice-sent.ensures.value c.as_slice-heard.ensures.value;
+        names = c.begin_broken.ensures.names;
+      }) refl refl refl refl refl played;
 }
 
 pub returns : goal.returns
 returns g c = record {
-  plays = λ setup trials first played. one_put c.as_slice.result.now c.put.result c.put.ensures.one
-      (λ breaks. ends _ _ c.begin_broken.new.line c.args.addr c.as_slice.ensures c.push_wire.ensures c.as_slice-sent.ensures.value c.as_slice-heard.ensures.value) refl refl refl refl refl played;
+  plays = λ setup trials first there shows played. one_put c.as_slice.result.now c.put.result c.put.ensures.one
+      (λ breaks. record {
+        trial = c.args.trial.now;
+        of_plan = there;
+        addr = c.args.addr;
+        this = c.args.premise;
+        shows = shows;
+        front = c.begin_broken.new.line;
+        text = ends _ _ c.begin_broken.new.line c.args.addr c.as_slice.ensures c.push_wire.ensures c.as_slice-sent.ensures.value c.as_slice-heard.ensures.value;
+        names = c.begin_broken.ensures.names;
+      }) refl refl refl refl refl played;
 }

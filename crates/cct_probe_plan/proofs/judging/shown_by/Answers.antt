@@ -1,0 +1,17 @@
+use Rattle.std.proofs.Common.{inl, inr, refl}
+use Rattle.cct_probe_plan.proofs.judging.shown_by.Goals as goal
+
+pub returns-in-Silence-clause-names : goal.returns-in-Silence-clause-names
+returns-in-Silence-clause-names c = c.right_if.ensures.names c.args.turn.premise (inl refl)
+
+pub returns-in-NotAgain-clause-names : goal.returns-in-NotAgain-clause-names
+returns-in-NotAgain-clause-names c = c.right_if-in-NotAgain.ensures.names c.args.turn.premise (inr tt)
+
+pub returns-after-is_empty-clause-names : goal.returns-after-is_empty-clause-names
+returns-after-is_empty-clause-names c = c.right_if-in-NobodyElse.ensures.names c.args.turn.premise (inr tt)
+
+pub returns-in-IfTold-clause-names : goal.returns-in-IfTold-clause-names
+returns-in-IfTold-clause-names c = c.untold.ensures.names c.args.turn.premise tt
+
+pub returns-in-IfTold-2-clause-names : goal.returns-in-IfTold-2-clause-names
+returns-in-IfTold-2-clause-names c = c.untold-in-IfTold-2.ensures.names c.args.turn.premise tt

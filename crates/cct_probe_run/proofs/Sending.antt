@@ -1,0 +1,120 @@
+-- What was sent, joined.
+use Rattle.std.proofs.Common.{◌≡◌, ◌⊎◌, inl, inr, ◌&&◌, ℕ, List, [], ◌∷◌, ◌++◌, Option, Result, arith, cond, true, false, subst, sym}
+use Rattle.std.specs.List.{Contains}
+use Rattle.cct_edge.specs.declared.fault.Failed.{Failed}
+use Rattle.cct_model_wire.specs.declared.device.DeviceSetup.{DeviceSetup}
+use Rattle.cct_model_wire.specs.declared.device.Setup.{Setup}
+use Rattle.cct_probe_plan.specs.Closing.{all_said, closes, closing, is_for}
+use Rattle.cct_probe_plan.specs.declared.plan.Ending.{Ending}
+use Rattle.cct_probe_plan.specs.declared.plan.Say.{Say}
+use Rattle.cct_probe_plan.specs.declared.plan.Trial.{Trial}
+use Rattle.cct_probe_run.specs.declared.bench.Bench.{Bench}
+use Rattle.cct_probe_run.specs.Plays.{Exchanges, IsNoOrder, IsOfPlan, IsRow, Plays, Tells, TellsBroken, exchanged, not_begun, told}
+use Rattle.cct_probe_run.specs.Leaving.{OrderNone, Rests, Sends, Sent}
+
+-- a plan without a trial has no row
+only_listens : (trials : List Trial) (said : Say) → IsOfPlan [] said → IsOfPlan trials said
+only_listens trials said (inl row) = absurd (none row.is_step.of_plan)
+  where
+    none : {t : Trial} → Contains [] t → ⊥
+    none (at, within, is) = absurd (omega (arith, within))
+only_listens trials said (inr nothing) = inr nothing
+
+no_trial : {setup : Setup} {piece sent heard : List ℕ} (trials : List Trial) → TellsBroken setup [] piece sent heard →
+    TellsBroken setup trials piece sent heard
+no_trial trials tells = absurd (none tells.of_plan)
+  where
+    none : {t : Trial} → Contains [] t → ⊥
+    none (at, within, is) = absurd (omega (arith, within))
+
+pub first_none : (xs ys : List Say) → OrderNone (xs ++ ys) → OrderNone xs
+first_none [] ys none = tt
+first_none (x ∷ xs) ys none = (none.0, first_none xs ys none.1)
+
+pub others_none : (xs ys : List Say) → OrderNone (xs ++ ys) → OrderNone ys
+others_none [] ys none = none
+others_none (x ∷ xs) ys none = others_none xs ys none.1
+
+module _ {L K : Type 0} (reads : L → Option (List ℕ) → L → Type 0) (writes : L → List ℕ → Result (Unit {0}) Failed → L → Type 0)
+    (puts : K → List ℕ → Result (Unit {0}) Failed → K → Type 0) (setup : Setup) where
+  -- what is only listened goes with any plan
+  pub plays_on : (trials : List Trial) (first mid last : Bench L K) → Plays reads writes puts setup trials first mid →
+      Rests reads writes puts setup mid last → Plays reads writes puts setup trials first last
+  plays_on trials first mid _ before not_begun = before
+  plays_on trials first mid _ before (exchanged bench next said earlier one) =
+      exchanged bench next said (plays_on trials first mid bench before earlier) (record {
+        of_plan = only_listens trials said one.of_plan;
+        device = one.device;
+        there = one.there;
+        round = one.round;
+        bytes = one.bytes;
+        gap = one.gap;
+        gives = one.gives;
+        counted = one.counted;
+        no_empty = one.no_empty;
+        leave = one.leave;
+        out = one.out;
+      })
+  plays_on trials first mid _ before (told bench next earlier one) =
+      told bench next (plays_on trials first mid bench before earlier) (record {
+        piece = one.piece;
+        result = one.result;
+        put = one.put;
+        shows = λ breaks. no_trial trials (one.shows breaks);
+        port = one.port;
+        sent = one.sent;
+        heard = one.heard;
+        asked = one.asked;
+        leave = one.leave;
+      })
+
+  pub rests_first : (device : DeviceSetup) (round : ℕ) (says : List Say) (first mid last : Bench L K) →
+      Rests reads writes puts setup first mid → Sends reads writes puts setup device round says mid last →
+      Sends reads writes puts setup device round says first last
+  rests_first device round [] first mid last rests more = plays_on [] first mid last rests more
+  rests_first device round (said ∷ says) first mid last rests (at, next, waits, sent, more) =
+      (at, next, plays_on [] first mid at rests waits, sent, more)
+
+  pub sends_both : (device : DeviceSetup) (round : ℕ) (xs ys : List Say) (first mid last : Bench L K) →
+      Sends reads writes puts setup device round xs first mid → Sends reads writes puts setup device round ys mid last →
+      Sends reads writes puts setup device round (xs ++ ys) first last
+  sends_both device round [] ys first mid last sends more = rests_first device round ys first mid last sends more
+  sends_both device round (x ∷ xs) ys first mid last (at, next, waits, sent, sends) more =
+      (at, next, waits, sent, sends_both device round xs ys next mid last sends more)
+
+  pub sends_all : (device : DeviceSetup) (round : ℕ) (xs ys : List Say) (first mid last : Bench L K) →
+      (OrderNone xs → Sends reads writes puts setup device round xs first mid) →
+      (OrderNone ys → Sends reads writes puts setup device round ys mid last) →
+      OrderNone (xs ++ ys) → Sends reads writes puts setup device round (xs ++ ys) first last
+  sends_all device round xs ys first mid last sends more none =
+      sends_both device round xs ys first mid last (sends (first_none xs ys none)) (more (others_none xs ys none))
+
+  -- a trial that is done where this ends, and one that isn't
+  pub one_closes : (device : DeviceSetup) (ending : Ending) (trial : Trial) (trials : List Trial) (first mid last : Bench L K) →
+      (closes ending trial.part && is_for trial.who device.body) ≡ true →
+      (OrderNone (all_said trial.steps.now) → Sends reads writes puts setup device 0 (all_said trial.steps.now) first mid) →
+      (OrderNone (closing ending device.body trials) → Sends reads writes puts setup device 0 (closing ending device.body trials) mid last) →
+      OrderNone (closing ending device.body (trial ∷ trials)) →
+      Sends reads writes puts setup device 0 (closing ending device.body (trial ∷ trials)) first last
+  one_closes device ending trial trials first mid last is sends more =
+      subst (λ b. OrderNone (cond b (all_said trial.steps.now ++ closing ending device.body trials) (closing ending device.body trials)) →
+      Sends reads writes puts setup device 0
+      (cond b (all_said trial.steps.now ++ closing ending device.body trials) (closing ending device.body trials)) first last)
+      (sym is) (sends_all device 0 (all_said trial.steps.now) (closing ending device.body trials) first mid last sends more)
+
+  pub none_closes : (device : DeviceSetup) (ending : Ending) (trial : Trial) (trials : List Trial) (first last : Bench L K) →
+      (closes ending trial.part && is_for trial.who device.body) ≡ false →
+      (OrderNone (closing ending device.body trials) → Sends reads writes puts setup device 0 (closing ending device.body trials) first last) →
+      OrderNone (closing ending device.body (trial ∷ trials)) →
+      Sends reads writes puts setup device 0 (closing ending device.body (trial ∷ trials)) first last
+  none_closes device ending trial trials first last is more =
+      subst (λ b. OrderNone (cond b (all_said trial.steps.now ++ closing ending device.body trials) (closing ending device.body trials)) →
+      Sends reads writes puts setup device 0
+      (cond b (all_said trial.steps.now ++ closing ending device.body trials) (closing ending device.body trials)) first last)
+      (sym is) more
+
+  -- what was sent by one exchange, after which it was only listened
+  pub sends_one : (device : DeviceSetup) (round : ℕ) (said : Say) (first mid last : Bench L K) →
+      Sent reads writes puts setup device round said first mid → Rests reads writes puts setup mid last →
+      Sends reads writes puts setup device round (said ∷ []) first last
+  sends_one device round said first mid last sent rests = (first, mid, not_begun, sent, rests)
