@@ -1,3 +1,3 @@
+mod Beginning
 mod Keeping
 mod Living
-mod Suiting

@@ -15,8 +15,8 @@ use Rattle.cct_laws_live.specs.LiveStep.{LiveStep}
 use Rattle.cct_laws_live.specs.LiveStep as live
 use Rattle.cct_laws_live.specs.Life.{IsLife}
 use Rattle.cct_laws_live.proofs.Life.{life_command, life_next}
+use Rattle.cct_live_service.proofs.Suiting.{life_suits}
 use Rattle.cct_laws_poll.specs.Runs.{Deed, Does, LivesOn, Runs, advanced, commanded, made}
-use Rattle.cct_laws_poll.proofs.Suiting.{life_suits}
 
 told_news : (past news : List Entry) → onto past (reverse news) ≡ news ++ past
 told_news past news = onto_is past (reverse news) ∙ ap (λ l. l ++ past) (reverse-reverse news)

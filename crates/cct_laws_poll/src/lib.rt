@@ -12,10 +12,20 @@ ghost use Rattle.cct_host.specs.Host.{StandsFor, disk_of, setup_of};
 ghost use Rattle.cct_host.specs.OnDisk.{StandsUpTo};
 ghost use Rattle.cct_laws_live.specs.LiveStep.{LiveStep};
 ghost use Rattle.cct_laws_live.specs.Life.{IsLife};
+ghost use Rattle.cct_laws_live.specs.Live.{started};
 ghost use Rattle.cct_poll.specs.declared.poll.Poll.{Poll};
+ghost use Rattle.cct_poll.specs.Starts.{HeldRecords, Starts};
 ghost use Rattle.cct_poll.specs.Steps.{Steps};
 ghost use Rattle.cct_disk_queue.specs.Calls.{Since};
 ghost use Rattle.cct_laws_poll.specs.Runs.{Deed, LivesOn, Runs};
+
+/// A host that was started over a part begins a life over the records that the part held, and represents its past. A law: its
+/// body is empty.
+pub fn a_start_begins_a_life()
+    ensures { (poll : Poll) (part : List ℕ) (starts : Starts (setup_of poll.host) part poll.host) (found : List Record)
+        → HeldRecords (setup_of poll.host) part starts.begun found
+        → IsLife MOST_RECORDS (setup_of poll.host) found [] (started found) × StandsFor poll.host (started found) }
+{}
 
 /// What is told while a program gives commands, says what it heard, and makes the calls on its part, is what a live host tells
 /// in some steps, whatever is heard: so all that `cct_laws_live` says of one life holds of it. A law: its body is empty.

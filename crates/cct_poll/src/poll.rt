@@ -1,12 +1,14 @@
 //! The host, step by step.
-ghost use Rattle.std.specs.Prelude.{◌≡◌, ◌<◌, ◌≤◌, ◌+◌, ℕ, [], false, true, length, IfOk, IsTrue, ◌↔◌, ◌⊎◌, OnOk, List, Some, None, reverse, slice_get};
+ghost use Rattle.std.specs.Prelude.{◌≡◌, ◌<◌, ◌≤◌, ◌+◌, ℕ, [], false, true, length, IfErr, IfOk, IsTrue, ◌↔◌, ◌⊎◌, OnOk, List, Some, None, reverse, slice_get};
 ghost use Rattle.std.specs.Option.{option_map};
 ghost use Rattle.cct_host.specs.Host.{StandsFor, disk_of, has_failed, setup_of};
 ghost use Rattle.cct_journal.specs.Journal as journals;
 ghost use Rattle.cct_model.specs.Setup.{IsSoundSetup};
+ghost use Rattle.cct_model.specs.terms.device.Setup.{Setup};
 ghost use Rattle.cct_model.specs.lines.entry.Entry.{Entry};
 ghost use Rattle.cct_model.specs.terms.wire.TheConstants.{MOST_HEARD};
 ghost use Rattle.cct_disk_queue.specs.Calls.{act_of};
+ghost use Rattle.cct_poll.specs.Starts.{RefusesStart, Starts, WasFound, WasMade, untouched};
 ghost use Rattle.cct_poll.specs.Steps.{Steps, Says, Tells};
 
 use crate::advance::advance;
@@ -57,11 +59,14 @@ pub struct Poll<'s> {
 
 impl<'s> Poll<'s> {
     /// A host over what a part holds: the journal that is there, or a new one where each byte is 0. The calls that make a new
-    /// one are the first that are to be made.
+    /// one are the first that are to be made. Nothing is to be made where none is started.
     pub fn start(setup: &'s Setup, part: Vec<u8>) -> Result<Poll<'s>, PollNo>
         requires sound { IsSoundSetup setup.now }
         ensures setup { IfOk result (λ poll. setup_of poll.host ≡ setup.now) }
         ensures begins { IfOk result (λ poll. (poll.over ≡ false) × (poll.asked ≡ None) × (poll.report.items ≡ [])) }
+        // It begins with the records that the part holds. A journal is made only where no byte but 0 is.
+        ensures starts { IfOk result (λ poll. Starts setup.now part.items poll.host) }
+        ensures refused { IfErr result (RefusesStart setup.now part.items) }
     {
         let journal = journal_on(part)?;
         match Host::start(setup, journal) {
@@ -274,6 +279,8 @@ impl<'s> Poll<'s> {
 /// The journal on a part, or a new one where each byte is 0.
 fn journal_on(part: Vec<u8>) -> Result<Journal<QueueDisk>, PollNo>
     ensures whole { IfOk result (λ journal. journals.has_failed journal ≡ false) }
+    ensures opens { IfOk result (λ journal. WasFound journal (untouched part.items) ⊎ WasMade journal (untouched part.items)) }
+    ensures refused { IfErr result (λ why. (setup : Setup) → RefusesStart setup part.items why) }
 {
     match Journal::reopen(QueueDisk::new(part)) {
         Ok((journal, _)) => Ok(journal),

@@ -17,10 +17,14 @@ AreFront room page whole cut =
 
 -- An audit of this capture, with so much room, answered this code and wrote these bytes: what an audit by the bench says of it, which is right, since
 -- reading it can't fail.
-pub record Audits (capture : List ℕ) (code room : ℕ) (page : List ℕ) : Type 0 where
+pub record IsAudited (capture : List ℕ) (code room : ℕ) (page : List ℕ) : Type 0 where
   pub status : Status
   pub coded : code ≡ code_of status
   -- It never lacks memory.
   pub one : IsOfAudit status
   pub left : Option (List ℕ)
   pub ran : AuditRan capture status None left ⊥ (AreLines page) (AreFront room page)
+
+-- The same, as one word: what it says is unfolded only where it is proved.
+unfoldable pub Audits : List ℕ → ℕ → ℕ → List ℕ → Type 0
+Audits capture code room page = IsAudited capture code room page

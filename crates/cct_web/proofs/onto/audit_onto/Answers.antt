@@ -2,11 +2,12 @@ use Rattle.std.proofs.Common.{None, Some, ap, arith, refl, subst, take}
 use Rattle.cct_edge.specs.Faults.{Rose}
 use Rattle.cct_bench.specs.Audit.{AuditRan}
 use Rattle.cct_edge_slices.specs.Slices.{given_left, page_bytes, page_room, written_on}
-use Rattle.cct_web.specs.Audits.{AreFront, AreLines}
+use Rattle.cct_web.specs.Audits.{AreFront, AreLines, Audits}
 use Rattle.cct_web.proofs.Pages.{audit_stays, audited_page}
 use Rattle.cct_web.proofs.onto.audit_onto.Goals as goal
 
 pub returns-clause-audited : goal.returns-clause-audited
+unfolding Audits
 returns-clause-audited c =
     let ran = c.audit_capture-status in
     let audited = ran.ensures.audited in record {
