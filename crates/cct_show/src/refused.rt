@@ -48,6 +48,12 @@ fn write_rest<W: fmt::Write>(
         ("svg", _) => f.write_str(
             "svg takes no more words, or the numbers of a first and a last line, the first from 1 on",
         ),
+        (_, [option, ..]) if option.as_str().starts_with('-') => {
+            write!(
+                f,
+                "{form} takes no option; it reads standard input, and writes to standard output"
+            )
+        }
         (_, [file, ..]) => {
             let file = file.as_str();
             write!(f, "{form} reads standard input: cct_show {form} < {file}")

@@ -80,7 +80,7 @@ pub(crate) fn hex_in(word: &[u8]) -> Option<&[u8]> {
         [b'0', b'x' | b'X', digits @ ..] | [b'&', b'H' | b'h', digits @ ..] | [b'$', digits @ ..] =>
             { digits }
         [high, low, b'h' | b'H'] if is_hex(&[*high, *low]) => return word.get(..2),
-        [b'x' | b'X', high, low] if is_hex(&[*high, *low]) => return word.get(1..),
+        [b'x' | b'X' | b'%', high, low] if is_hex(&[*high, *low]) => return word.get(1..),
         [b'1', b'6', b'#', digits @ ..] => digits.strip_suffix(b"#").unwrap_or(digits),
         _ => word,
     };
@@ -91,10 +91,14 @@ pub(crate) fn hex_in(word: &[u8]) -> Option<&[u8]> {
     }
 }
 
-/// A word without angle brackets around the bytes of a line, of which it has the first, the last or all.
+/// A word without angle brackets, one or two, around the bytes of a line, of which it has the first, the last or all.
 pub(crate) fn without_angles(word: &[u8]) -> &[u8] {
-    let word = word.strip_prefix(b"<").unwrap_or(word);
-    word.strip_suffix(b">").unwrap_or(word)
+    let mut word = word;
+    for _ in 0..2 {
+        word = word.strip_prefix(b"<").unwrap_or(word);
+        word = word.strip_suffix(b">").unwrap_or(word);
+    }
+    word
 }
 
 /// Whether there is a byte, and each is a hexadecimal digit.

@@ -2,7 +2,8 @@
 
 use crate::byte::{LogBytes, value_of};
 
-/// The bytes of the first text of a line with an escape in it. `None` where there is none, or it isn't there whole.
+/// The bytes of the first text of a line with an escape in it. `None` where there is none, or it isn't there whole. Outside
+/// quotes an escape is one of digits.
 pub(crate) fn escaped_in(line: &[u8]) -> Option<LogBytes> {
     let escape = line.iter().position(|byte| *byte == b'\\')?;
     let (before, _) = line.split_at_checked(escape)?;
@@ -11,12 +12,20 @@ pub(crate) fn escaped_in(line: &[u8]) -> Option<LogBytes> {
         .rposition(|byte| matches!(*byte, b'\'' | b'"'));
     let (bytes, after) = match quote {
         Some(place) => unescaped(line.get(place.saturating_add(1)..)?, *line.get(place)?)?,
-        None => unescaped(line.get(escape..)?, b' ')?,
+        None => unescaped(digit_escapes(line.get(escape..)?)?, b' ')?,
     };
     if after.starts_with(b"..") {
         None
     } else {
         Some(bytes)
+    }
+}
+
+/// A text that begins with an escape of digits.
+fn digit_escapes(text: &[u8]) -> Option<&[u8]> {
+    match text {
+        [b'\\', b'x' | b'u' | b'0'..=b'7', ..] => Some(text),
+        _ => None,
     }
 }
 
@@ -49,7 +58,9 @@ fn unescaped(text: &[u8], end: u8) -> Option<(LogBytes, &[u8])> {
 /// The byte of an escape, without its backslash, and what stands after it.
 fn escape_in(text: &[u8]) -> Option<(u8, &[u8])> {
     match text {
-        [b'x', high, low, rest @ ..] | [b'u', b'0', b'0', high, low, rest @ ..] => {
+        [b'x', b'{', high, low, b'}', rest @ ..]
+        | [b'x', high, low, rest @ ..]
+        | [b'u', b'0', b'0', high, low, rest @ ..] => {
             Some(((value_of(*high)? & 15) << 4 | value_of(*low)?, rest))
         }
         [b'0'..=b'7', ..] => octal_in(text),

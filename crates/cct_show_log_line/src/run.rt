@@ -142,10 +142,10 @@ fn longer(earlier: Run, later: Run) -> Run {
     best
 }
 
-/// What stands after a key that says that it is bytes; nothing where there is none.
+/// What stands after a key that says that it is bytes, or after a sign without one; nothing where there is none.
 fn value_in(word: &[u8]) -> &[u8] {
     match word.iter().position(|byte| *byte == b'=') {
-        Some(place) if is_among(KEYS, word.get(..place).unwrap_or(b"")) => {
+        Some(place) if place == 0 || is_among(KEYS, word.get(..place).unwrap_or(b"")) => {
             word.get(place.saturating_add(1)..).unwrap_or(b"")
         }
         _ => b"",

@@ -12,6 +12,8 @@ pub(crate) struct WayAt {
     pub(crate) is_weak: bool,
     /// Whether it is a part of its word.
     pub(crate) is_part: bool,
+    /// Whether it may be in the place of a program from which the line comes, as `bus:send:41`.
+    pub(crate) is_placed: bool,
     /// The place at which it begins, and the place after it.
     pub(crate) from: usize,
     pub(crate) to: usize,
@@ -28,7 +30,7 @@ pub(crate) fn first_way(line: &[u8], place: usize) -> Option<WayAt> {
             break;
         };
         match way_at(line, before, &word) {
-            Some(found) if !found.is_weak => return Some(found),
+            Some(found) if !found.is_weak && !found.is_placed => return Some(found),
             Some(found) if weak.is_none() => weak = Some(found),
             _ => {}
         }
@@ -49,6 +51,7 @@ fn way_at(line: &[u8], before: &[u8], word: &Word<'_>) -> Option<WayAt> {
             way,
             is_weak: false,
             is_part: false,
+            is_placed: false,
             from: word.from,
             to: word.to,
         });
@@ -56,7 +59,8 @@ fn way_at(line: &[u8], before: &[u8], word: &Word<'_>) -> Option<WayAt> {
     named_at(word)
 }
 
-/// The way that an arrow says at the beginning of a word: from the host, if not the other end is named as it.
+/// The way that an arrow says at the beginning of a word: from the host, if not the other end is named as it. A name of a way
+/// right after an arrow counts in its place.
 fn arrow_at(line: &[u8], before: &[u8], word: &Word<'_>, arrow: &[u8]) -> Option<WayAt> {
     let way = arrow_way(arrow)?;
     let after = word.text.get(arrow.len()..)?;
@@ -68,13 +72,19 @@ fn arrow_at(line: &[u8], before: &[u8], word: &Word<'_>, arrow: &[u8]) -> Option
         way,
         is_weak: false,
         is_part: false,
+        is_placed: false,
         from: word.from,
         to: word.from.saturating_add(arrow.len()),
     };
     if is_alone {
         found.to = word.to;
         if let Some(next) = next_word(line, word.to) {
-            turn(&mut found, before, &next);
+            if let Some(named) = named_at(&next)
+                && !named.is_weak
+            {
+                return Some(named);
+            }
+            turn(&mut found, line, before, &next);
         }
     }
     Some(found)
@@ -101,12 +111,12 @@ fn is_bracket(line: &[u8], word: &Word<'_>) -> bool {
     false
 }
 
-/// Takes the other end of an arrow into account, where the host is named at one.
-fn turn(found: &mut WayAt, before: &[u8], next: &Word<'_>) {
+/// Takes the other end of an arrow into account, where the host is named at one. A word in brackets of its own is no end.
+fn turn(found: &mut WayAt, line: &[u8], before: &[u8], next: &Word<'_>) {
     if is_end_host(next.text) {
         found.way = against(found.way);
         found.to = next.to;
-    } else if is_end_host(before) {
+    } else if is_end_host(before) && !next.is_framed(line) {
         found.to = next.to;
     }
 }
@@ -171,6 +181,7 @@ fn named_at(word: &Word<'_>) -> Option<WayAt> {
                 way,
                 is_weak,
                 is_part: from != 0,
+                is_placed: from != 0 && matches!(rest, [b':', b'0'..=b'9', ..]),
                 from: word.from,
                 to: word.from.saturating_add(to).saturating_add(marks),
             });

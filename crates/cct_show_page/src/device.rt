@@ -44,8 +44,6 @@ pub(crate) struct Devices {
     pub(crate) sold: u64,
     /// Whether any record was put; those of a report count only where none was.
     has_puts: bool,
-    pub(crate) has_records: bool,
-    pub(crate) has_said: bool,
 }
 
 impl Device {
@@ -92,8 +90,6 @@ impl Devices {
             sales: 0,
             sold: 0,
             has_puts: false,
-            has_records: false,
-            has_said: false,
         }
     }
 
@@ -109,6 +105,11 @@ impl Devices {
     pub(crate) fn there(&self, addr: u8) -> Option<&Device> {
         let device = &self.list[usize::from(addr)];
         if device.is_there { Some(device) } else { None }
+    }
+
+    /// How many devices rows name.
+    pub(crate) fn count(&self) -> usize {
+        self.list.iter().filter(|device| device.is_there).count()
     }
 
     /// Counts an exchange with a device.
@@ -129,19 +130,18 @@ impl Devices {
     /// Counts a record that was put or kept, of the device at an address.
     pub(crate) fn put(&mut self, addr: u8, record: &Record) {
         self.has_puts = true;
-        self.count(addr, record);
+        self.add(addr, record);
     }
 
     /// Counts a record of a report, where no record was put.
     pub(crate) fn listed(&mut self, addr: u8, record: &Record) {
         if !self.has_puts {
-            self.count(addr, record);
+            self.add(addr, record);
         }
     }
 
     /// Counts a record of the device at an address.
-    fn count(&mut self, addr: u8, record: &Record) {
-        self.has_records = true;
+    fn add(&mut self, addr: u8, record: &Record) {
         if let Record::Sold { price, .. } = record {
             self.sales = self.sales.saturating_add(1);
             self.sold = self.sold.saturating_add(u64::from(*price));
@@ -161,7 +161,6 @@ impl Devices {
 
     /// Counts what a monitor says.
     pub(crate) fn say(&mut self, said: &Said) {
-        self.has_said = true;
         let device = &mut self.list[usize::from(addr_said(said))];
         match said {
             Said::Sure { coins, .. } => {

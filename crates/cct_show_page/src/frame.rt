@@ -1,8 +1,9 @@
 //! A page as a document: its head, what stands on top, and its rows. End tags and quotes that HTML lets out are left out.
 
 use crate::Page;
+use crate::needs::Needs;
 use crate::rows::write_rows;
-use crate::style::{Needs, write_style};
+use crate::style::write_style;
 use crate::sums::{write_red, write_sums};
 use cct_edge::{Failed, Sink};
 use cct_show_pen::Pen;
@@ -18,30 +19,35 @@ pub(crate) fn write_page<K: Sink>(
     let mut pen = Pen::new(out);
     let needs = Needs::of(page, picture);
     write_head(&mut pen, page, &needs);
-    write_sums(&mut pen, page);
+    write_sums(&mut pen, page, &needs);
     write_red(&mut pen, page);
-    if needs.picture {
+    if needs.tab_width.is_some() {
         write_picture(&mut pen, picture, is_part);
     }
     write_choices(&mut pen, &needs);
-    pen.push(b"<main>\n");
-    write_rows(&mut pen, page);
-    pen.push(b"</main>\n");
+    if needs.has_choice() {
+        pen.push(b"<main>");
+    }
+    write_rows(&mut pen, page, &needs);
+    if needs.has_choice() {
+        pen.push(b"</main>");
+    }
+    pen.push(b"\n");
     pen.finish()
 }
 
 /// Writes the head, and the title.
 fn write_head<K: Sink>(pen: &mut Pen<'_, K>, page: &Page, needs: &Needs) {
     pen.push(b"<!DOCTYPE html><html lang=en><meta charset=utf-8>");
-    pen.push(b"<meta name=viewport content=\"width=device-width\"><title>ccTalk, lines 1 to ");
+    pen.push(b"<meta name=viewport content=\"width=device-width\"><title>ccTalk, ");
     pen.push_number(page.lines);
-    pen.push(b"</title>\n<style>");
+    pen.push(b" lines</title><style>");
     write_style(pen, page, needs);
-    pen.push(b"</style>\n");
+    pen.push(b"</style>");
     if page.left_out > 0 {
-        pen.push(b"<p id=less>");
+        pen.push(b"<p>");
         pen.push_number(page.left_out);
-        pen.push(b" more rows are left out\n");
+        pen.push(b" more rows are left out");
     }
 }
 
@@ -51,23 +57,20 @@ fn write_picture<K: Sink>(pen: &mut Pen<'_, K>, picture: &Picture, is_part: bool
     if is_part {
         pen.push(b" of the first lines; cct_show svg FROM TO draws others");
     }
-    pen.push(b"</summary><div>");
+    pen.push(b"</summary>");
     picture.sketch(pen);
-    pen.push(b"</div></details>\n");
+    pen.push(b"</details>");
 }
 
 /// Writes which rows a reader may choose, beside those of a device, and whether the bytes stand there.
 fn write_choices<K: Sink>(pen: &mut Pen<'_, K>, needs: &Needs) {
-    if needs.has_choice() {
-        pen.push(b"<label><input type=radio name=r checked>every row</label>\n");
+    if needs.choose_red {
+        pen.push(b"<label><input type=checkbox id=errors>errors</label> ");
     }
-    if needs.red {
-        pen.push(b"<label><input type=radio name=r id=errors>errors</label>\n");
+    if needs.choose_records {
+        pen.push(b"<label><input type=checkbox id=records>records</label> ");
     }
-    if needs.records {
-        pen.push(b"<label><input type=radio name=r id=records>records</label>\n");
-    }
-    if needs.bytes {
-        pen.push(b"<label><input type=checkbox id=bytes checked>bytes</label>\n");
+    if needs.choose_bytes {
+        pen.push(b"<label><input type=checkbox id=bytes checked>bytes</label> ");
     }
 }

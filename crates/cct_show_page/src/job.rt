@@ -29,7 +29,6 @@ pub(crate) struct Job {
     pub(crate) ending: Ending,
     /// How many of its rows somebody is to look at.
     pub(crate) reds: u64,
-    pub(crate) is_record: bool,
     pub(crate) posted: u64,
     pub(crate) lost: u64,
     /// The coins that fell, and that did not, of the order that it closed.
@@ -42,7 +41,6 @@ pub(crate) struct Job {
 impl Job {
     /// Counts a record that the job put.
     pub(crate) fn put(&mut self, record: &Record) {
-        self.is_record = true;
         match record {
             Record::Reading { posted, lost, .. } | Record::Broken { posted, lost, .. } => {
                 self.posted = self.posted.saturating_add(count_of(posted));

@@ -3,11 +3,14 @@
 #![tactic(auto)]
 
 mod classes;
+mod column;
 mod device;
 mod entry;
 mod frame;
 mod job;
 mod known;
+mod list;
+mod needs;
 mod page;
 mod row;
 mod rows;

@@ -265,7 +265,6 @@ impl Page {
             addr,
             ending: Ending::Open,
             reds: 0,
-            is_record: false,
             posted: 0,
             lost: 0,
             closed: None,

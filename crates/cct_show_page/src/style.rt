@@ -2,110 +2,91 @@
 //! short page is to be short.
 
 use crate::Page;
-use crate::row::{Body, Row, Tone};
-use crate::sums::is_red;
+use crate::needs::Needs;
 use cct_edge::Sink;
 use cct_show_pen::Pen;
-use cct_show_picture::Picture;
 
-/// A page with more rows draws only those that are in sight.
-const MANY_ROWS: usize = 1000;
-
-/// What every page needs. A row is a paragraph: its number and its device, each up to a tab, and its words, in which a line
-/// feed represents itself.
+/// What every page needs. A row is an item of a list, which numbers it; in its words a line feed represents itself. Numbers,
+/// times and bytes are grey.
 const ALWAYS: &[u8] = b"\
-:root{color-scheme:light dark}\
-body{font:14px system-ui;margin:6px}\
-table{display:block;overflow:auto}\
-td,th{padding:0 .5em;text-align:right}\
-p,summary{margin:0;padding-left:6em;text-indent:-6em;white-space:pre-wrap;overflow-wrap:anywhere}\
-b{color:gray;display:inline-block;font:inherit;tab-size:3em;text-indent:0;white-space:pre}\n";
+:root{color-scheme:light dark;font:14px system-ui}\
+ol{margin:0}\
+::marker,i,b{color:gray;font:12px monospace}\
+li{white-space:pre-wrap";
 
-/// The rows of a job, in its fold.
-const FOLDS: &[u8] = b"main details p{padding-left:4em;text-indent:-3em}summary{font-weight:600}\n";
+/// What every page needs, after what a row needs for long words.
+const ROWS_END: &[u8] = b"}";
 
-/// The bytes of an exchange.
-const BYTES: &[u8] =
-    b"i{color:gray;font:12px monospace}:has(#bytes:not(:checked))>main i{display:none}\n";
+/// The words of a row that are wider than a phone.
+const LONG: &[u8] = b";overflow-wrap:anywhere";
+
+/// Rows without a number.
+const UNNUMBERED: &[u8] = b".n{list-style:none}";
+
+/// Numbers of more than four digits.
+const WIDE: &[u8] = b"ol{padding-left:5em}";
+
+/// A table with several numbers, and one that may be wider than a phone.
+const NUMBERS: &[u8] = b"td,th{padding:0 .5em;text-align:right}";
+
+const WIDE_TABLE: &[u8] = b"table{display:block;overflow:auto}";
+
+/// The bytes of an exchange, where they aren't wanted.
+const BYTES: &[u8] = b":has(#bytes:not(:checked)) i{display:none}";
 
 /// What somebody is to look at: rows with an id. Nothing is told by a colour alone: they have a bar at their left, and a link
 /// on top.
-const RED: &[u8] = b"\
-p[id],.x>summary,td.x{box-shadow:-3px 0;color:#d33}\
-:has(#errors:checked)>main :is(p,details):not([id],.x){display:none}\n";
+const RED: &[u8] = b"li[id],.x>summary,td.x{box-shadow:-3px 0;color:#d33}";
 
 /// What is unusual.
-const ODD: &[u8] = b".o{color:#c60}\n";
+const ODD: &[u8] = b".o{color:#c60}";
 
-/// A record; those in folds are seen too where records are chosen.
-const RECORD: &[u8] = b"\
-p.w{background:#48f3}\
-:has(#records:checked)>main :is(p,details):not(.w){display:none}\n";
+/// A record.
+const RECORD: &[u8] = b".w{background:#48f3}";
 
 /// The folds of a page in which rows are chosen show them.
 const CHOSEN: &[u8] = b"\
-:has(#errors:checked,#records:checked)>main ::details-content{content-visibility:visible}\n";
+:has(#errors:checked,#records:checked) main ::details-content{content-visibility:visible}";
 
-/// The picture: its words lie over its lines.
+/// The picture: its words lie over its lines. The width of its tabs comes next.
 const PICTURE: &[u8] = b"\
-div{background:#fff;color:#000;display:grid;overflow:auto}\
-svg,pre{font:10px/14px monospace;grid-area:1/1;margin:0}\n";
+svg{position:absolute;z-index:-1}\
+pre{contain:paint;overflow:auto;font:10px/14px monospace;tab-size:";
 
-/// The rows of a long page.
-const MANY: &[u8] = b"main p{content-visibility:auto;contain-intrinsic-size:auto 4em}\n";
+/// The rows of a long page: a number stands within its row, since a row that isn't drawn whole has nothing outside it.
+const MANY: &[u8] = b"\
+ol{padding:0}\
+li{list-style-position:inside;padding-left:4em;text-indent:-4em;content-visibility:auto;contain-intrinsic-size:auto 4em}";
 
-/// What of a page wants rules and choices of its own.
-#[derive(Clone, Copy)]
-pub(crate) struct Needs {
-    pub(crate) picture: bool,
-    pub(crate) bytes: bool,
-    pub(crate) red: bool,
-    pub(crate) records: bool,
-    odd: bool,
-}
+/// A table with so many columns has several numbers, and with so many it may be wider than a phone.
+const SEVERAL_COLUMNS: usize = 2;
 
-impl Needs {
-    /// What the rows of a page, and a picture of them, need.
-    pub(crate) fn of(page: &Page, picture: &Picture) -> Needs {
-        Needs {
-            picture: picture.has_sketch(),
-            bytes: page.rows.iter().any(has_bytes),
-            red: page.rows.iter().any(|row| is_red(page, row)),
-            records: page.rows.iter().any(|row| row.is_record),
-            odd: page.rows.iter().any(|row| row.tone == Tone::Odd),
-        }
-    }
-
-    /// Whether there are rows to choose.
-    pub(crate) fn has_choice(&self) -> bool {
-        self.red || self.records
-    }
-}
-
-/// Whether a row shows the bytes of an exchange.
-fn has_bytes(row: &Row) -> bool {
-    match row.body {
-        Body::Talk(_) => true,
-        Body::Line { .. } | Body::Job(_) => false,
-    }
-}
+const MANY_COLUMNS: usize = 5;
 
 /// Writes the style of a page.
 pub(crate) fn write_style<K: Sink>(pen: &mut Pen<'_, K>, page: &Page, needs: &Needs) {
-    let has_folds = !page.jobs.is_empty();
+    let columns = page.devices.column_count();
     pen.push(ALWAYS);
-    push_rule(pen, has_folds, FOLDS);
-    push_rule(pen, needs.bytes, BYTES);
+    push_rule(pen, needs.long_words, LONG);
+    pen.push(ROWS_END);
+    push_rule(pen, needs.unnumbered, UNNUMBERED);
+    push_rule(pen, needs.wide_numbers, WIDE);
+    push_rule(pen, columns >= SEVERAL_COLUMNS, NUMBERS);
+    push_rule(pen, columns >= MANY_COLUMNS, WIDE_TABLE);
     push_rule(pen, needs.red, RED);
     push_rule(pen, needs.odd, ODD);
     push_rule(pen, needs.records, RECORD);
-    push_rule(pen, has_folds && needs.has_choice(), CHOSEN);
-    push_rule(pen, needs.picture, PICTURE);
-    push_rule(pen, page.rows.len() > MANY_ROWS, MANY);
-    for addr in 1..=u8::MAX {
-        if page.devices.there(addr).is_some() {
-            write_device_rule(pen, addr);
-        }
+    if let Some(width) = needs.tab_width {
+        pen.push(PICTURE);
+        pen.push_number(width);
+        pen.push(b"px}");
+    }
+    push_rule(pen, needs.many_rows, MANY);
+    push_rule(pen, needs.choose_bytes, BYTES);
+    write_kind_rules(pen, needs);
+    push_rule(pen, needs.folds && needs.has_kind_choice(), CHOSEN);
+    if needs.choose_devices {
+        write_device_rules(pen, page);
     }
 }
 
@@ -116,11 +97,34 @@ fn push_rule<K: Sink>(pen: &mut Pen<'_, K>, is_needed: bool, rule: &[u8]) {
     }
 }
 
-/// Writes the rule that hides the rows and folds of all other devices, where one is chosen.
-fn write_device_rule<K: Sink>(pen: &mut Pen<'_, K>, addr: u8) {
-    pen.push(b":has(#a");
-    pen.push_number(addr);
-    pen.push(b":checked)>main>:not(.d");
-    pen.push_number(addr);
-    pen.push(b"){display:none}\n");
+/// Writes the rules that hide what is no error, or no record, where such rows are chosen. A fold stays for what is in it.
+fn write_kind_rules<K: Sink>(pen: &mut Pen<'_, K>, needs: &Needs) {
+    push_rule(
+        pen,
+        needs.choose_red,
+        b":has(#errors:checked) :is(li,main>*):not([id],.x,:has([id])){display:none}",
+    );
+    push_rule(
+        pen,
+        needs.choose_records,
+        b":has(#records:checked) :is(li,main>*):not(.w,:has(.w)){display:none}",
+    );
+}
+
+/// Writes the rules that hide the rows and folds of all other devices, where one is chosen.
+fn write_device_rules<K: Sink>(pen: &mut Pen<'_, K>, page: &Page) {
+    pen.push(b"main>details,main>ol>*{");
+    let mut before: &[u8] = b"";
+    for addr in 1..=u8::MAX {
+        if page.devices.there(addr).is_some() {
+            pen.push(before);
+            pen.push(b":has(#a");
+            pen.push_number(addr);
+            pen.push(b":checked) &:not(.d");
+            pen.push_number(addr);
+            pen.push(b")");
+            before = b",";
+        }
+    }
+    pen.push(b"{display:none}}");
 }

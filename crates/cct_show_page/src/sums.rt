@@ -1,7 +1,9 @@
 //! What stands on top of a page: the sums by device, and the rows that are red.
 
 use crate::Page;
+use crate::column::Column;
 use crate::device::Device;
+use crate::needs::Needs;
 use crate::row::{Body, Row, Tone};
 use cct_edge::Sink;
 use cct_model_lines::HOST;
@@ -10,71 +12,73 @@ use cct_show_pen::Pen;
 /// The most red rows that are listed.
 const MOST_RED: usize = 200;
 
-/// Writes the sums of all devices, and the last balance.
-pub(crate) fn write_sums<K: Sink>(pen: &mut Pen<'_, K>, page: &Page) {
-    pen.push(b"<table><tr><th><label><input type=radio name=d checked>all devices</label>");
-    pen.push(b"<th>exchanges<th>errors");
-    if page.devices.has_records {
-        pen.push(b"<th>posted<th>lost<th>paid<th>unpaid<th>open");
+/// Writes the sums of the devices that have any, in the columns that have any, and the last balance.
+pub(crate) fn write_sums<K: Sink>(pen: &mut Pen<'_, K>, page: &Page, needs: &Needs) {
+    if needs.choose_devices || page.devices.column_count() > 0 {
+        write_table(pen, page, needs);
     }
-    if page.devices.has_said {
-        pen.push(b"<th>surely in<th>in doubt<th>fell");
-    }
-    pen.push(b"\n");
-    for addr in 2..=u8::MAX {
-        if let Some(device) = page.devices.there(addr) {
-            write_device(pen, page, device);
-        }
-    }
-    pen.push(b"</table>\n");
     write_money(pen, page);
 }
 
-/// Writes the sums of a device, and its choice.
-fn write_device<K: Sink>(pen: &mut Pen<'_, K>, page: &Page, device: &Device) {
-    pen.push(b"<tr><td><label><input type=radio name=d id=a");
-    pen.push_number(device.addr);
-    pen.push(b">");
-    pen.push(device.name());
-    pen.push_number(device.addr);
-    pen.push(b"</label>");
-    write_sum(pen, device.exchanges, false);
-    write_sum(pen, device.bad, true);
-    if page.devices.has_records {
-        write_sum(pen, device.posted, false);
-        write_sum(pen, device.lost, true);
-        write_sum(pen, device.paid, false);
-        write_sum(pen, device.unpaid, false);
-        write_open(pen, device);
+/// Writes the table of the devices.
+fn write_table<K: Sink>(pen: &mut Pen<'_, K>, page: &Page, needs: &Needs) {
+    pen.push(b"<table><tr><th>");
+    if needs.choose_devices {
+        pen.push(b"<label><input type=radio name=d checked>all devices</label>");
     }
-    if page.devices.has_said {
-        write_sum(pen, device.sure, false);
-        write_sum(pen, device.doubts, true);
-        write_sum(pen, device.fell, false);
+    for column in &Column::ALL {
+        if page.devices.has_column(*column) {
+            pen.push(b"<th>");
+            pen.push(column.head());
+        }
     }
-    pen.push(b"\n");
+    for addr in 1..=u8::MAX {
+        if let Some(device) = page.devices.there(addr)
+            && needs.has_device(device)
+        {
+            write_device(pen, page, needs, device);
+        }
+    }
+    pen.push(b"</table>");
 }
 
-/// Writes a number of a table; where any is too many, in red.
-fn write_sum<K: Sink>(pen: &mut Pen<'_, K>, number: u64, is_bad: bool) {
-    match is_bad && number > 0 {
+/// Writes the sums of a device, and its choice.
+fn write_device<K: Sink>(pen: &mut Pen<'_, K>, page: &Page, needs: &Needs, device: &Device) {
+    pen.push(b"<tr><td>");
+    if needs.choose_devices {
+        pen.push(b"<label><input type=radio name=d id=a");
+        pen.push_number(device.addr);
+        pen.push(b">");
+    }
+    pen.push(device.name());
+    pen.push_number(device.addr);
+    if needs.choose_devices {
+        pen.push(b"</label>");
+    }
+    for column in &Column::ALL {
+        if page.devices.has_column(*column) {
+            write_sum(pen, *column, device);
+        }
+    }
+}
+
+/// Writes a number of a table, in red where any is too many; or what is open at a device: its order, or its epoch.
+fn write_sum<K: Sink>(pen: &mut Pen<'_, K>, column: Column, device: &Device) {
+    let number = device.sum(column);
+    match column.is_bad(device) {
         true => pen.push(b"<td class=x>"),
         false => pen.push(b"<td>"),
     }
-    pen.push_number(number);
-}
-
-/// Writes what is open at a device: its order, or its epoch.
-fn write_open<K: Sink>(pen: &mut Pen<'_, K>, device: &Device) {
-    match &device.order {
-        Some(order) => {
-            pen.push(b"<td class=x>order ");
+    match (column, &device.order) {
+        (Column::Open, Some(order)) => {
+            pen.push(b"order ");
             pen.push_number(order.id);
             pen.push(b" for ");
             pen.push_number(order.count);
         }
-        None if device.has_epoch => pen.push(b"<td>epoch"),
-        None => pen.push(b"<td>"),
+        (Column::Open, None) if device.has_epoch => pen.push(b"epoch"),
+        (Column::Open, None) => {}
+        _ => pen.push_number(number),
     }
 }
 
@@ -85,12 +89,12 @@ fn write_money<K: Sink>(pen: &mut Pen<'_, K>, page: &Page) {
         write_amount(pen, b" available, ", totals.reserved);
         write_amount(pen, b" reserved, ", totals.paid);
         write_amount(pen, b" paid, ", totals.sold);
-        pen.push(b" sold.\n");
+        pen.push(b" sold");
     }
     if page.devices.sales > 0 {
         write_amount(pen, b"<p>Sales: ", page.devices.sales);
         write_amount(pen, b", for ", page.devices.sold);
-        pen.push(b" in all.\n");
+        pen.push(b" in all");
     }
 }
 
@@ -104,12 +108,11 @@ fn write_amount<K: Sink>(pen: &mut Pen<'_, K>, before: &[u8], amount: u64) {
 pub(crate) fn write_red<K: Sink>(pen: &mut Pen<'_, K>, page: &Page) {
     let count = page.rows.iter().filter(|row| is_red(page, row)).count();
     if count == 0 {
-        pen.push(b"<p>Nothing is to be looked at.\n");
         return;
     }
-    pen.push(b"<p id=red>To be looked at: ");
-    pen.push_number(count);
+    pen.push(b"<p>To look at:");
     if count > MOST_RED {
+        write_amount(pen, b" ", count as u64);
         pen.push(b"; \"errors\" shows all, these are the first");
     }
     let mut left = MOST_RED;
@@ -119,7 +122,6 @@ pub(crate) fn write_red<K: Sink>(pen: &mut Pen<'_, K>, page: &Page) {
             left = left.saturating_sub(1);
         }
     }
-    pen.push(b"\n");
 }
 
 /// Whether somebody is to look at a row: that of a command only where the job has no end.
@@ -135,7 +137,7 @@ pub(crate) fn is_red(page: &Page, row: &Row) -> bool {
 
 /// Writes a link to the row at a place, by its number.
 fn write_link<K: Sink>(pen: &mut Pen<'_, K>, place: usize, row: &Row) {
-    pen.push(b" <a href=#r");
+    pen.push(b" <a href=#");
     pen.push_number(place);
     pen.push(b">");
     pen.push_number(row.place.tap.unwrap_or(row.place.line));

@@ -2,7 +2,7 @@
 
 use crate::element::{push_numbered, push_pair};
 use crate::layout::{Lanes, NAMES_EVERY};
-use crate::look::{LOOKS, Look};
+use crate::look::LOOKS;
 use crate::row::{Row, arrow_of, shape_of};
 use crate::said::{said_of_host, write_mark};
 use crate::shape::{Arrow, CROSS, Shape, bar_class};
@@ -11,28 +11,26 @@ use crate::worth::Worths;
 use crate::{Ask, FaultAt, Heard, Label, Mark, Picture, Reach, Reply};
 use cct_edge::Sink;
 use cct_show_pen::Pen;
+use std::fmt::Write;
 
-/// The height of a row: two lines of text, of a request and of what was heard.
-const ROW_HEIGHT: u32 = 28;
+/// The height of a line of text. A row has one, or two where it has a time, or a request above what was heard.
+const LINE_HEIGHT: u32 = 14;
 
-/// The lines of a request, of what was heard, and of what happened, below the top of a row.
+/// The lines of a request, of what was heard, and of a sign, below the top of a row.
 const ASKED: u32 = 13;
 
 const HEARD: u32 = 27;
 
-const MIDDLE: u32 = 21;
+const SIGNED: u32 = 12;
 
-/// The lane of the host; at its left stand the numbers, and the times where there are any.
-const HOST_LANE: u32 = 60;
+/// What a line with the style of exchanges has in place of it: nothing, since the picture has it.
+const PLAIN: &[u8] = b"stroke:#047";
 
-const TIMED_LANE: u32 = 230;
+/// How wide a letter of the words is; those of some fonts are less wide.
+const LETTER: u32 = 6;
 
-/// From the lane of the host to the words, to the first device, and from one device to the next.
-const WORDS_GAP: u32 = 12;
-
-const FIRST_GAP: u32 = 390;
-
-const LANE_GAP: u32 = 140;
+/// From a lane to the tab at which its name stands, and the host's words.
+const NAME_GAP: u32 = 4;
 
 /// From a lane to the end of the sign at it, and to where a lost request ends.
 const SIGN: u32 = 5;
@@ -41,6 +39,35 @@ const LOST_GAP: u32 = 40;
 
 /// From the last lane to the right end.
 const END_GAP: u32 = 80;
+
+/// How far apart the tabs are at which words and lanes stand: the host's at the first, and how many later the first device's,
+/// and from one device to the next.
+#[derive(Clone, Copy)]
+struct Tabs {
+    width: u32,
+    first: u32,
+    next: u32,
+}
+
+/// The tabs of a picture without times, and of one with a time below each number.
+const TABS: Tabs = Tabs {
+    width: 75,
+    first: 5,
+    next: 2,
+};
+
+const TIMED_TABS: Tabs = Tabs {
+    width: 240,
+    first: 2,
+    next: 1,
+};
+
+/// Where the rows of a picture stand, from above; the names of the lanes stand between them every now and then.
+#[derive(Clone, Copy)]
+struct Tops {
+    next: u32,
+    count: usize,
+}
 
 /// A line of a row: of what class it is, from where to where, at which height, and its head.
 #[derive(Clone, Copy)]
@@ -57,64 +84,90 @@ struct Stroke {
 struct Sheet<'s> {
     lanes: &'s Lanes,
     worths: &'s Worths,
+    tabs: Tabs,
     host: u32,
     has_taps: bool,
 }
 
 impl Picture {
-    /// Whether a sketch shows anything: not if all rows are lines that are no mark of their own.
+    /// Whether a sketch shows anything: whether any row is of a device.
     pub fn has_sketch(&self) -> bool {
-        self.rows.iter().any(is_drawn)
+        self.rows.iter().any(is_of_device)
+    }
+
+    /// How wide a tab is in the text of a sketch, in pixels.
+    pub fn tab_width(&self) -> u32 {
+        self.tabs().width
+    }
+
+    /// The tabs of a sketch.
+    fn tabs(&self) -> Tabs {
+        if self.rows.iter().any(has_time) {
+            TIMED_TABS
+        } else {
+            TABS
+        }
     }
 
     /// Draws the picture in few bytes for a page of HTML, which has all words and bytes in rows of its own: arrows and
-    /// signs of one look are one path, and a clean exchange is one element. Lines that are no mark of their own are left out.
+    /// signs of one look are one path, and its words one text. Lines that are only words are left out.
     pub fn sketch<K: Sink>(&self, pen: &mut Pen<'_, K>) {
-        let has_times = self.rows.iter().any(has_time);
-        let host = if has_times { TIMED_LANE } else { HOST_LANE };
+        let tabs = self.tabs();
+        let host = tabs.width.saturating_sub(NAME_GAP);
         let lanes = Lanes::at(
             self.devices,
             self.kinds,
-            host.saturating_add(FIRST_GAP),
-            LANE_GAP,
+            host.saturating_add(tabs.width.saturating_mul(tabs.first)),
+            tabs.width.saturating_mul(tabs.next),
         );
         let sheet = Sheet {
             lanes: &lanes,
             worths: &self.worths,
+            tabs,
             host,
             has_taps: self.has_taps,
         };
-        let drawn = self.rows.iter().filter(|row| is_drawn(row)).count();
-        let end = row_top(drawn);
+        let mut tops = Tops::new();
+        for row in self.rows.iter().filter(|row| is_drawn(row)) {
+            let _ = tops.take(row);
+        }
+        let end = tops.next;
         let width = lanes.end().saturating_add(END_GAP);
         push_pair(
             pen,
-            b"<svg width=",
+            b"<pre><svg width=",
             width,
             b" height=",
             end,
-            b" fill=none stroke=#000>\n",
+            b" fill=none stroke=#38c>",
         );
-        draw_lanes(pen, &sheet, drawn, end);
-        draw_exchanges(pen, &sheet, &self.rows);
-        for look in &LOOKS {
-            draw_look(pen, &sheet, look, &self.rows);
+        draw_lanes(pen, &sheet, end);
+        for (index, look) in LOOKS.iter().enumerate() {
+            if is_first(index, look.style) {
+                draw_style(pen, &sheet, look.style, &self.rows);
+            }
         }
         pen.push(b"</svg>");
-        push_numbered(
-            pen,
-            b"<pre style=tab-size:",
-            host.saturating_add(WORDS_GAP),
-            b"px>\n\n\n",
-        );
+        write_names(pen, &sheet);
         write_rows(pen, &sheet, &self.rows);
         pen.push(b"</pre>");
     }
 }
 
-/// Whether a row is drawn: it is no line without a mark of its own.
+/// Whether a row stands in the lane of a device, or is an exchange with all.
+fn is_of_device(row: &Row) -> bool {
+    matches!(
+        row.mark,
+        Mark::Exchange { .. } | Mark::Happened { .. } | Mark::Told { .. }
+    )
+}
+
+/// Whether a row is drawn: not if it is only words at the host that are no record.
 fn is_drawn(row: &Row) -> bool {
-    !matches!(row.mark, Mark::Note(_))
+    match &row.mark {
+        Mark::Note(_) | Mark::Taken(_) | Mark::Ended(_) | Mark::Began(_) | Mark::Waits(_) => false,
+        _ => true,
+    }
 }
 
 /// Whether a time stands in a row.
@@ -122,109 +175,145 @@ fn has_time(row: &Row) -> bool {
     is_drawn(row) && !row.place.time.as_slice().is_empty()
 }
 
-/// The top of a row, by its index among those that are drawn.
-fn row_top(index: usize) -> u32 {
-    let rows = index.saturating_add(index / NAMES_EVERY).saturating_add(1);
-    (rows.min(1_000_000) as u32).saturating_mul(ROW_HEIGHT)
+/// Whether a row has a second line, for what was heard or for its time.
+fn has_second(row: &Row) -> bool {
+    matches!(row.mark, Mark::Exchange { .. }) || has_time(row)
 }
 
-/// Draws the lanes down to an end, and their names above every few rows of so many.
-fn draw_lanes<K: Sink>(pen: &mut Pen<'_, K>, sheet: &Sheet<'_>, drawn: usize, end: u32) {
-    push_pair(
-        pen,
-        b"<path stroke=#ccc d=\"M",
-        sheet.host,
-        b" 14V",
-        end,
-        b"",
-    );
+impl Tops {
+    /// Below the names of the lanes.
+    fn new() -> Tops {
+        Tops {
+            next: 2 * LINE_HEIGHT,
+            count: 0,
+        }
+    }
+
+    /// Whether the names of the lanes stand above the next row.
+    fn has_names(&self) -> bool {
+        self.count > 0 && self.count % NAMES_EVERY == 0
+    }
+
+    /// The top of the next row.
+    fn take(&mut self, row: &Row) -> u32 {
+        let names = if self.has_names() { 2 * LINE_HEIGHT } else { 0 };
+        let height = if has_second(row) {
+            2 * LINE_HEIGHT
+        } else {
+            LINE_HEIGHT
+        };
+        let top = self.next.saturating_add(names);
+        self.next = top.saturating_add(height);
+        self.count = self.count.saturating_add(1);
+        top
+    }
+}
+
+/// Draws the lanes between their names and an end: one downwards, and the next one upwards.
+fn draw_lanes<K: Sink>(pen: &mut Pen<'_, K>, sheet: &Sheet<'_>, end: u32) {
+    let host = sheet.host;
+    push_pair(pen, b"<path stroke=#999 d=\"M", host, b" 14V", end, b"");
+    let mut last = host;
+    let mut is_at_end = true;
     for addr in 1..=u8::MAX {
         if sheet.lanes.has(addr) {
-            push_pair(pen, b"M", sheet.lanes.place(addr), b" 14V", end, b"");
+            let place = sheet.lanes.place(addr);
+            let to = if is_at_end { LINE_HEIGHT } else { end };
+            push_pair(pen, b"m", place.saturating_sub(last), b" 0V", to, b"");
+            last = place;
+            is_at_end = !is_at_end;
         }
     }
-    pen.push(b"\"/><g id=n stroke=none fill=#000 text-anchor=middle>");
-    push_numbered(pen, b"<text y=10 x=", sheet.host, b">host</text>");
-    for addr in 1..=u8::MAX {
-        if sheet.lanes.has(addr) {
-            push_numbered(pen, b"<text y=10 x=", sheet.lanes.place(addr), b">");
-            push_numbered(pen, sheet.lanes.kind(addr).name(), addr, b"</text>");
-        }
-    }
-    pen.push(b"</g>\n");
-    for index in 1..=drawn.saturating_sub(1) / NAMES_EVERY {
-        let above = index.saturating_mul(NAMES_EVERY);
-        let top = row_top(above).saturating_sub(ROW_HEIGHT);
-        push_numbered(pen, b"<use href=#n y=", top, b" />");
-    }
-}
-
-/// Draws the exchanges that came through clean: the first with a device has the path that the others use.
-fn draw_exchanges<K: Sink>(pen: &mut Pen<'_, K>, sheet: &Sheet<'_>, rows: &[Row]) {
-    for addr in 0..=u8::MAX {
-        let mut first = None;
-        for (index, row) in rows.iter().filter(|row| is_drawn(row)).enumerate() {
-            if clean_addr(&row.mark) == Some(addr) {
-                let top = row_top(index);
-                match first {
-                    None => {
-                        draw_clean(pen, sheet, addr, top);
-                        first = Some(top);
-                    }
-                    Some(first) => {
-                        let below = top.saturating_sub(first);
-                        push_pair(pen, b"<use href=#d", u32::from(addr), b" y=", below, b" />");
-                    }
-                }
-            }
-        }
-        if first.is_some() {
-            pen.push(b"\n");
-        }
-    }
-}
-
-/// The device of an exchange that came through clean.
-fn clean_addr(mark: &Mark) -> Option<u8> {
-    match mark {
-        Mark::Exchange {
-            addr,
-            ask: Some(ask),
-            reply: Some(reply),
-            ..
-        } if ask.reach == Reach::Device && reply.heard == Heard::Answered => Some(*addr),
-        _ => None,
-    }
-}
-
-/// Draws, in a row with this top, there and back to a device.
-fn draw_clean<K: Sink>(pen: &mut Pen<'_, K>, sheet: &Sheet<'_>, addr: u8, top: u32) {
-    let lane = sheet.lanes.place(addr);
-    push_numbered(pen, b"<path id=d", addr, b" stroke=#047 d=\"");
-    push_stroke(pen, &arrow(Arrow::Request, sheet.host, lane), top);
-    push_stroke(pen, &arrow(Arrow::Answer, lane, sheet.host), top);
     pen.push(b"\"/>");
 }
 
-/// Draws all lines of one look as one path.
-fn draw_look<K: Sink>(pen: &mut Pen<'_, K>, sheet: &Sheet<'_>, look: &Look, rows: &[Row]) {
+/// Writes the names of the lanes, each at its tab.
+fn write_names<K: Sink>(pen: &mut Pen<'_, K>, sheet: &Sheet<'_>) {
+    pen.push(b"\thost");
+    let mut tabs = sheet.tabs.first;
+    for addr in 1..=u8::MAX {
+        if sheet.lanes.has(addr) {
+            for _ in 0..tabs {
+                pen.push(b"\t");
+            }
+            let name = name_of_lane(sheet, addr);
+            pen.push_label(&name);
+            tabs = sheet.tabs.after(&name);
+        }
+    }
+    pen.push(b"\n\n");
+}
+
+/// The name of the lane of a device.
+fn name_of_lane(sheet: &Sheet<'_>, addr: u8) -> Label {
+    let mut name = Label::new(sheet.lanes.kind(addr).name());
+    // A label takes any text.
+    let _ = write!(name, "{addr}");
+    name
+}
+
+impl Tabs {
+    /// How many tabs stand after the name of a lane.
+    fn after(self, name: &Label) -> u32 {
+        let letters = name.as_slice().len() as u32;
+        let passed = letters.saturating_mul(LETTER).checked_div(self.width);
+        self.next.saturating_sub(passed.unwrap_or(0)).max(1)
+    }
+}
+
+/// Whether a style is that of the look with this index, and of none before it.
+fn is_first(index: usize, style: &[u8]) -> bool {
+    for (place, look) in LOOKS.iter().enumerate() {
+        if look.style == style {
+            return place == index;
+        }
+    }
+    false
+}
+
+/// Whether a class has this style.
+fn is_of_style(class: &[u8], style: &[u8]) -> bool {
+    LOOKS
+        .iter()
+        .any(|look| look.class == class && look.style == style)
+}
+
+/// Draws all lines of one style as one path.
+fn draw_style<K: Sink>(pen: &mut Pen<'_, K>, sheet: &Sheet<'_>, style: &[u8], rows: &[Row]) {
     let mut is_there = false;
-    for (index, row) in rows.iter().filter(|row| is_drawn(row)).enumerate() {
+    let mut tops = Tops::new();
+    for row in rows.iter().filter(|row| is_drawn(row)) {
+        let top = tops.take(row);
         for stroke in strokes_of(sheet, &row.mark).iter().flatten() {
-            if stroke.class == look.class {
+            if is_of_style(stroke.class, style) {
                 if !is_there {
-                    pen.push(b"<path style=\"");
-                    pen.push(look.style);
-                    pen.push(b"\" d=\"");
+                    begin_style(pen, style);
                 }
                 is_there = true;
-                push_stroke(pen, stroke, row_top(index));
+                push_stroke(pen, stroke, top);
             }
         }
     }
     if is_there {
-        pen.push(b"\"/>\n");
+        pen.push(b"\"/>");
     }
+}
+
+/// Begins the path of a style, which stands there in attributes.
+fn begin_style<K: Sink>(pen: &mut Pen<'_, K>, style: &[u8]) {
+    pen.push(b"<path ");
+    if style != PLAIN {
+        for byte in style {
+            match *byte {
+                b':' => pen.push(b"="),
+                b' ' => pen.push(b","),
+                b';' => pen.push(b" "),
+                plain => pen.push(&[plain]),
+            }
+        }
+        pen.push(b" ");
+    }
+    pen.push(b"d=\"");
 }
 
 /// Writes a line of a row with this top.
@@ -235,16 +324,17 @@ fn push_stroke<K: Sink>(pen: &mut Pen<'_, K>, stroke: &Stroke, top: u32) {
         stroke.from,
         b" ",
         top.saturating_add(stroke.line),
-        b"H",
+        b"",
     );
-    pen.push_number(stroke.to);
+    if stroke.to != stroke.from {
+        push_numbered(pen, b"H", stroke.to, b"");
+    }
     pen.push(stroke.head);
 }
 
 /// The lines of a mark.
 fn strokes_of(sheet: &Sheet<'_>, mark: &Mark) -> [Option<Stroke>; 3] {
     match mark {
-        _ if clean_addr(mark).is_some() => [None; 3],
         Mark::Exchange {
             addr,
             ask,
@@ -257,7 +347,7 @@ fn strokes_of(sheet: &Sheet<'_>, mark: &Mark) -> [Option<Stroke>; 3] {
         }
         Mark::Told { addr, verdict, .. } => {
             let class = bar_class(*verdict);
-            [Some(sign(class, sheet.lanes.place(*addr))), None, None]
+            [Some(bar(class, sheet.lanes.place(*addr))), None, None]
         }
         Mark::Fault {
             at: FaultAt::Nowhere,
@@ -277,7 +367,7 @@ fn host_stroke(sheet: &Sheet<'_>, mark: &Mark) -> Option<Stroke> {
     }
 }
 
-/// The lines of an exchange that didn't come through clean, with the lane of a device.
+/// The lines of an exchange, with the lane of a device.
 fn exchange_strokes(
     sheet: &Sheet<'_>,
     lane: u32,
@@ -296,11 +386,20 @@ fn exchange_strokes(
             Some(Reach::Lost) => Some(cross(end, ASKED)),
             _ => None,
         },
-        reply.as_ref().map(|reply| match arrow_of(reply.heard) {
-            Some(kind) => arrow(kind, lane, sheet.host),
-            None => cross(sheet.host, HEARD),
-        }),
+        match reply {
+            Some(reply) => reply_stroke(sheet, lane, reply.heard),
+            None => None,
+        },
     ]
+}
+
+/// The line of what was heard from the lane of a device: none where nothing was.
+fn reply_stroke(sheet: &Sheet<'_>, lane: u32, heard: Heard) -> Option<Stroke> {
+    match arrow_of(heard) {
+        Some(Arrow::Silence) => None,
+        Some(kind) => Some(arrow(kind, lane, sheet.host)),
+        None => Some(cross(sheet.host, HEARD)),
+    }
 }
 
 /// A line from one place to another.
@@ -313,7 +412,16 @@ fn arrow(arrow: Arrow, from: u32, to: u32) -> Stroke {
             Arrow::Request | Arrow::Lost => ASKED,
             _ => HEARD,
         },
-        head: arrow.head(),
+        head: head_of(arrow),
+    }
+}
+
+/// The head of an arrow, a stroke below it.
+fn head_of(arrow: Arrow) -> &'static [u8] {
+    match arrow {
+        Arrow::Request => b"l-7 4",
+        _ if arrow.head().is_empty() => b"",
+        _ => b"l7 4",
     }
 }
 
@@ -334,7 +442,7 @@ fn across(sheet: &Sheet<'_>, arrow: Arrow) -> Stroke {
         class: arrow.class(),
         from: 0,
         to: sheet.lanes.end(),
-        line: HEARD,
+        line: ASKED,
         head: b"",
     }
 }
@@ -345,41 +453,78 @@ fn sign(class: &'static [u8], lane: u32) -> Stroke {
         class,
         from: lane.saturating_sub(SIGN),
         to: lane.saturating_add(SIGN),
-        line: MIDDLE,
+        line: SIGNED,
         head: SQUARE,
+    }
+}
+
+/// A bar at a lane: a wide line.
+fn bar(class: &'static [u8], lane: u32) -> Stroke {
+    Stroke {
+        head: b"",
+        ..sign(class, lane)
     }
 }
 
 /// The other three sides of a sign, from its right end on.
 const SQUARE: &[u8] = b"v-9h-10z";
 
-/// Writes the words of all rows, two lines a row, and room for the names of the lanes.
+/// Writes the words of all rows, and between them the names of the lanes.
 fn write_rows<K: Sink>(pen: &mut Pen<'_, K>, sheet: &Sheet<'_>, rows: &[Row]) {
     let mut named = [false; 256];
-    for (index, row) in rows.iter().filter(|row| is_drawn(row)).enumerate() {
-        if index > 0 && index % NAMES_EVERY == 0 {
-            pen.push(b"\n\n");
+    let mut tops = Tops::new();
+    for row in rows.iter().filter(|row| is_drawn(row)) {
+        if tops.has_names() {
+            write_names(pen, sheet);
         }
+        let _ = tops.take(row);
         write_number(pen, sheet, row);
         match &row.mark {
             Mark::Exchange { ask: Some(ask), .. } => write_ask(pen, &mut named, ask),
             Mark::Exchange { .. } => {}
+            Mark::Fault { at, bytes } => write_fault(pen, *at, bytes),
             mark => write_mark(pen, sheet.worths, mark),
         }
         if row.times > 1 {
             push_numbered(pen, b", ", row.times, b" times");
         }
         pen.push(b"\n");
-        pen.push_label(&row.place.time);
-        if let Mark::Exchange {
-            reply: Some(reply),
-            ..
-        } = &row.mark
-        {
-            write_reply(pen, reply.heard, &reply.words);
+        if has_second(row) {
+            write_second(pen, row);
         }
-        pen.push(b"\n");
     }
+}
+
+/// The words of a fault of the wire in the line of a transcript, up to its bytes.
+fn fault_words(at: FaultAt) -> &'static [u8] {
+    match at {
+        FaultAt::Nowhere => b"fault clear",
+        FaultAt::Devices => b"fault devices ",
+        FaultAt::Host => b"fault host ",
+        FaultAt::Whole => b"fault whole ",
+    }
+}
+
+/// Writes a fault of the wire, as the line of a transcript does.
+fn write_fault<K: Sink>(pen: &mut Pen<'_, K>, at: FaultAt, bytes: &Label) {
+    pen.push(fault_words(at));
+    match at {
+        FaultAt::Nowhere => {}
+        FaultAt::Devices | FaultAt::Host | FaultAt::Whole => pen.push_label(bytes),
+    }
+}
+
+/// Writes the second line of a row: its time, and what was heard.
+fn write_second<K: Sink>(pen: &mut Pen<'_, K>, row: &Row) {
+    pen.push_label(&row.place.time);
+    if let Mark::Exchange {
+        reply: Some(reply),
+        ..
+    } = &row.mark
+    {
+        write_reply(pen, reply.heard, &reply.words);
+    }
+    pen.push(b"\n");
 }
 
 /// Writes the number of a row.
