@@ -11,5 +11,10 @@ returns-clause-plays g c = λ first played. plays_on g.L.Line.reads g.L.Line.wri
     (c.tell_closed.ensures.rests c.exchange.new.self not_begun)
 
 pub returns-clause-sends : goal.returns-clause-sends
-returns-clause-sends g c = λ none. (c.args.bench.now, c.exchange.new.self, not_begun, c.exchange.ensures.sent none,
-    c.tell_closed.ensures.rests c.exchange.new.self not_begun)
+returns-clause-sends g c = λ none. (
+  c.args.bench.now,
+  c.exchange.new.self,
+  not_begun,
+  c.exchange.ensures.sent none,
+  c.tell_closed.ensures.rests c.exchange.new.self not_begun,
+)
