@@ -18,7 +18,7 @@ own_is serial (body.Acceptor start values ids) past q kind = refl
 own_is serial (body.Hopper life value) past q kind = absurd kind
 own_is serial (body.Bill start values ids) past q kind = absurd kind
 
--- The identification of the coin of a place stands at the index of one less.
+-- The identification of the coin of a place is at the index of one less.
 pub id_read : (ids : List (List ℕ)) (place : ℕ) → id_at ids place ≡ get_or ids (place - 1) []
 id_read ids place = unwrap_or-slice_get ids (place - 1) []
 

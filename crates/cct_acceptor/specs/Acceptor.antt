@@ -4,7 +4,9 @@ use Rattle.cct_model_wire.specs.declared.device.DeviceBody.{DeviceBody}
 use Rattle.cct_model_wire.specs.declared.device.DeviceBody.TheVariants as body
 use Rattle.cct_model_wire.specs.declared.device.DeviceSetup.{DeviceSetup}
 use Rattle.cct_model_wire.specs.declared.request.Request.{Request}
-use Rattle.cct_model_wire.specs.declared.request.Request.TheVariants.{ResetDevice, SetMask, SetMaster, SetPath, SetDefault}
+use Rattle.cct_model_wire.specs.declared.request.Request.TheVariants.{ResetDevice, SetMask}
+use Rattle.cct_model_wire.specs.declared.request.Request.TheVariants.{SetMaster, SetPath}
+use Rattle.cct_model_wire.specs.declared.request.Request.TheVariants.{SetDefault}
 use Rattle.cct_model_wire.specs.Acceptor.{accepted_coins, accepts, events, path_of, settings}
 use Rattle.cct_model_wire.specs.Device.{IsAcceptor}
 use Rattle.cct_model_wire.specs.History.{Met}
@@ -26,13 +28,14 @@ ids_of (body.Acceptor start values ids) = ids
 ids_of (body.Hopper life value) = []
 ids_of (body.Bill start values ids) = []
 
--- An acceptor represents one of this setup that met all this, newest first: its settings, its events and its accept
--- counter are what that made them.
+-- An acceptor represents one of this setup that met all this, newest first: its settings, its
+-- events and its accept counter are what that made them.
 pub record StandsFor (acceptor : Acceptor) (d : DeviceSetup) (past : List Met) : Type 0 where
   pub kind : IsAcceptor d.body
   pub setup : acceptor.setup.now ≡ d
   pub ids : acceptor.ids.now ≡ ids_of d.body
-  pub intake : Holds acceptor.intake (start_of d.body) (settings past) (events past) (accepted_coins past)
+  pub intake : Holds acceptor.intake (start_of d.body) (settings past) (events past)
+      (accepted_coins past)
 
 -- An acceptor heard these bytes since the last gap.
 abbrev pub HasHeard : Acceptor → List ℕ → Type 0
@@ -42,10 +45,11 @@ HasHeard acceptor bytes = HeardSince acceptor.listener acceptor.setup.now.addr b
 abbrev pub IsAtGap : Acceptor → Type 0
 IsAtGap acceptor = HasHeard acceptor []
 
--- What becomes of a coin of a place that falls into an acceptor that met all this: it is accepted and falls by the path
--- of its place, or it is inhibited and given back.
+-- What becomes of a coin of a place that falls into an acceptor that met all this: it is accepted
+-- and falls by the path of its place, or it is inhibited and given back.
 abbrev pub inserted : List Met → ℕ → Inserted
-inserted past place = if accepts past place then Accepted (record { place = place; path = path_of past place }) else Inhibited
+inserted past place = if accepts past place then Accepted
+    (record { place = place; path = path_of past place }) else Inhibited
 
 -- Whether a request changes what an acceptor holds: it resets the device or sets something.
 abbrev pub is_change : Request → Bool

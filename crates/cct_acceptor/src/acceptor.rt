@@ -1,5 +1,6 @@
 //! The coin acceptor as a device (ccTalk Generic Specification 4, part 2).
-ghost use Rattle.std.specs.Prelude.{◌≡◌, ◌<◌, ◌≤◌, ◌^◌, ◌&&◌, ℕ, List, [], ◌∷◌, ◌++◌, false, true, if◌then◌else◌, Some, IfOk, IfSome, MatchOption};
+ghost use Rattle.std.specs.Prelude.{◌≡◌, ◌<◌, ◌≤◌, ◌^◌, ◌&&◌, ℕ, List, [], ◌∷◌, ◌++◌, false, true};
+ghost use Rattle.std.specs.Prelude.{if◌then◌else◌, Some, IfOk, IfSome, MatchOption};
 ghost use Rattle.std.specs.Option.{option_map};
 ghost use Rattle.cct_model_wire.specs.declared.coin.Pair.{Pair};
 ghost use Rattle.cct_model_wire.specs.declared.device.DeviceSetup.{DeviceSetup};
@@ -47,10 +48,11 @@ pub struct Acceptor<'s> {
 }
 
 impl<'s> Acceptor<'s> {
-    ghost use Rattle.cct_acceptor.specs.Acceptor.{HasHeard, IsAtGap, StandsFor, ids_of, inserted, is_change, start_of};
+    ghost use Rattle.cct_acceptor.specs.Acceptor.{HasHeard, IsAtGap, StandsFor, ids_of, inserted};
+    ghost use Rattle.cct_acceptor.specs.Acceptor.{is_change, start_of};
 
-    /// An acceptor as after a reset, with its accept counter where the setup starts it. This takes all memory that it
-    /// ever has.
+    /// An acceptor as after a reset, with its accept counter where the setup starts it. This takes
+    /// all memory that it ever has.
     ///
     /// Fails only where there is no memory for it.
     pub fn new(alloc: Global, setup: &'s DeviceSetup) -> Result<Acceptor<'s>, AllocError>
@@ -77,8 +79,8 @@ impl<'s> Acceptor<'s> {
         requires high { place ≤ COIN_PLACES }
         ensures stands { (d : DeviceSetup) (past : List Met) → StandsFor self.old d past
             → StandsFor self.new d (coin place ∷ past) }
-        // All that came before decides: the last mask, the master inhibit and the path of the place since the last
-        // reset.
+        // All that came before decides: the last mask, the master inhibit and the path of the place
+        // since the last reset.
         ensures answer { (d : DeviceSetup) (past : List Met) → StandsFor self.old d past
             → result ≡ inserted past place }
         ensures heard { (bytes : List ℕ) → HasHeard self.old bytes → HasHeard self.new bytes }
@@ -101,7 +103,8 @@ impl<'s> Acceptor<'s> {
         self.intake.tell(ALIEN);
     }
 
-    /// The acceptor starts again as after power-up: it forgets its settings and its events. The accept counter goes on.
+    /// The acceptor starts again as after power-up: it forgets its settings and its events. The
+    /// accept counter goes on.
     pub fn reset(&mut self)
         ensures stands { (d : DeviceSetup) (past : List Met) → StandsFor self.old d past
             → StandsFor self.new d (reset ∷ past) }
@@ -113,19 +116,22 @@ impl<'s> Acceptor<'s> {
     /// Hears one byte more. It acts on it, and answers, only when a gap comes.
     #[inline]
     pub fn byte(&mut self, byte: u8)
-        ensures stands { (d : DeviceSetup) (past : List Met) → StandsFor self.old d past → StandsFor self.new d past }
-        ensures heard { (bytes : List ℕ) → HasHeard self.old bytes → HasHeard self.new (bytes ++ byte ∷ []) }
+        ensures stands { (d : DeviceSetup) (past : List Met) → StandsFor self.old d past →
+            StandsFor self.new d past }
+        ensures heard { (bytes : List ℕ) → HasHeard self.old bytes →
+            HasHeard self.new (bytes ++ byte ∷ []) }
     {
         self.listener.byte(self.setup.addr, byte);
     }
 
-    /// A gap: the acceptor acts on what the bytes since the last one ask, and answers: true with the answer in `out`, or
-    /// false with nothing there where the acceptor is silent. It is silent to bytes that are no message under its check,
-    /// to another address, to a request that no acceptor knows, and to every broadcast but the address poll, which asks
-    /// nothing at its own address.
+    /// A gap: the acceptor acts on what the bytes since the last one ask, and answers: true with
+    /// the answer in `out`, or false with nothing there where the acceptor is silent. It is silent
+    /// to bytes that are no message under its check, to another address, to a request that no
+    /// acceptor knows, and to every broadcast but the address poll, which asks nothing at its own
+    /// address.
     pub fn gap(&mut self, out: &mut ArrayVec<u8, MOST_SENT>) -> bool
-        // A gap does what the bytes since the last one ask, and nothing if they ask nothing. Hearing a message is
-        // hearing its bytes and then a gap.
+        // A gap does what the bytes since the last one ask, and nothing if they ask nothing.
+        // Hearing a message is hearing its bytes and then a gap.
         ensures stands { (d : DeviceSetup) (past : List Met) (bytes : List ℕ) → StandsFor self.old d past
             → HasHeard self.old bytes → StandsFor self.new d (heard (asks_of d bytes) ∷ past) }
         ensures answer { (d : DeviceSetup) (past : List Met) (bytes : List ℕ) → StandsFor self.old d past
@@ -149,13 +155,15 @@ impl<'s> Acceptor<'s> {
         }
     }
 
-    /// Hears a piece and then a gap, where no byte came since the last one. It acts and answers as `gap` says.
+    /// Hears a piece and then a gap, where no byte came since the last one. It acts and answers as
+    /// `gap` says.
     pub fn hear(&mut self, piece: &[u8], out: &mut ArrayVec<u8, MOST_SENT>) -> bool
         requires gap { IsAtGap self.old }
         // Bytes do what they ask, and nothing if they ask nothing.
         ensures stands { (d : DeviceSetup) (past : List Met) → StandsFor self.old d past
             → StandsFor self.new d (heard (asks_of d piece.now) ∷ past) }
-        // Byte for byte, the answer is the one that all that came before makes it; else there is silence.
+        // Byte for byte, the answer is the one that all that came before makes it; else there is
+        // silence.
         ensures answer { (d : DeviceSetup) (past : List Met) → StandsFor self.old d past
             → MatchOption (answer d past piece.now) ((result ≡ false) × (out.new.items ≡ []))
             (λ bytes. (result ≡ true) × (out.new.items ≡ bytes)) }

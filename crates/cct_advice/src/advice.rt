@@ -22,8 +22,9 @@ enum Said<'a> {
     Meaning { meaning: Meaning, journal: &'a str },
 }
 
-/// What there is to say after this last line of a transcript, which may have its line feed, and after these last bytes
-/// of the script; `None` after a line that says all itself. The journal is named as `journal`.
+/// What there is to say after this last line of a transcript, which may have its line feed, and
+/// after these last bytes of the script; `None` after a line that says all itself. The journal is
+/// named as `journal`.
 pub fn advise<'a>(last: &'a [u8], script: &'a Window, journal: &'a str) -> Option<Advice<'a>> {
     let (word, rest) = word_and_rest(last);
     match word {
@@ -41,8 +42,8 @@ pub fn advise_end<'a>(last: &'a [u8], journal: &'a str) -> Option<Advice<'a>> {
     }))
 }
 
-/// What is wrong with a refused line of the input of a host on a line, by its number and without its line feed. A line of
-/// which nothing is kept has no bytes here.
+/// What is wrong with a refused line of the input of a host on a line, by its number and without
+/// its line feed. A line of which nothing is kept has no bytes here.
 pub fn advise_line(number: u32, kind: LineKind, line: &[u8]) -> Advice<'_> {
     Advice(Said::Refusal(Refusal {
         number: u64::from(number),
@@ -53,7 +54,8 @@ pub fn advise_line(number: u32, kind: LineKind, line: &[u8]) -> Advice<'_> {
     }))
 }
 
-/// What is wrong with the line of this number of a setup, which is among the last bytes that were taken of it.
+/// What is wrong with the line of this number of a setup, which is among the last bytes that were
+/// taken of it.
 pub(crate) fn setup_advice(setup: &Window, number: u32, kind: LineKind) -> Option<Advice<'_>> {
     let number = u64::from(number);
     let line = setup.line(number)?;
@@ -66,7 +68,7 @@ pub(crate) fn setup_advice(setup: &Window, number: u32, kind: LineKind) -> Optio
     })))
 }
 
-/// The word of a line, which may have its line feed, and what stands after it.
+/// The word of a line, which may have its line feed, and what is after it.
 fn word_and_rest(line: &[u8]) -> (&[u8], &[u8]) {
     let line = match line {
         [line @ .., b'\n'] => line,
@@ -76,7 +78,7 @@ fn word_and_rest(line: &[u8]) -> (&[u8], &[u8]) {
     (word, rest.unwrap_or(b""))
 }
 
-/// The word by which a transcript tells why a line is refused.
+/// The word by which a transcript says why a line is refused.
 fn kind_word(kind: LineKind) -> &'static [u8] {
     match kind {
         LineKind::Trailing => b"trailing",

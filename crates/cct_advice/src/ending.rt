@@ -111,7 +111,7 @@ pub(crate) fn meaning_of(word: &[u8], rest: &[u8]) -> Option<Meaning> {
     }
 }
 
-/// What another process uses, by what stands after the word `inuse`.
+/// What another process uses, by what is after the word `inuse`.
 fn in_use_meaning(rest: &[u8]) -> Option<Meaning> {
     match rest {
         b"journal" => Some(IN_USE),
@@ -119,7 +119,7 @@ fn in_use_meaning(rest: &[u8]) -> Option<Meaning> {
     }
 }
 
-/// What is wrong with a journal, by what stands after the word `journal`.
+/// What is wrong with a journal, by what is after the word `journal`.
 fn journal_meaning(rest: &[u8]) -> Option<Meaning> {
     match first_field(rest).0 {
         b"alien" => Some(ALIEN),
@@ -129,7 +129,7 @@ fn journal_meaning(rest: &[u8]) -> Option<Meaning> {
     }
 }
 
-/// Why a journal isn't brought forward, by what stands after the word `upgrade`.
+/// Why a journal isn't brought forward, by what is after the word `upgrade`.
 fn upgrade_meaning(rest: &[u8]) -> Option<Meaning> {
     match first_field(rest).0 {
         b"current" => Some(CURRENT),

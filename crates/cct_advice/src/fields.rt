@@ -1,6 +1,6 @@
 //! The fields of a line.
 
-/// The first field of a text, and what stands after its space, if there is one.
+/// The first field of a text, and what is after its space, if there is one.
 pub(crate) fn first_field(text: &[u8]) -> (&[u8], Option<&[u8]>) {
     match text.iter().position(|byte| *byte == b' ') {
         Some(at) => (&text[..at], Some(&text[at + 1..])),

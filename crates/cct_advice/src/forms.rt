@@ -1,5 +1,5 @@
-//! The forms of all lines of a script, of a capture and of the input of a host on a line: the tables of `docs/SCRIPT.md` and
-//! `docs/LIVE.md`.
+//! The forms of all lines of a script, of a capture and of the input of a host on a line: the
+//! tables of `docs/SCRIPT.md` and `docs/LIVE.md`.
 
 use crate::rule::Rule;
 use cct_model_lines::{
@@ -345,7 +345,8 @@ impl fmt::Display for WordsOf {
     }
 }
 
-/// Writes the word of a form where it is of the part and another one than before, and gives the word that is now the last.
+/// Writes the word of a form where it is of the part and another one than before, and gives the
+/// word that is now the last.
 fn write_word<W: fmt::Write>(
     before: &'static str,
     part: Part,

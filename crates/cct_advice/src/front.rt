@@ -1,6 +1,6 @@
 //! The front of a last line.
 
-/// How many bytes of one put are kept. The last lines that tell how a run ended are shorter.
+/// How many bytes of one put are kept. The last lines that say how a run ended are shorter.
 const ROOM: usize = 64;
 
 /// The front of the last put that may have been a last line.
@@ -40,8 +40,8 @@ impl Front {
     }
 }
 
-/// Whether a line may be the last one of a run that went wrong, by its first letters. Few lines of steps may be, so that
-/// few are kept.
+/// Whether a line may be the last one of a run that went wrong, by its first letters. Few lines of
+/// steps may be, so that few are kept.
 fn may_be_last(line: &[u8]) -> bool {
     match line.first() {
         Some(b'w') => line.get(1) == Some(&b'o'),

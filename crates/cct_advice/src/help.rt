@@ -1,4 +1,5 @@
-//! What is written for whoever asks how the program is called, or what the lines of its input look like.
+//! What is written for whoever asks how the program is called, or what the lines of its input look
+//! like.
 
 use crate::ending::USAGE;
 use crate::forms::{FORMS, Field, Form, Part, Text};
@@ -14,7 +15,8 @@ const MORE: &str =
 pub enum Help {
     /// How the program is called.
     Usage,
-    /// The forms of the lines of a script, and what their fields are (`docs/SCRIPT.md`, "Lines and fields").
+    /// The forms of the lines of a script, and what their fields are (`docs/SCRIPT.md`, "Lines and
+    /// fields").
     Script,
     /// Those of a capture (`docs/AUDIT.md`, "Captures").
     Capture,

@@ -1,4 +1,5 @@
-//! A source and a sink that do what the one below does, and keep the last bytes that passed through.
+//! A source and a sink that do what the one below does, and keep the last bytes that passed
+//! through.
 ghost use Rattle.std.specs.Prelude.{◌≡◌};
 ghost use Rattle.cct_advice.specs.Kept.{source_of, sink_of};
 
@@ -84,7 +85,7 @@ impl<K: Sink> KeptSink<K> {
         self.last.bytes()
     }
 
-    /// Whether a line was put that tells a record, as put or as kept.
+    /// Whether a line was put that shows a record, as put or as kept.
     pub fn tells_record(&self) -> bool {
         self.tells_record
     }
@@ -104,7 +105,7 @@ impl<K: Sink> Sink for KeptSink<K> {
     }
 }
 
-/// Whether a line tells a record.
+/// Whether a line shows a record.
 fn tells_record(line: &[u8]) -> bool {
     line.starts_with(b"put ") || line.starts_with(b"kept ")
 }

@@ -1,6 +1,7 @@
-//! What the program says on standard error: which field of a refused line doesn't fit and the form that is wanted, or
-//! what the last line of a transcript means and where to read on. It re-reads the line by rules of its own, field by
-//! field, which stand in one table (`docs/SCRIPT.md`, "Lines and fields"), and promises nothing but safety.
+//! What the program says on standard error: which field of a refused line doesn't fit and the form
+//! that is wanted, or what the last line of a transcript means and where to read on. It re-reads
+//! the line by rules of its own, field by field, which stand in one table (`docs/SCRIPT.md`, "Lines
+//! and fields"), and promises nothing but safety.
 #![tactic(auto)]
 
 mod advice;

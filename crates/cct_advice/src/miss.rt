@@ -15,7 +15,7 @@ enum Wrong<'l> {
     Missing(Field),
     /// This field is something else.
     Unfit(Field, &'l [u8]),
-    /// Something stands after the last field, or after a word that stands alone.
+    /// Something is after the last field, or after a word that stands alone.
     Surplus(&'static str, &'l [u8]),
 }
 
@@ -27,15 +27,15 @@ pub(crate) struct Miss<'l> {
     place: usize,
     /// How many are right in all.
     right: usize,
-    /// Whether a word by which the form differs from others stands in its place.
+    /// Whether a word by which the form differs from others is in its place.
     has_word: bool,
     /// Whether the line has as many fields as the form.
     is_full: bool,
     wrong: Wrong<'l>,
 }
 
-/// Where a line misses the form of its word that it comes nearest to, or `None` where the word has no form, or nothing
-/// is found wrong.
+/// Where a line misses the form of its word that it comes nearest to, or `None` where the word has
+/// no form, or nothing is found wrong.
 pub(crate) fn miss_in<'l>(part: Part, line: &'l [u8]) -> Option<Miss<'l>> {
     let (word, rest) = first_field(line);
     let mut nearest: Option<Miss<'l>> = None;
@@ -48,7 +48,7 @@ pub(crate) fn miss_in<'l>(part: Part, line: &'l [u8]) -> Option<Miss<'l>> {
     nearest
 }
 
-/// Where what stands after a word misses a form, if it does.
+/// Where what is after a word misses a form, if it does.
 fn miss_of<'l>(form: &Form, rest: Option<&'l [u8]>) -> Option<Miss<'l>> {
     let is_full = fields_behind(rest) == form.fields().len();
     let right = right_in(form, rest);
@@ -124,8 +124,9 @@ fn unfit_in<'l>(field: &Field, text: &'l [u8]) -> Option<Wrong<'l>> {
     Some(Wrong::Unfit(*field, text))
 }
 
-/// The one of two misses whose form has a word that stands in the line, else the one after which more is right; the earlier one
-/// where both are alike. A line that is too long for one form, and has as many fields as the other, misses the other.
+/// The one of two misses whose form has a word that is in the line, else the one after which more
+/// is right; the earlier one where both are alike. A line that is too long for one form, and has as
+/// many fields as the other, misses the other.
 fn nearer<'l>(earlier: Option<Miss<'l>>, later: Miss<'l>) -> Miss<'l> {
     match earlier {
         Some(miss) if miss.has_word && !later.has_word => miss,
@@ -147,7 +148,8 @@ impl Miss<'_> {
         }
     }
 
-    /// The word that some form of the line's word has in the place of this field, where it is a letter or two off.
+    /// The word that some form of the line's word has in the place of this field, where it is a
+    /// letter or two off.
     fn word_near(&self, text: &[u8]) -> Option<&'static str> {
         let form = self.form;
         for other in FORMS {
@@ -194,7 +196,8 @@ impl fmt::Display for Miss<'_> {
     }
 }
 
-/// Writes that the field in a place is missing; where it is the first, forms may differ by their words.
+/// Writes that the field in a place is missing; where it is the first, forms may differ by their
+/// words.
 fn write_missing<W: fmt::Write>(
     field: Field,
     place: usize,
@@ -223,7 +226,7 @@ fn write_unfit<W: fmt::Write>(field: Field, text: &[u8], f: &mut fmt::Formatter<
     }
 }
 
-/// Writes that something stands after a field or a word.
+/// Writes that something is after a field or a word.
 fn write_surplus<W: fmt::Write>(
     text: Text,
     name: &str,

@@ -20,7 +20,7 @@ pub(crate) struct Refusal<'l> {
     pub is_given: bool,
 }
 
-/// What stands in a line where an address does: after its word.
+/// What is in a line where an address does: after its word.
 pub(crate) fn addr_in(line: &[u8]) -> &[u8] {
     let (_, rest) = first_field(line);
     first_field(rest.unwrap_or(b"")).0

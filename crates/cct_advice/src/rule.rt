@@ -105,7 +105,8 @@ impl fmt::Display for Rule {
     }
 }
 
-/// What is wrong with the spelling of a number, whatever its range; empty where it is spelt rightly.
+/// What is wrong with the spelling of a number, whatever its range; empty where it is spelt
+/// rightly.
 pub(crate) fn misspelling(field: &[u8]) -> &'static str {
     match field {
         [b'+' | b'-', ..] => ", without sign",

@@ -8,7 +8,8 @@ use cct_edge::Source;
 use cct_model_lines::Setup;
 use cct_script::{SetupNo, read_setup};
 
-/// Reads a setup for this program, and says on standard error what is wrong with its refused line, if it has one.
+/// Reads a setup for this program, and says on standard error what is wrong with its refused line,
+/// if it has one.
 pub fn read_advised_setup<S: Source + Drop>(
     rt: &impl Eprint,
     program: &str,

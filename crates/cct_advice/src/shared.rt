@@ -1,4 +1,5 @@
-//! A source whose last bytes a sink sees too, which says at each refused line that it writes what is wrong with it.
+//! A source whose last bytes a sink sees too, which says at each refused line that it writes what
+//! is wrong with it.
 ghost use Rattle.std.specs.Prelude.{◌≡◌};
 ghost use Rattle.cct_advice.specs.Kept.{advised_sink_of, shared_source_of};
 
@@ -7,7 +8,8 @@ use crate::window::Window;
 use cct_edge::{Failed, Sink, Source};
 use std::cell::RefCell;
 
-/// A source whose last bytes are kept where a sink sees them. It tells, and fails, as the one below.
+/// A source whose last bytes are kept where a sink sees them. It tells, and fails, as the one
+/// below.
 #[derive(Drop)]
 pub struct SharedSource<'w, S> {
     source: S,
@@ -43,8 +45,8 @@ impl<S: Source> Source for SharedSource<'_, S> {
     }
 }
 
-/// A sink that says on standard error, at each put of a line that tells a refused line, what is wrong with that. It tells,
-/// and fails, as the one below.
+/// A sink that says on standard error, at each put of a line that shows a refused line, what is
+/// wrong with that. It tells, and fails, as the one below.
 #[derive(Drop)]
 pub struct AdvisedSink<'w, K> {
     sink: K,

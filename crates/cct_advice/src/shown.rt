@@ -5,7 +5,8 @@ use std::fmt;
 /// How many bytes are shown at most.
 const SHOWN: usize = 24;
 
-/// The first 24 of these bytes: a printing character or a space as it is, any other byte in hexadecimal.
+/// The first 24 of these bytes: a printing character or a space as it is, any other byte in
+/// hexadecimal.
 #[derive(Drop)]
 pub(crate) struct Shown<'b>(pub &'b [u8]);
 

@@ -18,8 +18,8 @@ const RUN: usize = 255;
 /// The line after which the steps or the taps begin.
 const BEGIN: &[u8] = b"begin";
 
-/// The last bytes that were taken of a script or of a capture, the line that is read among them, and how many lines came
-/// before.
+/// The last bytes that were taken of a script or of a capture, the line that is read among them,
+/// and how many lines came before.
 #[derive(Drop)]
 pub struct Window {
     text: Text,
@@ -97,7 +97,8 @@ impl Window {
         self.len = end;
     }
 
-    /// What was taken of the line of this number, without its line feed, where it is among the last bytes.
+    /// What was taken of the line of this number, without its line feed, where it is among the last
+    /// bytes.
     pub(crate) fn line(&self, number: u64) -> Option<&[u8]> {
         let after = self.feeds.saturating_add(1).checked_sub(number)?;
         let held = &self.bytes[..self.len];
@@ -139,7 +140,8 @@ fn feeds_in(bytes: &[u8]) -> u64 {
     )
 }
 
-/// How many line feeds there are in at most `RUN` bytes. A count in a byte lets the compiler count sixteen bytes at once.
+/// How many line feeds there are in at most `RUN` bytes. A count in a byte lets the compiler count
+/// sixteen bytes at once.
 fn feeds_in_run(bytes: &[u8]) -> u8 {
     bytes.iter().fold(
         0,

@@ -49,7 +49,8 @@ impl fmt::Display for BadWord<'_> {
     }
 }
 
-/// The first form of a part, or else of its text, whose word is spelt nearly as this one: by one letter, or else by two.
+/// The first form of a part, or else of its text, whose word is spelt nearly as this one: by one
+/// letter, or else by two.
 fn meant_word(part: Part, word: &[u8]) -> Option<&'static Form> {
     for (part, are_two) in [
         (part, false),

@@ -3,8 +3,8 @@
 /// The letters of the shortest word in which two may be wrong.
 const LONG: usize = 5;
 
-/// The first of these words that differs from a word by one letter, or by two where it has five or more: a letter that is
-/// missing, one too many or another one, or two that changed places.
+/// The first of these words that differs from a word by one letter, or by two where it has five or
+/// more: a letter that is missing, one too many or another one, or two that changed places.
 pub fn near_word<'w>(word: &[u8], words: &[&'w str]) -> Option<&'w str> {
     let one = words
         .iter()

@@ -54,7 +54,7 @@ going_opens left0 left left1 held rest number stage next past g r =
       says = λ more. now.says more ∙ ap (with_came (reverse past)) (r.2 more);
     }
 
--- what came last stands after the others
+-- what came last is after the others
 pub after_others : (c : Came) (past more : List Came) → reverse past ++ c ∷ more ≡ reverse (c ∷ past) ++ more
 after_others c past more =
     sym (ap (λ xs. xs ++ more) (reverse-append (c ∷ []) past) ∙ append_assoc (reverse past) (c ∷ []) more)

@@ -1,5 +1,8 @@
--- What a capture says: the devices that are watched, the taps, and the first line that is refused (docs/AUDIT.md).
-use Rattle.std.specs.Prelude.{ℕ, ◌+◌, ◌-◌, ◌==◌, ◌||◌, nat_le, Bool, true, false, List, [], ◌∷◌, length, take, drop, if◌then◌else◌, Option, Some, None, Result, Ok, Err, codes, bytes_eq}
+-- What a capture says: the devices that are watched, the taps, and the first line that is refused
+-- (docs/AUDIT.md).
+use Rattle.std.specs.Prelude.{ℕ, ◌+◌, ◌-◌, ◌==◌, ◌||◌, nat_le, Bool, true, false, List, [], ◌∷◌}
+use Rattle.std.specs.Prelude.{length, take, drop, if◌then◌else◌, Option, Some, None, Result, Ok}
+use Rattle.std.specs.Prelude.{Err, codes, bytes_eq}
 use Rattle.std.specs.List.{list_any, slice_split}
 use Rattle.std.specs.Option.{option_map}
 use Rattle.cct_model.specs.terms.wire.CheckKind.{CheckKind}
@@ -24,7 +27,8 @@ use Rattle.cct_audit.specs.declared.opening.Manner.TheVariants as manner
 use Rattle.cct_audit.specs.declared.opening.WatchLine.{WatchLine}
 use Rattle.cct_audit.specs.declared.opening.WatchLine.TheVariants as opens_by
 
--- Which line a capture wants next: one that watches a device, after those that came, newest first; a tap; or none.
+-- Which line a capture wants next: one that watches a device, after those that came, newest first;
+-- a tap; or none.
 pub data Stage : Type 0 where
   watching : (past : List Came) → Stage
   tapping : Stage
@@ -64,7 +68,8 @@ abbrev pub family_in : Manner → Money → Family
 family_in manner.Quiet money = family.QuietAcceptor money
 family_in manner.Premises money = family.Premises money
 
--- `watch A CHECK hopper`, where a word for a manner follows: a hopper is watched for premises alone.
+-- `watch A CHECK hopper`, where a word for a manner follows: a hopper is watched for premises
+-- alone.
 abbrev pub hopper_form : Manner → ℕ → CheckKind → Result WatchLine LineKind
 hopper_form manner.Quiet addr check = Err kind.Form
 hopper_form manner.Premises addr check = Ok (opens_by.Watch addr check family.HopperPremises)
@@ -72,7 +77,8 @@ hopper_form manner.Premises addr check = Ok (opens_by.Watch addr check family.Ho
 -- The same or `watch A CHECK acceptor`, where such a word follows.
 abbrev pub mannered_form : Manner → Result CaptureLine LineKind → Result WatchLine LineKind
 mannered_form m (Err why) = Err why
-mannered_form m (Ok (says.Watch addr check true)) = Ok (opens_by.Watch addr check (family_in m Coins))
+mannered_form m (Ok (says.Watch addr check true)) =
+    Ok (opens_by.Watch addr check (family_in m Coins))
 mannered_form m (Ok (says.Watch addr check false)) = hopper_form m addr check
 mannered_form m (Ok line) = Err kind.Form
 
@@ -80,17 +86,18 @@ mannered_form m (Ok line) = Err kind.Form
 abbrev pub bills_at : Manner → CheckKind → List ℕ → Option WatchLine
 bills_at m check named =
     if bytes_eq (take 6 named) (codes "watch ")
-    then option_map (λ addr. opens_by.Watch addr check (family_in m Bills)) (ranged 2 255 (drop 6 named))
+    then option_map (λ addr. opens_by.Watch addr check (family_in m Bills))
+    (ranged 2 255 (drop 6 named))
     else None
 
--- By what stands before the word `bills`.
+-- By what is before the word `bills`.
 abbrev pub bills_under : Manner → List ℕ → Option WatchLine
 bills_under m checked =
     if bytes_eq (drop (length checked - 7) checked) (codes " simple") then bills_at m Simple (take (length checked - 7) checked)
     else if bytes_eq (drop (length checked - 4) checked) (codes " crc") then bills_at m Crc (take (length checked - 4) checked)
     else None
 
--- By what stands before the word for the manner.
+-- By what is before the word for the manner.
 abbrev pub bills_line : Manner → List ℕ → Option WatchLine
 bills_line m front =
     if bytes_eq (drop (length front - 6) front) (codes " bills") then bills_under m (take (length front - 6) front) else None
@@ -100,7 +107,7 @@ abbrev pub found_or : Option WatchLine → Result WatchLine LineKind → Result 
 found_or None other = other
 found_or (Some found) other = Ok found
 
--- A line whose last word is for a manner, by what stands before that.
+-- A line whose last word is for a manner, by what is before that.
 abbrev pub mannered_watch : Manner → List ℕ → Result WatchLine LineKind
 mannered_watch m front = found_or (bills_line m front) (mannered_form m (capture_line false front))
 
@@ -137,7 +144,8 @@ capture_form over line = refuses kind.Trailing
 
 -- A whole line with its number.
 abbrev pub capture_read : ℕ → Stage → List ℕ → Read
-capture_read number stage line = tested refuses (is_over stage) number line (capture_form stage line)
+capture_read number stage line =
+    tested refuses (is_over stage) number line (capture_form stage line)
 
 -- The stage after a line.
 abbrev pub stage_after : Stage → Read → Stage
@@ -145,8 +153,8 @@ stage_after stage (comes c next) = next
 stage_after stage (opens next) = next
 stage_after stage (refuses why) = stage
 
--- What a capture says: all that comes of it, oldest first, up to its end or its first refused line; and that line if there is
--- one.
+-- What a capture says: all that comes of it, oldest first, up to its end or its first refused line;
+-- and that line if there is one.
 pub record Capture : Type 0 where
   pub came : List Came
   pub refused : Option Refusal
@@ -164,7 +172,8 @@ goes_on number stage (refuses why) rest = closed_capture number (Some why)
 -- What the lines from this number on say: whole lines, and last the bytes after the last line feed.
 abbrev pub capture_from : ℕ → Stage → List (List ℕ) → Capture
 capture_from number stage [] = closed_capture number (unfinished_by (is_over stage) number [])
-capture_from number stage (rest ∷ []) = closed_capture number (unfinished_by (is_over stage) number rest)
+capture_from number stage (rest ∷ []) =
+    closed_capture number (unfinished_by (is_over stage) number rest)
 capture_from number stage (line ∷ next ∷ parts) =
     goes_on number stage (capture_read number stage line)
     (capture_from (number + 1) (stage_after stage (capture_read number stage line)) (next ∷ parts))

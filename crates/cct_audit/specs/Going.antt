@@ -16,17 +16,20 @@ use Rattle.cct_audit.specs.Telling.{told}
 abbrev pub with_came : List Came → Capture → Capture
 with_came came rest = record { came = came ++ rest.came; refused = rest.refused }
 
--- What was taken so far: whatever follows, the capture says what came, newest first, and then what the lines from here on
--- say.
-pub record Going (left0 left : Option (List ℕ)) (held : List ℕ) (number : ℕ) (stage : Stage) (past : List Came) : Type 0 where
+-- What was taken so far: whatever follows, the capture says what came, newest first, and then what
+-- the lines from here on say.
+pub record Going (left0 left : Option (List ℕ)) (held : List ℕ) (number : ℕ) (stage : Stage)
+    (past : List Came) : Type 0 where
   pub taken : List ℕ
   pub consumed : Consumes left0 left taken
   pub says : (more : List ℕ) → capture (taken ++ more)
-      ≡ with_came (reverse past) (capture_from number stage (slice_split is_line_feed (held ++ more)))
+      ≡ with_came (reverse past) (capture_from number stage
+      (slice_split is_line_feed (held ++ more)))
 
--- What the reading of lines before `begin` keeps: the capture goes on with what came, which the monitor watches, and which
--- made nothing said.
-pub record Opens (left0 left : Option (List ℕ)) (standing : Standing) (number : ℕ) (monitor taps : Monitor) (Source : Type 0)
+-- What the reading of lines before `begin` keeps: the capture goes on with what came, which the
+-- monitor watches, and which made nothing said.
+pub record Opens (left0 left : Option (List ℕ)) (standing : Standing) (number : ℕ)
+    (monitor taps : Monitor) (Source : Type 0)
     : Type 0 where
   pub past : List Came
   pub going : Going left0 left standing.held number (watching past) past
@@ -36,14 +39,18 @@ pub record Opens (left0 left : Option (List ℕ)) (standing : Standing) (number 
   pub same : tap_count monitor ≡ tap_count taps
   pub source : Source
 
--- What the reading of taps keeps, of any capture that goes so where it begins: it goes on, the monitor represents what came,
--- and what that made said was written.
-pub record Taps (first : ℕ) (left1 left : Option (List ℕ)) (standing1 standing : Standing) (number : ℕ)
-    (monitor1 monitor : Monitor) (Written : List (List ℕ) → Type 0) (Source Sink : Type 0) : Type 0 where
-  pub going : (left0 : Option (List ℕ)) (begun : List Came) → Going left0 left1 standing1.held first tapping begun
-      → StandsFor monitor1 begun → told begun ≡ [] → (past : List Came) × Going left0 left standing.held number tapping past
-      × StandsFor monitor past × Written (told past)
-  pub next : IsNext number standing
-  pub few : tap_count monitor ≤ 2 * number
-  pub source : Source
-  pub sink : Sink
+-- What the reading of taps keeps, of any capture that goes so where it begins: it goes on, the
+-- monitor represents what came, and what that made said was written.
+pub record Taps (first : ℕ) (left1 left : Option (List ℕ)) (standing1 standing : Standing)
+    (number : ℕ)
+    (monitor1 monitor : Monitor) (Written : List (List ℕ) → Type 0) (Source Sink : Type 0) : Type 0
+  where
+    pub going : (left0 : Option (List ℕ)) (begun : List Came) →
+        Going left0 left1 standing1.held first tapping begun
+        → StandsFor monitor1 begun → told begun ≡ [] → (past : List Came)
+        × Going left0 left standing.held number tapping past
+        × StandsFor monitor past × Written (told past)
+    pub next : IsNext number standing
+    pub few : tap_count monitor ≤ 2 * number
+    pub source : Source
+    pub sink : Sink

@@ -12,20 +12,25 @@ use Rattle.cct_audit.specs.declared.reading.Tapped.{Tapped}
 use Rattle.cct_audit.specs.declared.reading.Tapped.TheVariants as tapped
 use Rattle.cct_audit.specs.Capture.{Read, addresses_in, comes, opens, over, tapping, watching}
 
--- A monitor watches what came, newest first: it represents it, and the addresses are those of the devices that came.
+-- A monitor watches what came, newest first: it represents it, and the addresses are those of the
+-- devices that came.
 pub record Watches (monitor : Monitor) (past : List Came) : Type 0 where
   pub stands : StandsFor monitor past
-  pub addresses : (addr : ℕ) → is_watched monitor addr ≡ list_any (λ a. a == addr) (addresses_in past)
+  pub addresses : (addr : ℕ) → is_watched monitor addr
+      ≡ list_any (λ a. a == addr) (addresses_in past)
   pub many : watch_count monitor ≡ length (addresses_in past)
 
 -- A line before `begin` is this to a capture, after what came, and the monitor goes on by it.
 abbrev pub TakesWatch : List Came → Opened → Monitor → (Read → Type 0) → Type 0
 TakesWatch past opened.Watched monitor Is =
-    (w : Watch) × Is (comes (made_watch w) (watching (made_watch w ∷ past))) × Watches monitor (made_watch w ∷ past)
+    (w : Watch) × Is (comes (made_watch w) (watching (made_watch w ∷ past)))
+    × Watches monitor (made_watch w ∷ past)
 TakesWatch past opened.Begun monitor Is = Is (opens tapping) × Watches monitor past
 
--- A line after `begin` is this to a capture, after what came, and the monitor goes on by it, and says this.
+-- A line after `begin` is this to a capture, after what came, and the monitor goes on by it, and
+-- says this.
 abbrev pub TakesTap : List Came → Tapped → Monitor → List Said → (Read → Type 0) → Type 0
 TakesTap past tapped.Tapped monitor report Is =
-    (t : Tap) × Is (comes (made_tap t) tapping) × StandsFor monitor (made_tap t ∷ past) × (report ≡ said_of_all t past)
+    (t : Tap) × Is (comes (made_tap t) tapping) × StandsFor monitor (made_tap t ∷ past)
+    × (report ≡ said_of_all t past)
 TakesTap past tapped.Ended monitor report Is = Is (opens over) × StandsFor monitor past

@@ -1,4 +1,5 @@
--- What an audit writes of a capture: a line for each thing that the monitor says at each tap, and at the end.
+-- What an audit writes of a capture: a line for each thing that the monitor says at each tap, and
+-- at the end.
 use Rattle.std.specs.Prelude.{ℕ, List, [], ◌∷◌, ◌++◌, map, codes}
 use Rattle.cct_model.specs.terms.coin.Coin.{Coin}
 use Rattle.cct_model.specs.lines.entry.Entry.TheVariants as entry
@@ -10,7 +11,8 @@ use Rattle.cct_audit_taps.specs.declared.said.Said.{Said}
 use Rattle.cct_audit_taps.specs.declared.said.Said.TheVariants.{Sure, Quiet, Doubt, Fell, Broken}
 use Rattle.cct_monitor.specs.Watches.{Came, finally_of_all, made_tap, made_watch, said_of_all}
 
--- The line of a span of an acceptor that is watched for resets alone: `quiet A FIRST LAST COINS`, spelt as `sure` is.
+-- The line of a span of an acceptor that is watched for resets alone: `quiet A FIRST LAST COINS`,
+-- spelt as `sure` is.
 unfoldable pub quiet_line : ℕ → ℕ → ℕ → List Coin → List ℕ
 quiet_line addr first last coins =
     codes "quiet" ++ 32 ∷ number_text addr ++ 32 ∷ number_text first ++ 32 ∷ number_text last ++ 32 ∷ coins_field coins

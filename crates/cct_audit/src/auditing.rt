@@ -33,7 +33,8 @@ pub enum AuditEnd {
     Unwritten,
 }
 
-/// Reads the lines of a capture up to `begin`, and gives the number of the line after it; or tells how the audit ends.
+/// Reads the lines of a capture up to `begin`, and gives the number of the line after it; or says
+/// how the audit ends.
 fn read_watches<S: Source>(
     lines: &mut Lines,
     monitor: &mut Monitor,
@@ -59,8 +60,8 @@ fn read_watches<S: Source>(
     }
 }
 
-/// Ends a capture after its line `end`, where the next line would have this number: nothing may follow, and what the monitor
-/// then says is written.
+/// Ends a capture after its line `end`, where the next line would have this number: nothing may
+/// follow, and what the monitor then says is written.
 fn finish<S: Source, K: Sink>(
     lines: &mut Lines,
     monitor: &mut Monitor,
@@ -89,8 +90,8 @@ fn finish<S: Source, K: Sink>(
     }
 }
 
-/// Reads the taps of a capture, from the line of this number on, and writes what each makes said before the next line is
-/// read.
+/// Reads the taps of a capture, from the line of this number on, and writes what each makes said
+/// before the next line is read.
 fn play_taps<S: Source, K: Sink>(
     lines: &mut Lines,
     monitor: &mut Monitor,
@@ -124,10 +125,11 @@ fn play_taps<S: Source, K: Sink>(
     }
 }
 
-/// Audits a capture: reads it to its end, a line at a time, and writes what a monitor of its devices says, at each tap
-/// before the next line is read, and at the end. A line that is refused, a fault in reading and a fault in writing end it
-/// at once, and then what is said at the end isn't written. It takes no memory. The monitor is a new one; afterwards it tells
-/// how many taps were for each device.
+/// Audits a capture: reads it to its end, a line at a time, and writes what a monitor of its
+/// devices says, at each tap before the next line is read, and at the end. A line that is refused,
+/// a fault in reading and a fault in writing end it at once, and then what is said at the end isn't
+/// written. It takes no memory. The monitor is a new one; afterwards it tells how many taps were
+/// for each device.
 pub fn audit<S: Source, K: Sink>(
     script: &mut S,
     out: &mut K,

@@ -6,14 +6,16 @@ ghost use Rattle.cct_monitor.specs.Spans.{spans};
 ghost use Rattle.cct_audit_taps.specs.Taps.{quiet_shown, shown};
 ghost use Rattle.cct_audit_taps.specs.declared.money.Money.{Money};
 ghost use Rattle.cct_monitor.specs.declared.watched.Family.TheVariants as Family;
-ghost use Rattle.cct_monitor.specs.Watches.{Came, Watch, all_told, finally_of_all, made_tap, made_watch};
+ghost use Rattle.cct_monitor.specs.Watches.{Came, Watch, all_told, finally_of_all, made_tap};
+ghost use Rattle.cct_monitor.specs.Watches.{made_watch};
 ghost use Rattle.cct_audit.specs.Capture.{capture};
 ghost use Rattle.cct_audit.specs.Joined.{taps_among, watches_in};
 ghost use Rattle.cct_audit.specs.Telling.{said_line, told};
 
-/// What is written at the taps is all that the monitor says there, in its order. What came of a capture, up to any line, are
-/// its taps, after all devices that it watches: so what is said of them is what a monitor says that watches these devices from
-/// the first tap on. And each span of each acceptor that it watches is said once, among all that is said of all devices.
+/// What is written at the taps is all that the monitor says there, in its order. What came of a
+/// capture, up to any line, are its taps, after all devices that it watches: so what is said of
+/// them is what a monitor says that watches these devices from the first tap on. And each span of
+/// each acceptor that it watches is said once, among all that is said of all devices.
 #[tactic(auto, using(crate::proofs::Joined::told_is, crate::proofs::Joined::came_apart, crate::proofs::Joined::spoken_once, crate::proofs::Joined::spoken_quietly))]
 pub fn what_is_written_is_said()
     ensures told { (past : List Came) → told past ≡ map said_line (all_told past) }

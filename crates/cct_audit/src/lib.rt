@@ -1,5 +1,5 @@
-//! An audit of any host's wire: a capture is read line by line, a monitor watches what its taps show, and what the monitor
-//! says is written (`docs/AUDIT.md`).
+//! An audit of any host's wire: a capture is read line by line, a monitor watches what its taps
+//! show, and what the monitor says is written (`docs/AUDIT.md`).
 #![tactic(auto)]
 
 mod auditing;

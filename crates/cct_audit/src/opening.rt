@@ -1,6 +1,8 @@
 //! The lines of a capture before its taps.
 ghost use Rattle.std.specs.Prelude.{◌≡◌};
-ghost use Rattle.cct_audit.specs.Capture.{bills_at, bills_line, bills_under, family_in, hopper_form, mannered_form, mannered_watch, plain_line, watch_line};
+ghost use Rattle.cct_audit.specs.Capture.{bills_at, bills_line, bills_under, family_in};
+ghost use Rattle.cct_audit.specs.Capture.{hopper_form, mannered_form, mannered_watch, plain_line};
+ghost use Rattle.cct_audit.specs.Capture.{watch_line};
 
 use cct_model::{CheckKind, LineKind};
 use cct_monitor::{Family, Money};
@@ -35,7 +37,8 @@ pub(crate) enum Manner {
 /// What a line before `begin` says.
 #[derive(Clone, Copy, Debug, PartialEq, Eq)]
 pub(crate) enum WatchLine {
-    /// `watch A CHECK KIND`, or with the word `quiet` or `premises` after it, where KIND may be `bills` too.
+    /// `watch A CHECK KIND`, or with the word `quiet` or `premises` after it, where KIND may be
+    /// `bills` too.
     Watch {
         addr: u8,
         kind: CheckKind,
@@ -95,7 +98,7 @@ fn plain_line(read: Result<CaptureLine, LineKind>) -> Result<WatchLine, LineKind
     }
 }
 
-/// What a line says whose last word is that of a manner, by what stands before it.
+/// What a line says whose last word is that of a manner, by what is before it.
 fn mannered_watch(manner: Manner, front: &[u8]) -> Result<WatchLine, LineKind>
     ensures { result ≡ mannered_watch manner front.now }
 {
@@ -148,8 +151,8 @@ fn bills_at(manner: Manner, kind: CheckKind, named: &[u8]) -> Option<WatchLine>
     })
 }
 
-/// What a line says that watches no bill acceptor, by what stands before its last word: an acceptor of coins or a hopper is so
-/// watched.
+/// What a line says that watches no bill acceptor, by what is before its last word: an acceptor of
+/// coins or a hopper is so watched.
 fn mannered_form(manner: Manner, read: Result<CaptureLine, LineKind>) -> Result<WatchLine, LineKind>
     ensures { result ≡ mannered_form manner read }
 {

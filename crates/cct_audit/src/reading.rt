@@ -1,12 +1,14 @@
 //! The lines of a capture, and what they do to the monitor.
-ghost use Rattle.std.specs.Prelude.{◌≡◌, ◌+◌, ◌-◌, ◌^◌, ◌<◌, List, Err, Ok, IfOk, MatchResult, OnErr, OnOk};
+ghost use Rattle.std.specs.Prelude.{◌≡◌, ◌+◌, ◌-◌, ◌^◌, ◌<◌, List, Err, Ok, IfOk, MatchResult};
+ghost use Rattle.std.specs.Prelude.{OnErr, OnOk};
 ghost use Rattle.std.specs.Result.{IfErr};
 ghost use Rattle.cct_edge.specs.Bytes.{Serves};
 ghost use Rattle.cct_script.specs.Giving.{standing_of};
 ghost use Rattle.cct_script.specs.Scripts.{GoesOnIn, IsNext, StopsIn, WithMoreTaken};
 ghost use Rattle.cct_monitor.specs.Monitor.{StandsFor, tap_count};
 ghost use Rattle.cct_monitor.specs.Watches.{Came};
-ghost use Rattle.cct_audit.specs.Capture.{capture_form, of_capture, refuses, tapping, watch_read, watching};
+ghost use Rattle.cct_audit.specs.Capture.{capture_form, of_capture, refuses, tapping, watch_read};
+ghost use Rattle.cct_audit.specs.Capture.{watching};
 ghost use Rattle.cct_audit.specs.Reading.{TakesTap, TakesWatch, Watches};
 ghost use Rattle.cct_audit.specs.declared.opening.WatchLine.TheVariants as opens_by;
 
@@ -71,7 +73,8 @@ fn take_watch(monitor: &mut Monitor, line: &[u8]) -> Result<Opened, LineKind>
     }
 }
 
-/// Takes one whole line after `begin`. What a tap makes said takes the place of what the report holds.
+/// Takes one whole line after `begin`. What a tap makes said takes the place of what the report
+/// holds.
 #[tactic(auto, unfolding(crate::specs::Capture::capture_form))]
 fn take_tap(
     monitor: &mut Monitor,
@@ -122,7 +125,8 @@ pub(crate) fn read_watch<S: Source>(
     }
 }
 
-/// Reads the next line after `begin`, which has this number. What a tap makes said takes the place of what the report holds.
+/// Reads the next line after `begin`, which has this number. What a tap makes said takes the place
+/// of what the report holds.
 pub(crate) fn read_tap<S: Source>(
     lines: &mut Lines,
     monitor: &mut Monitor,

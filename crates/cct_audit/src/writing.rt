@@ -99,7 +99,8 @@ fn copied(coins: &Coins) -> Coins
     copy.unwrap()
 }
 
-/// Puts the line of a span of an acceptor that is watched for resets alone in the place of what the line holds.
+/// Puts the line of a span of an acceptor that is watched for resets alone in the place of what the
+/// line holds.
 #[tactic(auto, unfolding(crate::specs::Telling::quiet_line))]
 fn write_quiet(line: &mut TextLine, addr: u8, first: u32, last: u32, coins: &[Coin])
     requires { length coins.now ≤ EVENTS }

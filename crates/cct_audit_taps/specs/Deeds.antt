@@ -1,5 +1,6 @@
 -- Whether a hopper does what is taken for granted of it, as far as taps show that.
-use Rattle.std.specs.Prelude.{ℕ, suc, ◌+◌, ◌^◌, ◌==◌, ◌&&◌, ◌||◌, nat_le, Bool, true, false, List, [], ◌∷◌, ◌++◌, length, if◌then◌else◌, Option, Some, None}
+use Rattle.std.specs.Prelude.{ℕ, suc, ◌+◌, ◌^◌, ◌==◌, ◌&&◌, ◌||◌, nat_le, Bool, true, false, List}
+use Rattle.std.specs.Prelude.{[], ◌∷◌, ◌++◌, length, if◌then◌else◌, Option, Some, None}
 use Rattle.cct_model.specs.terms.wire.CheckKind.{CheckKind}
 use Rattle.cct_model.specs.terms.request.TheConstants.{ENABLE_CODE}
 use Rattle.cct_model.specs.terms.request.Request.{Request}
@@ -15,7 +16,9 @@ use Rattle.cct_audit_taps.specs.declared.said.Said.{Said}
 use Rattle.cct_audit_taps.specs.declared.said.Said.TheVariants.{Broken}
 use Rattle.cct_audit_taps.specs.declared.said.Premise.TheVariants as premise
 use Rattle.cct_audit_taps.specs.declared.deeds.Deed.{Deed}
-use Rattle.cct_audit_taps.specs.declared.deeds.Deed.TheVariants.{Serial, Enabled, Shut, ResetTaken, Dispensed, Asked, Status, Life, OtherAnswers, Nothing}
+use Rattle.cct_audit_taps.specs.declared.deeds.Deed.TheVariants.{Serial, Enabled, Shut, ResetTaken}
+use Rattle.cct_audit_taps.specs.declared.deeds.Deed.TheVariants.{Dispensed, Asked, Status, Life}
+use Rattle.cct_audit_taps.specs.declared.deeds.Deed.TheVariants.{OtherAnswers, Nothing}
 use Rattle.cct_audit_taps.specs.declared.hoppers.KnownCounter.{KnownCounter}
 use Rattle.cct_audit_taps.specs.declared.hoppers.KnownSerial.{KnownSerial}
 use Rattle.cct_audit_taps.specs.declared.hoppers.KnownLife.{KnownLife}
@@ -27,7 +30,7 @@ abbrev pub serial_deed : Option Reply → Deed
 serial_deed (Some (reply.serial serial)) = Serial serial
 serial_deed y = Nothing
 
--- How a payout goes, as a reply tells it.
+-- How a payout goes, as a reply shows it.
 abbrev pub status_deed : Option Reply → Deed
 status_deed (Some (reply.status counter remaining paid unpaid)) = Status counter remaining paid
 status_deed y = Nothing
@@ -112,7 +115,7 @@ asked_since taken count (Some k) = Some (record {
 abbrev pub least_of : Bool → ℕ → ℕ → ℕ
 least_of begun paid least = if begun then greater least paid else least
 
--- A life count after which it was told how many coins were paid.
+-- A life count after which it was reported how many coins were paid.
 abbrev pub paid_since : ℕ → Option KnownLife → Option KnownLife
 paid_since paid None = None
 paid_since paid (Some k) = Some (record {
@@ -123,7 +126,8 @@ paid_since paid (Some k) = Some (record {
   has_begun = k.has_begun;
 })
 
--- The last life count, and what came since, after a tap of a number before which at most so many coins were left to pay.
+-- The last life count, and what came since, after a tap of a number before which at most so many
+-- coins were left to pay.
 abbrev pub life_known : ℕ → Deed → ℕ → Option KnownLife → Option KnownLife
 life_known number (Life count) rest found =
     Some (record { number = number; count = count; most = rest; least = 0; has_begun = false })
@@ -202,13 +206,16 @@ broken_life addr number count (Some k) =
     else if rise_fits (life_between k.count count) k then []
     else Broken addr premise.Life k.number number ∷ []
 
--- An event counter fits the dispense requests since: if a reset came that no tap shows, those after it, which it was sent; else all
--- that it took, which are at least those that it acknowledged, and at most those that it was sent.
+-- An event counter fits the dispense requests since: if a reset came that no tap shows, those after
+-- it, which it was sent; else all that it took, which are at least those that it acknowledged, and
+-- at most those that it was sent.
 abbrev pub counter_fits : ℕ → KnownCounter → Bool
 counter_fits counter k =
-    nat_le counter k.most || (nat_le k.least (distance k.counter counter) && nat_le (distance k.counter counter) k.most)
+    nat_le counter k.most || (nat_le k.least (distance k.counter counter)
+    && nat_le (distance k.counter counter) k.most)
 
--- The event counter rises by one with each dispense request that is taken, and else stays; a reset clears it.
+-- The event counter rises by one with each dispense request that is taken, and else stays; a reset
+-- clears it.
 abbrev pub broken_counter : ℕ → ℕ → ℕ → Option KnownCounter → List Said
 broken_counter addr number counter None = []
 broken_counter addr number counter (Some k) =
@@ -220,7 +227,8 @@ hopper_broken_by addr number (Serial serial) k = broken_serial addr number seria
 hopper_broken_by addr number (Dispensed serial count) k =
     broken_serial addr number serial k.serial ++ broken_enable addr number k.shut
 hopper_broken_by addr number (Life count) k = broken_life addr number count k.life
-hopper_broken_by addr number (Status counter remaining paid) k = broken_counter addr number counter k.counter
+hopper_broken_by addr number (Status counter remaining paid) k =
+    broken_counter addr number counter k.counter
 hopper_broken_by addr number OtherAnswers k = Broken addr premise.Alone number number ∷ []
 hopper_broken_by addr number s k = []
 

@@ -1,11 +1,14 @@
--- Whether an acceptor of coins or of bills does what is taken for granted of it, as far as taps show that.
-use Rattle.std.specs.Prelude.{ℕ, suc, ◌==◌, ◌&&◌, ◌||◌, not, Bool, true, false, List, [], ◌∷◌, ◌++◌, length, if◌then◌else◌, Option, Some, None}
+-- Whether an acceptor of coins or of bills does what is taken for granted of it, as far as taps
+-- show that.
+use Rattle.std.specs.Prelude.{ℕ, suc, ◌==◌, ◌&&◌, ◌||◌, not, Bool, true, false, List, [], ◌∷◌, ◌++◌}
+use Rattle.std.specs.Prelude.{length, if◌then◌else◌, Option, Some, None}
 use Rattle.std.specs.List.{list_any}
 use Rattle.cct_model.specs.terms.coin.Credits.{Credits}
 use Rattle.cct_model.specs.terms.coin.Pair.{Pair}
 use Rattle.cct_model.specs.terms.wire.CheckKind.{CheckKind}
 use Rattle.cct_model.specs.terms.request.Request.{Request}
-use Rattle.cct_model.specs.terms.request.Request.TheVariants.{ReadBills, ReadCredits, GetMask, SetMask, ResetDevice}
+use Rattle.cct_model.specs.terms.request.Request.TheVariants.{ReadBills, ReadCredits, GetMask}
+use Rattle.cct_model.specs.terms.request.Request.TheVariants.{SetMask, ResetDevice}
 use Rattle.cct_model.specs.terms.request.ReplyForm.{ReplyForm}
 use Rattle.cct_model.specs.terms.request.ReplyForm.TheVariants as form
 use Rattle.cct_model.specs.Reply.{Reply}
@@ -18,7 +21,8 @@ use Rattle.cct_audit_taps.specs.declared.said.Said.TheVariants.{Broken}
 use Rattle.cct_audit_taps.specs.declared.said.Premise.TheVariants as premise
 use Rattle.cct_audit_taps.specs.declared.signs.KnownMask.{KnownMask}
 use Rattle.cct_audit_taps.specs.declared.signs.Sign.{Sign}
-use Rattle.cct_audit_taps.specs.declared.signs.Sign.TheVariants.{Events, Mask, MaskTaken, MaskLost, ResetTaken, OtherAnswers, Nothing}
+use Rattle.cct_audit_taps.specs.declared.signs.Sign.TheVariants.{Events, Mask, MaskTaken, MaskLost}
+use Rattle.cct_audit_taps.specs.declared.signs.Sign.TheVariants.{ResetTaken, OtherAnswers, Nothing}
 use Rattle.cct_audit_taps.specs.Taps.{Tap, asks_at, other_answers}
 
 -- The events that a reply tells.
@@ -46,7 +50,8 @@ abbrev pub of_bills : Money → Sign → Sign
 of_bills Coins s = Nothing
 of_bills Bills s = s
 
--- What an exchange shows of an acceptor of this money that was asked something, by what was replied in a form.
+-- What an exchange shows of an acceptor of this money that was asked something, by what was replied
+-- in a form.
 abbrev pub sign_by : Money → Option Request → (ReplyForm → Option Reply) → Sign
 sign_by money (Some ReadCredits) replied = of_coins money (events_sign (replied form.Credits))
 sign_by money (Some ReadBills) replied = of_bills money (events_sign (replied form.Credits))
@@ -70,7 +75,8 @@ abbrev pub seen_mask : ℕ → ℕ → Option KnownMask → Option KnownMask
 seen_mask number mask None = Some (known_mask number mask)
 seen_mask number mask (Some k) = if mask == k.mask then Some k else Some (known_mask number mask)
 
--- The known mask after a tap of a number: no mask was asked for since, so it is this one, or 0 after a reset.
+-- The known mask after a tap of a number: no mask was asked for since, so it is this one, or 0
+-- after a reset.
 abbrev pub known_on : ℕ → Sign → Option KnownMask → Option KnownMask
 known_on number (Events c) found = found
 known_on number (Mask mask) found = seen_mask number mask found
@@ -96,13 +102,15 @@ is_credit pair = not (pair.a == 0)
 -- With event counter 0 the buffer is empty.
 abbrev pub broken_buffer : ℕ → ℕ → Credits → List Said
 broken_buffer addr number c =
-    if (c.counter == 0) && list_any is_event c.pairs then Broken addr premise.Buffer number number ∷ [] else []
+    if (c.counter == 0) && list_any is_event c.pairs then Broken addr premise.Buffer number number
+    ∷ [] else []
 
--- After a reset, and before a mask is asked for, the buffer tells no credit.
+-- After a reset, and before a mask is asked for, the buffer shows no credit.
 abbrev pub broken_reset : ℕ → ℕ → Credits → Option KnownMask → List Said
 broken_reset addr number c None = []
 broken_reset addr number c (Some k) =
-    if k.is_fresh && list_any is_credit c.pairs then Broken addr premise.Reset k.number number ∷ [] else []
+    if k.is_fresh && list_any is_credit c.pairs then Broken addr premise.Reset k.number number
+    ∷ [] else []
 
 -- A mask stays until another one is asked for, or until a reset, after which it is 0.
 abbrev pub broken_mask : ℕ → ℕ → ℕ → Option KnownMask → List Said
@@ -112,7 +120,8 @@ broken_mask addr number mask (Some k) =
 
 -- Which premises a tap of a number shows broken, of the acceptor at an address.
 abbrev pub broken_by : ℕ → ℕ → Sign → Option KnownMask → List Said
-broken_by addr number (Events c) found = broken_buffer addr number c ++ broken_reset addr number c found
+broken_by addr number (Events c) found =
+    broken_buffer addr number c ++ broken_reset addr number c found
 broken_by addr number (Mask mask) found = broken_mask addr number mask found
 broken_by addr number OtherAnswers found = Broken addr premise.Alone number number ∷ []
 broken_by addr number s found = []

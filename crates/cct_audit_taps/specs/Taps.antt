@@ -1,9 +1,11 @@
 -- An exchange as a logger of the wire sees it, and what it shows of a device.
-use Rattle.std.specs.Prelude.{ℕ, ◌==◌, ◌&&◌, not, Bool, false, List, Option, Some, None, option_and_then}
+use Rattle.std.specs.Prelude.{ℕ, ◌==◌, ◌&&◌, not, Bool, false, List, Option, Some, None}
+use Rattle.std.specs.Prelude.{option_and_then}
 use Rattle.cct_model.specs.terms.wire.CheckKind.{CheckKind}
 use Rattle.cct_model.specs.terms.wire.TheConstants.{HOST}
 use Rattle.cct_model.specs.terms.request.Request.{Request}
-use Rattle.cct_model.specs.terms.request.Request.TheVariants.{ReadBills, ReadCredits, GetMask, SetMask, ResetDevice, GetLife}
+use Rattle.cct_model.specs.terms.request.Request.TheVariants.{ReadBills, ReadCredits, GetMask}
+use Rattle.cct_model.specs.terms.request.Request.TheVariants.{SetMask, ResetDevice, GetLife}
 use Rattle.cct_model.specs.terms.request.ReplyForm.{ReplyForm}
 use Rattle.cct_model.specs.terms.request.ReplyForm.TheVariants as form
 use Rattle.cct_model.specs.Message.{Message, message}
@@ -43,11 +45,12 @@ abbrev pub is_of_other : ℕ → Option Message → Bool
 is_of_other addr None = false
 is_of_other addr (Some m) = (m.to == HOST) && not (is_from addr m.from)
 
--- A tap shows that another device answers what was sent to the one at an address: after the echo of a message to it comes
--- a message of another.
+-- A tap shows that another device answers what was sent to the one at an address: after the echo of
+-- a message to it comes a message of another.
 abbrev pub other_answers : CheckKind → ℕ → Tap → Bool
 other_answers kind addr tap =
-    is_message kind addr tap.sent && is_of_other addr (option_and_then (message kind) (after_echo tap.sent tap.heard))
+    is_message kind addr tap.sent && is_of_other addr
+    (option_and_then (message kind) (after_echo tap.sent tap.heard))
 
 -- A reading of the credits, where a reply is one.
 abbrev pub read_in : Option Reply → Shown
@@ -59,8 +62,8 @@ abbrev pub mask_in : Option Reply → Shown
 mask_in (Some (reply.mask bits)) = Masked bits
 mask_in y = Nothing
 
--- What an exchange shows of an acceptor that was asked something, by what was replied in a form. What asks for another
--- mask or a reset is a setting, heard or not.
+-- What an exchange shows of an acceptor that was asked something, by what was replied in a form.
+-- What asks for another mask or a reset is a setting, heard or not.
 abbrev pub shown_by : Option Request → (ReplyForm → Option Reply) → Shown
 shown_by (Some ReadCredits) replied = read_in (replied form.Credits)
 shown_by (Some GetMask) replied = mask_in (replied form.Mask)
@@ -70,14 +73,16 @@ shown_by asked replied = Nothing
 
 -- What a tap shows of the acceptor at an address under a check.
 abbrev pub shown : CheckKind → ℕ → Tap → Shown
-shown kind addr tap = shown_by (asks_at kind addr tap.sent) (λ form. got kind addr form tap.sent tap.heard)
+shown kind addr tap =
+    shown_by (asks_at kind addr tap.sent) (λ form. got kind addr form tap.sent tap.heard)
 
 -- Another inhibit mask shows nothing of an acceptor that is watched for resets alone.
 abbrev pub but_masks : Option Request → Shown → Shown
 but_masks (Some (SetMask mask)) s = Nothing
 but_masks asked s = s
 
--- What a tap shows of the acceptor of coins at an address under a check that is watched for resets alone.
+-- What a tap shows of the acceptor of coins at an address under a check that is watched for resets
+-- alone.
 abbrev pub coins_shown : CheckKind → ℕ → Tap → Shown
 coins_shown kind addr tap = but_masks (asks_at kind addr tap.sent) (shown kind addr tap)
 
@@ -86,18 +91,22 @@ abbrev pub settled_in : Shown → Shown
 settled_in (Read c) = Read (settled_events c)
 settled_in s = s
 
--- What an exchange shows of a bill acceptor that was asked something, by what was replied in a form.
+-- What an exchange shows of a bill acceptor that was asked something, by what was replied in a
+-- form.
 abbrev pub bills_by : Option Request → (ReplyForm → Option Reply) → Shown
 bills_by (Some ReadBills) replied = settled_in (read_in (replied form.Credits))
 bills_by (Some GetMask) replied = mask_in (replied form.Mask)
 bills_by (Some ResetDevice) replied = Set
 bills_by asked replied = Nothing
 
--- What a tap shows of the bill acceptor at an address under a check that is watched for resets alone.
+-- What a tap shows of the bill acceptor at an address under a check that is watched for resets
+-- alone.
 abbrev pub bills_shown : CheckKind → ℕ → Tap → Shown
-bills_shown kind addr tap = bills_by (asks_at kind addr tap.sent) (λ form. got kind addr form tap.sent tap.heard)
+bills_shown kind addr tap =
+    bills_by (asks_at kind addr tap.sent) (λ form. got kind addr form tap.sent tap.heard)
 
--- What a tap shows of the acceptor of this money at an address under a check that is watched for resets alone.
+-- What a tap shows of the acceptor of this money at an address under a check that is watched for
+-- resets alone.
 abbrev pub quiet_shown : Money → CheckKind → ℕ → Tap → Shown
 quiet_shown Coins kind addr tap = coins_shown kind addr tap
 quiet_shown Bills kind addr tap = bills_shown kind addr tap
@@ -114,4 +123,5 @@ life_by asked replied = None
 
 -- The life count that a tap shows of the hopper at an address under a check, or none.
 abbrev pub life_shown : CheckKind → ℕ → Tap → Option ℕ
-life_shown kind addr tap = life_by (asks_at kind addr tap.sent) (λ form. got kind addr form tap.sent tap.heard)
+life_shown kind addr tap =
+    life_by (asks_at kind addr tap.sent) (λ form. got kind addr form tap.sent tap.heard)

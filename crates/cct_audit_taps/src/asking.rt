@@ -1,15 +1,17 @@
 //! What a piece asks of the device at an address, and whether another one answers it.
 ghost use Rattle.std.specs.Prelude.{◌≡◌, Some};
 ghost use Rattle.cct_frame.specs.Frame.{message_of};
-ghost use Rattle.cct_audit_taps.specs.Taps.{asks_at, is_message, is_of_other, other_answers, tap_of};
+ghost use Rattle.cct_audit_taps.specs.Taps.{asks_at, is_message, is_of_other, other_answers};
+ghost use Rattle.cct_audit_taps.specs.Taps.{tap_of};
 
 use cct_frame::{FrameView, read};
 use cct_model::{CheckKind, HOST, Request};
 use cct_msg::asked_of;
 use cct_wire::{Heard, hear};
 
-/// What a piece asks of the device at an address, whoever sent it: nothing where it is no message under the device's check,
-/// is for another, or has another number of data bytes than the request of its header.
+/// What a piece asks of the device at an address, whoever sent it: nothing where it is no message
+/// under the device's check, is for another, or has another number of data bytes than the request
+/// of its header.
 pub(crate) fn asked_at(kind: CheckKind, addr: u8, piece: &[u8]) -> Option<Request>
     ensures { result ≡ asks_at kind addr piece.now }
 {

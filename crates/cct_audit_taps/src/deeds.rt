@@ -3,7 +3,8 @@ ghost use Rattle.std.specs.Prelude.{◌≡◌};
 ghost use Rattle.std.specs.Option.{option_map};
 ghost use Rattle.cct_model.specs.Exchange.{got};
 ghost use Rattle.cct_model.specs.Reply.{reply_shown};
-ghost use Rattle.cct_audit_taps.specs.Deeds.{deed, deed_by, if_done, life_deed, serial_deed, status_deed};
+ghost use Rattle.cct_audit_taps.specs.Deeds.{deed, deed_by, if_done, life_deed, serial_deed};
+ghost use Rattle.cct_audit_taps.specs.Deeds.{status_deed};
 ghost use Rattle.cct_audit_taps.specs.Taps.{asks_at, tap_of};
 
 use crate::asking::{asked_at, other_answers};
@@ -32,7 +33,8 @@ pub enum Deed {
     Asked {
         count: u8,
     },
-    /// Its event counter, how many coins it has left to pay, and how many it paid of its last payout (166).
+    /// Its event counter, how many coins it has left to pay, and how many it paid of its last
+    /// payout (166).
     Status {
         counter: u8,
         remaining: u8,
@@ -61,7 +63,8 @@ pub fn deed_at(kind: CheckKind, addr: u8, sent: &[u8], heard: &[u8]) -> Deed
 
 /// What it shows where no other device answers.
 fn own_deed(kind: CheckKind, addr: u8, sent: &[u8], heard: &[u8]) -> Deed
-    ensures { result ≡ deed_by (asks_at kind addr sent.now) (λ form. got kind addr form sent.now heard.now) }
+    ensures { result ≡ deed_by (asks_at kind addr sent.now)
+        (λ form. got kind addr form sent.now heard.now) }
 {
     match asked_at(kind, addr, sent) {
         Some(Request::SerialNumber) => serial_deed(wanted_reply(
@@ -114,7 +117,7 @@ fn serial_deed(reply: Option<Reply<'_>>) -> Deed
     }
 }
 
-/// How a payout goes, as a reply tells it.
+/// How a payout goes, as a reply shows it.
 fn status_deed(reply: Option<Reply<'_>>) -> Deed
     ensures { result ≡ status_deed (option_map reply_shown reply.entry) }
 {

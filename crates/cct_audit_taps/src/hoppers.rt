@@ -1,9 +1,16 @@
-//! Whether a hopper does what is taken for granted of it, as far as taps show that: it pays under its own serial number alone, and not
-//! before it is enabled; its life count rises by the coins that fall, also over a reset and over a power cut; and its event counter by
-//! the dispense requests that it takes, since its last reset.
+//! Whether a hopper does what is taken for granted of it, as far as taps show that: it pays under
+//! its own serial number alone, and not before it is enabled; its life count rises by the coins
+//! that fall, also over a reset and over a power cut; and its event counter by the dispense
+//! requests that it takes, since its last reset.
 ghost use Rattle.std.specs.Prelude.{◌≡◌, ◌≤◌, ◌++◌, [], length};
 ghost use Rattle.cct_model.specs.Order.{life_between};
-ghost use Rattle.cct_audit_taps.specs.Deeds.{asked_since, broken_counter, broken_enable, broken_life, broken_serial, counted_from, counter_fits, counter_known, greater, hopper_broken_by, hopper_on, least_of, life_known, more_coins, no_hopper, one_more, paid_since, request_since, rest_on, rise_fits, serial_first, serial_on, shut_on};
+ghost use Rattle.cct_audit_taps.specs.Deeds.{asked_since, broken_counter, broken_enable};
+ghost use Rattle.cct_audit_taps.specs.Deeds.{broken_life, broken_serial, counted_from};
+ghost use Rattle.cct_audit_taps.specs.Deeds.{counter_fits, counter_known, greater};
+ghost use Rattle.cct_audit_taps.specs.Deeds.{hopper_broken_by, hopper_on, least_of, life_known};
+ghost use Rattle.cct_audit_taps.specs.Deeds.{more_coins, no_hopper, one_more, paid_since};
+ghost use Rattle.cct_audit_taps.specs.Deeds.{request_since, rest_on, rise_fits, serial_first};
+ghost use Rattle.cct_audit_taps.specs.Deeds.{serial_on, shut_on};
 
 use crate::deeds::Deed;
 use crate::said::{Premise, Said};
@@ -28,7 +35,8 @@ pub struct KnownLife {
     /// The number of the tap.
     pub number: u32,
     pub count: u32,
-    /// How many coins may have fallen since, with those that may yet fall. From 2^24 on it says nothing.
+    /// How many coins may have fallen since, with those that may yet fall. From 2^24 on it says
+    /// nothing.
     pub most: u32,
     /// How many fell at least.
     pub least: u8,
@@ -206,7 +214,7 @@ fn more_coins(most: u32, count: u8) -> u32
     }
 }
 
-/// A life count after which it was told how many coins were paid.
+/// A life count after which it was reported how many coins were paid.
 fn paid_since(paid: u8, known: Option<KnownLife>) -> Option<KnownLife>
     ensures { result ≡ paid_since paid known }
 {
@@ -410,7 +418,8 @@ fn tell_counter(
     }
 }
 
-/// Whether an event counter fits the dispense requests since: those since a reset that nobody saw, or all of them.
+/// Whether an event counter fits the dispense requests since: those since a reset that nobody saw,
+/// or all of them.
 fn counter_fits(counter: u8, known: &KnownCounter) -> bool
     ensures { result ≡ counter_fits counter known.now }
 {

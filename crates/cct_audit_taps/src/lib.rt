@@ -1,4 +1,5 @@
-//! What an exchange, as a logger of the wire saw it, shows of a device, whoever its host is; and what a monitor says of devices.
+//! What an exchange, as a logger of the wire saw it, shows of a device, whoever its host is; and
+//! what a monitor says of devices.
 #![tactic(auto)]
 
 mod asking;

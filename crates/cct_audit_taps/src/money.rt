@@ -1,5 +1,5 @@
-//! The money that an acceptor takes in, and how what a bill acceptor tells is credited (ccTalk Generic Specification 4, part 3,
-//! header 159).
+//! The money that an acceptor takes in, and how what a bill acceptor tells is credited (ccTalk
+//! Generic Specification 4, part 3, header 159).
 ghost use Rattle.std.specs.Prelude.{◌≡◌};
 ghost use Rattle.cct_model.specs.Job.{settled, settled_events};
 
@@ -10,7 +10,8 @@ use cct_model::{Credits, Pair};
 pub enum Money {
     /// Coins, by place and sorter path. Header 229 reads them.
     Coins,
-    /// Bills, by place; one that is stacked has path 0, and one that is held is none yet. Header 159 reads them.
+    /// Bills, by place; one that is stacked has path 0, and one that is held is none yet. Header
+    /// 159 reads them.
     Bills,
 }
 
@@ -30,7 +31,8 @@ pub(crate) fn settled_credits(credits: Credits) -> Credits
     }
 }
 
-/// An event of a bill acceptor as it is credited: a bill that is held counts as one that is given back.
+/// An event of a bill acceptor as it is credited: a bill that is held counts as one that is given
+/// back.
 fn settled(pair: Pair) -> Pair
     ensures { result ≡ settled pair }
 {

@@ -8,7 +8,8 @@ use cct_model::Coins;
 pub enum Premise {
     /// With event counter 0 its buffer is empty.
     Buffer,
-    /// Its inhibit mask stays until another one is asked for, or until a reset, after which it is 0.
+    /// Its inhibit mask stays until another one is asked for, or until a reset, after which it is
+    /// 0.
     Mask,
     /// A reset clears its events, and lets nothing in.
     Reset,
@@ -18,26 +19,29 @@ pub enum Premise {
     Enable,
     /// Its life count rises by one with each coin that falls, and else stays.
     Life,
-    /// Its event counter rises by one with each dispense request that it takes, from 255 to 1, and else stays; a reset clears it.
+    /// Its event counter rises by one with each dispense request that it takes, from 255 to 1, and
+    /// else stays; a reset clears it.
     Counter,
     /// No other device answers what is sent to it.
     Alone,
 }
 
-/// What a monitor says of the watched device at `addr`: `first` and `last` are the numbers of two taps, from 1. All but
-/// the last are of a span: two readings of an acceptor's credits with none between them, or two life counts of a hopper.
+/// What a monitor says of the watched device at `addr`: `first` and `last` are the numbers of two
+/// taps, from 1. All but the last are of a span: two readings of an acceptor's credits with none
+/// between them, or two life counts of a hopper.
 #[derive(Clone, Debug, Drop, PartialEq, Eq)]
 pub enum Said {
-    /// The acceptor accepted these coins between its two readings, oldest first: those among as many of the newest events
-    /// as the two event counters tell, at most five (ccTalk Generic Specification 4, part 2, header 229).
+    /// The acceptor accepted these coins between its two readings, oldest first: those among as
+    /// many of the newest events as the two event counters tell, at most five (ccTalk Generic
+    /// Specification 4, part 2, header 229).
     Sure {
         addr: u8,
         first: u32,
         last: u32,
         coins: Coins,
     },
-    /// The same of an acceptor that is taken to reset only where the taps show it: these are the coins if no reset came
-    /// between its two readings.
+    /// The same of an acceptor that is taken to reset only where the taps show it: these are the
+    /// coins if no reset came between its two readings.
     Quiet {
         addr: u8,
         first: u32,
@@ -50,15 +54,16 @@ pub enum Said {
         first: u32,
         last: u32,
     },
-    /// So many coins fell out of the hopper between its two life counts, where fewer than 2^24 fell (ccTalk Generic
-    /// Specification 4, part 3, header 168).
+    /// So many coins fell out of the hopper between its two life counts, where fewer than 2^24 fell
+    /// (ccTalk Generic Specification 4, part 3, header 168).
     Fell {
         addr: u8,
         first: u32,
         last: u32,
         count: u32,
     },
-    /// The exchanges of its two taps, or of the one tap that both are, show that the device isn't as it is taken to be.
+    /// The exchanges of its two taps, or of the one tap that both are, show that the device isn't
+    /// as it is taken to be.
     Broken {
         addr: u8,
         premise: Premise,

@@ -2,7 +2,8 @@
 ghost use Rattle.std.specs.Prelude.{◌≡◌};
 ghost use Rattle.std.specs.Option.{option_map};
 ghost use Rattle.cct_model.specs.Reply.{reply_shown};
-ghost use Rattle.cct_audit_taps.specs.Taps.{bills_shown, coins_shown, life_shown, read_in, mask_in, life_in, quiet_shown, settled_in, shown, tap_of};
+ghost use Rattle.cct_audit_taps.specs.Taps.{bills_shown, coins_shown, life_shown, read_in, mask_in};
+ghost use Rattle.cct_audit_taps.specs.Taps.{life_in, quiet_shown, settled_in, shown, tap_of};
 
 use crate::asking::asked_at;
 use crate::money::{Money, settled_credits};
@@ -12,11 +13,13 @@ use cct_msg::wanted_reply;
 /// What a tap shows of an acceptor.
 #[derive(Clone, Copy, Debug, PartialEq, Eq)]
 pub enum Shown {
-    /// A reading: its event counter and its credit buffer (header 229), or those of a bill acceptor as they are credited (159).
+    /// A reading: its event counter and its credit buffer (header 229), or those of a bill acceptor
+    /// as they are credited (159).
     Read(Credits),
     /// Its inhibit mask (header 230).
     Masked { mask: u16 },
-    /// A setting: it was asked to take another mask (header 231) or to reset (header 1), whether it heard that or not.
+    /// A setting: it was asked to take another mask (header 231) or to reset (header 1), whether it
+    /// heard that or not.
     Set,
     /// Nothing of these.
     Nothing,
@@ -41,7 +44,8 @@ pub fn shown_at(kind: CheckKind, addr: u8, sent: &[u8], heard: &[u8]) -> Shown
     }
 }
 
-/// What a tap shows of the acceptor of coins at an address that is watched for resets alone: another inhibit mask is no setting.
+/// What a tap shows of the acceptor of coins at an address that is watched for resets alone:
+/// another inhibit mask is no setting.
 fn coins_shown_at(kind: CheckKind, addr: u8, sent: &[u8], heard: &[u8]) -> Shown
     ensures { result ≡ coins_shown kind addr (tap_of sent.now heard.now) }
 {

@@ -1,5 +1,6 @@
-//! Whether an acceptor does what is taken for granted of it, as far as taps show that: its inhibit mask stays until another one is
-//! asked for, or until a reset; a reset clears its events, and lets nothing in; and with event counter 0 its buffer is empty.
+//! Whether an acceptor does what is taken for granted of it, as far as taps show that: its inhibit
+//! mask stays until another one is asked for, or until a reset; a reset clears its events, and lets
+//! nothing in; and with event counter 0 its buffer is empty.
 ghost use Rattle.std.specs.Prelude.{◌≡◌, ◌≤◌, ◌++◌, [], length};
 ghost use Rattle.std.specs.List.{list_any};
 ghost use Rattle.std.specs.Option.{option_map};
@@ -7,7 +8,10 @@ ghost use Rattle.cct_model.specs.Exchange.{got};
 ghost use Rattle.cct_model.specs.Reply.{reply_shown};
 ghost use Rattle.cct_audit_taps.specs.declared.said.Said.TheVariants.{Broken};
 ghost use Rattle.cct_audit_taps.specs.declared.said.Premise.TheVariants as premise;
-ghost use Rattle.cct_audit_taps.specs.Signs.{broken_buffer, broken_by, broken_mask, broken_reset, events_sign, if_acked, is_credit, is_event, known_mask, known_on, mask_sign, of_bills, of_coins, seen_mask, sign, sign_by};
+ghost use Rattle.cct_audit_taps.specs.Signs.{broken_buffer, broken_by, broken_mask, broken_reset};
+ghost use Rattle.cct_audit_taps.specs.Signs.{events_sign, if_acked, is_credit, is_event};
+ghost use Rattle.cct_audit_taps.specs.Signs.{known_mask, known_on, mask_sign, of_bills, of_coins};
+ghost use Rattle.cct_audit_taps.specs.Signs.{seen_mask, sign, sign_by};
 ghost use Rattle.cct_audit_taps.specs.Taps.{asks_at, tap_of};
 
 use crate::asking::{asked_at, other_answers};
@@ -20,13 +24,14 @@ use cct_msg::wanted_reply;
 /// What a tap shows of an acceptor of which premises are tried.
 #[derive(Clone, Copy)]
 pub enum Sign {
-    /// Its event counter and its buffer, as it tells them (header 229, or 159 of a bill acceptor).
+    /// Its event counter and its buffer, as it shows them (header 229, or 159 of a bill acceptor).
     Events(Credits),
     /// Its inhibit mask (230).
     Mask { mask: u16 },
     /// It acknowledged another inhibit mask (231).
     MaskTaken { mask: u16 },
-    /// It was asked to take another one, and no acknowledgement was heard: it may have heard it or not.
+    /// It was asked to take another one, and no acknowledgement was heard: it may have heard it or
+    /// not.
     MaskLost,
     /// It acknowledged a reset (1).
     ResetTaken,
@@ -36,7 +41,8 @@ pub enum Sign {
     Nothing,
 }
 
-/// The inhibit mask that an acceptor had at a tap, since which none was asked for: it is still this one, or 0 after a reset.
+/// The inhibit mask that an acceptor had at a tap, since which none was asked for: it is still this
+/// one, or 0 after a reset.
 #[derive(Clone, Copy, Debug, PartialEq, Eq)]
 pub struct KnownMask {
     /// The number of the tap.
@@ -59,7 +65,8 @@ pub fn sign_at(money: Money, kind: CheckKind, addr: u8, sent: &[u8], heard: &[u8
 
 /// What it shows where no other device answers.
 fn own_sign(money: Money, kind: CheckKind, addr: u8, sent: &[u8], heard: &[u8]) -> Sign
-    ensures { result ≡ sign_by money (asks_at kind addr sent.now) (λ form. got kind addr form sent.now heard.now) }
+    ensures { result ≡ sign_by money (asks_at kind addr sent.now)
+        (λ form. got kind addr form sent.now heard.now) }
 {
     match asked_at(kind, addr, sent) {
         Some(Request::ReadCredits) => of_coins(
@@ -85,7 +92,7 @@ fn own_sign(money: Money, kind: CheckKind, addr: u8, sent: &[u8], heard: &[u8]) 
     }
 }
 
-/// What a device tells that is asked for coins.
+/// What a device says that is asked for coins.
 fn of_coins(money: Money, sign: Sign) -> Sign
     ensures { result ≡ of_coins money sign }
 {
@@ -95,7 +102,7 @@ fn of_coins(money: Money, sign: Sign) -> Sign
     }
 }
 
-/// What a device tells that is asked for bills.
+/// What a device says that is asked for bills.
 fn of_bills(money: Money, sign: Sign) -> Sign
     ensures { result ≡ of_bills money sign }
 {

@@ -40,7 +40,7 @@ use Rattle.cct_world.proofs.Early.{early_none}
 use Rattle.cct_world.proofs.Relying.{rose_just}
 use Rattle.cct_text.proofs.Writing.{writes_then}
 
--- what holds of the bytes that an object tells, or of some where it tells none, also holds by a weaker fact
+-- what holds of the bytes that an object tells, or of some where it shows none, also holds by a weaker fact
 pub bytes_weaker : (P Q : List ℕ → Type 0) (known : Option (List ℕ)) → ((bytes : List ℕ) → P bytes → Q bytes)
     → OfBytes known P → OfBytes known Q
 bytes_weaker P Q known f h = (h.0, h.1, f h.0 h.2)
@@ -89,7 +89,7 @@ desk_rights : (bytes : List ℕ) (played rest : List Step) (transcript : List En
 desk_rights bytes played rest transcript fronts legal =
     (desk_right bytes played rest transcript fronts legal, desk_changes bytes played rest transcript fronts legal)
 
--- a last line tells a fault of the source, or of the disk, only where the steps came to their end by one
+-- a last line shows a fault of the source, or of the disk, only where the steps came to their end by one
 unread_tail : (how : Ending) → listed (last_entry how) ≡ entry.ReadFault ∷ [] → how ≡ ending.Unread
 unread_tail ending.Done is = cc is
 unread_tail (ending.Refused number why) is = cc is
@@ -220,7 +220,7 @@ module _ (bytes : List ℕ) (how : Ending) (left : Option (List ℕ)) (disks : D
             (line p.transcript wrote),
       ) book
 
-  -- what a power cut left is told
+  -- what a power cut left is reported
   ran_lost : (answer : Result (Unit {0}) Failed) (why : CrashNo) (tail : List Entry) → tail ≡ listed (last_entry how)
       → ((P : CrashNo → Type 0) → P why → TellsOf P tail) → LastLine Before Written Breaks tail answer
       → Before p.transcript → OverLost disks (script bytes).setup (onto [] p.transcript) p.unplayed why
@@ -362,7 +362,7 @@ module _ {K : Type 0} (written : K → Option (List ℕ)) (puts : K → List ℕ
       (sym (no_line b c (last_entry how) answer none h).1) broke)
       (λ failed err none. cc (err, (no_line b c (last_entry how) answer none h).0)) p)
 
--- what is still to come is what is told
+-- what is still to come is what is reported
 all_told : (left : Option (List ℕ)) → AreTold left (to_come left)
 all_told None = tt
 all_told (Some bytes) = refl

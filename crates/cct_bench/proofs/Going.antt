@@ -88,7 +88,7 @@ going_holds Relies Relies1 now next left0 left held number setup Before After Wr
         ∙ setup_stays number setup (at_steps setup) (slice_split is_line_feed (held ++ more)) refl in
         ap now is ∙ same ∙ sym (ap next is)
 
--- so does another way to tell what was written
+-- so does another way to say what was written
 pub going_by : (Relies : List Entry → Type 0) (now : Setup → Desk) (left0 left : Option (List ℕ)) (held : List ℕ) (number : ℕ)
     (stage : Stage) (Stands : List Step → List Entry → Type 0) (Written Written1 : List Entry → Type 0) →
     ((xs : List Entry) → Written xs → Written1 xs) → Going Relies now left0 left held number stage Stands Written
@@ -194,7 +194,7 @@ step_legal now taken came held more rest number stage next setup played transcri
     (legal_came (λ any. now) taken came more played transcript legal)
     (subst (λ by. EntriesAtDesk most_records by (onto [] transcript) now s (reverse report)) same entries)
 
--- a past that tells no power cut may be relied on
+-- a past that shows no power cut may be relied on
 abbrev pub Trusts : (List Entry → Type 0) → Type 0
 Trusts Relies = (past : List Entry) → crashes past ≡ 0 → Relies past
 

@@ -275,7 +275,7 @@ module _ {D : Type 0} {g : Ghosts D} (given left : D) (world : World D g)
       (λ s fails. loses_by (Relies world past) sure (Cut (disk_of world)) (Cut given) (relies past)
       cut_given load_setup past (g.seen left) why s (is s fails)) first
 
-  -- what was told, by how the playing of it ended
+  -- what was reported, by how the playing of it ended
   told_by : (how : LoadEnd) (played unplayed : List Step) (past : List Entry)
       → loads.Ends world left load how played unplayed past Written Breaks
       → (told : List Entry)

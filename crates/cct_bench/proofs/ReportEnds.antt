@@ -107,7 +107,7 @@ pub report_other : (disk : Known) (s : Status) (writes : List Entry → Result (
     → Reported disk s writes → s ≡ status.NotUpgraded → ⊥
 report_other disk s writes is ends = (subst (λ x. Reported disk x writes) ends is).1
 
--- a disk of another size is told by that alone
+-- a disk of another size is reported by that alone
 pub other_reported : (disk : Known) (len : ℕ) (s : Status) (answer : Result (Unit {0}) Failed)
     (writes : List Entry → Result (Unit {0}) Failed → Type 0) → len ≡ disk.size → disk.size ≢ JOURNAL_BYTES
     → writes (entry.DiskSize len ∷ []) answer → s ≡ status_by answer status.DiskSize → Reported disk s writes

@@ -135,7 +135,7 @@ module _ (disk : StateDisk) (source_failed : Type 0) (bytes taken : List ℕ) wh
 
 -- ---- the whole
 
--- what a fault in reading is may be told otherwise
+-- what a fault in reading is may be reported otherwise
 is_weaker : (disk : StateDisk) (F G : Type 0) (bytes taken : List ℕ) (s : Status) (lines : List (List ℕ)) → (F → G)
     → StateIs disk F bytes taken s lines → StateIs disk G bytes taken s lines
 is_weaker disk F G bytes taken status.ReadFault lines more is = (is.0, is.1, more is.2, is.3)
@@ -206,7 +206,7 @@ module _ (disk : StateDisk) (source_failed : Type 0) (left0 left : Option (List 
         record { taken = whole.taken; took = whole.took; ends = ends read.0 whole.taken whole.says },
       )
 
--- without memory nothing was told
+-- without memory nothing was reported
 pub state_no_memory : (disk : StateDisk) (source_failed : Type 0) (left : Option (List ℕ))
     (writes : List (List ℕ) → Result (Unit {0}) Failed → Type 0) → writes [] (Ok tt)
     → OfBytes left (λ bytes. Stated disk source_failed bytes status.OutOfMemory left writes)

@@ -48,7 +48,7 @@ module _ {D : Type 0} {honest : D → Bool} {seen : D → Option (List ℕ)} {ma
 
 -- ---- its last line
 
--- an answer tells no fault of the sink and no want of memory
+-- an answer shows no fault of the sink and no want of memory
 told_other : (answer : Result ℕ UpgradeNo) → (told_status answer ≡ status.WriteFault → ⊥)
     × (told_status answer ≡ status.OutOfMemory → ⊥)
 told_other (Ok records) = (λ e. cc e, λ e. cc e)
@@ -65,7 +65,7 @@ pub not_done : (answer : Result (Unit {0}) Failed) (s : Status) → (s ≡ statu
 not_done (Ok done) s other is = other is
 not_done (Err failed) s other is = cc is
 
--- status 0 tells that the journal was brought forward
+-- status 0 says that the journal was brought forward
 pub done_ok : (answer : Result ℕ UpgradeNo) (put : Result (Unit {0}) Failed)
     → status_by put (told_status answer) ≡ status.Done → IsOk answer
 done_ok answer (Err failed) is = cc is

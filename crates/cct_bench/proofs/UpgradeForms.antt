@@ -55,7 +55,7 @@ other_word setup line none =
     none begins.0 begins.1) in
     rw not refl
 
--- a line by what stands after the letters of `end`
+-- a line by what is after the letters of `end`
 rest_takes : (setup : Setup) (line : List ℕ) (byte : ℕ) (rest : List ℕ) (b : Bool) → line ≡ codes "end" ++ byte ∷ rest
     → (byte == 32) ≡ b → MatchResult (if b then Err kind.Form else Err kind.Word)
     (λ (done : Unit {0}). upgrade_form (at_steps setup) line ≡ opens (at_end setup))

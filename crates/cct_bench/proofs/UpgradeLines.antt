@@ -256,7 +256,7 @@ pub goes_stops : (left0 left left1 : Option (List ℕ)) (held : List ℕ) (numbe
 goes_stops left0 left left1 held number stage why how g r told =
     stops_here left0 left1 (held ++ r.0) number stage why how (goes_came left0 left left1 held r.0 number stage g r.1) r.2 told
 
--- nothing stands after its end
+-- nothing is after its end
 pub goes_closes : (left0 left left1 : Option (List ℕ)) (held : List ℕ) (number : ℕ) (setup : Setup)
     → Goes left0 left held number (at_end setup)
     → WithMoreTaken held left left1 (IsClosedIn of_upgrade number (at_end setup) None left1)
@@ -268,7 +268,7 @@ goes_closes left0 left left1 held number setup g r =
       record { taken = now.taken; took = refl; says = now.says (to_come left1) ∙ r.2 },
     )
 
--- ---- what stands after its end
+-- ---- what is after its end
 
 module _ (old new : Standing) (left0 left : Option (List ℕ)) (answer : Result (Option (List ℕ)) LinesNo)
     (gives : Gives old new left0 left answer) where

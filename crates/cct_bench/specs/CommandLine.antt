@@ -4,7 +4,8 @@ use Rattle.std.specs.declared.alloc.Global.{Global}
 use Rattle.cct_bench_words.specs.Grammar.{words_said}
 use Rattle.cct_bench_words.specs.declared.words.Words.{Words}
 
--- What the words of the command line say, without the program's name; none where they are in no form.
+-- What the words of the command line say, without the program's name; none where they are in no
+-- form.
 abbrev pub said_in : List (String Global) → Option Words
 said_in list = words_said (map string_bytes list)
 

@@ -24,21 +24,23 @@ pub record IsReady (size : ℕ) (seen : Option (List ℕ)) : Type 0 where
   pub blank : (image : List ℕ) → seen ≡ Some image → IsBlank image
 
 module _ {D : Type 0} {g : Ghosts D} where
-  -- A journal was just made: it has no record, no put of it failed, and its disk has the length of one; and on a trusted
-  -- disk it is the book of no record, by any setup.
+  -- A journal was just made: it has no record, no put of it failed, and its disk has the length of
+  -- one; and on a trusted disk it is the book of no record, by any setup.
   pub record IsNewJournal (journal : Journal D g) : Type 0 where
     pub unused : journals.used_of journal ≡ 0
     pub whole : journals.has_failed journal ≡ false
     pub size : g.size (journals.disk_of journal) ≡ JOURNAL_BYTES
     pub stands : (setup : Setup) → IsTrusted g.honest g.seen (journals.disk_of journal)
-        → KeepsRecords setup g.honest g.seen g.may_leave (journals.disk_of journal) (journals.place_of journal) []
+        → KeepsRecords setup g.honest g.seen g.may_leave (journals.disk_of journal)
+        (journals.place_of journal) []
 
--- What a run is told of its disk. As it was handed in: how many bytes it has, which bytes a read gives, where that is
--- told, whether it is honest and tells them, and how often its power was cut. As it comes back: that each image that a
--- power cut may leave on it is the book of records, the oldest first, or, where one was due, of these or of
--- these and that one, by a setup; which bytes a read then gives, where that is told; and how often its power was cut by then. And
--- that in between its power was cut for this time, and something holds of the choice of the cut and of what a read gave
--- right after it.
+-- What a run is told of its disk. As it was handed in: how many bytes it has, which bytes a read
+-- gives, where that is told, whether it is honest and shows them, and how often its power was cut.
+-- As it comes back: that each image that a power cut may leave on it is the book of records, the
+-- oldest first, or, where one was due, of these or of these and that one, by a setup; which bytes a
+-- read then gives, where that is reported; and how often its power was cut by then. And that in
+-- between its power was cut for this time, and something holds of the choice of the cut and of what
+-- a read gave right after it.
 pub record Disks : Type 1 where
   pub size : ℕ
   pub seen : Option (List ℕ)
@@ -66,10 +68,12 @@ module _ {D : Type 0} (size : D → ℕ) (honest : D → Bool) (seen : D → Opt
   }
 
 -- Where a disk is trusted, each image that a power cut may leave on it is the book of the past.
-abbrev pub Books : {D : Type 0} → Setup → (D → Bool) → (D → Option (List ℕ)) → (D → List ℕ → Type 0) → D → List Entry
+abbrev pub Books : {D : Type 0} → Setup → (D → Bool) → (D → Option (List ℕ)) →
+    (D → List ℕ → Type 0) → D → List Entry
     → Type 0
 Books setup honest seen may_leave disk past =
-    IsTrusted honest seen disk → LeavesRecords setup honest seen may_leave disk None (reverse (records past))
+    IsTrusted honest seen disk → LeavesRecords setup honest seen may_leave disk None
+    (reverse (records past))
 
 -- Any past may be relied on, as where no disk is used yet.
 abbrev pub Always : List Entry → Type 0

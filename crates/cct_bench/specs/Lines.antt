@@ -3,7 +3,8 @@ use Rattle.std.specs.Prelude.{◌≡◌, ℕ, List, Option, Some, None}
 use Rattle.std.specs.List.{slice_split, position}
 use Rattle.cct_model.specs.terms.device.Setup.{Setup}
 use Rattle.cct_model.specs.lines.entry.LineKind.{LineKind}
-use Rattle.cct_model.specs.Script.{is_line_feed, is_over, Stage, setup_at, at_end, Read, refuses, stage_after, goes_on, Script}
+use Rattle.cct_model.specs.Script.{is_line_feed, is_over, Stage, setup_at, at_end, Read, refuses}
+use Rattle.cct_model.specs.Script.{stage_after, goes_on, Script}
 use Rattle.cct_model.specs.Script.{script_from, closed_script}
 use Rattle.cct_script.specs.declared.stops.ScriptStop.{ScriptStop}
 use Rattle.cct_script.specs.Scripts.{Kind, GoesOnIn, IsClosedIn, StopsIn}
@@ -37,8 +38,8 @@ IsClosed = IsClosedIn of_run
 abbrev pub StopsAt : ℕ → Stage → ScriptStop → Option (List ℕ) → List ℕ → Type 0
 StopsAt = StopsIn of_run
 
--- How the steps of a script end after its line `end`, where the next line has this number: nothing follows, or it is
--- read no further.
+-- How the steps of a script end after its line `end`, where the next line has this number: nothing
+-- follows, or it is read no further.
 abbrev pub EndsAt : ℕ → Setup → Ending → Option (List ℕ) → List ℕ → Type 0
 EndsAt number setup ending.Done left held = IsClosed number (at_end setup) None left held
 EndsAt number setup (ending.Refused line why) left held =

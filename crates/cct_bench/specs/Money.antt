@@ -10,9 +10,10 @@ use Rattle.cct_laws.specs.Right.{IsRight}
 use Rattle.cct_world.specs.Early.{BeforeLoss}
 use Rattle.cct_bench.specs.Disks.{most_records}
 
--- The entries of the steps before the first power cut are legal, and their money is right; and over an honest wire the
--- sessions of change among them pay what they tell.
+-- The entries of the steps before the first power cut are legal, and their money is right; and over
+-- an honest wire the sessions of change among them pay what they tell.
 abbrev pub RightBeforeLoss : Setup → List Step → List Entry → Type 0
 RightBeforeLoss setup played transcript =
-    BeforeLoss played transcript (λ first told. LegalAtDesk most_records setup first told × IsRight setup told
+    BeforeLoss played transcript (λ first told. LegalAtDesk most_records setup first told
+    × IsRight setup told
     × (Honest told → ChangeIsPaid most_records setup first told))

@@ -1,5 +1,6 @@
 -- What a state of the bench leaves: what it took of its script, and what it wrote, by its status.
-use Rattle.std.specs.Prelude.{◌≡◌, ◌≢◌, ◌⊎◌, ◌==◌, ℕ, Bool, false, List, [], ◌∷◌, ◌++◌, reverse, Option, Some, None, Result, Ok, Err}
+use Rattle.std.specs.Prelude.{◌≡◌, ◌≢◌, ◌⊎◌, ◌==◌, ℕ, Bool, false, List, [], ◌∷◌, ◌++◌, reverse}
+use Rattle.std.specs.Prelude.{Option, Some, None, Result, Ok, Err}
 use Rattle.cct_edge.specs.declared.fault.Failed.{Failed}
 use Rattle.cct_journal.specs.declared.refusal.OpenNo.TheVariants as opening
 use Rattle.cct_model.specs.Script.{Refusal}
@@ -22,9 +23,11 @@ use Rattle.cct_bench.specs.declared.outcome.Status.{Status}
 use Rattle.cct_bench.specs.declared.outcome.Status.TheVariants as status
 use Rattle.cct_bench.specs.declared.play.TheConstants.{JOURNAL_BYTES}
 
--- What the bytes of a script give: the setup that they say up to its end; or none, where they end before the first line does.
+-- What the bytes of a script give: the setup that they say up to its end; or none, where they end
+-- before the first line does.
 abbrev pub Gives : List ℕ → Option Setup → Type 0
-Gives bytes (Some setup) = upgrade_script bytes ≡ record { setup = setup; steps = []; refused = None }
+Gives bytes (Some setup) =
+    upgrade_script bytes ≡ record { setup = setup; steps = []; refused = None }
 Gives bytes None = (upgrade_script bytes).refused ≡ Some (record { number = 1; why = kind.Cut })
 
 -- A script ended before its first line did.
@@ -32,7 +35,8 @@ abbrev pub gives_none : Ending → Bool
 gives_none (ending.Refused number kind.Cut) = number == 1
 gives_none how = false
 
--- What is known of a disk whose state is told: how many bytes it has, what it has, and whether a call of it failed.
+-- What is known of a disk whose state is reported: how many bytes it has, what it has, and whether
+-- a call of it failed.
 pub record StateDisk : Type 1 where
   pub size : ℕ
   pub known : Known
@@ -47,14 +51,17 @@ module _ (disk : StateDisk) (source_failed : Type 0) (bytes taken : List ℕ) wh
   -- All lines of a state, by its status: the whole state; or a last line alone, and its cause.
   abbrev pub StateIs : Status → List (List ℕ) → Type 0
   StateIs status.Done lines =
-      (setup : Option Setup) × (base : ℕ) × (c : Carry) × (records : List Record) × (disk.size ≡ JOURNAL_BYTES)
+      (setup : Option Setup) × (base : ℕ) × (c : Carry) × (records : List Record)
+      × (disk.size ≡ JOURNAL_BYTES)
       × Gives bytes setup × disk.known.has base c records × SuitsSetup setup c (reverse records)
       × (lines ≡ state_lines setup c (reverse records))
   StateIs status.ScriptRefused lines =
-      (refusal : Refusal) × (disk.size ≡ JOURNAL_BYTES) × ((upgrade_script bytes).refused ≡ Some refusal)
+      (refusal : Refusal) × (disk.size ≡ JOURNAL_BYTES)
+      × ((upgrade_script bytes).refused ≡ Some refusal)
       × (lines ≡ line_of (entry.Line refusal.number refusal.why) ∷ [])
   StateIs status.ReadFault lines =
-      (disk.size ≡ JOURNAL_BYTES) × IsUnfinished taken × source_failed × (lines ≡ line_of entry.ReadFault ∷ [])
+      (disk.size ≡ JOURNAL_BYTES) × IsUnfinished taken × source_failed
+      × (lines ≡ line_of entry.ReadFault ∷ [])
   StateIs status.DiskFault lines =
       (disk.size ≡ JOURNAL_BYTES) × disk.failed × (lines ≡ line_of entry.DiskFault ∷ [])
   StateIs status.DiskSize lines =
@@ -66,17 +73,19 @@ module _ (disk : StateDisk) (source_failed : Type 0) (bytes taken : List ℕ) wh
       × (lines ≡ line_of (entry.JournalBad index) ∷ [])))
   StateIs s lines = ⊥
 
-  -- What a state wrote, by its status: all its lines; or, where the sink failed, those of a state of another status up to a
-  -- put that failed; or, where there was no memory, nothing.
+  -- What a state wrote, by its status: all its lines; or, where the sink failed, those of a state
+  -- of another status up to a put that failed; or, where there was no memory, nothing.
   abbrev pub StateEnds : Status → (List (List ℕ) → Result (Unit {0}) Failed → Type 0) → Type 0
   StateEnds status.WriteFault writes =
-      (s : Status) × (lines : List (List ℕ)) × (failed : Failed) × StateIs s lines × writes lines (Err failed)
+      (s : Status) × (lines : List (List ℕ)) × (failed : Failed) × StateIs s lines
+      × writes lines (Err failed)
   StateEnds status.OutOfMemory writes = (taken ≡ []) × writes [] (Ok tt)
   StateEnds s writes = (lines : List (List ℕ)) × StateIs s lines × writes lines (Ok tt)
 
--- A state by a script of these bytes: what it took of them, and what it wrote. The bytes are those taken and those still to
--- come; a source that tells none is taken to have no more.
-pub record Stated (disk : StateDisk) (source_failed : Type 0) (bytes : List ℕ) (s : Status) (left : Option (List ℕ))
+-- A state by a script of these bytes: what it took of them, and what it wrote. The bytes are those
+-- taken and those still to come; a source that shows none is taken to have no more.
+pub record Stated (disk : StateDisk) (source_failed : Type 0) (bytes : List ℕ) (s : Status)
+    (left : Option (List ℕ))
     (writes : List (List ℕ) → Result (Unit {0}) Failed → Type 0) : Type 0 where
   pub taken : List ℕ
   pub took : bytes ≡ taken ++ to_come left
@@ -98,12 +107,15 @@ stated_by (telling.Unread opening.Alien) = status.JournalLost
 stated_by (telling.Unread (opening.BadRecord index)) = status.JournalLost
 
 -- What came of telling the state of such a disk by a setup, where one is given.
-abbrev pub TellsBy : StateDisk → Option Setup → Status → (List (List ℕ) → Result (Unit {0}) Failed → Type 0) → Type 0
+abbrev pub TellsBy : StateDisk → Option Setup → Status →
+    (List (List ℕ) → Result (Unit {0}) Failed → Type 0) → Type 0
 TellsBy disk setup s writes =
-    (bytes taken : List ℕ) → disk.size ≡ JOURNAL_BYTES → Gives bytes setup → StateEnds disk ⊥ bytes taken s writes
+    (bytes taken : List ℕ) → disk.size ≡ JOURNAL_BYTES → Gives bytes setup →
+    StateEnds disk ⊥ bytes taken s writes
 
 -- What came of a script that was read no further than this, over such a disk.
-abbrev pub StopsBy : StateDisk → Ending → Status → (List (List ℕ) → Result (Unit {0}) Failed → Type 0) → Type 0
+abbrev pub StopsBy : StateDisk → Ending → Status →
+    (List (List ℕ) → Result (Unit {0}) Failed → Type 0) → Type 0
 StopsBy disk how s writes =
     (bytes taken : List ℕ) → disk.size ≡ JOURNAL_BYTES → ScriptSays how bytes taken
     → StateEnds disk (how ≡ ending.Unread) bytes taken s writes

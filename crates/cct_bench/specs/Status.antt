@@ -1,9 +1,12 @@
 -- The exit statuses.
 use Rattle.std.specs.Prelude.{ℕ}
 use Rattle.cct_bench.specs.declared.outcome.Status.{Status}
-use Rattle.cct_bench.specs.declared.outcome.Status.TheVariants.{Done, ScriptRefused, WordsRefused, ReadFault}
-use Rattle.cct_bench.specs.declared.outcome.Status.TheVariants.{WriteFault, DiskFault, NotBlank, DiskSize}
-use Rattle.cct_bench.specs.declared.outcome.Status.TheVariants.{OutOfMemory, JournalLost, NotUpgraded}
+use Rattle.cct_bench.specs.declared.outcome.Status.TheVariants.{Done, ScriptRefused, WordsRefused}
+use Rattle.cct_bench.specs.declared.outcome.Status.TheVariants.{ReadFault}
+use Rattle.cct_bench.specs.declared.outcome.Status.TheVariants.{WriteFault, DiskFault, NotBlank}
+use Rattle.cct_bench.specs.declared.outcome.Status.TheVariants.{DiskSize}
+use Rattle.cct_bench.specs.declared.outcome.Status.TheVariants.{OutOfMemory, JournalLost}
+use Rattle.cct_bench.specs.declared.outcome.Status.TheVariants.{NotUpgraded}
 
 -- The exit status of the program, by how it ended.
 abbrev pub code_of : Status → ℕ

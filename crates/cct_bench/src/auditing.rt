@@ -15,8 +15,8 @@ use cct_monitor::Monitor;
 use cct_script::ScriptStop;
 use cct_text::TextLine;
 
-/// Audits a capture, as `bench` does for the word `audit`. Beside the status it gives the monitor, which tells how many taps were
-/// for each watched device.
+/// Audits a capture, as `bench` does for the word `audit`. Beside the status it gives the monitor,
+/// which says how many taps were for each watched device.
 pub fn audit_capture<S: Source, K: Sink>(script: &mut S, out: &mut K) -> (Status, Monitor)
     ensures audited { OfBytes (S.left script.old) (λ bytes. AuditRan bytes result.0 (Some result.1) (S.left script.new)
         (Rose (S.faults script.old) (S.faults script.new))

@@ -5,7 +5,8 @@ ghost use Rattle.cct_edge.specs.declared.fault.Failed.{Failed};
 ghost use Rattle.cct_edge.specs.Faults.{Rose};
 ghost use Rattle.cct_model.specs.Text.{line_of};
 ghost use Rattle.cct_text.specs.Writing.{Writes};
-ghost use Rattle.cct_bench.specs.Run.{ClosedBy, ending_at, last_entry, listed, status_by, status_of};
+ghost use Rattle.cct_bench.specs.Run.{ClosedBy, ending_at, last_entry, listed, status_by};
+ghost use Rattle.cct_bench.specs.Run.{status_of};
 
 use crate::outcome::Status;
 use cct_edge::Sink;
@@ -119,7 +120,8 @@ pub fn close<K: Sink>(out: &mut K, line: &mut TextLine, entry: &Entry, status: S
         × Writes K.written K.puts out.old (entry.now ∷ []) answer out.new × (result ≡ status_by answer status) }
     ensures one { (answer : Result (Unit {0}) Failed)
         × K.puts out.old (line_of entry.now) answer out.new × (result ≡ status_by answer status) }
-    ensures closed { ClosedBy result status (line_of entry.now) (K.written out.old) (K.written out.new) }
+    ensures closed { ClosedBy result status (line_of entry.now) (K.written out.old)
+        (K.written out.new) }
     ensures cause { result ≡ status ⊎ Rose (K.faults out.old) (K.faults out.new) }
     ensures sink { Serves K.written K.faults out.old out.new ⊥ }
 {

@@ -75,7 +75,8 @@ fn read_opening<S: Source>(
     }
 }
 
-/// Reads the setup of a script, and gives the number of the line after it; or tells how the run ends.
+/// Reads the setup of a script, and gives the number of the line after it; or says how the run
+/// ends.
 pub fn read_setup<S: Source>(
     lines: &mut Lines,
     setup: &mut Setup,

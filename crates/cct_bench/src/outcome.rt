@@ -15,21 +15,22 @@ pub enum Status {
     ReadFault,
     /// 4: writing the transcript failed. What was written is a front of it.
     WriteFault,
-    /// 5: a call of the disk failed, in a put or in a power cut: `diskfault`. Whether the record that was being put
-    /// stands on the disk is open.
+    /// 5: a call of the disk failed, in a put or in a power cut: `diskfault`. Whether the record
+    /// that was being put is on the disk is open.
     DiskFault,
-    /// 6: a byte of the disk isn't 0, which is told by the first such place: `notblank PLACE`.
+    /// 6: a byte of the disk isn't 0, which is reported by the first such place: `notblank PLACE`.
     NotBlank,
     /// 7: the disk has another length than 2,097,152 bytes: `disksize LENGTH`.
     DiskSize,
     /// 8: there was no memory for the run. Nothing was written.
     OutOfMemory,
-    /// 9: after a power cut the disk isn't the one that it was: it has no journal (`journal alien`), one with a
-    /// record that can't be read or doesn't follow those before it (`journal bad INDEX`), or other records than those
-    /// that were put (`journal lost FOUND PUT`).
+    /// 9: after a power cut the disk isn't the one that it was: it has no journal
+    /// (`journal alien`), one with a record that can't be read or doesn't follow those before it
+    /// (`journal bad INDEX`), or other records than those that were put (`journal lost FOUND PUT`).
     JournalLost,
-    /// 10: the journal wasn't brought forward, and nothing was written on it: it is one of today (`upgrade current`), it
-    /// leaves no half free (`upgrade room USED`), or an epoch runs (`upgrade epoch A`).
+    /// 10: the journal wasn't brought forward, and nothing was written on it: it is one of today
+    /// (`upgrade current`), it leaves no half free (`upgrade room USED`), or an epoch runs
+    /// (`upgrade epoch A`).
     NotUpgraded,
 }
 

@@ -1,5 +1,5 @@
-//! A run: the script is read a line at a time, and each step is played and its entries are written before the next line
-//! is read.
+//! A run: the script is read a line at a time, and each step is played and its entries are written
+//! before the next line is read.
 ghost use Rattle.std.specs.Prelude.{◌≡◌, ◌≢◌, ◌⊎◌, ℕ, ◌+◌, ◌≤◌, List, Option, Result, Ok, Err};
 ghost use Rattle.std.specs.Prelude.{IfOk, IfErr, MatchResult, OnOk};
 ghost use Rattle.cct_edge.specs.Bytes.{Serves};
@@ -47,7 +47,8 @@ use std::alloc::Global;
 /// How many bytes the disk of a journal has: those of a file that is made for it.
 pub const JOURNAL_BYTES: u64 = MADE_LEN;
 
-/// A new journal on a blank disk that has the length of one; or tells how the run ends, and gives the disk back.
+/// A new journal on a blank disk that has the length of one; or says how the run ends, and gives
+/// the disk back.
 pub fn opened<D: Disk>(disk: D) -> Result<Journal<D>, (Ending, D)>
     ensures ready { OnOk result (IsReady (D.size disk) (D.seen disk)) }
     ensures made { IfOk result IsNewJournal }
@@ -77,7 +78,7 @@ struct StepPlayer {
 }
 
 impl StepPlayer {
-    /// Plays a step, and writes its entries; or tells how the run ends, and gives the disk back.
+    /// Plays a step, and writes its entries; or says how the run ends, and gives the disk back.
     fn play<'s, K: Sink, D: Disk>(
         &mut self,
         step: &Step,
@@ -224,7 +225,8 @@ impl Bench {
         }
     }
 
-    /// Reads the setup of a script, builds its machine over a journal without records, and plays its steps.
+    /// Reads the setup of a script, builds its machine over a journal without records, and plays
+    /// its steps.
     fn play_script<S: Source, K: Sink, D: Disk>(
         &mut self,
         alloc: Global,
@@ -284,7 +286,8 @@ impl Bench {
         }
     }
 
-    /// Plays a script over a disk, which it gives back, and writes the last line of the run where its status has one.
+    /// Plays a script over a disk, which it gives back, and writes the last line of the run where
+    /// its status has one.
     pub fn run<S: Source, K: Sink, D: Disk>(
         &mut self,
         alloc: Global,

@@ -8,7 +8,8 @@ ghost use Rattle.cct_model.specs.lines.record.Record.{Record};
 ghost use Rattle.cct_disk.specs.Disk.{OnlyReads};
 ghost use Rattle.cct_journal.specs.Image.{HasFrom};
 ghost use Rattle.cct_text.specs.Writing.{Writes};
-ghost use Rattle.cct_bench.specs.Report.{IsDecided, IsOfReport, Reported, image_known, line_behind, records_known, reported_by};
+ghost use Rattle.cct_bench.specs.Report.{IsDecided, IsOfReport, Reported, image_known, line_behind};
+ghost use Rattle.cct_bench.specs.Report.{records_known, reported_by};
 ghost use Rattle.cct_bench.specs.Report.{size_known};
 ghost use Rattle.cct_bench.specs.Run.{status_by};
 
@@ -22,7 +23,8 @@ use cct_journal::OpenNo;
 use cct_model::Entry;
 use cct_text::TextLine;
 
-/// Lists the journal on a disk, which it gives back, and writes the last line where the status has one.
+/// Lists the journal on a disk, which it gives back, and writes the last line where the status has
+/// one.
 pub fn report<K: Sink, D: Disk>(out: &mut K, line: &mut TextLine, disk: D) -> (Status, D)
     // what was written, by what the image of the disk is, and by the records that it has
     ensures reported { (image : List ℕ) → D.seen disk ≡ Some image → Reported (image_known (D.size disk) (Rose (D.faults disk) (D.faults result.1)) image) result.0
@@ -32,7 +34,7 @@ pub fn report<K: Sink, D: Disk>(out: &mut K, line: &mut TextLine, disk: D) -> (S
         → Reported (records_known (D.size disk) (Rose (D.faults disk) (D.faults result.1)) base carry rest) result.0
         (λ lines answer. Writes K.written K.puts out.old lines answer out.new) }
 
-    // what was written, whether or not the disk tells its bytes
+    // what was written, whether or not the disk shows its bytes
     ensures lines { Reported (size_known (D.size disk) (Rose (D.faults disk) (D.faults result.1))) result.0
         (λ lines answer. Writes K.written K.puts out.old lines answer out.new) }
 
@@ -40,7 +42,8 @@ pub fn report<K: Sink, D: Disk>(out: &mut K, line: &mut TextLine, disk: D) -> (S
     ensures own { IsOfReport result.0 }
 
     // the disk and the sink
-    ensures reads { OnlyReads D.size D.honest D.seen D.may_leave D.moment D.left_since D.cuts disk result.1 }
+    ensures reads { OnlyReads D.size D.honest D.seen D.may_leave D.moment D.left_since D.cuts disk
+        result.1 }
     ensures disk_cause { Caused (D.faults disk) (D.faults result.1) (result.0 ≡ Status.DiskFault) }
     ensures sink { Serves K.written K.faults out.old out.new (result.0 ≡ Status.WriteFault) }
 

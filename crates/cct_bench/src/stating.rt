@@ -1,4 +1,5 @@
-//! A state: a setup is read where one is given, and what the journal on the disk knows now is told. The disk is only read.
+//! A state: a setup is read where one is given, and what the journal on the disk knows now is
+//! reported. The disk is only read.
 ghost use Rattle.std.specs.Prelude.{◌≡◌, ◌⊎◌, ℕ, List, Some, Result, IfSome, option_map};
 ghost use Rattle.cct_audit.specs.Writing.{WritesLines};
 ghost use Rattle.cct_edge.specs.Bytes.{Serves};
@@ -9,7 +10,8 @@ ghost use Rattle.cct_model.specs.Setup.{IsSoundSetup};
 ghost use Rattle.cct_script.specs.Source.{OfBytes};
 ghost use Rattle.cct_bench_state.specs.Known.{any_disk, of_image};
 ghost use Rattle.cct_text.specs.Writing.{Writes};
-ghost use Rattle.cct_bench.specs.State.{IsOfState, IsToldState, Stated, StopsBy, TellsBy, gives_none, line_behind_state, stated_by};
+ghost use Rattle.cct_bench.specs.State.{IsOfState, IsToldState, Stated, StopsBy, TellsBy};
+ghost use Rattle.cct_bench.specs.State.{gives_none, line_behind_state, stated_by};
 ghost use Rattle.cct_bench.specs.State.{told_disk};
 ghost use Rattle.cct_bench.specs.Run.{IsOfScript, status_by};
 
@@ -25,15 +27,16 @@ use cct_model::{Devices, Entry, LineKind, Setup};
 use cct_script::Lines;
 use cct_text::TextLine;
 
-/// Reads a setup, where one is given, and tells what the journal on a disk knows now; the disk is given back. No call of it
-/// but that for its length is made before the script's end. A script without a whole line gives no setup.
+/// Reads a setup, where one is given, and says what the journal on a disk knows now; the disk is
+/// given back. No call of it but that for its length is made before the script's end. A script
+/// without a whole line gives no setup.
 pub fn run_state<S: Source, K: Sink, D: Disk>(script: &mut S, out: &mut K, disk: D) -> (Status, D)
     // what was taken and written, by what the image of the disk is
     ensures stated { (image : List ℕ) → D.seen disk ≡ Some image → OfBytes (S.left script.old) (λ bytes.
         Stated (told_disk (D.size disk) (of_image image) (Rose (D.faults disk) (D.faults result.1)))
         (Rose (S.faults script.old) (S.faults script.new)) bytes result.0 (S.left script.new)
         (λ lines answer. WritesLines K.written K.puts out.old lines answer out.new)) }
-    // and whether or not the disk tells its bytes
+    // and whether or not the disk shows its bytes
     ensures lines { OfBytes (S.left script.old) (λ bytes.
         Stated (told_disk (D.size disk) any_disk (Rose (D.faults disk) (D.faults result.1)))
         (Rose (S.faults script.old) (S.faults script.new)) bytes result.0 (S.left script.new)
@@ -45,7 +48,8 @@ pub fn run_state<S: Source, K: Sink, D: Disk>(script: &mut S, out: &mut K, disk:
     // source, sink and disk
     ensures source { Serves S.left S.faults script.old script.new (result.0 ≡ Status.ReadFault) }
     ensures sink { Serves K.written K.faults out.old out.new (result.0 ≡ Status.WriteFault) }
-    ensures reads { OnlyReads D.size D.honest D.seen D.may_leave D.moment D.left_since D.cuts disk result.1 }
+    ensures reads { OnlyReads D.size D.honest D.seen D.may_leave D.moment D.left_since D.cuts disk
+        result.1 }
     ensures disk_cause { Caused (D.faults disk) (D.faults result.1) (result.0 ≡ Status.DiskFault) }
 {
     let len = disk.len();
@@ -63,7 +67,8 @@ pub fn run_state<S: Source, K: Sink, D: Disk>(script: &mut S, out: &mut K, disk:
     }
 }
 
-/// Tells what the journal on a disk knows now where a script ended before its first line did; else writes the last line.
+/// Says what the journal on a disk knows now where a script ended before its first line did; else
+/// writes the last line.
 fn tell_without<K: Sink, D: Disk>(
     how: &Ending,
     out: &mut K,
@@ -77,8 +82,10 @@ fn tell_without<K: Sink, D: Disk>(
         (λ lines answer. WritesLines K.written K.puts out.old lines answer out.new) }
     ensures own { IsOfScript how.now → IsOfState result.0 }
     ensures read { IsOfScript how.now → result.0 ≡ Status.ReadFault → how.now ≡ Ending.Unread }
-    ensures reads { OnlyReads D.size D.honest D.seen D.may_leave D.moment D.left_since D.cuts disk result.1 }
-    ensures disk_cause { IsOfScript how.now → Caused (D.faults disk) (D.faults result.1) (result.0 ≡ Status.DiskFault) }
+    ensures reads { OnlyReads D.size D.honest D.seen D.may_leave D.moment D.left_since D.cuts disk
+        result.1 }
+    ensures disk_cause { IsOfScript how.now →
+        Caused (D.faults disk) (D.faults result.1) (result.0 ≡ Status.DiskFault) }
     ensures sink { IsOfScript how.now
         → Serves K.written K.faults out.old out.new (result.0 ≡ Status.WriteFault) }
 {
@@ -102,7 +109,7 @@ fn gives_none(how: &Ending) -> bool
     }
 }
 
-/// Tells what the journal on a disk knows now, and writes the last line where the status has one.
+/// Says what the journal on a disk knows now, and writes the last line where the status has one.
 fn tell<K: Sink, D: Disk>(
     out: &mut K,
     line: &mut TextLine,
@@ -118,7 +125,8 @@ fn tell<K: Sink, D: Disk>(
         (option_map (λ s. s.now) setup.entry) result.0
         (λ lines answer. WritesLines K.written K.puts out.old lines answer out.new) }
     ensures own { IsToldState result.0 }
-    ensures reads { OnlyReads D.size D.honest D.seen D.may_leave D.moment D.left_since D.cuts disk result.1 }
+    ensures reads { OnlyReads D.size D.honest D.seen D.may_leave D.moment D.left_since D.cuts disk
+        result.1 }
     ensures disk_cause { Caused (D.faults disk) (D.faults result.1) (result.0 ≡ Status.DiskFault) }
     ensures sink { Serves K.written K.faults out.old out.new (result.0 ≡ Status.WriteFault) }
 {

@@ -9,7 +9,8 @@ ghost use Rattle.cct_model.specs.Setup.{IsSoundSetup};
 ghost use Rattle.cct_script.specs.Scripts.{GoesOnIn, IsClosedIn, IsNext, StopsIn, WithMoreTaken};
 ghost use Rattle.cct_bench.specs.Run.{IsOfScript};
 ghost use Rattle.cct_script.specs.Source.{OfBytes};
-ghost use Rattle.cct_bench.specs.UpgradeScript.{WasRead, WasStopped, behind_word, of_upgrade, upgrade_form};
+ghost use Rattle.cct_bench.specs.UpgradeScript.{WasRead, WasStopped, behind_word, of_upgrade};
+ghost use Rattle.cct_bench.specs.UpgradeScript.{upgrade_form};
 
 use crate::ending::{Ending, ending_at};
 use crate::opening::read_setup;
@@ -19,7 +20,8 @@ use cct_script::{Lines, ScriptStop, before_end, behind_end};
 
 const END: &[u8] = b"end";
 
-/// Takes one whole line that may be `end` alone: another word is refused as `Word`, and `end` in another form as `Form`.
+/// Takes one whole line that may be `end` alone: another word is refused as `Word`, and `end` in
+/// another form as `Form`.
 fn take_end_line(line: &[u8]) -> Result<(), LineKind>
     ensures { (setup : Setup) → MatchResult result
         (λ _. upgrade_form (at_steps setup) line.now ≡ opens (at_end setup))
@@ -31,7 +33,8 @@ fn take_end_line(line: &[u8]) -> Result<(), LineKind>
     }
 }
 
-/// Takes what stands in a line after the letters of `end`: nothing may, and what isn't parted from them makes another word.
+/// Takes what is in a line after the letters of `end`: nothing may, and what isn't parted from them
+/// makes another word.
 fn take_rest(rest: &[u8]) -> Result<(), LineKind>
     ensures { result ≡ behind_word rest.now }
 {
@@ -60,7 +63,7 @@ fn read_end<S: Source>(lines: &mut Lines, number: u32, script: &mut S) -> Result
     }
 }
 
-/// Reads what stands after the line `end` of an upgrade's script, which may be nothing.
+/// Reads what is after the line `end` of an upgrade's script, which may be nothing.
 fn read_nothing<S: Source>(lines: &mut Lines, script: &mut S) -> Result<(), ScriptStop>
     ensures closes { OnOk result ((number : ℕ) (setup : Setup) → WithMoreTaken (standing_of lines.old).held
         (S.left script.old) (S.left script.new) (IsClosedIn of_upgrade number (at_end setup) None (S.left script.new))) }
@@ -71,7 +74,7 @@ fn read_nothing<S: Source>(lines: &mut Lines, script: &mut S) -> Result<(), Scri
     behind_end(lines.line(script))
 }
 
-/// Reads the script of an upgrade up to its end, with its setup; or tells how the upgrade ends.
+/// Reads the script of an upgrade up to its end, with its setup; or says how the upgrade ends.
 pub fn read_upgrade<S: Source>(
     lines: &mut Lines,
     setup: &mut Setup,
@@ -79,7 +82,8 @@ pub fn read_upgrade<S: Source>(
 ) -> Result<(), Ending>
     requires lines { standing_of lines.old ≡ none_given }
     requires setup { setup.old ≡ no_devices }
-    ensures read { OnOk result (OfBytes (S.left script.old) (λ bytes. WasRead bytes (S.left script.new) setup.new)) }
+    ensures read { OnOk result (OfBytes (S.left script.old)
+        (λ bytes. WasRead bytes (S.left script.new) setup.new)) }
     ensures sound { OnOk result (IsSoundSetup setup.new) }
     ensures stopped { IfErr result (λ how.
         OfBytes (S.left script.old) (λ bytes. WasStopped bytes (S.left script.new) how)) }

@@ -1,4 +1,5 @@
-//! An upgrade: a script is read to its end, and then the journal of an earlier version on the disk is brought forward.
+//! An upgrade: a script is read to its end, and then the journal of an earlier version on the disk
+//! is brought forward.
 ghost use Rattle.std.specs.Prelude.{◌≡◌, ◌≢◌, ◌∷◌, [], ℕ, ◌≤◌, Err, Result, IfErr, IsOk};
 ghost use Rattle.cct_edge.specs.Bytes.{Serves};
 ghost use Rattle.cct_edge.specs.declared.fault.Failed.{Failed};
@@ -23,8 +24,9 @@ use cct_model::{Devices, Entry, Setup};
 use cct_script::Lines;
 use cct_text::TextLine;
 
-/// Reads the script of an upgrade, brings the journal on a disk forward for its devices, gives the disk back, and writes
-/// the one line that tells how that went. No call of the disk but that for its length is made before the script's end.
+/// Reads the script of an upgrade, brings the journal on a disk forward for its devices, gives the
+/// disk back, and writes the one line that says how that went. No call of the disk but that for its
+/// length is made before the script's end.
 pub fn run_upgrade<S: Source, K: Sink, D: Disk>(script: &mut S, out: &mut K, disk: D) -> (Status, D)
     ensures upgraded { OfBytes (S.left script.old) (λ bytes. Upgraded
         (old_disk D.size D.honest D.seen D.may_leave D.moment D.left_since D.cuts D.faults disk result.1)
@@ -56,7 +58,8 @@ pub fn run_upgrade<S: Source, K: Sink, D: Disk>(script: &mut S, out: &mut K, dis
     }
 }
 
-/// Brings the journal on a disk forward, gives the disk back, and writes the line that tells how that went.
+/// Brings the journal on a disk forward, gives the disk back, and writes the line that says how
+/// that went.
 fn forward_and_tell<K: Sink, D: Disk>(
     setup: &Setup,
     out: &mut K,
@@ -85,7 +88,8 @@ fn forward_and_tell<K: Sink, D: Disk>(
     (close(out, line, &entry, status), disk)
 }
 
-/// Brings the journal on a disk forward, and gives the disk back: how many records it has, or why it isn't brought forward.
+/// Brings the journal on a disk forward, and gives the disk back: how many records it has, or why
+/// it isn't brought forward.
 fn bring_forward<D: Disk>(setup: &Setup, disk: D) -> (Result<u32, UpgradeNo>, D)
     requires sound { IsSoundSetup setup.now }
     ensures answers { (old_disk D.size D.honest D.seen D.may_leave D.moment D.left_since D.cuts D.faults disk result.1).answers
@@ -105,7 +109,8 @@ fn bring_forward<D: Disk>(setup: &Setup, disk: D) -> (Result<u32, UpgradeNo>, D)
     }
 }
 
-/// The line that tells how many records a journal has that was brought forward, or why it wasn't, and the status.
+/// The line that says how many records a journal has that was brought forward, or why it wasn't,
+/// and the status.
 fn told_by(answer: &Result<u32, UpgradeNo>) -> (Entry, Status)
     ensures entry { result.0 ≡ told_entry answer.now }
     ensures status { result.1 ≡ told_status answer.now }

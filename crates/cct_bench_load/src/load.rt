@@ -1,5 +1,6 @@
 //! A load is played, line by line, and what its transcript sums up to is written.
-ghost use Rattle.std.specs.Prelude.{◌≡◌, ◌≢◌, ◌≤◌, ◌+◌, ◌*◌, List, [], ◌∷◌, ◌++◌, IfErr, IfOk, IsErr, MatchResult};
+ghost use Rattle.std.specs.Prelude.{◌≡◌, ◌≢◌, ◌≤◌, ◌+◌, ◌*◌, List, [], ◌∷◌, ◌++◌, IfErr, IfOk};
+ghost use Rattle.std.specs.Prelude.{IsErr, MatchResult};
 ghost use Rattle.cct_edge.specs.Bytes.{Serves};
 ghost use Rattle.cct_model.specs.lines.command.Step.{Step};
 ghost use Rattle.cct_model.specs.lines.entry.Entry.{Entry};
@@ -10,7 +11,8 @@ ghost use Rattle.cct_world.specs.Serving.{DiskServes};
 ghost use Rattle.cct_world.specs.World.{StandsFor, desk_of, disk_of, setup_of};
 ghost use Rattle.cct_gen.specs.Load.{load_setup};
 ghost use Rattle.cct_bench_load.specs.Sums.{SumsUp, sums_of};
-ghost use Rattle.cct_bench_load.specs.Played.{Became, LosesJournal, PlayedLines, PlaysLoad, StoppedWithin, end_of, first_line};
+ghost use Rattle.cct_bench_load.specs.Played.{Became, LosesJournal, PlayedLines, PlaysLoad};
+ghost use Rattle.cct_bench_load.specs.Played.{StoppedWithin, end_of, first_line};
 
 use crate::sums::LoadSums;
 use arrayvec::ArrayVec;
@@ -42,7 +44,8 @@ pub struct Load {
 pub enum LoadEnd {
     /// All steps were played, and all was written.
     Done,
-    /// Writing failed: in the first line, before any step was played, or in those after the last step.
+    /// Writing failed: in the first line, before any step was played, or in those after the last
+    /// step.
     Unwritten,
     /// A step wasn't played. Just the first line was written.
     Unplayed(WorldNo),
@@ -56,8 +59,8 @@ struct LoadDesk {
 }
 
 impl LoadDesk {
-    /// Plays the lines of a load on a world on which nothing has happened; or gives the disk back, and tells why a step
-    /// wasn't played.
+    /// Plays the lines of a load on a world on which nothing has happened; or gives the disk back,
+    /// and says why a step wasn't played.
     fn play_lines<'s, D: Disk>(
         &mut self,
         load: Load,
@@ -71,7 +74,8 @@ impl LoadDesk {
         ensures played { IfOk result (λ next. (setup_of next ≡ load_setup)
             × PlayedLines world.entry load.seed (6 + 20 * load.rounds) (desk_of next)
             (Became world.entry next self.new.sums load.seed (6 + 20 * load.rounds))) }
-        ensures stopped { IfErr result (λ e. StoppedWithin world.entry load.seed (6 + 20 * load.rounds) e.0 e.1) }
+        ensures stopped { IfErr result (λ e. StoppedWithin world.entry load.seed
+            (6 + 20 * load.rounds) e.0 e.1) }
         ensures disk { MatchResult result
             (λ next. DiskServes D.size D.honest D.seen D.cuts D.faults (disk_of world.entry) (disk_of next) ⊥ ⊥)
             (λ e. DiskServes D.size D.honest D.seen D.cuts D.faults (disk_of world.entry) e.0 (e.1 ≡ WorldNo.Disk)
@@ -90,9 +94,10 @@ impl LoadDesk {
     }
 }
 
-/// Plays a load on a world on which nothing has happened, and gives its disk back. The line of the load is written
-/// before its first step, and after the last one those of the sums over the transcript and that of what the operator
-/// has; no entry of a step is. Each line is written by one put. The line buffer is used for it, whatever it holds.
+/// Plays a load on a world on which nothing has happened, and gives its disk back. The line of the
+/// load is written before its first step, and after the last one those of the sums over the
+/// transcript and that of what the operator has; no entry of a step is. Each line is written by one
+/// put. The line buffer is used for it, whatever it holds.
 pub fn play_load<K: Sink, D: Disk>(
     load: Load,
     world: World<'_, D>,

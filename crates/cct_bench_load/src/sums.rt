@@ -1,5 +1,6 @@
 //! What a load's transcript sums up to.
-ghost use Rattle.std.specs.Prelude.{◌≡◌, ◌+◌, ◌*◌, ◌^◌, ◌<◌, ◌≤◌, List, [], ◌∷◌, ◌++◌, length, reverse};
+ghost use Rattle.std.specs.Prelude.{◌≡◌, ◌+◌, ◌*◌, ◌^◌, ◌<◌, ◌≤◌, List, [], ◌∷◌, ◌++◌, length};
+ghost use Rattle.std.specs.Prelude.{reverse};
 ghost use Rattle.cct_model.specs.lines.command.Step.{Step};
 ghost use Rattle.cct_model.specs.lines.entry.Entry.{Entry};
 ghost use Rattle.cct_model.specs.lines.entry.Entry.TheVariants.{Sum};
@@ -7,10 +8,11 @@ ghost use Rattle.cct_model.specs.lines.entry.Entry.TheVariants.{Sum};
 use arrayvec::ArrayVec;
 use cct_model::{Entry, Record, SumOf};
 
-/// Sums over a transcript: steps, coins accepted, coins posted, coins lost, coins that fell, and orders closed.
+/// Sums over a transcript: steps, coins accepted, coins posted, coins lost, coins that fell, and
+/// orders closed.
 ///
-/// A step has eight entries at most, and an entry adds fewer than 2^33 to all sums together, so the number of the
-/// steps bounds each of them.
+/// A step has eight entries at most, and an entry adds fewer than 2^33 to all sums together, so the
+/// number of the steps bounds each of them.
 #[derive(Clone, Copy, Debug)]
 pub struct LoadSums {
     steps: u64,
@@ -40,7 +42,8 @@ impl LoadSums {
         }
     }
 
-    /// One step more, with these entries, the oldest first. Fewer than 2^24 steps may have been added before.
+    /// One step more, with these entries, the oldest first. Fewer than 2^24 steps may have been
+    /// added before.
     pub fn add_step(&mut self, report: &[Entry])
         requires steps { self.old.steps < 2 ^ 24 }
         requires entries { length report.now ≤ 8 }
@@ -57,7 +60,8 @@ impl LoadSums {
     fn add(&mut self, entry: &Entry)
         requires few { together self.old + 2 ^ 33 ≤ 2 ^ 36 * self.old.steps }
         requires steps { self.old.steps ≤ 2 ^ 24 }
-        ensures counts { (past : List Entry) → Counts self.old past → Counts self.new (entry.now ∷ past) }
+        ensures counts { (past : List Entry) → Counts self.old past →
+            Counts self.new (entry.now ∷ past) }
         ensures steps { self.new.steps ≡ self.old.steps }
         ensures few { together self.new ≤ together self.old + 2 ^ 33 }
     {

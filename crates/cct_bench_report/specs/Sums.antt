@@ -2,7 +2,8 @@
 use Rattle.std.specs.Prelude.{ℕ, ◌+◌, ◌*◌, ◌^◌, ◌≤◌, List, [], ◌∷◌}
 use Rattle.cct_model_lines.specs.declared.carry.Carry.{Carry}
 use Rattle.cct_model_lines.specs.declared.record.Record.{Record}
-use Rattle.cct_model_lines.specs.Sums.{coins_posted, coins_lost, coins_paid, coins_unpaid, price_sold}
+use Rattle.cct_model_lines.specs.Sums.{coins_posted, coins_lost, coins_paid, coins_unpaid}
+use Rattle.cct_model_lines.specs.Sums.{price_sold}
 use Rattle.cct_bench_report.specs.declared.sums.Sums.{Sums}
 
 -- Sums with one record more.

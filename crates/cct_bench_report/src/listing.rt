@@ -25,35 +25,41 @@ pub enum ReportEnd {
     Done,
     /// Writing failed. What was written is a front of the listing.
     Unwritten,
-    /// The journal wasn't read to its end: the disk has none, the body of the record of this index spells none, or a call
-    /// of the disk failed. What was written are the lines of the first records that the journal keeps one by one, or none.
+    /// The journal wasn't read to its end: the disk has none, the body of the record of this index
+    /// spells none, or a call of the disk failed. What was written are the lines of the first
+    /// records that the journal keeps one by one, or none.
     Unread(OpenNo),
 }
 
-/// Lists the journal on a disk, which is only read: a line for each record that it keeps one by one, numbered from how
-/// many stood before them, and then the line of the sums over these and those, each by one put. The disk is given back.
+/// Lists the journal on a disk, which is only read: a line for each record that it keeps one by
+/// one, numbered from how many stood before them, and then the line of the sums over these and
+/// those, each by one put. The disk is given back.
 ///
-/// [`OpenNo::Alien`] comes where the disk has fewer than 2,368 bytes, no half of it is open, or the current one begins with
-/// no header and carry, and [`OpenNo::BadRecord`] at the first body after an open gate of it that spells no record, where no
-/// shut gate stands before it. Then nothing is written, unless a later read of the disk gives other bytes than an earlier
-/// one.
+/// [`OpenNo::Alien`] comes where the disk has fewer than 2,368 bytes, no half of it is open, or the
+/// current one begins with no header and carry, and [`OpenNo::BadRecord`] at the first body after
+/// an open gate of it that spells no record, where no shut gate is before it. Then nothing is
+/// written, unless a later read of the disk gives other bytes than an earlier one.
 pub fn list_journal<K: Sink, D: Disk>(out: &mut K, line: &mut TextLine, disk: D) -> (ReportEnd, D)
     // what the image of the disk has, and what was written of it
-    ensures found { (image : List ℕ) → D.seen disk ≡ Some image → Finds result.0 image (out.new ≡ out.old) }
-    // Each line by one put. If a put fails, a front of the listing is written, and if the disk fails, whole lines of
-    // the first records.
+    ensures found { (image : List ℕ) → D.seen disk ≡ Some image →
+        Finds result.0 image (out.new ≡ out.old) }
+    // Each line by one put. If a put fails, a front of the listing is written, and if the disk
+    // fails, whole lines of the first records.
     ensures every { (image : List ℕ) (base : ℕ) (carry : Carry) (rest : List Record) → D.seen disk ≡ Some image
         → HasFrom image base carry rest
         → Lists result.0 base carry rest (λ entries answer. Writes K.written K.puts out.old entries answer out.new) }
 
-    // what was written, whether or not the disk tells its bytes:
-    // Of a disk that tells no bytes the lines are the listing of some records, or of the first of some.
-    ensures lines { ListsSome result.0 (λ entries answer. Writes K.written K.puts out.old entries answer out.new) }
+    // what was written, whether or not the disk shows its bytes: Of a disk that shows no bytes the
+    // lines are the listing of some records, or of the first of some.
+    ensures lines { ListsSome result.0 (λ entries answer. Writes K.written K.puts out.old entries
+        answer out.new) }
     ensures short { D.size disk < least_size → result.0 ≡ ReportEnd.Unread OpenNo.Alien }
 
-    // the disk and the sink; each end that isn't told by the image has its cause
-    ensures reads { OnlyReads D.size D.honest D.seen D.may_leave D.moment D.left_since D.cuts disk result.1 }
-    ensures disk_cause { Caused (D.faults disk) (D.faults result.1) (result.0 ≡ ReportEnd.Unread OpenNo.Disk) }
+    // the disk and the sink; each end that isn't reported by the image has its cause
+    ensures reads { OnlyReads D.size D.honest D.seen D.may_leave D.moment D.left_since D.cuts disk
+        result.1 }
+    ensures disk_cause { Caused (D.faults disk) (D.faults result.1)
+        (result.0 ≡ ReportEnd.Unread OpenNo.Disk) }
     ensures sink { Serves K.written K.faults out.old out.new (result.0 ≡ ReportEnd.Unwritten) }
 
     // With no fault the image alone decides.
@@ -75,7 +81,8 @@ fn list_records<K: Sink, D: Disk>(
     line: &mut TextLine,
     journal: &mut Journal<D>,
 ) -> ReportEnd
-    ensures lines { ListsSome result (λ entries answer. Writes K.written K.puts out.old entries answer out.new) }
+    ensures lines { ListsSome result (λ entries answer. Writes K.written K.puts out.old entries
+        answer out.new) }
     ensures every { (rest : List Record) → journals.JournalReadsFrom journal.old rest
         → Lists result (journals.base_of journal.old) (journals.carry_before journal.old) rest
         (λ entries answer. Writes K.written K.puts out.old entries answer out.new) }

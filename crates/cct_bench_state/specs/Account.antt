@@ -1,5 +1,7 @@
--- What the records of a journal tell of each address: what the carry of the earlier ones tells, and what the others did there.
-use Rattle.std.specs.Prelude.{ℕ, ◌+◌, ◌*◌, ◌^◌, ◌≤◌, ◌==◌, Bool, false, List, [], ◌∷◌, map, Option, Some, None}
+-- What the records of a journal tell of each address: what the carry of the earlier ones tells, and
+-- what the others did there.
+use Rattle.std.specs.Prelude.{ℕ, ◌+◌, ◌*◌, ◌^◌, ◌≤◌, ◌==◌, Bool, false, List, [], ◌∷◌, map, Option}
+use Rattle.std.specs.Prelude.{Some, None}
 use Rattle.std.specs.Prelude.{slice_index_or, slice_set}
 use Rattle.std.specs.List.{position}
 use Rattle.cct_model.specs.Carried.{empty_carry}
@@ -17,7 +19,15 @@ use Rattle.cct_bench_state.specs.declared.account.Account.{Account}
 -- What a carry tells of an address. No coin came there since.
 abbrev pub account_in : Carry → ℕ → Account
 account_in c addr =
-    record { addr = addr; epoch = epoch_held addr c; order = order_held addr c; posted = 0; lost = 0; paid = 0 }
+    record {
+      addr = addr;
+      epoch = epoch_held addr c;
+      order = order_held addr c;
+      posted = 0;
+      lost =
+          0;
+      paid = 0;
+    }
 
 -- What is told of an address with one record more of it.
 abbrev pub account_with : Record → Account → Account
@@ -39,8 +49,8 @@ is_order id (Some o) = o.id == id
 abbrev pub has_order : ℕ → Account → Bool
 has_order id a = is_order id a.order
 
--- The place among all addresses that a record belongs to: that of its own address, or that where the order is open which it
--- closes, or none.
+-- The place among all addresses that a record belongs to: that of its own address, or that where
+-- the order is open which it closes, or none.
 abbrev pub place_of : List Account → Record → Option ℕ
 place_of accounts r = place_by (effect r).owned
   where
@@ -50,17 +60,20 @@ place_of accounts r = place_by (effect r).owned
 
 -- What is told of the address at a place, with one record more of it.
 abbrev pub account_at : Record → List Account → ℕ → Account
-account_at r accounts place = account_with r (slice_index_or accounts place (account_in empty_carry 0))
+account_at r accounts place =
+    account_with r (slice_index_or accounts place (account_in empty_carry 0))
 
 -- What is told of all addresses with one record more of a place, or of none.
 abbrev pub changed : Record → List Account → Option ℕ → List Account
 changed r accounts None = accounts
 changed r accounts (Some place) = slice_set accounts place (account_at r accounts place)
 
--- What is told of all addresses, in rising order, by a carry and the records after it, newest first.
+-- What is told of all addresses, in rising order, by a carry and the records after it, newest
+-- first.
 abbrev pub accounts_after : Carry → List Record → List Account
 accounts_after c [] = map (account_in c) all_addresses
-accounts_after c (r ∷ before) = changed r (accounts_after c before) (place_of (accounts_after c before) r)
+accounts_after c (r ∷ before) =
+    changed r (accounts_after c before) (place_of (accounts_after c before) r)
 
 -- No sum of an address is above 2 ^ 32 times so many records.
 pub record IsWithin (many : ℕ) (a : Account) : Type 0 where

@@ -1,5 +1,7 @@
--- What the records of a journal tell: the carry of the earlier ones, and the others after it, newest first.
-use Rattle.std.specs.Prelude.{◌≡◌, ℕ, ◌&&◌, max, Bool, true, List, [], ◌∷◌, ◌++◌, flat_map, Option, Some, None, ⊤}
+-- What the records of a journal tell: the carry of the earlier ones, and the others after it,
+-- newest first.
+use Rattle.std.specs.Prelude.{◌≡◌, ℕ, ◌&&◌, max, Bool, true, List, [], ◌∷◌, ◌++◌, flat_map, Option}
+use Rattle.std.specs.Prelude.{Some, None, ⊤}
 use Rattle.cct_journal_carry.specs.Tally.{carry_in, setup_of}
 use Rattle.cct_journal_carry.specs.declared.tally.Tally.{Tally}
 use Rattle.cct_model.specs.Carry.{Fits, available_held, carry_with, follows_carry, reserved_held}
@@ -35,7 +37,8 @@ carry_after setup c (r ∷ before) = carry_with setup r (carry_after setup c bef
 -- Each record follows those before it.
 abbrev pub follow_after : Setup → Carry → List Record → Bool
 follow_after setup c [] = true
-follow_after setup c (r ∷ before) = follows_carry setup (carry_after setup c before) r && follow_after setup c before
+follow_after setup c (r ∷ before) =
+    follows_carry setup (carry_after setup c before) r && follow_after setup c before
 
 -- The records are those of a machine with this setup, where one is given.
 abbrev pub SuitsSetup : Option Setup → Carry → List Record → Type 0
@@ -54,27 +57,33 @@ money_in setup c = record {
 -- The line of the money, where a setup is given.
 abbrev pub money_lines : Option Setup → Carry → List Record → List (List ℕ)
 money_lines None c before = []
-money_lines (Some setup) c before = line_of (entry.Balance (money_in setup (carry_after setup c before))) ∷ []
+money_lines (Some setup) c before =
+    line_of (entry.Balance (money_in setup (carry_after setup c before))) ∷ []
 
--- The lines of a state: those of each address, in rising order, the last id, the sums, and the money.
+-- The lines of a state: those of each address, in rising order, the last id, the sums, and the
+-- money.
 abbrev pub state_lines : Option Setup → Carry → List Record → List (List ℕ)
 state_lines setup c before =
     flat_map account_lines (accounts_after c before)
-    ++ last_line (last_after c before) ∷ line_of (total_in (sums_after c before)) ∷ money_lines setup c before
+    ++ last_line (last_after c before) ∷ line_of (total_in (sums_after c before))
+    ∷ money_lines setup c before
 
 -- A tally, where a setup is given, went over the records, and each of them follows.
 abbrev pub Tallies : Option Setup → Carry → List Record → Option Tally → Type 0
 Tallies None c before tally = tally ≡ None
 Tallies (Some setup) c before None = ⊥
 Tallies (Some setup) c before (Some tally) =
-    (setup_of tally ≡ setup) × (carry_in tally ≡ carry_after setup c before) × SuitsSetup (Some setup) c before
+    (setup_of tally ≡ setup) × (carry_in tally ≡ carry_after setup c before)
+    × SuitsSetup (Some setup) c before
 
--- Books were kept over these records after those of a carry, which suit the setup, where one is given.
-pub record Keeps (setup : Option Setup) (c : Carry) (before : List Record) (books : Books) : Type 0 where
-  pub accounts : books.accounts.items ≡ accounts_after c before
-  pub last : books.last_id ≡ last_after c before
-  pub sums : books.sums ≡ sums_after c before
-  pub tallies : Tallies setup c before books.tally
+-- Books were kept over these records after those of a carry, which suit the setup, where one is
+-- given.
+pub record Keeps (setup : Option Setup) (c : Carry) (before : List Record) (books : Books) : Type 0
+  where
+    pub accounts : books.accounts.items ≡ accounts_after c before
+    pub last : books.last_id ≡ last_after c before
+    pub sums : books.sums ≡ sums_after c before
+    pub tallies : Tallies setup c before books.tally
 
 -- The line of the money that a tally tells, where there is one.
 abbrev pub tally_lines : Option Tally → List (List ℕ)

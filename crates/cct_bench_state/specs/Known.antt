@@ -1,4 +1,4 @@
--- What is known of a disk whose state is told.
+-- What is known of a disk whose state is reported.
 use Rattle.std.specs.Prelude.{ℕ, List}
 use Rattle.cct_journal.specs.Image.{HasFrom, IsAlien, IsBadAt}
 use Rattle.cct_bench_state.specs.Telling.{Known}

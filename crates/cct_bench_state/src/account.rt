@@ -7,8 +7,8 @@ ghost use Rattle.cct_bench_state.specs.Account.{IsWithin, account_in, account_wi
 use cct_journal_carry::{epoch_by, epoch_held, order_held};
 use cct_model::{Carry, EpochState, OpenOrder, Record};
 
-/// The epoch and the open order at an address, and how many coins were posted, told to be lost, and paid there since the
-/// journal last turned.
+/// The epoch and the open order at an address, and how many coins were posted, told to be lost, and
+/// paid there since the journal last turned.
 #[derive(Clone, Copy, Debug, PartialEq, Eq)]
 pub(crate) struct Account {
     pub(crate) addr: u8,

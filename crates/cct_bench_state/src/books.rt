@@ -1,5 +1,6 @@
 //! The books that are kept over the records of a journal.
-ghost use Rattle.std.specs.Prelude.{◌≡◌, ◌+◌, ◌-◌, ◌^◌, ℕ, [], IfOk, IfSome, OnErr, OnOk, option_map};
+ghost use Rattle.std.specs.Prelude.{◌≡◌, ◌+◌, ◌-◌, ◌^◌, ℕ, [], IfOk, IfSome, OnErr, OnOk};
+ghost use Rattle.std.specs.Prelude.{option_map};
 ghost use Rattle.cct_model.specs.Carried.{IsRightly};
 ghost use Rattle.cct_model.specs.Setup.{IsSoundSetup};
 ghost use Rattle.cct_record.specs.Body.{Encodable};
@@ -12,8 +13,8 @@ use cct_bench_report::Sums;
 use cct_journal_carry::{Tally, id_of};
 use cct_model::{Carry, Record, Setup};
 
-/// What the records tell so far: of each address, the greatest id, the sums over all, and, where a setup is given, what they
-/// are worth.
+/// What the records tell so far: of each address, the greatest id, the sums over all, and, where a
+/// setup is given, what they are worth.
 #[derive(Debug, Drop)]
 pub(crate) struct Books<'s> {
     pub(crate) accounts: ArrayVec<Account, ADDRESSES>,
@@ -32,7 +33,8 @@ impl<'s> Books<'s> {
         requires rightly { IsRightly many carry.now }
         ensures keeps { IfOk result (Keeps (option_map (λ s. s.now) setup.entry) carry.now []) }
         ensures ready { IfOk result (AreReady many) }
-        ensures refused { OnErr result (SuitsSetup (option_map (λ s. s.now) setup.entry) carry.now [] → ⊥) }
+        ensures refused { OnErr result (SuitsSetup (option_map (λ s. s.now) setup.entry) carry.now
+            [] → ⊥) }
     {
         let tally = begin(setup, many, carry)?;
         Ok(Books {
@@ -43,12 +45,14 @@ impl<'s> Books<'s> {
         })
     }
 
-    /// One record more, by which no sum grows by more than 2^32. One that doesn't follow is counted alone.
+    /// One record more, by which no sum grows by more than 2^32. One that doesn't follow is counted
+    /// alone.
     pub(crate) fn add(&mut self, entry: &Record) -> Result<(), Misfit>
         requires ready { AreReady (2 ^ 32 - 2) self.old }
         requires encodable { Encodable entry.now }
         ensures keeps { OnOk result (GoesOn entry.now self.old self.new) }
-        ensures ready { OnOk result ((many : ℕ) → AreReady many self.old → AreReady (many + 1) self.new) }
+        ensures ready { OnOk result ((many : ℕ) → AreReady many self.old →
+            AreReady (many + 1) self.new) }
         ensures refused { OnErr result (FollowsNot entry.now self.old) }
     {
         go_over(&mut self.tally, entry)?;

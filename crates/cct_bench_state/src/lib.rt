@@ -1,5 +1,5 @@
-//! What a journal knows now: the running epochs, the open orders, what the records since the last turn did at each address,
-//! the last id, the sums over all records, and by a setup the money.
+//! What a journal knows now: the running epochs, the open orders, what the records since the last
+//! turn did at each address, the last id, the sums over all records, and by a setup the money.
 #![tactic(auto)]
 
 mod account;

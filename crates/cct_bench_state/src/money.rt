@@ -1,5 +1,6 @@
-//! What the operator has, where a setup tells what coins are worth.
-ghost use Rattle.std.specs.Prelude.{◌≡◌, ◌+◌, ◌-◌, ◌^◌, ◌<◌, ◌≤◌, ◌∷◌, [], ℕ, List, Option, IfOk, IfSome, OnErr, OnOk, is_ok, option_map};
+//! What the operator has, where a setup says what coins are worth.
+ghost use Rattle.std.specs.Prelude.{◌≡◌, ◌+◌, ◌-◌, ◌^◌, ◌<◌, ◌≤◌, ◌∷◌, [], ℕ, List, Option, IfOk};
+ghost use Rattle.std.specs.Prelude.{IfSome, OnErr, OnOk, is_ok, option_map};
 ghost use Rattle.cct_journal_carry.specs.GoingOn.{IsCovered};
 ghost use Rattle.cct_journal_carry.specs.Tally as tallies;
 ghost use Rattle.cct_model.specs.Carried.{IsRightly};
@@ -27,7 +28,8 @@ pub(crate) fn begin<'s>(
     requires rightly { IsRightly many carry.now }
     ensures begins { IfOk result (Tallies (option_map (λ s. s.now) setup.entry) carry.now []) }
     ensures counted { IfOk result (λ tally. IfSome tally (λ t. tallies.many_of t ≤ many)) }
-    ensures refused { OnErr result (SuitsSetup (option_map (λ s. s.now) setup.entry) carry.now [] → ⊥) }
+    ensures refused { OnErr result (SuitsSetup (option_map (λ s. s.now) setup.entry) carry.now [] →
+        ⊥) }
 {
     let Some(setup) = setup else {
         return Ok(None);
@@ -61,7 +63,8 @@ fn follow(tally: &mut Tally<'_>, entry: &Record) -> Result<(), Misfit>
     requires encodable { Encodable entry.now }
     ensures setup { tallies.setup_of tally.new ≡ tallies.setup_of tally.old }
     ensures counted { tallies.many_of tally.new ≡ tallies.many_of tally.old + 1 }
-    ensures follows { is_ok result ≡ follows_carry (tallies.setup_of tally.old) (tallies.carry_in tally.old) entry.now }
+    ensures follows { is_ok result ≡ follows_carry (tallies.setup_of tally.old)
+        (tallies.carry_in tally.old) entry.now }
     ensures next { OnOk result (tallies.carry_in tally.new
         ≡ carry_with (tallies.setup_of tally.old) entry.now (tallies.carry_in tally.old)) }
 {

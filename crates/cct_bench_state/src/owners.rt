@@ -1,5 +1,6 @@
 //! All accounts, and whose a record is.
-ghost use Rattle.std.specs.Prelude.{◌≡◌, ◌+◌, ◌-◌, ◌<◌, ◌^◌, ℕ, All, IfSome, length, map, slice_index_or, slice_set};
+ghost use Rattle.std.specs.Prelude.{◌≡◌, ◌+◌, ◌-◌, ◌<◌, ◌^◌, ℕ, All, IfSome, length, map};
+ghost use Rattle.std.specs.Prelude.{slice_index_or, slice_set};
 ghost use Rattle.std.specs.List.{position};
 ghost use Rattle.cct_model.specs.DeviceSet.{all_addresses};
 ghost use Rattle.cct_bench_state.specs.declared.account.Account.{Account};
@@ -46,7 +47,7 @@ fn account_at(accounts: &ArrayVec<Account, ADDRESSES>, place: usize) -> Account
     accounts[place]
 }
 
-/// Puts an account in the place of what stands there.
+/// Puts an account in the place of what is there.
 fn put_account(accounts: &mut ArrayVec<Account, ADDRESSES>, place: usize, account: Account)
     requires { place < length accounts.old.items }
     ensures { accounts.new.items ≡ slice_set accounts.old.items place account }

@@ -1,5 +1,6 @@
 //! What a journal knows is read off it, and written.
-ghost use Rattle.std.specs.Prelude.{◌≡◌, ◌+◌, ◌≤◌, ◌<◌, ℕ, List, Err, IfErr, IfOk, IfSome, OnOk, Some, option_map};
+ghost use Rattle.std.specs.Prelude.{◌≡◌, ◌+◌, ◌≤◌, ◌<◌, ℕ, List, Err, IfErr, IfOk, IfSome, OnOk};
+ghost use Rattle.std.specs.Prelude.{Some, option_map};
 ghost use Rattle.cct_audit.specs.Writing.{WritesLines};
 ghost use Rattle.cct_disk.specs.Disk.{OnlyReads};
 ghost use Rattle.cct_edge.specs.Bytes.{Serves};
@@ -8,7 +9,8 @@ ghost use Rattle.cct_journal.specs.Journal as journals;
 ghost use Rattle.cct_model.specs.Setup.{IsSoundSetup};
 ghost use Rattle.cct_model.specs.lines.record.Record.{Record};
 ghost use Rattle.cct_bench_state.specs.Known.{any_disk, of_image};
-ghost use Rattle.cct_bench_state.specs.Reading.{AreReady, IsGathered, ReadsOne, RefusesRead, TellsRead};
+ghost use Rattle.cct_bench_state.specs.Reading.{AreReady, IsGathered, ReadsOne, RefusesRead};
+ghost use Rattle.cct_bench_state.specs.Reading.{TellsRead};
 ghost use Rattle.cct_bench_state.specs.Telling.{Tells};
 
 use crate::books::Books;
@@ -27,13 +29,14 @@ pub enum StateEnd {
     Done,
     /// Writing failed. What was written is a front of the state.
     Unwritten,
-    /// Nothing was written: the disk has no journal, a call of it failed, or the record of this index spells none or, by the
-    /// setup, doesn't follow. Where the carry doesn't fit the setup, that is the first index after it.
+    /// Nothing was written: the disk has no journal, a call of it failed, or the record of this
+    /// index spells none or, by the setup, doesn't follow. Where the carry doesn't fit the setup,
+    /// that is the first index after it.
     Unread(OpenNo),
 }
 
-/// Tells what the journal on a disk knows now, a line by each put; the disk is only read, and given back. By a setup the
-/// money is told too, and a journal that another machine wrote is refused.
+/// Says what the journal on a disk knows now, a line by each put; the disk is only read, and given
+/// back. By a setup the money is told too, and a journal that another machine wrote is refused.
 ///
 /// Nothing is written before the last record is read.
 pub fn tell_state<K: Sink, D: Disk>(
@@ -47,13 +50,15 @@ pub fn tell_state<K: Sink, D: Disk>(
     ensures told { (image : List ℕ) → D.seen disk ≡ Some image
         → Tells (of_image image) (option_map (λ s. s.now) setup.entry) result.0
         (λ lines answer. WritesLines K.written K.puts out.old lines answer out.new) }
-    // Of a disk that tells no bytes the lines are the state of some records.
+    // Of a disk that shows no bytes the lines are the state of some records.
     ensures lines { Tells any_disk (option_map (λ s. s.now) setup.entry) result.0
         (λ lines answer. WritesLines K.written K.puts out.old lines answer out.new) }
 
-    // the disk and the sink; each end that isn't told by the image has its cause
-    ensures reads { OnlyReads D.size D.honest D.seen D.may_leave D.moment D.left_since D.cuts disk result.1 }
-    ensures disk_cause { Caused (D.faults disk) (D.faults result.1) (result.0 ≡ StateEnd.Unread OpenNo.Disk) }
+    // the disk and the sink; each end that isn't reported by the image has its cause
+    ensures reads { OnlyReads D.size D.honest D.seen D.may_leave D.moment D.left_since D.cuts disk
+        result.1 }
+    ensures disk_cause { Caused (D.faults disk) (D.faults result.1)
+        (result.0 ≡ StateEnd.Unread OpenNo.Disk) }
     ensures sink { Serves K.written K.faults out.old out.new (result.0 ≡ StateEnd.Unwritten) }
 {
     match Journal::reopen(disk) {
@@ -65,7 +70,7 @@ pub fn tell_state<K: Sink, D: Disk>(
     }
 }
 
-/// Tells what a journal knows.
+/// Says what a journal knows.
 fn tell_journal<K: Sink, D: Disk>(
     out: &mut K,
     line: &mut TextLine,

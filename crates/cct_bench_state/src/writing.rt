@@ -6,7 +6,8 @@ ghost use Rattle.cct_edge.specs.Bytes.{Serves};
 ghost use Rattle.cct_model.specs.Text.{line_of};
 ghost use Rattle.cct_bench_report.specs.Listing.{total_in};
 ghost use Rattle.cct_bench_state.specs.Books.{tally_lines};
-ghost use Rattle.cct_bench_state.specs.Lines.{account_lines, epoch_lines, is_still, last_line, open_lines, since_lines};
+ghost use Rattle.cct_bench_state.specs.Lines.{account_lines, epoch_lines, is_still, last_line};
+ghost use Rattle.cct_bench_state.specs.Lines.{open_lines, since_lines};
 
 use crate::account::Account;
 use crate::books::Books;
@@ -40,7 +41,8 @@ fn write_accounts<K: Sink>(
     line: &mut TextLine,
     accounts: &[Account],
 ) -> Result<(), Failed>
-    ensures writes { WritesLines K.written K.puts out.old (flat_map account_lines accounts.now) result out.new }
+    ensures writes { WritesLines K.written K.puts out.old (flat_map account_lines accounts.now)
+        result out.new }
     ensures serves { Serves K.written K.faults out.old out.new (IsErr result) }
 {
     for account in accounts {

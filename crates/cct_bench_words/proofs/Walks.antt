@@ -74,7 +74,7 @@ no_dashes : (word : Text) → is_dashed word ≡ false → bytes_eq word (45 ∷
 no_dashes [] plain = refl
 no_dashes (byte ∷ bytes) plain = rw plain refl
 
--- Where the walk stands before a word that nothing waits for.
+-- Where the walk is before a word that nothing waits for.
 abbrev at : Held → ℕ → Walk
 at h position = record { held = h; waiting = idle; position = position; is_trailing = false; stopped = None }
 
@@ -240,7 +240,7 @@ load_none = refl
 abbrev row : Text → Text → Row
 row id word = record { id = id; values = word ∷ []; count = None; source = Some CommandLine; reading = AsWritten }
 
--- Where the walk stands after one word, and after two.
+-- Where the walk is after one word, and after two.
 abbrev held_one : Text → Held
 held_one seed = record { rows = []; pending = Some (codes "seed", seed ∷ []); skip = 0 }
 

@@ -1,4 +1,5 @@
--- The words of the command line: `run`, `report`, `upgrade`, `audit`, `check`, `state`, or `load SEED N`.
+-- The words of the command line: `run`, `report`, `upgrade`, `audit`, `check`, `state`, or
+-- `load SEED N`.
 use Rattle.std.specs.Prelude.{ℕ, List, [], ◌∷◌, if◌then◌else◌, Option, Some, None, codes, bytes_eq}
 use Rattle.cct_model_lines.specs.Grammar.{◌>>=◌, alone, ranged}
 use Rattle.cct_bench_words.specs.declared.words.Words.{Words}

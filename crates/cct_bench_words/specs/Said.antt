@@ -1,5 +1,6 @@
 -- What the matches of a parse say, and which words aren't read.
-use Rattle.std.specs.Prelude.{ℕ, ◌==◌, Bool, false, List, [], ◌∷◌, if◌then◌else◌, Option, Some, None, codes, bytes_eq}
+use Rattle.std.specs.Prelude.{ℕ, ◌==◌, Bool, false, List, [], ◌∷◌, if◌then◌else◌, Option, Some}
+use Rattle.std.specs.Prelude.{None, codes, bytes_eq}
 use Rattle.clap.specs.Walk.{Row, Text, first_of}
 use Rattle.cct_bench_words.specs.Grammar.{load_words}
 use Rattle.cct_bench_words.specs.declared.words.Words.{Words}

@@ -19,13 +19,16 @@ pub enum Words {
     Run,
     /// List the records of the journal.
     Report,
-    /// Bring a journal of an earlier version forward, for the devices of the script on standard input.
+    /// Bring a journal of an earlier version forward, for the devices of the script on standard
+    /// input.
     Upgrade,
-    /// Audit the capture on standard input: tell which coins were surely accepted, and how many fell.
+    /// Audit the capture on standard input: say which coins were surely accepted, and how many
+    /// fell.
     Audit,
     /// Read the script on standard input to its end, and tell each line of it that is refused.
     Check,
-    /// Tell what the journal knows now, and its money by the setup on standard input, where one is given.
+    /// Tell what the journal knows now, and its money by the setup on standard input, where one is
+    /// given.
     State,
     /// Play a load that a number makes, of so many rounds: 1 to 10,000.
     Load { seed: u64, rounds: u32 },
@@ -42,19 +45,20 @@ pub enum WordsNo {
     Memory,
 }
 
-/// Reads the words of the command line, without the program's name: `run`, `report`, `upgrade`, `audit`, `check`,
-/// `state`, or `load SEED N`, with SEED a number below 2^64 and N one from 1 to 10,000, both in decimal, without sign and without
-/// leading zeros.
+/// Reads the words of the command line, without the program's name: `run`, `report`, `upgrade`,
+/// `audit`, `check`, `state`, or `load SEED N`, with SEED a number below 2^64 and N one from 1 to
+/// 10,000, both in decimal, without sign and without leading zeros.
 ///
 /// # Errors
 ///
-/// `Refused` for any other list, and so for each in which a word begins with `-`; `Memory` where there is no memory to
-/// read them, whatever they are.
+/// `Refused` for any other list, and so for each in which a word begins with `-`; `Memory` where
+/// there is no memory to read them, whatever they are.
 pub fn read_words(alloc: Global, words: &[String]) -> Result<Words, WordsNo>
     ensures said { IfOk result (λ said. words_said (map string_bytes words.now) ≡ Some said) }
-    // Only words of which the grammar says nothing, such as any list with a word that begins with a hyphen. If there is
-    // no memory, that may be answered whatever the words are.
-    ensures refused { result ≡ Err WordsNo.Refused → words_said (map string_bytes words.now) ≡ None }
+    // Only words of which the grammar says nothing, such as any list with a word that begins with a
+    // hyphen. If there is no memory, that may be answered whatever the words are.
+    ensures refused { result ≡ Err WordsNo.Refused → words_said (map string_bytes words.now)
+        ≡ None }
 {
     if have_dash(words) {
         return Err(WordsNo::Refused);

@@ -4,7 +4,8 @@ use Rattle.cct_model_wire.specs.declared.device.DeviceBody.{DeviceBody}
 use Rattle.cct_model_wire.specs.declared.device.DeviceBody.TheVariants as body
 use Rattle.cct_model_wire.specs.declared.device.DeviceSetup.{DeviceSetup}
 use Rattle.cct_model_wire.specs.declared.request.Request.{Request}
-use Rattle.cct_model_wire.specs.declared.request.Request.TheVariants.{ResetDevice, SetMask, SetMaster, RouteBill}
+use Rattle.cct_model_wire.specs.declared.request.Request.TheVariants.{ResetDevice, SetMask}
+use Rattle.cct_model_wire.specs.declared.request.Request.TheVariants.{SetMaster, RouteBill}
 use Rattle.cct_model_wire.specs.Acceptor.{settings}
 use Rattle.cct_model_wire.specs.Bill.{bill_events, bill_held, stacked_bills}
 use Rattle.cct_model_wire.specs.Device.{IsBill}
@@ -28,12 +29,13 @@ inhibits_in (master_set value ∷ past) = master_set value ∷ inhibits_in past
 inhibits_in (path_set place path ∷ past) = inhibits_in past
 inhibits_in (default_set path ∷ past) = inhibits_in past
 
--- A bill acceptor represents one of this setup that met all this, newest first: its inhibits, its events, its accept counter
--- and the bill in its escrow are what that made them.
+-- A bill acceptor represents one of this setup that met all this, newest first: its inhibits, its
+-- events, its accept counter and the bill in its escrow are what that made them.
 pub record StandsFor (bills : BillAcceptor) (d : DeviceSetup) (past : List Met) : Type 0 where
   pub kind : IsBill d.body
   pub setup : bills.setup.now ≡ d
-  pub intake : Holds bills.intake (start_of d.body) (inhibits_in (settings past)) (bill_events past) (stacked_bills past)
+  pub intake : Holds bills.intake (start_of d.body) (inhibits_in (settings past)) (bill_events past)
+      (stacked_bills past)
   pub held : bills.held ≡ bill_held past
 
 -- A bill acceptor heard these bytes since the last gap.
@@ -44,7 +46,8 @@ HasHeard bills bytes = HeardSince bills.listener bills.setup.now.addr bytes
 abbrev pub IsAtGap : BillAcceptor → Type 0
 IsAtGap bills = HasHeard bills []
 
--- Whether a request changes what a bill acceptor holds: it resets the device, sets an inhibit or routes a bill.
+-- Whether a request changes what a bill acceptor holds: it resets the device, sets an inhibit or
+-- routes a bill.
 abbrev pub is_change : Request → Bool
 is_change ResetDevice = true
 is_change (SetMask mask) = true

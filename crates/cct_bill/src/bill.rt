@@ -1,7 +1,9 @@
-//! The bill acceptor as a device. From the standard (ccTalk Generic Specification 4, part 3) it takes that header 159 is
-//! answered with an event counter and five events, and that header 154 carries one byte. Which pair represents which event,
-//! and the replies to header 154, are this project's own.
-ghost use Rattle.std.specs.Prelude.{◌≡◌, ◌<◌, ◌≤◌, ◌^◌, ◌&&◌, ℕ, List, [], ◌∷◌, ◌++◌, false, true, if◌then◌else◌, is_some, Some, IfOk, IfSome, MatchOption};
+//! The bill acceptor as a device. From the standard (ccTalk Generic Specification 4, part 3) it
+//! takes that header 159 is answered with an event counter and five events, and that header 154
+//! carries one byte. Which pair represents which event, and the replies to header 154, are this
+//! project's own.
+ghost use Rattle.std.specs.Prelude.{◌≡◌, ◌<◌, ◌≤◌, ◌^◌, ◌&&◌, ℕ, List, [], ◌∷◌, ◌++◌, false, true};
+ghost use Rattle.std.specs.Prelude.{if◌then◌else◌, is_some, Some, IfOk, IfSome, MatchOption};
 ghost use Rattle.std.specs.Option.{option_map};
 ghost use Rattle.cct_model_wire.specs.declared.device.DeviceSetup.{DeviceSetup};
 ghost use Rattle.cct_model_wire.specs.declared.request.Request.TheVariants.{RouteBill};
@@ -37,7 +39,8 @@ const INHIBITED: Pair = Pair { a: 0, b: 2 };
 pub struct BillAcceptor<'s> {
     setup: &'s DeviceSetup,
     listener: Listener,
-    /// Its inhibits, its events and its accept counter. It has no sorter: the paths stay as they are.
+    /// Its inhibits, its events and its accept counter. It has no sorter: the paths stay as they
+    /// are.
     intake: Intake,
     /// The place of the bill that is held in the escrow.
     held: Option<u8>,
@@ -48,8 +51,8 @@ pub struct BillAcceptor<'s> {
 impl<'s> BillAcceptor<'s> {
     ghost use Rattle.cct_bill.specs.Bill.{HasHeard, IsAtGap, StandsFor, is_change, start_of};
 
-    /// A bill acceptor as after a reset, with its accept counter where the setup starts it. This takes all memory that it
-    /// ever has.
+    /// A bill acceptor as after a reset, with its accept counter where the setup starts it. This
+    /// takes all memory that it ever has.
     ///
     /// Fails only where there is no memory for it.
     pub fn new(alloc: Global, setup: &'s DeviceSetup) -> Result<BillAcceptor<'s>, AllocError>
@@ -70,14 +73,16 @@ impl<'s> BillAcceptor<'s> {
         }
     }
 
-    /// A bill of a place, 1 to 16, is put in: true where it is held, and false where it is given back at once, since its
-    /// place or every bill is inhibited, or another bill is held. It is an event either way.
+    /// A bill of a place, 1 to 16, is put in: true where it is held, and false where it is given
+    /// back at once, since its place or every bill is inhibited, or another bill is held. It is an
+    /// event either way.
     pub fn present(&mut self, place: u8) -> bool
         requires low { 1 ≤ place }
         requires high { place ≤ COIN_PLACES }
         ensures stands { (d : DeviceSetup) (past : List Met) → StandsFor self.old d past
             → StandsFor self.new d (coin place ∷ past) }
-        // All that came before decides: the inhibits since the last reset, and the bill that was last held.
+        // All that came before decides: the inhibits since the last reset, and the bill that was
+        // last held.
         ensures answer { (d : DeviceSetup) (past : List Met) → StandsFor self.old d past
             → result ≡ holds past place }
         ensures heard { (bytes : List ℕ) → HasHeard self.old bytes → HasHeard self.new bytes }
@@ -91,8 +96,8 @@ impl<'s> BillAcceptor<'s> {
         true
     }
 
-    /// The bill acceptor starts again as after power-up: it gives a held bill back without an event, and forgets its
-    /// settings and its events. The accept counter goes on.
+    /// The bill acceptor starts again as after power-up: it gives a held bill back without an
+    /// event, and forgets its settings and its events. The accept counter goes on.
     pub fn reset(&mut self)
         ensures stands { (d : DeviceSetup) (past : List Met) → StandsFor self.old d past
             → StandsFor self.new d (reset ∷ past) }
@@ -105,19 +110,22 @@ impl<'s> BillAcceptor<'s> {
     /// Hears one byte more. It acts on it, and answers, only when a gap comes.
     #[inline]
     pub fn byte(&mut self, byte: u8)
-        ensures stands { (d : DeviceSetup) (past : List Met) → StandsFor self.old d past → StandsFor self.new d past }
-        ensures heard { (bytes : List ℕ) → HasHeard self.old bytes → HasHeard self.new (bytes ++ byte ∷ []) }
+        ensures stands { (d : DeviceSetup) (past : List Met) → StandsFor self.old d past →
+            StandsFor self.new d past }
+        ensures heard { (bytes : List ℕ) → HasHeard self.old bytes →
+            HasHeard self.new (bytes ++ byte ∷ []) }
     {
         self.listener.byte(self.setup.addr, byte);
     }
 
-    /// A gap: the bill acceptor acts on what the bytes since the last one ask, and answers: true with the answer in `out`,
-    /// or false with nothing there where it is silent. It is silent to bytes that are no message under its check, to
-    /// another address, to a request that no bill acceptor knows, and to every broadcast but the address poll, which asks
-    /// nothing at its own address.
+    /// A gap: the bill acceptor acts on what the bytes since the last one ask, and answers: true
+    /// with the answer in `out`, or false with nothing there where it is silent. It is silent to
+    /// bytes that are no message under its check, to another address, to a request that no bill
+    /// acceptor knows, and to every broadcast but the address poll, which asks nothing at its own
+    /// address.
     pub fn gap(&mut self, out: &mut ArrayVec<u8, MOST_SENT>) -> bool
-        // A gap does what the bytes since the last one ask, and nothing if they ask nothing. Hearing a message is
-        // hearing its bytes and then a gap.
+        // A gap does what the bytes since the last one ask, and nothing if they ask nothing.
+        // Hearing a message is hearing its bytes and then a gap.
         ensures stands { (d : DeviceSetup) (past : List Met) (bytes : List ℕ) → StandsFor self.old d past
             → HasHeard self.old bytes → StandsFor self.new d (heard (asks_of d bytes) ∷ past) }
         ensures answer { (d : DeviceSetup) (past : List Met) (bytes : List ℕ) → StandsFor self.old d past
@@ -141,13 +149,15 @@ impl<'s> BillAcceptor<'s> {
         }
     }
 
-    /// Hears a piece and then a gap, where no byte came since the last one. It acts and answers as `gap` says.
+    /// Hears a piece and then a gap, where no byte came since the last one. It acts and answers as
+    /// `gap` says.
     pub fn hear(&mut self, piece: &[u8], out: &mut ArrayVec<u8, MOST_SENT>) -> bool
         requires gap { IsAtGap self.old }
         // Bytes do what they ask, and nothing if they ask nothing.
         ensures stands { (d : DeviceSetup) (past : List Met) → StandsFor self.old d past
             → StandsFor self.new d (heard (asks_of d piece.now) ∷ past) }
-        // Byte for byte, the answer is the one that all that came before makes it; else there is silence.
+        // Byte for byte, the answer is the one that all that came before makes it; else there is
+        // silence.
         ensures answer { (d : DeviceSetup) (past : List Met) → StandsFor self.old d past
             → MatchOption (answer d past piece.now) ((result ≡ false) × (out.new.items ≡ []))
             (λ bytes. (result ≡ true) × (out.new.items ≡ bytes)) }
@@ -164,11 +174,13 @@ impl<'s> BillAcceptor<'s> {
         }
     }
 
-    /// Whether a bill of a place, 1 to 16, is held when it is put in: the inhibits let it in, and none is held before.
+    /// Whether a bill of a place, 1 to 16, is held when it is put in: the inhibits let it in, and
+    /// none is held before.
     fn holds(&self, place: u8) -> bool
         requires low { 1 ≤ place }
         requires high { place ≤ COIN_PLACES }
-        ensures { (d : DeviceSetup) (past : List Met) → StandsFor self.now d past → result ≡ holds past place }
+        ensures { (d : DeviceSetup) (past : List Met) → StandsFor self.now d past → result
+            ≡ holds past place }
     {
         match self.held {
             Some(_) => false,
@@ -198,8 +210,8 @@ impl<'s> BillAcceptor<'s> {
         }
     }
 
-    /// Header 154 with a byte: the held bill is stacked, or given back. It is refused where none is held, and so is
-    /// another byte.
+    /// Header 154 with a byte: the held bill is stacked, or given back. It is refused where none is
+    /// held, and so is another byte.
     fn route(&mut self, way: u8) -> Reply<'static>
         ensures stands { (d : DeviceSetup) (past : List Met) → StandsFor self.old d past
             → StandsFor self.new d (heard (Some (RouteBill way)) ∷ past) }

@@ -57,7 +57,7 @@ pub known_lived : (a : Body) (d : DeviceSetup) (what : Happening) → ∥ ((past
 known_lived a d what lived =
     ∥∥₁_elim lived (Bool-set _ _) (λ h. ap (known_to what) (family_stands a d h.0 h.1))
 
--- no byte came to it, as a struct keeps it and as it is told
+-- no byte came to it, as a struct keeps it and as it is reported
 pub at_gap : (a : Body) → KeepsGap a → IsAtGap a
 at_gap (Acceptor a) kept = kept.0 a refl
 at_gap (Hopper h) kept = kept.1 h refl

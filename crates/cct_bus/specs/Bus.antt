@@ -19,9 +19,9 @@ use Rattle.cct_bus.specs.Outcome.{becomes}
 abbrev pub setup_of : Bus → Setup
 setup_of bus = bus.setup.now
 
--- A bus represents a transcript, newest entry first: its setup is sound, its devices are those of its setup in rising
--- order of address, each met what the transcript tells of it, the fault that is set is the pending one, and whether the
--- last exchange was forged is what the transcript tells.
+-- A bus represents a transcript, newest entry first: its setup is sound, its devices are those of
+-- its setup in rising order of address, each met what the transcript tells of it, the fault that is
+-- set is the pending one, and whether the last exchange was forged is what the transcript tells.
 pub record StandsFor (bus : Bus) (past : List Entry) : Type 0 where
   pub sound : IsSoundSetup (setup_of bus)
   pub order : setups_in bus.devices.items ≡ by_address (setup_of bus).devices
@@ -29,17 +29,19 @@ pub record StandsFor (bus : Bus) (past : List Entry) : Type 0 where
   pub fault : bus.fault ≡ pending past
   pub forged : bus.forged ≡ was_forged past
 
--- What an exchange on a bus may do: the setup stays, the host hears what it does after the transcript before, and the
--- transcript goes on by the exchange.
+-- What an exchange on a bus may do: the setup stays, the host hears what it does after the
+-- transcript before, and the transcript goes on by the exchange.
 abbrev pub Exchanges : Bus → List ℕ → List ℕ → Bus → Type 0
 Exchanges old sent heard new =
     (setup_of new ≡ setup_of old)
     × ((past : List Entry) (addr : ℕ) → StandsFor old past
-    → (heard ≡ heard_after (setup_of old) past sent) × StandsFor new (entry.Wire addr sent heard ∷ past))
+    → (heard ≡ heard_after (setup_of old) past sent)
+    × StandsFor new (entry.Wire addr sent heard ∷ past))
 
--- What something that happens to the device at an address does on a bus: it becomes what it does of one that met what the
--- transcript tells, and the transcript goes on by its entry.
+-- What something that happens to the device at an address does on a bus: it becomes what it does of
+-- one that met what the transcript tells, and the transcript goes on by its entry.
 abbrev pub Befalls : Setup → List Entry → ℕ → Happening → Outcome → Bus → Type 0
 Befalls setup past addr what outcome new =
     OfKnowing what (device_at setup.devices addr)
-    (λ d. (outcome ≡ becomes what d.serial (met d past)) × StandsFor new (happening_entry addr d past what ∷ past))
+    (λ d. (outcome ≡ becomes what d.serial (met d past))
+    × StandsFor new (happening_entry addr d past what ∷ past))

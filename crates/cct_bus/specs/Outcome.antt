@@ -22,8 +22,8 @@ inserted_of (Accepted c) = taken.Accepted c
 inserted_of Done = taken.Inhibited
 inserted_of Nothing = taken.Inhibited
 
--- What became of a bill that was put in, by whether it is held; or of a coin that fell out of a hopper or got stuck there, by
--- whether that was paying.
+-- What became of a bill that was put in, by whether it is held; or of a coin that fell out of a
+-- hopper or got stuck there, by whether that was paying.
 abbrev pub of_effect : Bool → Outcome
 of_effect had_effect = if had_effect then Done else Nothing
 

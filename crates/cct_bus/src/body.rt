@@ -19,7 +19,8 @@ use cct_hopper::Hopper;
 use cct_model::{DeviceBody, DeviceSetup, Happening, MOST_SENT};
 use std::alloc::{AllocError, Global};
 
-/// A coin acceptor, a bill acceptor or a hopper. Its contracts tell it by all that it met, newest first.
+/// A coin acceptor, a bill acceptor or a hopper. Its contracts tell it by all that it met, newest
+/// first.
 #[derive(Drop)]
 pub(crate) enum Body<'s> {
     Acceptor(Acceptor<'s>),
@@ -43,8 +44,8 @@ impl<'s> Body<'s> {
         }
     }
 
-    /// It hears the bytes of a piece one by one, and then a gap: it acts on what they ask, and puts its answer in the
-    /// place of what `said` holds: nothing where it is silent.
+    /// It hears the bytes of a piece one by one, and then a gap: it acts on what they ask, and puts
+    /// its answer in the place of what `said` holds: nothing where it is silent.
     #[tactic(auto, using(crate::proofs::Said::said_is))]
     pub(crate) fn hear(&mut self, piece: &[u8], said: &mut ArrayVec<u8, MOST_SENT>)
         requires gap { IsAtGap self.old }
@@ -93,7 +94,8 @@ fn befall_acceptor(acceptor: &mut Acceptor<'_>, what: Happening) -> Outcome
         → acceptors.StandsFor acceptor.new d (met_by what ∷ past) }
     ensures answer { (d : DeviceSetup) (past : List Met) → acceptors.StandsFor acceptor.old d past
         → result ≡ becomes what d.serial past }
-    ensures heard { (bytes : List ℕ) → acceptors.HasHeard acceptor.old bytes → acceptors.HasHeard acceptor.new bytes }
+    ensures heard { (bytes : List ℕ) → acceptors.HasHeard acceptor.old bytes →
+        acceptors.HasHeard acceptor.new bytes }
 {
     match what {
         Happening::Coin { place } => of_inserted(acceptor.insert(place)),
@@ -118,7 +120,8 @@ fn befall_hopper(hopper: &mut Hopper<'_>, what: Happening) -> Outcome
         → hoppers.StandsFor hopper.new d (met_by what ∷ past) }
     ensures answer { (d : DeviceSetup) (past : List Met) → hoppers.StandsFor hopper.old d past
         → result ≡ becomes what d.serial past }
-    ensures heard { (bytes : List ℕ) → hoppers.HasHeard hopper.old bytes → hoppers.HasHeard hopper.new bytes }
+    ensures heard { (bytes : List ℕ) → hoppers.HasHeard hopper.old bytes →
+        hoppers.HasHeard hopper.new bytes }
 {
     match what {
         Happening::Fall => of_effect(hopper.fall()),
@@ -141,7 +144,8 @@ fn befall_bills(acceptor: &mut BillAcceptor<'_>, what: Happening) -> Outcome
         → bills.StandsFor acceptor.new d (met_by what ∷ past) }
     ensures answer { (d : DeviceSetup) (past : List Met) → bills.StandsFor acceptor.old d past
         → result ≡ becomes what d.serial past }
-    ensures heard { (bytes : List ℕ) → bills.HasHeard acceptor.old bytes → bills.HasHeard acceptor.new bytes }
+    ensures heard { (bytes : List ℕ) → bills.HasHeard acceptor.old bytes →
+        bills.HasHeard acceptor.new bytes }
 {
     match what {
         Happening::Bill { place } => of_effect(acceptor.present(place)),

@@ -1,5 +1,7 @@
 //! The bus: devices on one wire, and the host's end of it.
-ghost use Rattle.std.specs.Prelude.{◌≡◌, ◌==◌, nat_le, ◌+◌, ◌<◌, ◌≤◌, not, ℕ, List, ◌∷◌, [], ◌++◌, take, IfOk, IfSome, IsTrue, Option, map, is_some, length, Some, unwrap_or};
+ghost use Rattle.std.specs.Prelude.{◌≡◌, ◌==◌, nat_le, ◌+◌, ◌<◌, ◌≤◌, not, ℕ, List, ◌∷◌, [], ◌++◌};
+ghost use Rattle.std.specs.Prelude.{take, IfOk, IfSome, IsTrue, Option, map, is_some, length, Some};
+ghost use Rattle.std.specs.Prelude.{unwrap_or};
 ghost use Rattle.std.specs.List.{All, flat_map, position};
 ghost use Rattle.cct_model.specs.terms.wire.TheConstants.{MOST_SENT};
 ghost use Rattle.cct_model.specs.terms.device.DeviceSetup.{DeviceSetup};
@@ -9,7 +11,8 @@ ghost use Rattle.cct_model.specs.lines.entry.Entry.TheVariants as entry;
 ghost use Rattle.cct_model.specs.Bill.{holds};
 ghost use Rattle.cct_model.specs.Device.{IsSound};
 ghost use Rattle.cct_model.specs.terms.family.Happening.TheVariants as happening;
-ghost use Rattle.cct_model.specs.Exchange.{acceptor_there, bill_there, by_address, device_at, hopper_there, known_there};
+ghost use Rattle.cct_model.specs.Exchange.{acceptor_there, bill_there, by_address, device_at};
+ghost use Rattle.cct_model.specs.Exchange.{hopper_there, known_there};
 ghost use Rattle.cct_model.specs.Family.{IsPlaced};
 ghost use Rattle.cct_model.specs.Honest.{was_forged};
 ghost use Rattle.cct_model.specs.Hopper.{remaining};
@@ -32,8 +35,9 @@ use cct_model::{COIN_PLACES, DeviceSetup, Happening, MOST_HEARD, MOST_SENT, Setu
 use cct_wire::Link;
 use std::alloc::{AllocError, Global};
 
-/// Up to `DEVICES` devices on one wire: coin acceptors, bill acceptors and hoppers (ccTalk Generic Specification 4, part 1). Its contracts tell it by
-/// the transcript of all that happened on it, newest entry first.
+/// Up to `DEVICES` devices on one wire: coin acceptors, bill acceptors and hoppers (ccTalk Generic
+/// Specification 4, part 1). Its contracts tell it by the transcript of all that happened on it,
+/// newest entry first.
 #[derive(Drop)]
 pub struct Bus<'s> {
     setup: &'s Setup,
@@ -53,8 +57,8 @@ pub struct Bus<'s> {
 impl<'s> Bus<'s> {
     ghost use Rattle.cct_bus.specs.Bus.{Befalls, StandsFor, setup_of};
 
-    /// A bus with the devices of a setup as after power-up, on which nothing has happened. This takes all memory that
-    /// the bus ever has.
+    /// A bus with the devices of a setup as after power-up, on which nothing has happened. This
+    /// takes all memory that the bus ever has.
     ///
     /// Fails only where there is no memory for it.
     pub fn new(alloc: Global, setup: &'s Setup) -> Result<Bus<'s>, AllocError>
@@ -72,7 +76,7 @@ impl<'s> Bus<'s> {
         })
     }
 
-    /// Whether a coin acceptor stands at an address.
+    /// Whether a coin acceptor is at an address.
     pub fn is_acceptor(&self, addr: u8) -> bool
         ensures { result ≡ acceptor_there (device_at (setup_of self.now).devices addr) }
     {
@@ -82,7 +86,7 @@ impl<'s> Bus<'s> {
         }
     }
 
-    /// Whether a hopper stands at an address.
+    /// Whether a hopper is at an address.
     pub fn is_hopper(&self, addr: u8) -> bool
         ensures { result ≡ hopper_there (device_at (setup_of self.now).devices addr) }
     {
@@ -92,7 +96,7 @@ impl<'s> Bus<'s> {
         }
     }
 
-    /// Whether a bill acceptor stands at an address.
+    /// Whether a bill acceptor is at an address.
     pub fn is_bills(&self, addr: u8) -> bool
         ensures { result ≡ bill_there (device_at (setup_of self.now).devices addr) }
     {
@@ -102,15 +106,15 @@ impl<'s> Bus<'s> {
         }
     }
 
-    /// Whether a device stands at an address.
+    /// Whether a device is at an address.
     pub fn has_device(&self, addr: u8) -> bool
         ensures { result ≡ is_some (device_at (setup_of self.now).devices addr) }
     {
         self.setup.device_at(addr).is_some()
     }
 
-    /// Whether this can happen to the device at an address: there is one, and its family knows it. A place is not looked
-    /// at.
+    /// Whether this can happen to the device at an address: there is one, and its family knows it.
+    /// A place is not looked at.
     pub fn knows(&self, addr: u8, what: Happening) -> bool
         ensures { result ≡ known_there what (device_at (setup_of self.now).devices addr) }
     {
@@ -136,7 +140,8 @@ impl<'s> Bus<'s> {
     /// A coin of a place, 1 to 16, falls into the acceptor at an address.
     #[tactic(auto, using(crate::proofs::Buses::told_as, crate::proofs::Buses::inserted_back))]
     pub fn coin(&mut self, addr: u8, place: u8) -> Inserted
-        requires there { IsTrue (known_there (happening.Coin place) (device_at (setup_of self.old).devices addr)) }
+        requires there { IsTrue (known_there (happening.Coin place)
+            (device_at (setup_of self.old).devices addr)) }
         requires low { 1 ≤ place }
         requires high { place ≤ COIN_PLACES }
         ensures setup { setup_of self.new ≡ setup_of self.old }
@@ -150,18 +155,21 @@ impl<'s> Bus<'s> {
     /// A piece that is no coin falls into the acceptor at an address.
     #[tactic(auto, using(crate::proofs::Buses::stands_by))]
     pub fn alien(&mut self, addr: u8)
-        requires there { IsTrue (known_there happening.Alien (device_at (setup_of self.old).devices addr)) }
+        requires there { IsTrue (known_there happening.Alien
+            (device_at (setup_of self.old).devices addr)) }
         ensures setup { setup_of self.new ≡ setup_of self.old }
-        ensures stands { (past : List Entry) → StandsFor self.old past → StandsFor self.new (entry.Alien addr ∷ past) }
+        ensures stands { (past : List Entry) → StandsFor self.old past →
+            StandsFor self.new (entry.Alien addr ∷ past) }
     {
         self.befall(addr, Happening::Alien);
     }
 
-    /// A bill of a place, 1 to 16, is put into the bill acceptor at an address: true where it is held, and false where it is
-    /// given back at once.
+    /// A bill of a place, 1 to 16, is put into the bill acceptor at an address: true where it is
+    /// held, and false where it is given back at once.
     #[tactic(auto, using(crate::proofs::Buses::told_as, crate::proofs::Buses::effect_back))]
     pub fn bill(&mut self, addr: u8, place: u8) -> bool
-        requires there { IsTrue (known_there (happening.Bill place) (device_at (setup_of self.old).devices addr)) }
+        requires there { IsTrue (known_there (happening.Bill place)
+            (device_at (setup_of self.old).devices addr)) }
         requires low { 1 ≤ place }
         requires high { place ≤ COIN_PLACES }
         ensures setup { setup_of self.new ≡ setup_of self.old }
@@ -172,11 +180,12 @@ impl<'s> Bus<'s> {
         self.befall(addr, Happening::Bill { place }).is_done()
     }
 
-    /// A coin falls out of the hopper at an address, and is paid where that is paying: true then, and false where it is
-    /// nothing to it.
+    /// A coin falls out of the hopper at an address, and is paid where that is paying: true then,
+    /// and false where it is nothing to it.
     #[tactic(auto, using(crate::proofs::Buses::told_as, crate::proofs::Buses::effect_back))]
     pub fn fall(&mut self, addr: u8) -> bool
-        requires there { IsTrue (known_there happening.Fall (device_at (setup_of self.old).devices addr)) }
+        requires there { IsTrue (known_there happening.Fall
+            (device_at (setup_of self.old).devices addr)) }
         ensures setup { setup_of self.new ≡ setup_of self.old }
         // True exactly if that hopper had coins left to pay.
         ensures stands { (past : List Entry) → StandsFor self.old past
@@ -187,11 +196,12 @@ impl<'s> Bus<'s> {
         self.befall(addr, Happening::Fall).is_done()
     }
 
-    /// A coin is stuck in the hopper at an address, and ends the payout where that is paying: true then, and false where
-    /// it is nothing to it.
+    /// A coin is stuck in the hopper at an address, and ends the payout where that is paying: true
+    /// then, and false where it is nothing to it.
     #[tactic(auto, using(crate::proofs::Buses::told_as, crate::proofs::Buses::effect_back))]
     pub fn jam(&mut self, addr: u8) -> bool
-        requires there { IsTrue (known_there happening.Jam (device_at (setup_of self.old).devices addr)) }
+        requires there { IsTrue (known_there happening.Jam
+            (device_at (setup_of self.old).devices addr)) }
         ensures setup { setup_of self.new ≡ setup_of self.old }
         ensures stands { (past : List Entry) → StandsFor self.old past
             → OfKnowing happening.Jam (device_at (setup_of self.old).devices addr)
@@ -204,9 +214,11 @@ impl<'s> Bus<'s> {
     /// The device at an address starts again as after power-up.
     #[tactic(auto, using(crate::proofs::Buses::stands_by))]
     pub fn reset(&mut self, addr: u8)
-        requires there { IsTrue (known_there happening.Reset (device_at (setup_of self.old).devices addr)) }
+        requires there { IsTrue (known_there happening.Reset
+            (device_at (setup_of self.old).devices addr)) }
         ensures setup { setup_of self.new ≡ setup_of self.old }
-        ensures stands { (past : List Entry) → StandsFor self.old past → StandsFor self.new (entry.Reset addr ∷ past) }
+        ensures stands { (past : List Entry) → StandsFor self.old past →
+            StandsFor self.new (entry.Reset addr ∷ past) }
     {
         self.befall(addr, Happening::Reset);
     }
@@ -215,13 +227,14 @@ impl<'s> Bus<'s> {
     pub fn set_fault(&mut self, fault: WireFault)
         requires short { IsShort fault }
         ensures setup { setup_of self.new ≡ setup_of self.old }
-        ensures stands { (past : List Entry) → StandsFor self.old past → StandsFor self.new (entry.Fault fault ∷ past) }
+        ensures stands { (past : List Entry) → StandsFor self.old past →
+            StandsFor self.new (entry.Fault fault ∷ past) }
     {
         self.fault = fault;
     }
 
-    /// Whether the last exchange was forged: the fault that was set for it did another damage than an honest one. False
-    /// before the first exchange.
+    /// Whether the last exchange was forged: the fault that was set for it did another damage than
+    /// an honest one. False before the first exchange.
     #[inline]
     pub fn last_forged(&self) -> bool
         ensures { (past : List Entry) → StandsFor self.now past → result ≡ was_forged past }
@@ -232,7 +245,8 @@ impl<'s> Bus<'s> {
     /// The index of the device at an address.
     fn index_of(&self, addr: u8) -> usize
         requires { IsTrue (is_some (device_at (setup_of self.now).devices addr)) }
-        ensures first { position (λ device. (setup_in device).addr == addr) self.now.devices.items ≡ Some result }
+        ensures first { position (λ device. (setup_in device).addr == addr) self.now.devices.items
+            ≡ Some result }
         ensures within { result < length self.now.devices.items }
     {
         place_of(&self.devices, addr).unwrap()
@@ -244,8 +258,9 @@ impl Link for Bus<'_> {
 
     ghost gives = { Exchanges };
 
-    /// Every device hears what is sent, or what the fault that is set has reach it, and acts on it. The host hears its
-    /// echo and the answers in rising order of address, or what the fault makes of that. The fault is then used up.
+    /// Every device hears what is sent, or what the fault that is set has reach it, and acts on it.
+    /// The host hears its echo and the answers in rising order of address, or what the fault makes
+    /// of that. The fault is then used up.
     fn exchange(&mut self, sent: &[u8], heard: &mut ArrayVec<u8, MOST_HEARD>) {
         heard.clear();
         heard.try_extend_from_slice(sent).unwrap();
@@ -257,7 +272,8 @@ impl Link for Bus<'_> {
     }
 }
 
-/// The devices of setups, in rising order of address. Each is put where it belongs among those that come after it.
+/// The devices of setups, in rising order of address. Each is put where it belongs among those that
+/// come after it.
 fn devices_of<'s>(alloc: Global, setups: &'s [DeviceSetup]) -> Result<Vec<Device<'s>>, AllocError>
     requires sound { All IsSound setups.now }
     ensures order { IfOk result (λ devices. setups_in devices.items ≡ by_address setups.now) }
@@ -277,7 +293,8 @@ fn devices_of<'s>(alloc: Global, setups: &'s [DeviceSetup]) -> Result<Vec<Device
 
 /// How many devices stand before the first whose address isn't below this one.
 fn rank_of(devices: &[Device<'_>], addr: u8) -> usize
-    ensures rank { result ≡ unwrap_or (position (λ device. nat_le addr (setup_in device).addr) devices.now) (length devices.now) }
+    ensures rank { result ≡ unwrap_or (position (λ device. nat_le addr (setup_in device).addr)
+        devices.now) (length devices.now) }
     ensures within { result ≤ length devices.now }
 {
     place_not_below(devices, addr).unwrap_or(devices.len())

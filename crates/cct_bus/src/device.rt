@@ -37,15 +37,16 @@ impl<'s> Device<'s> {
         Ok(Device { setup, body })
     }
 
-    /// The device hears a piece byte by byte and then a gap, acts on what it asks, and puts its answer in the place of
-    /// what `said` holds: nothing where it is silent.
+    /// The device hears a piece byte by byte and then a gap, acts on what it asks, and puts its
+    /// answer in the place of what `said` holds: nothing where it is silent.
     pub(crate) fn hear(&mut self, piece: &[u8], said: &mut ArrayVec<u8, MOST_SENT>)
         ensures setup { self.new.setup ≡ self.old.setup }
         ensures lived { (past : List Met) → Lived self.old past
             → Lived self.new (heard (asks_of (setup_in self.old) piece.now) ∷ past) }
         ensures answer { (past : List Met) → Lived self.old past
             → said.new.items ≡ unwrap_or (answer (setup_in self.old) past piece.now) [] }
-        ensures room { length said.new.items ≤ MOST_SENT → length said.new.items ≤ most_said (setup_in self.old).addr piece.now }
+        ensures room { length said.new.items ≤ MOST_SENT → length said.new.items
+            ≤ most_said (setup_in self.old).addr piece.now }
     {
         self.body.hear(piece, said);
     }
@@ -55,7 +56,8 @@ impl<'s> Device<'s> {
         requires known { known_to what (family_of (setup_in self.old).body) ≡ true }
         requires placed { IsPlaced what }
         ensures setup { self.new.setup ≡ self.old.setup }
-        ensures lived { (past : List Met) → Lived self.old past → Lived self.new (met_by what ∷ past) }
+        ensures lived { (past : List Met) → Lived self.old past →
+            Lived self.new (met_by what ∷ past) }
         ensures answer { (past : List Met) → Lived self.old past
             → result ≡ becomes what (setup_in self.old).serial past }
     {

@@ -20,7 +20,8 @@ pub(crate) fn heard_by_devices<'a>(fault: &'a WireFault, sent: &'a [u8]) -> &'a 
 /// Makes of its echo and the answers after it what the host hears under a fault.
 pub(crate) fn heard_by_host(fault: &WireFault, sent: &[u8], heard: &mut ArrayVec<u8, MOST_HEARD>)
     requires sent { length sent.now ≤ MOST_SENT }
-    requires short { (piece : List ℕ) → fault.now ≡ WireFault.HostHears piece → length piece ≤ MOST_SENT }
+    requires short { (piece : List ℕ) → fault.now ≡ WireFault.HostHears piece → length piece
+        ≤ MOST_SENT }
     ensures { (answered : List ℕ) → heard.old.items ≡ sent.now ++ answered
         → heard.new.items ≡ heard_by_host fault.now sent.now answered }
 {
@@ -32,7 +33,8 @@ pub(crate) fn heard_by_host(fault: &WireFault, sent: &[u8], heard: &mut ArrayVec
     }
 }
 
-/// An exchange uses up the fault that is set. Mostly none is, and then nothing is written: a fault has room for a piece.
+/// An exchange uses up the fault that is set. Mostly none is, and then nothing is written: a fault
+/// has room for a piece.
 pub(crate) fn use_up(fault: &mut WireFault)
     ensures { fault.new ≡ WireFault.Clear }
 {

@@ -1,5 +1,6 @@
 //! What the devices on the wire make of a piece, all together.
-ghost use Rattle.std.specs.Prelude.{◌≡◌, ◌≢◌, ◌+◌, ◌≤◌, List, ◌∷◌, [], ◌++◌, length, slice_index, unwrap_or};
+ghost use Rattle.std.specs.Prelude.{◌≡◌, ◌≢◌, ◌+◌, ◌≤◌, List, ◌∷◌, [], ◌++◌, length, slice_index};
+ghost use Rattle.std.specs.Prelude.{unwrap_or};
 ghost use Rattle.std.specs.List.{All, flat_map};
 ghost use Rattle.cct_model.specs.terms.device.DeviceSetup.{DeviceSetup};
 ghost use Rattle.cct_model.specs.Exchange.{answer, asks_of};
@@ -13,16 +14,17 @@ use crate::device::Device;
 use arrayvec::ArrayVec;
 use cct_model::{BROADCAST, MOST_HEARD, MOST_SENT};
 
-/// The devices hear a piece and then a gap: one that it is for by its first byte, or each, if it is for all; it asks
-/// nothing of the others. What they answer goes after what `answers` holds, in the order of the devices; `frame` is room
-/// for one answer.
+/// The devices hear a piece and then a gap: one that it is for by its first byte, or each, if it is
+/// for all; it asks nothing of the others. What they answer goes after what `answers` holds, in the
+/// order of the devices; `frame` is room for one answer.
 pub(crate) fn all_hear(
     devices: &mut [Device<'_>],
     piece: &[u8],
     frame: &mut ArrayVec<u8, MOST_SENT>,
     answers: &mut ArrayVec<u8, MOST_HEARD>,
 )
-    requires room { length answers.old.items + most_answered piece.now (setups_in devices.old) ≤ MOST_HEARD }
+    requires room { length answers.old.items + most_answered piece.now (setups_in devices.old)
+        ≤ MOST_HEARD }
     ensures setups { setups_in devices.new ≡ setups_in devices.old }
     ensures stand { (history : DeviceSetup → List Met) → AreDistinct (setups_in devices.old)
         → All (Stands history) devices.old → All (Stands (λ d. heard (asks_of d piece.now) ∷ history d)) devices.new }
@@ -46,7 +48,8 @@ fn one_hears(
 )
     requires first { slice_index piece.now 0 ≡ to }
     requires one { to ≢ BROADCAST }
-    requires room { length answers.old.items + most_answered piece.now (setups_in devices.old) ≤ MOST_HEARD }
+    requires room { length answers.old.items + most_answered piece.now (setups_in devices.old)
+        ≤ MOST_HEARD }
     ensures setups { setups_in devices.new ≡ setups_in devices.old }
     ensures stand { (history : DeviceSetup → List Met) → AreDistinct (setups_in devices.old)
         → All (Stands history) devices.old → All (Stands (λ d. heard (asks_of d piece.now) ∷ history d)) devices.new }
@@ -71,7 +74,8 @@ fn each_hears(
     frame: &mut ArrayVec<u8, MOST_SENT>,
     answers: &mut ArrayVec<u8, MOST_HEARD>,
 )
-    requires room { length answers.old.items + most_answered piece.now (setups_in devices.old) ≤ MOST_HEARD }
+    requires room { length answers.old.items + most_answered piece.now (setups_in devices.old)
+        ≤ MOST_HEARD }
     ensures setups { setups_in devices.new ≡ setups_in devices.old }
     ensures stand { (history : DeviceSetup → List Met) → All (Stands history) devices.old
         → All (Stands (λ d. heard (asks_of d piece.now) ∷ history d)) devices.new }

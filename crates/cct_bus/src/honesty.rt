@@ -1,4 +1,5 @@
-//! Whether a fault does an honest damage: the bytes that come in the place of others are no message.
+//! Whether a fault does an honest damage: the bytes that come in the place of others are no
+//! message.
 ghost use Rattle.std.specs.Prelude.{◌≡◌, bytes_eq};
 ghost use Rattle.cct_model.specs.terms.request.Request.TheVariants.{AddressPoll};
 ghost use Rattle.cct_model.specs.Exchange.{after_echo, ask};
@@ -10,9 +11,10 @@ use cct_model::{BROADCAST, CheckKind, MOST_SENT, Request, WireFault};
 use cct_msg::encode_request;
 use cct_wire::bare_after_echo;
 
-/// Whether a fault does an honest damage to the exchange in which the host sends a piece: what the devices hear in its
-/// place is no message. Where the host sends no address poll, what it hears in the place of the answers is none either,
-/// nor what it hears in the place of all, nor what then follows its echo. Mostly no fault is set, and that is honest.
+/// Whether a fault does an honest damage to the exchange in which the host sends a piece: what the
+/// devices hear in its place is no message. Where the host sends no address poll, what it hears in
+/// the place of the answers is none either, nor what it hears in the place of all, nor what then
+/// follows its echo. Mostly no fault is set, and that is honest.
 #[inline]
 pub(crate) fn is_honest(fault: &WireFault, sent: &[u8]) -> bool
     ensures { result ≡ is_honest fault.now sent.now }
@@ -52,8 +54,8 @@ fn is_address_poll(sent: &[u8]) -> bool
     is_poll_under(CheckKind::Simple, sent) || is_poll_under(CheckKind::Crc, sent)
 }
 
-/// Whether the host sends the address poll to all devices under a check. It stands apart, since its room for that poll
-/// would otherwise be taken in each exchange.
+/// Whether the host sends the address poll to all devices under a check. It stands apart, since its
+/// room for that poll would otherwise be taken in each exchange.
 #[inline(never)]
 fn is_poll_under(kind: CheckKind, sent: &[u8]) -> bool
     ensures { result ≡ bytes_eq sent.now (ask kind 0 AddressPoll) }

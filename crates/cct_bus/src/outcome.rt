@@ -10,7 +10,8 @@ use cct_model::Coin;
 pub enum Outcome {
     /// The coin was taken, by the sorter path of its place.
     Accepted(Coin),
-    /// The bill is held, the coin that fell is paid, the jam ended a payout, or the device started again.
+    /// The bill is held, the coin that fell is paid, the jam ended a payout, or the device started
+    /// again.
     Done,
     /// The piece or the bill was given back, or the hopper wasn't paying.
     Nothing,
@@ -50,8 +51,8 @@ pub(crate) fn of_inserted(inserted: Inserted) -> Outcome
     }
 }
 
-/// What became of a bill that was put in, by whether it is held; or of a coin that fell out of a hopper or got stuck there,
-/// by whether that was paying.
+/// What became of a bill that was put in, by whether it is held; or of a coin that fell out of a
+/// hopper or got stuck there, by whether that was paying.
 pub(crate) fn of_effect(had_effect: bool) -> Outcome
     ensures { result ≡ of_effect had_effect }
 {

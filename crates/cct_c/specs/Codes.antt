@@ -1,4 +1,5 @@
--- What the numbers of the C interface mean: which check and which form a code names, and what a call answers.
+-- What the numbers of the C interface mean: which check and which form a code names, and what a
+-- call answers.
 use Rattle.std.specs.Prelude.{ℕ, ◌==◌, List, [], ◌∷◌, if◌then◌else◌, Option, Some, None}
 use Rattle.cct_model_wire.specs.declared.request.ReplyForm.{ReplyForm}
 use Rattle.cct_model_wire.specs.declared.request.ReplyForm.TheVariants as form
@@ -9,7 +10,8 @@ use Rattle.cct_frame.specs.declared.reading.FrameFault.{FrameFault}
 use Rattle.cct_frame.specs.declared.reading.FrameFault.TheVariants.{Short, Length, Check, CrcCheck}
 use Rattle.cct_msg.specs.declared.reply_reading.NotWanted.{NotWanted}
 use Rattle.cct_msg.specs.declared.reply_reading.NotWanted.TheVariants as why
-use Rattle.cct_c.specs.declared.codes.TheConstants.{OK, BAD_CHECK, SHORT, BAD_LENGTH, DAMAGED, NAK, BUSY, OTHER}
+use Rattle.cct_c.specs.declared.codes.TheConstants.{OK, BAD_CHECK, SHORT, BAD_LENGTH, DAMAGED, NAK}
+use Rattle.cct_c.specs.declared.codes.TheConstants.{BUSY, OTHER}
 
 -- The check that a code names: 0 the simple one, 1 the CRC.
 abbrev pub kind_of : ℕ → Option CheckKind
@@ -18,7 +20,9 @@ kind_of code = if code == 0 then Some Simple else if code == 1 then Some Crc els
 -- The forms of replies, in the order of their codes, which begin at 0.
 abbrev pub forms : List ReplyForm
 forms =
-    form.Ack ∷ form.Credits ∷ form.Mask ∷ form.Master ∷ form.Path ∷ form.CoinId ∷ form.Status ∷ form.Life ∷ form.Remaining ∷ form.Register ∷ form.Text ∷ form.Serial ∷ form.Revision ∷ form.Accepts ∷ []
+    form.Ack ∷ form.Credits ∷ form.Mask ∷ form.Master ∷ form.Path ∷ form.CoinId ∷ form.Status
+    ∷ form.Life ∷ form.Remaining ∷ form.Register ∷ form.Text ∷ form.Serial ∷ form.Revision
+    ∷ form.Accepts ∷ []
 
 -- What a call answers to a piece with a fault.
 abbrev pub fault_code : FrameFault → ℕ

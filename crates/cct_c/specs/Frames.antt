@@ -11,7 +11,7 @@ use Rattle.cct_c.specs.declared.frames.LhFrame.{LhFrame}
 abbrev pub source_in : LhFrame → Option ℕ
 source_in frame = if frame.named == 0 then None else Some frame.from
 
--- The program's struct tells a message, but for its data bytes, which it counts.
+-- The program's struct shows a message, but for its data bytes, which it counts.
 pub record Shows (m : Message) (frame : LhFrame) : Type 0 where
   pub to : frame.to ≡ m.to
   pub from : source_in frame ≡ m.from
@@ -25,7 +25,8 @@ put_answer room bytes = if nat_le (length bytes) room then OK else NO_ROOM
 -- What a call answers that writes a message under a check into so much room.
 abbrev pub write_answer : Option CheckKind → ℕ → Message → ℕ
 write_answer None room m = BAD_CHECK
-write_answer (Some kind) room m = if nat_le (length m.body) 255 then put_answer room (spelling kind m) else TOO_LONG
+write_answer (Some kind) room m =
+    if nat_le (length m.body) 255 then put_answer room (spelling kind m) else TOO_LONG
 
 -- What a call answers that writes a request to an address, if it is one, into so much room.
 abbrev pub request_answer : Option CheckKind → ℕ → ℕ → Option Request → ℕ

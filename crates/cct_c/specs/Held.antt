@@ -1,4 +1,5 @@
--- A device core that represents all that it met, and what it answers to a program in another language.
+-- A device core that represents all that it met, and what it answers to a program in another
+-- language.
 use Rattle.std.specs.Prelude.{ℕ, ◌==◌, not, List, [], ◌∷◌, if◌then◌else◌, Option, Some, None}
 use Rattle.cct_model_wire.specs.Bill.{holds}
 use Rattle.cct_model_wire.specs.Hopper.{remaining}

@@ -1,5 +1,6 @@
 -- What a program in another language is told of a reply.
-use Rattle.std.specs.Prelude.{◌≡◌, ℕ, ◌≤◌, List, [], ◌∷◌, flat_map, length, take, Option, Some, None, ⊤}
+use Rattle.std.specs.Prelude.{◌≡◌, ℕ, ◌≤◌, List, [], ◌∷◌, flat_map, length, take, Option, Some}
+use Rattle.std.specs.Prelude.{None, ⊤}
 use Rattle.cct_model_wire.specs.Exchange.{after_echo, got}
 use Rattle.cct_model_wire.specs.Message.{Message, message}
 use Rattle.cct_frame.specs.Frame.{fault_in}
@@ -8,13 +9,16 @@ use Rattle.cct_msg.specs.Wanted.{reason_in}
 use Rattle.cct_msg.specs.declared.reply_reading.NotWanted.{NotWanted}
 use Rattle.cct_c.specs.declared.codes.TheConstants.{OK, BAD_CHECK, BAD_ECHO, BAD_FORM, SILENCE}
 use Rattle.cct_c.specs.Codes.{answer_to, reason_code}
-use Rattle.cct_model_wire.specs.Reply.{Reply, pair_bytes, ack, nak, busy, credits, mask, master, path, coin_id, status, life, remaining, register, text, serial, revision, accepts}
+use Rattle.cct_model_wire.specs.Reply.{Reply, pair_bytes, ack, nak, busy, credits, mask, master}
+use Rattle.cct_model_wire.specs.Reply.{path, coin_id, status, life, remaining, register, text}
+use Rattle.cct_model_wire.specs.Reply.{serial, revision, accepts}
 use Rattle.cct_model_wire.specs.declared.request.ReplyForm.{ReplyForm}
 use Rattle.cct_model_wire.specs.declared.wire.CheckKind.{CheckKind}
 use Rattle.cct_c.specs.declared.replies.LhReply.{LhReply}
 use Rattle.cct_c.specs.declared.replies.TheConstants.{MOST_TEXT}
 
--- The reply in a form that the host got from an address after what it sent, or none where there is no such check or form.
+-- The reply in a form that the host got from an address after what it sent, or none where there is
+-- no such check or form.
 abbrev pub got_by : Option CheckKind → ℕ → Option ReplyForm → List ℕ → List ℕ → Option Reply
 got_by None addr form sent heard = None
 got_by (Some kind) addr None sent heard = None
@@ -41,9 +45,11 @@ rest_answer kind form addr (Some (byte ∷ rest)) =
 abbrev pub reply_answer : Option CheckKind → Option ReplyForm → ℕ → List ℕ → List ℕ → ℕ
 reply_answer None form addr sent heard = BAD_CHECK
 reply_answer (Some kind) None addr sent heard = BAD_FORM
-reply_answer (Some kind) (Some form) addr sent heard = rest_answer kind form addr (after_echo sent heard)
+reply_answer (Some kind) (Some form) addr sent heard =
+    rest_answer kind form addr (after_echo sent heard)
 
--- The fields of the program's struct that belong to the reply tell it. A refusal is told by the answer of the call alone.
+-- The fields of the program's struct that belong to the reply tell it. A refusal is reported by the
+-- answer of the call alone.
 abbrev pub Tells : Reply → LhReply → Type 0
 Tells ack told = ⊤
 Tells nak told = ⊤
@@ -60,5 +66,6 @@ Tells (remaining count) told = told.value ≡ count
 Tells (register bits) told = told.value ≡ bits
 Tells (text bytes) told = length bytes ≤ MOST_TEXT → take told.count told.text ≡ bytes
 Tells (serial number) told = told.number ≡ number
-Tells (revision release major minor) told = (told.release ≡ release) × (told.major ≡ major) × (told.minor ≡ minor)
+Tells (revision release major minor) told =
+    (told.release ≡ release) × (told.major ≡ major) × (told.minor ≡ minor)
 Tells (accepts count) told = told.number ≡ count

@@ -1,5 +1,5 @@
-//! What a call answers, and the codes of checks, forms and families. `litchihull.h` has the same numbers, and says when each
-//! comes; 1 is the header's own.
+//! What a call answers, and the codes of checks, forms and families. `litchihull.h` has the same
+//! numbers, and says when each comes; 1 is the header's own.
 ghost use Rattle.std.specs.Prelude.{◌≡◌, ◌≢◌, slice_get};
 ghost use Rattle.cct_c.specs.Codes.{fault_code, forms, kind_of, reason_code};
 

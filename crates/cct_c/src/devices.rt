@@ -1,4 +1,5 @@
-//! Device cores behind handles. Each call takes a handle, and gives it back through `back` as it was.
+//! Device cores after handles. Each call takes a handle, and gives it back through `back` as it
+//! was.
 
 use crate::codes::{BAD_HANDLE, NO_MEMORY, OK};
 use crate::handle::{LhHandle, LhOpaque};
@@ -7,7 +8,7 @@ use crate::kept::Kept;
 use crate::settings::{LhSettings, fault_of, setup_of};
 use std::alloc::Global;
 
-/// Keeps settings behind a handle.
+/// Keeps settings after a handle.
 #[unsafe(no_mangle)]
 pub extern "C" fn lh_raw_settings_new(
     alloc: Global,
@@ -67,7 +68,8 @@ pub extern "C" fn lh_raw_core_byte(core: LhHandle, byte: u8, back: &mut *mut LhO
     code
 }
 
-/// A gap: the device acts on what the bytes since the last one ask, and answers to the front of `out`.
+/// A gap: the device acts on what the bytes since the last one ask, and answers to the front of
+/// `out`.
 #[unsafe(no_mangle)]
 pub extern "C" fn lh_raw_core_gap(
     core: LhHandle,

@@ -53,7 +53,7 @@ pub extern "C" fn lh_raw_frame_write(
     put(piece.as_slice(), out, written)
 }
 
-/// Puts bytes to the front of a room, and tells how many, where there is room for them.
+/// Puts bytes to the front of a room, and says how many, where there is room for them.
 pub(crate) fn put(bytes: &[u8], out: &mut [u8], written: &mut usize) -> u32
     ensures answer { result ≡ put_answer (length out.old) bytes.now }
     ensures put { result ≡ OK → take written.new out.new ≡ bytes.now }

@@ -1,5 +1,6 @@
 //! A message whose bytes come one by one, in the caller's memory.
-ghost use Rattle.std.specs.Prelude.{◌≡◌, ◌≢◌, ◌+◌, ◌<◌, ◌≤◌, ◌↔◌, ℕ, [], ◌∷◌, ◌++◌, IsSome, None, Some, length};
+ghost use Rattle.std.specs.Prelude.{◌≡◌, ◌≢◌, ◌+◌, ◌<◌, ◌≤◌, ◌↔◌, ℕ, [], ◌∷◌, ◌++◌, IsSome, None};
+ghost use Rattle.std.specs.Prelude.{Some, length};
 ghost use Rattle.cct_model_wire.specs.declared.wire.CheckKind.{CheckKind};
 ghost use Rattle.cct_model_wire.specs.declared.wire.TheConstants.{MOST_SENT};
 ghost use Rattle.cct_model_wire.specs.Message.{message};
@@ -13,7 +14,7 @@ use cct_model_wire::{CheckKind, MOST_SENT};
 /// The bytes of a message without data.
 const SHORTEST: usize = 5;
 
-/// The bytes since the last gap. Whatever stands in it, a call answers: it trusts no field.
+/// The bytes since the last gap. Whatever is in it, a call answers: it trusts no field.
 #[repr(C)]
 #[derive(Drop)]
 pub struct LhFramer {
@@ -48,7 +49,8 @@ pub extern "C" fn lh_raw_framer_feed(framer: &mut LhFramer, byte: u8) -> u32
         → ((result ≡ OK) ↔ IsSome (message kind (held_by framer.old ++ byte ∷ []))) }
     ensures too_long { (kind : CheckKind) → kind_of framer.old.check ≡ Some kind → MOST_SENT ≤ framer.old.count
         → (result ≡ TOO_LONG) × (framer.new ≡ framer.old) }
-    ensures no_check { kind_of framer.old.check ≡ None → (result ≡ BAD_CHECK) × (framer.new ≡ framer.old) }
+    ensures no_check { kind_of framer.old.check ≡ None → (result ≡ BAD_CHECK)
+        × (framer.new ≡ framer.old) }
 {
     let Some(kind) = kind_of(framer.check) else {
         return BAD_CHECK;

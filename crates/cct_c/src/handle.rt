@@ -1,4 +1,5 @@
-//! A box as its pointer, which a program in another language keeps. The one place that reads a raw pointer.
+//! A box as its pointer, which a program in another language keeps. The one place that reads a raw
+//! pointer.
 ghost use Rattle.std.specs.Prelude.{◌≡◌};
 ghost use Rattle.cct_c.specs.declared.kept.Kept.{Kept};
 ghost use Rattle.cct_c.specs.contracts.kept.Kept as kept_row;

@@ -1,5 +1,7 @@
-//! What a handle holds: the settings of a device, or a device core. A core borrows its settings for as long as it is there.
-ghost use Rattle.std.specs.Prelude.{◌≡◌, ◌≢◌, ◌≤◌, ℕ, List, [], ◌∷◌, ◌++◌, if◌then◌else◌, IfOk, length, take, unwrap_or};
+//! What a handle holds: the settings of a device, or a device core. A core borrows its settings for
+//! as long as it is there.
+ghost use Rattle.std.specs.Prelude.{◌≡◌, ◌≢◌, ◌≤◌, ℕ, List, [], ◌∷◌, ◌++◌, if◌then◌else◌, IfOk};
+ghost use Rattle.std.specs.Prelude.{length, take, unwrap_or};
 ghost use Rattle.cct_model_wire.specs.declared.device.DeviceSetup.{DeviceSetup};
 ghost use Rattle.cct_model_wire.specs.declared.wire.TheConstants.{MOST_SENT};
 ghost use Rattle.cct_model_wire.specs.Device.{IsSound};
@@ -16,7 +18,8 @@ use cct_hopper::Hopper;
 use cct_model_wire::{COIN_PLACES, DeviceBody, DeviceSetup, MOST_SENT};
 use std::alloc::{AllocError, Global};
 
-/// Settings, or a coin acceptor, a hopper or a bill acceptor. Its contracts tell a device by all that it met, newest first.
+/// Settings, or a coin acceptor, a hopper or a bill acceptor. Its contracts tell a device by all
+/// that it met, newest first.
 #[derive(Drop)]
 pub enum Held {
     Settings(DeviceSetup),
@@ -26,7 +29,8 @@ pub enum Held {
 }
 
 impl Held {
-    ghost use Rattle.cct_c.specs.Held.{HasHeard, StandsFor, acceptor_code, device_code, met_alien, met_paying, met_put, path_told, paying_code, put_code};
+    ghost use Rattle.cct_c.specs.Held.{HasHeard, StandsFor, acceptor_code, device_code, met_alien};
+    ghost use Rattle.cct_c.specs.Held.{met_paying, met_put, path_told, paying_code, put_code};
 
     /// The device of a setup as after power-up.
     pub(crate) fn device(alloc: Global, setup: &'static DeviceSetup) -> Result<Held, AllocError>
@@ -43,8 +47,10 @@ impl Held {
 
     /// One byte more is heard.
     pub(crate) fn byte(&mut self, byte: u8) -> u32
-        ensures stands { (d : DeviceSetup) (past : List Met) → StandsFor self.old d past → StandsFor self.new d past }
-        ensures heard { (bytes : List ℕ) → HasHeard self.old bytes → HasHeard self.new (bytes ++ byte ∷ []) }
+        ensures stands { (d : DeviceSetup) (past : List Met) → StandsFor self.old d past →
+            StandsFor self.new d past }
+        ensures heard { (bytes : List ℕ) → HasHeard self.old bytes →
+            HasHeard self.new (bytes ++ byte ∷ []) }
         ensures code { result ≡ device_code self.old }
     {
         match self {
@@ -64,8 +70,8 @@ impl Held {
         }
     }
 
-    /// A gap: the device acts on what the bytes since the last one ask. Its answer goes to the front of `out`, which has
-    /// room for the longest message; else nothing happens.
+    /// A gap: the device acts on what the bytes since the last one ask. Its answer goes to the
+    /// front of `out`, which has room for the longest message; else nothing happens.
     pub(crate) fn answer(&mut self, out: &mut [u8], written: &mut usize) -> u32
         ensures stands { (d : DeviceSetup) (past : List Met) (bytes : List ℕ) → MOST_SENT ≤ length out.old
             → StandsFor self.old d past → HasHeard self.old bytes → StandsFor self.new d (heard (asks_of d bytes) ∷ past) }
@@ -74,7 +80,8 @@ impl Held {
         ensures said { (d : DeviceSetup) (past : List Met) (bytes : List ℕ) → MOST_SENT ≤ length out.old
             → StandsFor self.old d past → HasHeard self.old bytes → result ≡ OK
             → take written.new out.new ≡ unwrap_or (answer d past bytes) [] }
-        ensures gap { (bytes : List ℕ) → MOST_SENT ≤ length out.old → HasHeard self.old bytes → HasHeard self.new [] }
+        ensures gap { (bytes : List ℕ) → MOST_SENT ≤ length out.old → HasHeard self.old bytes →
+            HasHeard self.new [] }
         ensures refused { result ≢ OK → (out.new ≡ out.old) × (written.new ≡ written.old) }
     {
         if out.len() < MOST_SENT {
@@ -107,7 +114,7 @@ impl Held {
         }
     }
 
-    /// A coin or a bill of a place is put in; the sorter path of a coin that is taken is told.
+    /// A coin or a bill of a place is put in; the sorter path of a coin that is taken is reported.
     pub(crate) fn put(&mut self, place: u8, path: &mut u8) -> u32
         ensures stands { (d : DeviceSetup) (past : List Met) → 1 ≤ place → place ≤ COIN_PLACES → StandsFor self.old d past
             → StandsFor self.new d (met_put self.old place past) }
@@ -201,7 +208,8 @@ impl Held {
     }
 }
 
-/// What a call answers to a coin of which this became; the sorter path of one that was taken is told.
+/// What a call answers to a coin of which this became; the sorter path of one that was taken is
+/// reported.
 fn inserted(inserted: Inserted, path: &mut u8) -> u32
     ensures code { result ≡ inserted_code inserted }
     ensures path { path.new ≡ inserted_path inserted path.old }

@@ -51,7 +51,7 @@ pub struct LhTotals {
     pub sold: u64,
 }
 
-/// A host, and the line of the entry that is told.
+/// A host, and the line of the entry that is reported.
 #[derive(Drop)]
 pub struct Hosted {
     poll: Poll<'static>,
@@ -75,7 +75,8 @@ impl Sink for Nowhere {
 }
 
 impl Hosted {
-    /// A host of a machine, over what its part holds; else what a call answers, with the index of a record that is bad.
+    /// A host of a machine, over what its part holds; else what a call answers, with the index of a
+    /// record that is bad.
     pub(crate) fn start(
         alloc: Global,
         machine: &'static Machine,
@@ -100,13 +101,15 @@ impl Hosted {
         }
     }
 
-    /// What the program is to do next at an address. A record that is due there is put: its calls are the next.
+    /// What the program is to do next at an address. A record that is due there is put: its calls
+    /// are the next.
     pub(crate) fn ask(&mut self, address: u8, ask: &mut LhAsk, out: &mut [u8]) -> u32
         // Nothing is to be sent, and no line to be taken, while a call on the part is noted.
         ensures settled { result ≡ OK → (ask.new.what ≡ SEND) ⊎ (ask.new.what ≡ TAKE)
             → (disk_of self.new.poll.host).calls ≡ [] }
         // The message is the one that the host then heard a reply to.
-        ensures sends { result ≡ OK → ask.new.what ≡ SEND → take ask.new.count out.new ≡ self.new.poll.piece.items }
+        ensures sends { result ≡ OK → ask.new.what ≡ SEND → take ask.new.count out.new
+            ≡ self.new.poll.piece.items }
     {
         if out.len() < MOST_TEXT {
             return NO_ROOM;

@@ -1,4 +1,4 @@
-//! Hosts behind handles. Each call takes a handle, and gives it back through `back` as it was.
+//! Hosts after handles. Each call takes a handle, and gives it back through `back` as it was.
 
 use crate::codes::{BAD_HANDLE, NO_MEMORY};
 use crate::devices::hand_out;
@@ -8,7 +8,7 @@ use crate::kept::Kept;
 use crate::machine::Machine;
 use std::alloc::Global;
 
-/// Keeps the devices of a machine behind a handle.
+/// Keeps the devices of a machine after a handle.
 #[unsafe(no_mangle)]
 pub extern "C" fn lh_raw_machine_new(
     alloc: Global,

@@ -1,5 +1,5 @@
-//! The parts for a program in C or another language: checks, frames, requests, replies, a framer, device cores that hear
-//! bytes, and a host, step by step. `litchihull.h` says what each call does.
+//! The parts for a program in C or another language: checks, frames, requests, replies, a framer,
+//! device cores that hear bytes, and a host, step by step. `litchihull.h` says what each call does.
 #![tactic(auto)]
 
 mod checks;

@@ -19,7 +19,8 @@ pub struct Machine {
 }
 
 impl Machine {
-    /// The machine that a text of setup lines says; else what a call answers, with the number of the line that is refused.
+    /// The machine that a text of setup lines says; else what a call answers, with the number of
+    /// the line that is refused.
     pub(crate) fn read(alloc: Global, text: &[u8], line: &mut u32) -> Result<Machine, u32> {
         let Ok(text) = text.to_vec(alloc) else {
             return Err(NO_MEMORY);

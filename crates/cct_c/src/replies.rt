@@ -1,5 +1,6 @@
 //! Replies are read out of what was heard after what was sent.
-ghost use Rattle.std.specs.Prelude.{◌≡◌, ◌≢◌, ◌≤◌, MatchOption, MatchResult, None, Some, length, slice_get, take};
+ghost use Rattle.std.specs.Prelude.{◌≡◌, ◌≢◌, ◌≤◌, MatchOption, MatchResult, None, Some, length};
+ghost use Rattle.std.specs.Prelude.{slice_get, take};
 ghost use Rattle.cct_model_wire.specs.Exchange.{after_echo, got};
 ghost use Rattle.std.specs.List.{flat_map};
 ghost use Rattle.cct_model_wire.specs.Reply.{pair_bytes, reply_shown};
@@ -16,7 +17,8 @@ use cct_wire::{Heard, hear};
 /// The most bytes of a text.
 pub const MOST_TEXT: usize = 255;
 
-/// A reply that was read. Which fields belong to a form is said in `litchihull.h`; the others are 0.
+/// A reply that was read. Which fields belong to a form is said in `litchihull.h`; the others are
+/// 0.
 #[repr(C)]
 #[derive(Clone, Copy)]
 pub struct LhReply {
@@ -66,7 +68,8 @@ pub extern "C" fn lh_raw_reply_read(
     heard: &[u8],
     reply: &mut LhReply,
 ) -> u32
-    ensures answer { result ≡ reply_answer (kind_of check) (slice_get forms form) addr sent.now heard.now }
+    ensures answer { result ≡ reply_answer (kind_of check) (slice_get forms form) addr sent.now
+        heard.now }
     // The fields tell the reply that was got; where there was none, nothing changes.
     ensures told { MatchOption (got_by (kind_of check) addr (slice_get forms form) sent.now heard.now)
         ((result ≢ OK) × (reply.new ≡ reply.old)) (λ y. (result ≡ OK) × Tells y reply.new) }

@@ -15,7 +15,8 @@ use cct_frame::FrameView;
 use cct_model_wire::{MOST_SENT, Request};
 use cct_msg::{encode_request, read_request};
 
-/// Writes the request with a header and data bytes, from the host to an address, to the front of `out`.
+/// Writes the request with a header and data bytes, from the host to an address, to the front of
+/// `out`.
 #[unsafe(no_mangle)]
 pub extern "C" fn lh_raw_request_write(
     check: u8,
@@ -25,7 +26,8 @@ pub extern "C" fn lh_raw_request_write(
     out: &mut [u8],
     written: &mut usize,
 ) -> u32
-    ensures answer { result ≡ request_answer (kind_of check) to (length out.old) (in_clear (request_of header body.now)) }
+    ensures answer { result ≡ request_answer (kind_of check) to (length out.old)
+        (in_clear (request_of header body.now)) }
     ensures written { (kind : CheckKind) (q : Request) → kind_of check ≡ Some kind
         → in_clear (request_of header body.now) ≡ Some q → result ≡ OK → take written.new out.new ≡ ask kind to q }
     ensures refused { result ≢ OK → (out.new ≡ out.old) × (written.new ≡ written.old) }
@@ -41,7 +43,8 @@ pub extern "C" fn lh_raw_request_write(
     put(piece.as_slice(), out, written)
 }
 
-/// The request with a header and data bytes, but none whose data bytes are under a cipher: those aren't kept.
+/// The request with a header and data bytes, but none whose data bytes are under a cipher: those
+/// aren't kept.
 fn request_of(header: u8, body: &[u8]) -> Option<Request>
     ensures { result ≡ in_clear (request_of header body.now) }
 {

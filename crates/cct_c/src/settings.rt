@@ -1,6 +1,7 @@
 //! What a device is, as a program in another language says it.
 ghost use Rattle.std.specs.Prelude.{◌≡◌, All, IfOk, IsTrue};
-ghost use Rattle.cct_model_wire.specs.Device.{AreSoundPlaces, IsId, IsPrinting, IsSound, IsSoundBody, IsWord};
+ghost use Rattle.cct_model_wire.specs.Device.{AreSoundPlaces, IsId, IsPrinting, IsSound};
+ghost use Rattle.cct_model_wire.specs.Device.{IsSoundBody, IsWord};
 ghost use Rattle.cct_model_wire.specs.declared.device.DeviceBody.TheVariants.{Hopper};
 
 use crate::codes::{
@@ -43,7 +44,8 @@ pub struct LhSettings {
     pub ids: [[u8; 6]; COIN_PLACES],
 }
 
-/// The setup that settings say, or what a call answers where a code in them is none. It may be out of its ranges.
+/// The setup that settings say, or what a call answers where a code in them is none. It may be out
+/// of its ranges.
 pub(crate) fn setup_of(settings: &LhSettings) -> Result<DeviceSetup, u32>
     ensures { IfOk result (λ d. (d.addr ≡ settings.now.address) × (d.serial ≡ settings.now.serial)) }
 {
@@ -68,7 +70,7 @@ pub(crate) fn setup_of(settings: &LhSettings) -> Result<DeviceSetup, u32>
     })
 }
 
-/// What kind of device settings say. No device tells the values of its coins or bills.
+/// What kind of device settings say. No device shows the values of its coins or bills.
 fn body_of(settings: &LhSettings) -> Option<DeviceBody> {
     let count = settings.count;
     let values = [0; COIN_PLACES];

@@ -2,7 +2,8 @@
 ghost use Rattle.std.specs.Prelude.{◌≡◌, ◌*◌, List, ℕ, [], ◌∷◌, ◌++◌};
 ghost use Rattle.cct_check.specs.Check.{crc as crc_of, crc_after};
 
-/// What eight bits 0 make of a register whose high byte is the place in the table and whose low byte is 0.
+/// What eight bits 0 make of a register whose high byte is the place in the table and whose low
+/// byte is 0.
 static TABLE: [u16; 256] = [
     0x0000, 0x1021, 0x2042, 0x3063, 0x4084, 0x50a5, 0x60c6, 0x70e7, 0x8108, 0x9129, 0xa14a, 0xb16b,
     0xc18c, 0xd1ad, 0xe1ce, 0xf1ef, 0x1231, 0x0210, 0x3273, 0x2252, 0x52b5, 0x4294, 0x72f7, 0x62d6,
@@ -28,8 +29,8 @@ static TABLE: [u16; 256] = [
     0x2e93, 0x3eb2, 0x0ed1, 0x1ef0,
 ];
 
-/// The CRC of bytes: polynomial x^16 + x^12 + x^5 + 1, the register starts at 0, the most significant bit of a byte
-/// goes first, and nothing is reflected or inverted (CRC-16/XMODEM).
+/// The CRC of bytes: polynomial x^16 + x^12 + x^5 + 1, the register starts at 0, the most
+/// significant bit of a byte goes first, and nothing is reflected or inverted (CRC-16/XMODEM).
 #[tactic(auto, unfolding(crate::specs::Check::crc))]
 pub fn crc16(bytes: &[u8]) -> u16
     ensures { result ≡ crc_of bytes.now }

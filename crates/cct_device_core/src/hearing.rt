@@ -1,5 +1,6 @@
 //! What the bytes that a device hears ask of it.
-ghost use Rattle.std.specs.Prelude.{◌≡◌, true, false, ℕ, List, [], ◌∷◌, ◌++◌, None, Some, MatchOption, unwrap_or};
+ghost use Rattle.std.specs.Prelude.{◌≡◌, true, false, ℕ, List, [], ◌∷◌, ◌++◌, None, Some};
+ghost use Rattle.std.specs.Prelude.{MatchOption, unwrap_or};
 ghost use Rattle.cct_wire.specs.Framer.{Since};
 ghost use Rattle.cct_device_core.specs.Listening.{is_for};
 ghost use Rattle.cct_model_wire.specs.declared.device.DeviceSetup.{DeviceSetup};
@@ -19,13 +20,14 @@ pub struct Asked {
     pub asker: u8,
 }
 
-/// How a device hears the bytes of the wire, one by one. The first byte of a message tells whom it is for: where that is
-/// another device, the others pass by, since whatever they are asks nothing of this one. Its contracts tell it by the
-/// bytes that came since the last gap.
+/// How a device hears the bytes of the wire, one by one. The first byte of a message says whom it
+/// is for: where that is another device, the others pass by, since whatever they are asks nothing
+/// of this one. Its contracts tell it by the bytes that came since the last gap.
 #[derive(Clone, Copy, Debug)]
 pub struct Listener {
     framer: Framer,
-    /// Whether the bytes since the gap are of a message for another device. The framer has none of them.
+    /// Whether the bytes since the gap are of a message for another device. The framer has none of
+    /// them.
     elsewhere: bool,
 }
 
@@ -84,7 +86,8 @@ impl Listener {
         self.elsewhere = false;
     }
 
-    /// Whether the bytes since the gap are of a message for another device. They ask nothing of this one.
+    /// Whether the bytes since the gap are of a message for another device. They ask nothing of
+    /// this one.
     #[inline]
     #[tactic(auto, using(crate::proofs::Listening::asks_nothing))]
     pub fn passes_by(&self) -> bool
@@ -94,14 +97,14 @@ impl Listener {
         self.elsewhere
     }
 
-    /// What the bytes since the gap ask of the device of a setup, or nothing where they are no message under its check,
-    /// or none that asks something of it.
+    /// What the bytes since the gap ask of the device of a setup, or nothing where they are no
+    /// message under its check, or none that asks something of it.
     #[inline]
     #[tactic(auto, using(crate::proofs::Listening::asks_nothing))]
     pub fn asked(&self, setup: &DeviceSetup) -> Option<Asked>
         requires { kind_of self.now ≡ setup.now.kind }
-        // The bytes since the last gap ask nothing of a device if they are no message under its check, or are for
-        // another address, though it takes in no byte of a message for another.
+        // The bytes since the last gap ask nothing of a device if they are no message under its
+        // check, or are for another address, though it takes in no byte of a message for another.
         ensures { (bytes : List ℕ) → HeardSince self.now setup.now.addr bytes
             → MatchOption result (asks_of setup.now bytes ≡ None)
             (λ asked. (asks_of setup.now bytes ≡ Some asked.request)
@@ -115,7 +118,8 @@ impl Listener {
     }
 }
 
-/// Whether the first byte of a message tells the device at an address that it is for it, or for all.
+/// Whether the first byte of a message shows the device at an address that it is for it, or for
+/// all.
 #[inline]
 fn is_for(address: u8, to: u8) -> bool
     ensures { result ≡ is_for address to }
@@ -152,8 +156,8 @@ fn asked_by(setup: &DeviceSetup, view: &FrameView<'_>) -> Option<Asked>
     }
 }
 
-/// What a whole piece asks of the device of a setup, or nothing where it is no message under its check, or none that asks
-/// something of it.
+/// What a whole piece asks of the device of a setup, or nothing where it is no message under its
+/// check, or none that asks something of it.
 #[inline(always)]
 #[tactic(auto, unfolding(cct_model_wire::specs::Exchange::asks_of, cct_model_wire::specs::Exchange::asker))]
 pub fn asked_whole(setup: &DeviceSetup, piece: &[u8]) -> Option<Asked>

@@ -1,4 +1,5 @@
-//! What every device does: it hears what the bytes of the wire ask of it, tells what it is, and gives its reply.
+//! What every device does: it hears what the bytes of the wire ask of it, says what it is, and
+//! gives its reply.
 #![tactic(auto)]
 
 mod hearing;

@@ -1,4 +1,5 @@
-//! The replies that every device gives (ccTalk Generic Specification 4, part 2), and how it gives one.
+//! The replies that every device gives (ccTalk Generic Specification 4, part 2), and how it gives
+//! one.
 ghost use Rattle.std.specs.Prelude.{◌≡◌, ◌<◌, ◌^◌, [], false, true, IfSome, MatchOption};
 ghost use Rattle.std.specs.Option.{option_map, option_or};
 ghost use Rattle.cct_model_wire.specs.Device.{common_reply};
@@ -18,8 +19,8 @@ const REVISION: Reply<'static> = Reply::Revision {
     minor: 0,
 };
 
-/// The reply of a device to a request that every device answers, or none where its kind alone may know it. A reset is
-/// acknowledged here; what it clears is the device's.
+/// The reply of a device to a request that every device answers, or none where its kind alone may
+/// know it. A reset is acknowledged here; what it clears is the device's.
 #[tactic(auto, unfolding(cct_model_wire::specs::Device::common_reply))]
 pub fn common_reply<'s>(setup: &'s DeviceSetup, request: Request) -> Option<Reply<'s>>
     requires serial { setup.now.serial < 2 ^ 24 }
@@ -51,8 +52,9 @@ fn text(text: &[u8]) -> Reply<'_>
     Reply::Text { text }
 }
 
-/// Gives a device's reply to a request, or none, to the asker: true with its bytes in `out`, or false with nothing there
-/// where there is none. An address poll alone is answered without a reply, by the bare address.
+/// Gives a device's reply to a request, or none, to the asker: true with its bytes in `out`, or
+/// false with nothing there where there is none. An address poll alone is answered without a reply,
+/// by the bare address.
 #[inline(always)]
 pub fn give(
     setup: &DeviceSetup,

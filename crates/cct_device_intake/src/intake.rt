@@ -1,5 +1,6 @@
-//! What a device that takes money holds, whether coins or bills (ccTalk Generic Specification 4, part 2): headers 231 and
-//! 230 set and tell its inhibit mask, 228 and 227 its master inhibit, and 225 tells its accept counter.
+//! What a device that takes money holds, whether coins or bills (ccTalk Generic Specification 4,
+//! part 2): headers 231 and 230 set and tell its inhibit mask, 228 and 227 its master inhibit, and
+//! 225 shows its accept counter.
 ghost use Rattle.std.specs.Prelude.{◌≡◌, ◌<◌, ◌≤◌, ◌^◌, ℕ, suc, List, [], ◌∷◌, false, IfOk, IfSome};
 ghost use Rattle.std.specs.Option.{option_map};
 ghost use Rattle.cct_model_wire.specs.declared.coin.Pair.{Pair};
@@ -18,8 +19,8 @@ const COUNTS: u32 = 1 << 24;
 
 /// The inhibits, the events and the accept counter of a device that takes money.
 ///
-/// A contract tells it by the number at which its accept counter started, by all settings and all events since its last
-/// reset, newest first, and by how much it ever accepted.
+/// A contract shows it by the number at which its accept counter started, by all settings and all
+/// events since its last reset, newest first, and by how much it ever accepted.
 #[derive(Drop)]
 pub struct Intake {
     /// The inhibits, and the sorter paths where the device has a sorter.
@@ -33,7 +34,8 @@ pub struct Intake {
 impl Intake {
     ghost use Rattle.cct_device_intake.specs.Intake.{Holds, IsInhibits, is_setting};
 
-    /// One as after a reset, with its accept counter at a number below 2^24. This takes all memory that it ever has.
+    /// One as after a reset, with its accept counter at a number below 2^24. This takes all memory
+    /// that it ever has.
     ///
     /// Fails only where there is no memory for it.
     pub fn new(alloc: Global, accepts: u32) -> Result<Intake, AllocError>
@@ -111,8 +113,8 @@ impl Intake {
         Reply::Ack
     }
 
-    /// The reply to a request that sets nothing, or none where the request reads none of the inhibits and not the accept
-    /// counter.
+    /// The reply to a request that sets nothing, or none where the request reads none of the
+    /// inhibits and not the accept counter.
     pub fn told(&self, request: Request) -> Option<Reply<'static>>
         ensures reply { (start accepted : ℕ) (set : List Setting) (pushed : List Pair) (past : List Met)
             → Holds self.now start set pushed accepted → IsInhibits set past → is_setting request ≡ false

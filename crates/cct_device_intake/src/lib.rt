@@ -1,4 +1,5 @@
-//! What the devices that take money have in common: their inhibits, their events and their accept counter.
+//! What the devices that take money have in common: their inhibits, their events and their accept
+//! counter.
 #![tactic(auto)]
 
 mod intake;

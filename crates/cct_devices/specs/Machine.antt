@@ -11,15 +11,18 @@ use Rattle.cct_devices.specs.declared.machine.Machine.{Machine}
 abbrev pub setup_of : Machine → Setup
 setup_of machine = buses.setup_of machine.bus
 
--- Devices on a line stand for a transcript, newest entry first, and for the bytes of a message that isn't whole yet.
+-- Devices on a line stand for a transcript, newest entry first, and for the bytes of a message that
+-- isn't whole yet.
 pub record StandsFor (machine : Machine) (past : List Entry) (bytes : List ℕ) : Type 0 where
   pub bus : buses.StandsFor machine.bus past
   pub held : machine.heard.items ≡ bytes
 
--- What devices answer to bytes, without their echo: byte for byte what the definitions make of all that happened.
+-- What devices answer to bytes, without their echo: byte for byte what the definitions make of all
+-- that happened.
 abbrev pub answered_to : Setup → List Entry → List ℕ → List ℕ
 answered_to setup past bytes = drop (length bytes) (heard_after setup past bytes)
 
 -- The past goes on by an exchange of these bytes, of which none is left.
 abbrev pub HasActed : Setup → List Entry → List ℕ → Machine → Type 0
-HasActed setup past bytes machine = StandsFor machine (entry.Wire 0 bytes (heard_after setup past bytes) ∷ past) []
+HasActed setup past bytes machine =
+    StandsFor machine (entry.Wire 0 bytes (heard_after setup past bytes) ∷ past) []

@@ -18,8 +18,8 @@ const ROOM: usize = 256;
 /// After so many silences one after another, in which no event is left, the line is at its end.
 pub(crate) const MOST_SILENCES: u32 = 600;
 
-/// The devices hear the line, and answer each message once it is whole. At each silence the next event happens to its
-/// device. At the end of the line, nothing is left to do.
+/// The devices hear the line, and answer each message once it is whole. At each silence the next
+/// event happens to its device. At the end of the line, nothing is left to do.
 pub(crate) fn answer<S: Source, L: Line>(
     machine: &mut Machine<'_>,
     events: &mut Events<S>,

@@ -69,7 +69,8 @@ fn refused(number: u32, kind: LineKind) -> Stop {
     Stop::Line(Text::Events, Refused { number, kind })
 }
 
-/// What an events line says: `coin`, `alien`, `bill`, `fall`, `jam` or `reset`. No other word is one of an events line.
+/// What an events line says: `coin`, `alien`, `bill`, `fall`, `jam` or `reset`. No other word is
+/// one of an events line.
 fn read_event(line: &[u8]) -> Result<Event, LineKind>
     ensures { IfOk result (λ event. IsPlaced event.what) }
 {

@@ -1,5 +1,6 @@
 //! The devices on the line, and what they heard of a message that isn't whole yet.
-ghost use Rattle.std.specs.Prelude.{◌≡◌, ◌≤◌, ◌<◌, ℕ, List, [], ◌∷◌, ◌++◌, drop, length, IfOk, IsTrue, false, true};
+ghost use Rattle.std.specs.Prelude.{◌≡◌, ◌≤◌, ◌<◌, ℕ, List, [], ◌∷◌, ◌++◌, drop, length, IfOk};
+ghost use Rattle.std.specs.Prelude.{IsTrue, false, true};
 ghost use Rattle.cct_model.specs.terms.wire.TheConstants.{MOST_SENT};
 ghost use Rattle.cct_model.specs.lines.entry.Entry.{Entry};
 ghost use Rattle.cct_model.specs.lines.entry.Entry.TheVariants as entry;
@@ -17,8 +18,8 @@ use cct_model::{Happening, MOST_HEARD, MOST_SENT, Setup};
 use cct_wire::Link;
 use std::alloc::{AllocError, Global};
 
-/// The devices of a setup on a line. Contracts tell it by the transcript of all that happened, newest entry first, and by
-/// the bytes of a message that isn't whole yet.
+/// The devices of a setup on a line. Contracts tell it by the transcript of all that happened,
+/// newest entry first, and by the bytes of a message that isn't whole yet.
 #[derive(Drop)]
 pub struct Machine<'s> {
     bus: Bus<'s>,
@@ -42,8 +43,8 @@ impl<'s> Machine<'s> {
         })
     }
 
-    /// The devices hear one byte more. Once the message is whole by the length that it tells, they act on it, and what
-    /// they answer stands in the place of what `said` holds; else nothing does.
+    /// The devices hear one byte more. Once the message is whole by the length that it tells, they
+    /// act on it, and what they answer is in the place of what `said` holds; else nothing does.
     pub fn hear(&mut self, byte: u8, said: &mut ArrayVec<u8, MOST_HEARD>)
         ensures setup { setup_of self.new ≡ setup_of self.old }
         ensures more { (past : List Entry) (bytes : List ℕ) → StandsFor self.old past bytes
@@ -71,7 +72,8 @@ impl<'s> Machine<'s> {
         self.heard.clear();
     }
 
-    /// Something happens to the device at an address: true then, and false where there is none whose family knows it.
+    /// Something happens to the device at an address: true then, and false where there is none
+    /// whose family knows it.
     pub fn befall(&mut self, addr: u8, what: Happening) -> bool
         requires placed { IsPlaced what }
         ensures setup { setup_of self.new ≡ setup_of self.old }
@@ -87,7 +89,8 @@ impl<'s> Machine<'s> {
     }
 }
 
-/// Whether bytes are at least as many as the message has that they begin. Fewer leave room for one more.
+/// Whether bytes are at least as many as the message has that they begin. Fewer leave room for one
+/// more.
 fn is_whole(bytes: &[u8]) -> bool
     ensures whole { result ≡ is_complete bytes.now }
     ensures room { result ≡ false → length bytes.now < MOST_SENT }
@@ -95,7 +98,8 @@ fn is_whole(bytes: &[u8]) -> bool
     bytes.len() >= 5 && bytes.len() - 5 >= usize::from(bytes[1])
 }
 
-/// The devices of a bus act on a message, and what they answer stands in the place of what `said` holds.
+/// The devices of a bus act on a message, and what they answer is in the place of what `said`
+/// holds.
 fn answer(bus: &mut Bus<'_>, bytes: &[u8], said: &mut ArrayVec<u8, MOST_HEARD>)
     requires short { length bytes.now ≤ MOST_SENT }
     ensures setup { buses.setup_of bus.new ≡ buses.setup_of bus.old }

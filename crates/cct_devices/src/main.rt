@@ -1,5 +1,5 @@
-//! The program: devices on a line, which a host of others talks to. A setup file names them, an events file tells what
-//! happens to them, and the port is a terminal that is set up already.
+//! The program: devices on a line, which a host of others talks to. A setup file names them, an
+//! events file says what happens to them, and the port is a terminal that is set up already.
 #![tactic(auto)]
 
 mod answer;
@@ -30,7 +30,7 @@ exit status 0: every event was read, and 600 silences came one after another; 1:
 
 /// What the words of the command line ask for.
 enum Wanted<'w> {
-    /// To tell how the program is called.
+    /// To say how the program is called.
     Help,
     /// To put devices on a line.
     Devices(Places<'w>),
@@ -95,7 +95,8 @@ fn unopened(rt: &impl Eprint, path: &str) -> Stop {
     Stop::Unopened
 }
 
-/// Says on standard error why the devices stopped, if there is something to say, and that isn't said yet.
+/// Says on standard error why the devices stopped, if there is something to say, and that isn't
+/// said yet.
 fn tell(rt: &HostRuntime, played: Result<(), Stop>) -> Status {
     let _ = match &played {
         Ok(()) | Err(Stop::Line(Text::Setup, _) | Stop::Unopened) => Ok(()),

@@ -1,5 +1,6 @@
 -- What the calls of a disk do to its bytes, and what a power cut may make of them.
-use Rattle.std.specs.Prelude.{◌≡◌, ◌⊎◌, ℕ, ◌+◌, ◌≤◌, Bool, true, Option, Some, is_some, List, ◌++◌, length, take, drop}
+use Rattle.std.specs.Prelude.{◌≡◌, ◌⊎◌, ℕ, ◌+◌, ◌≤◌, Bool, true, Option, Some, is_some, List, ◌++◌}
+use Rattle.std.specs.Prelude.{length, take, drop}
 use Rattle.std.specs.Prelude.{Result, MatchResult}
 use Rattle.cct_edge.specs.Faults.{next_count}
 
@@ -25,39 +26,47 @@ IsWithin old new = (c : List ℕ) → new c → old c
 abbrev pub Only : List ℕ → (List ℕ → Type 0) → Type 0
 Only bytes images = (c : List ℕ) → images c → c ≡ bytes
 
--- The clock goes on: a cut since t might have left what it might have left before, or what it may leave now.
-pub record ClockGoesOn (before now : ℕ) (past since : ℕ → List ℕ → Type 0) (may_leave : List ℕ → Type 0)
+-- The clock goes on: a cut since t might have left what it might have left before, or what it may
+-- leave now.
+pub record ClockGoesOn (before now : ℕ) (past since : ℕ → List ℕ → Type 0)
+    (may_leave : List ℕ → Type 0)
     : Type 0 where
   pub later : before ≤ now
   pub nothing_else : (t : ℕ) (c : List ℕ) → t ≤ before → since t c → past t c ⊎ may_leave c
   pub keeps : (t : ℕ) (c : List ℕ) → t ≤ before → past t c → since t c
 
 -- the same from one disk to another
-abbrev pub Elapses : {D : Type 0} → (D → ℕ) → (D → ℕ → List ℕ → Type 0) → (D → List ℕ → Type 0) → D → D → Type 0
+abbrev pub Elapses : {D : Type 0} → (D → ℕ) → (D → ℕ → List ℕ → Type 0) → (D → List ℕ → Type 0) →
+    D → D → Type 0
 Elapses moment left_since may_leave old new =
     ClockGoesOn (moment old) (moment new) (left_since old) (left_since new) (may_leave new)
 
--- A disk goes on to tell or not to tell its bytes, and to be honest or not, and has the same size; no power was cut.
-pub record GoesOn {D : Type 0} (size : D → ℕ) (honest : D → Bool) (seen : D → Option (List ℕ)) (cuts : D → ℕ)
+-- A disk goes on to tell or not to tell its bytes, and to be honest or not, and has the same size;
+-- no power was cut.
+pub record GoesOn {D : Type 0} (size : D → ℕ) (honest : D → Bool) (seen : D → Option (List ℕ))
+    (cuts : D → ℕ)
     (old new : D) : Type 0 where
   pub same_size : size new ≡ size old
   pub same_honest : honest new ≡ honest old
   pub same_telling : is_some (seen new) ≡ is_some (seen old)
   pub same_cuts : cuts new ≡ cuts old
 
--- A disk goes on to tell or not to tell its bytes, and to be honest or not, and has the same size; its power may have
--- been cut.
-pub record Outlasts {D : Type 0} (size : D → ℕ) (honest : D → Bool) (seen : D → Option (List ℕ)) (cuts : D → ℕ)
+-- A disk goes on to tell or not to tell its bytes, and to be honest or not, and has the same size;
+-- its power may have been cut.
+pub record Outlasts {D : Type 0} (size : D → ℕ) (honest : D → Bool) (seen : D → Option (List ℕ))
+    (cuts : D → ℕ)
     (old new : D) : Type 0 where
   pub same_size : size new ≡ size old
   pub same_honest : honest new ≡ honest old
   pub same_telling : is_some (seen new) ≡ is_some (seen old)
   pub later_cuts : cuts old ≤ cuts new
 
--- The power was cut by this choice: a read gives one of the images that this might leave, and there is no other left.
-pub record IsCutBy {D : Type 0} (honest : D → Bool) (seen : D → Option (List ℕ)) (may_leave : D → List ℕ → Type 0)
+-- The power was cut by this choice: a read gives one of the images that this might leave, and there
+-- is no other left.
+pub record IsCutBy {D : Type 0} (honest : D → Bool) (seen : D → Option (List ℕ))
+    (may_leave : D → List ℕ → Type 0)
     (cut_to : D → ℕ → D → Type 0) (choice : ℕ) (old new : D) : Type 0 where
-  -- So a caller can tell that it came from exactly one such call.
+  -- So a caller can say that it came from exactly one such call.
   pub one : cut_to old choice new
   pub left : honest old ≡ true → (s : List ℕ) → seen new ≡ Some s → may_leave old s
   pub kept : honest old ≡ true → (s : List ℕ) → seen new ≡ Some s → Only s (may_leave new)
@@ -66,9 +75,10 @@ pub record IsCutBy {D : Type 0} (honest : D → Bool) (seen : D → Option (List
 abbrev pub CountsCut : {T E : Type 0} → ℕ → ℕ → Result T E → Type 0
 CountsCut before now result = MatchResult result (λ _. now ≡ next_count before) (λ _. now ≡ before)
 
--- a cut at any moment from `old` to `new` might have left only what has P; and one since an earlier moment only that, or
--- what it might have left before
-pub record LeavesOnly {D : Type 0} (moment : D → ℕ) (left_since : D → ℕ → List ℕ → Type 0) (old new : D)
+-- a cut at any moment from `old` to `new` might have left only what has P; and one since an earlier
+-- moment only that, or what it might have left before
+pub record LeavesOnly {D : Type 0} (moment : D → ℕ) (left_since : D → ℕ → List ℕ → Type 0)
+    (old new : D)
     (P : List ℕ → Type 0) : Type 0 where
   pub later : moment old ≤ moment new
   pub each : (c : List ℕ) → left_since new (moment old) c → P c
@@ -76,19 +86,22 @@ pub record LeavesOnly {D : Type 0} (moment : D → ℕ) (left_since : D → ℕ 
   pub before : (t : ℕ) (c : List ℕ) → t ≤ moment old → left_since new t c → left_since old t c ⊎ P c
 
 -- the disk is honest, a read gives the bytes of `image`, and a cut leaves nothing else
-pub record Holds {D : Type 0} (honest : D → Bool) (seen : D → Option (List ℕ)) (may_leave : D → List ℕ → Type 0)
+pub record Holds {D : Type 0} (honest : D → Bool) (seen : D → Option (List ℕ))
+    (may_leave : D → List ℕ → Type 0)
     (disk : D) (image : List ℕ) : Type 0 where
   pub keeps_synced : honest disk ≡ true
   pub tells : seen disk ≡ Some image
   pub only : Only image (may_leave disk)
 
--- The disk is honest, and tells what a read gives.
+-- The disk is honest, and says what a read gives.
 abbrev pub IsTrusted : {D : Type 0} → (D → Bool) → (D → Option (List ℕ)) → D → Type 0
 IsTrusted honest seen disk = (honest disk ≡ true) × (is_some (seen disk) ≡ true)
 
--- From `old` to `new` the disk was only read: a read gives the same, and no cut might have left anything new.
+-- From `old` to `new` the disk was only read: a read gives the same, and no cut might have left
+-- anything new.
 pub record OnlyReads {D : Type 0} (size : D → ℕ) (honest : D → Bool) (seen : D → Option (List ℕ))
-    (may_leave : D → List ℕ → Type 0) (moment : D → ℕ) (left_since : D → ℕ → List ℕ → Type 0) (cuts : D → ℕ)
+    (may_leave : D → List ℕ → Type 0) (moment : D → ℕ) (left_since : D → ℕ → List ℕ → Type 0)
+    (cuts : D → ℕ)
     (old new : D) : Type 0 where
   pub same_size : size new ≡ size old
   pub same_honest : honest new ≡ honest old

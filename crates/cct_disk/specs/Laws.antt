@@ -1,4 +1,4 @@
--- The laws of a disk, for a disk in memory and for one that tells nothing.
+-- The laws of a disk, for a disk in memory and for one that shows nothing.
 use Rattle.std.specs.Prelude.{◌≡◌, ℕ, Option, None, Some, List, [], ◌∷◌, get_or, length}
 use mathlib.Core.Path.{sym, ap, subst}
 use mathlib.Core.Logic.{inl, inr}
@@ -6,7 +6,7 @@ use Rattle.std.proofs.Math.Nat.{lt_irrefl}
 use Rattle.cct_disk.specs.Content.{Content, IsImage, IsImageSince, may_leave}
 use Rattle.cct_disk.specs.declared.traced.Change.{Change}
 
--- bytes that are told
+-- bytes that are reported
 abbrev pub told : Option (List ℕ) → List ℕ
 told None = []
 told (Some bytes) = bytes
@@ -17,14 +17,16 @@ pub fits_bytes : (content : Content) (bytes : List ℕ) → Some content.bytes �
 fits_bytes content bytes is = ap (λ (o : Option (List ℕ)). length (told o)) (sym is)
 
 -- what a read gives is an image
-pub bytes_are_image : (content : Content) (bytes : List ℕ) → Some content.bytes ≡ Some bytes → may_leave content bytes
+pub bytes_are_image : (content : Content) (bytes : List ℕ) → Some content.bytes ≡ Some bytes →
+    may_leave content bytes
 bytes_are_image content bytes is = record {
   size = fits_bytes content bytes is;
   same = λ place synced. ap (λ (o : Option (List ℕ)). get_or (told o) place 0) (sym is);
 }
 
 -- what a cut may leave now it might have left since any moment before
-pub now_counts : (past : List Change) (replaced bytes : List ℕ) (t : ℕ) (image : List ℕ) → IsImage past bytes image
+pub now_counts : (past : List Change) (replaced bytes : List ℕ) (t : ℕ) (image : List ℕ) →
+    IsImage past bytes image
     → IsImageSince past replaced bytes t image
 now_counts [] replaced bytes t image now = now
 now_counts (change ∷ past) replaced bytes t image now = inl now
@@ -34,9 +36,10 @@ pub now_only : (past : List Change) (replaced bytes image : List ℕ)
     → IsImageSince past replaced bytes (length past) image → IsImage past bytes image
 now_only [] replaced bytes image since = since
 now_only (change ∷ past) replaced bytes image (inl now) = now
-now_only (change ∷ past) replaced bytes image (inr earlier) = absurd (lt_irrefl (length past) earlier.0)
+now_only (change ∷ past) replaced bytes image (inr earlier) =
+    absurd (lt_irrefl (length past) earlier.0)
 
--- bytes that aren't told
+-- bytes that aren't reported
 abbrev IsUntold : Option (List ℕ) → Type 0
 IsUntold None = Unit
 IsUntold (Some bytes) = ⊥

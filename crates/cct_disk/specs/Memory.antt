@@ -1,13 +1,14 @@
 -- The value as which contracts see a disk in memory, and what a call makes of it.
-use Rattle.std.specs.Prelude.{◌≡◌, ◌⊎◌, ◌↔◌, ℕ, ◌+◌, true, Some, List, [], length, replicate, Result, IsErr, OnOk, OnErr}
+use Rattle.std.specs.Prelude.{◌≡◌, ◌⊎◌, ◌↔◌, ℕ, ◌+◌, true, Some, List, [], length, replicate}
+use Rattle.std.specs.Prelude.{Result, IsErr, OnOk, OnErr}
 use Rattle.cct_edge.specs.Faults.{HasCause, next_count}
 use Rattle.cct_edge.specs.Memory.{FailsNext}
 use Rattle.cct_disk.specs.Content.{Content, IsCut, written, written_torn}
 use Rattle.cct_disk.specs.Disk.{GoesOn, Outlasts}
 use Rattle.cct_disk.specs.Traced.{PassesRoom}
 
--- its content, how many writes, syncs and cuts changed it, the numbers of the calls that fail, and how many calls,
--- faults and cuts there were
+-- its content, how many writes, syncs and cuts changed it, the numbers of the calls that fail, and
+-- how many calls, faults and cuts there were
 pub record MemoryDisk : Type 0 where
   pub content : Content
   pub changes : ℕ
@@ -41,7 +42,8 @@ after_read disk = record disk { calls = next_count disk.calls }
 
 -- a disk after a change to this content
 abbrev pub after_change : Content → MemoryDisk → MemoryDisk
-after_change content disk = record disk { content = content; changes = disk.changes + 1; calls = next_count disk.calls }
+after_change content disk =
+    record disk { content = content; changes = disk.changes + 1; calls = next_count disk.calls }
 
 -- a disk after a write that failed, and that tore its range
 abbrev pub after_torn : ℕ → ℕ → List ℕ → MemoryDisk → MemoryDisk
@@ -58,28 +60,33 @@ pub record IsAfterCut (choice : ℕ) (old new : MemoryDisk) : Type 0 where
 -- from one disk to another it goes on
 abbrev pub MemoryGoesOn : MemoryDisk → MemoryDisk → Type 0
 MemoryGoesOn =
-    GoesOn (λ (s : MemoryDisk). length s.content.bytes) (λ _. true) (λ s. Some s.content.bytes) (λ s. s.cuts)
+    GoesOn (λ (s : MemoryDisk). length s.content.bytes) (λ _. true) (λ s. Some s.content.bytes)
+    (λ s. s.cuts)
 
 -- and outlasts a cut
 abbrev pub MemoryOutlasts : MemoryDisk → MemoryDisk → Type 0
 MemoryOutlasts =
-    Outlasts (λ (s : MemoryDisk). length s.content.bytes) (λ _. true) (λ s. Some s.content.bytes) (λ s. s.cuts)
+    Outlasts (λ (s : MemoryDisk). length s.content.bytes) (λ _. true) (λ s. Some s.content.bytes)
+    (λ s. s.cuts)
 
--- What a call answers, and what it leaves: it fails just where `Fails` holds, and then only counts the fault; else the
--- new disk is as `After` says.
-pub record Answers {T E : Type 0} (Fails : Type 0) (After : MemoryDisk → Type 0) (old new : MemoryDisk)
+-- What a call answers, and what it leaves: it fails just where `Fails` holds, and then only counts
+-- the fault; else the new disk is as `After` says.
+pub record Answers {T E : Type 0} (Fails : Type 0) (After : MemoryDisk → Type 0)
+    (old new : MemoryDisk)
     (result : Result T E) : Type 0 where
   pub fails : IsErr result ↔ Fails
   pub after : OnOk result (After new)
   pub after_fault : OnErr result (new ≡ after_fault old)
   pub cause : HasCause old.faults new.faults result
 
--- What a write answers that tears its range where it is told to fail, and what it leaves. Where it lacks room it only
--- counts the fault.
-pub record AnswersTorn {T E : Type 0} (choice at : ℕ) (bytes : List ℕ) (old new : MemoryDisk) (result : Result T E)
+-- What a write answers that tears its range where it is told to fail, and what it leaves. Where it
+-- lacks room it only counts the fault.
+pub record AnswersTorn {T E : Type 0} (choice at : ℕ) (bytes : List ℕ) (old new : MemoryDisk)
+    (result : Result T E)
     : Type 0 where
   pub fails : IsErr result ↔ (FailsNext old.fails old.calls ⊎ LacksRoom old (length bytes))
   pub after : OnOk result (new ≡ after_change (written at bytes old.content) old)
-  pub torn : OnErr result ((LacksRoom old (length bytes) → ⊥) → new ≡ after_torn choice at bytes old)
+  pub torn : OnErr result ((LacksRoom old (length bytes) → ⊥) → new
+      ≡ after_torn choice at bytes old)
   pub after_fault : OnErr result (LacksRoom old (length bytes) → new ≡ after_fault old)
   pub cause : HasCause old.faults new.faults result

@@ -1,4 +1,5 @@
--- A disk after its caller made all the calls that it noted: a read gives the same, and a power cut leaves no more.
+-- A disk after its caller made all the calls that it noted: a read gives the same, and a power cut
+-- leaves no more.
 use Rattle.std.specs.Prelude.{◌≡◌, ℕ, Bool, Option, List}
 use Rattle.cct_disk.specs.Disk.{IsWithin}
 

@@ -16,11 +16,13 @@ pub record IsTornAfterCut (choice : ℕ) (old new : TornMemory) : Type 0 where
 -- from one disk to another it goes on
 abbrev pub TornGoesOn : TornMemory → TornMemory → Type 0
 TornGoesOn =
-    GoesOn (λ (s : TornMemory). length s.memory.content.bytes) (λ _. true) (λ s. Some s.memory.content.bytes)
+    GoesOn (λ (s : TornMemory). length s.memory.content.bytes) (λ _. true)
+    (λ s. Some s.memory.content.bytes)
     (λ s. s.memory.cuts)
 
 -- and outlasts a cut
 abbrev pub TornOutlasts : TornMemory → TornMemory → Type 0
 TornOutlasts =
-    Outlasts (λ (s : TornMemory). length s.memory.content.bytes) (λ _. true) (λ s. Some s.memory.content.bytes)
+    Outlasts (λ (s : TornMemory). length s.memory.content.bytes) (λ _. true)
+    (λ s. Some s.memory.content.bytes)
     (λ s. s.memory.cuts)

@@ -1,5 +1,6 @@
 -- What a traced disk keeps of its trace, and which room is left.
-use Rattle.std.specs.Prelude.{◌≡◌, ◌⊎◌, ℕ, ◌+◌, ◌*◌, ◌<◌, ◌≤◌, Option, Some, None, List, [], ◌∷◌, length, reverse}
+use Rattle.std.specs.Prelude.{◌≡◌, ◌⊎◌, ℕ, ◌+◌, ◌*◌, ◌<◌, ◌≤◌, Option, Some, None, List, [], ◌∷◌}
+use Rattle.std.specs.Prelude.{length, reverse}
 use Rattle.std.specs.Prelude.{vec_capacity}
 use Rattle.cct_disk.specs.Content.{Content, unsynced_in}
 use Rattle.cct_disk.specs.declared.traced.Span.{Span}
@@ -8,14 +9,21 @@ use Rattle.cct_disk.specs.declared.traced.Change.TheVariants.{Wrote, Settled}
 use Rattle.cct_disk.specs.declared.traced.Traced.{Traced}
 use Rattle.cct_disk.specs.declared.traced.TheConstants.{MOST_CHANGES, MOST_ENTRIES, MOST_REPLACED}
 
--- the content of a traced disk: its bytes, its changes, newest first, and the bytes that the writes replaced
+-- the content of a traced disk: its bytes, its changes, newest first, and the bytes that the writes
+-- replaced
 abbrev pub content_of : Traced → Content
 content_of traced =
-    record { bytes = traced.bytes.items; past = reverse traced.trace.items; replaced = traced.replaced.items }
+    record {
+      bytes = traced.bytes.items;
+      past = reverse traced.trace.items;
+      replaced =
+          traced.replaced.items;
+    }
 
 -- there is room for one more change that replaces so many bytes
 abbrev pub HasRoom : Traced → ℕ → Type 0
-HasRoom traced more = (traced.changes < MOST_CHANGES) × (length traced.replaced.items + more ≤ MOST_REPLACED)
+HasRoom traced more =
+    (traced.changes < MOST_CHANGES) × (length traced.replaced.items + more ≤ MOST_REPLACED)
 
 -- after so many changes that replaced so many bytes, one more that replaces so many passes the room
 abbrev pub PassesRoom : ℕ → ℕ → ℕ → Type 0
@@ -53,12 +61,14 @@ pub record IsKept (traced : Traced) : Type 0 where
   pub few_changes : traced.changes ≤ MOST_CHANGES
   pub few_entries : length traced.trace.items ≤ 2 * traced.changes
 
--- the trace fits the bytes, and the counts are those of the trace, with room for what a cut writes again
+-- the trace fits the bytes, and the counts are those of the trace, with room for what a cut writes
+-- again
 pub record IsTraced (traced : Traced) : Type 0 where
   pub kept : IsKept traced
   pub few_unsynced : traced.unsynced ≤ length traced.replaced.items
   pub is_unsynced : traced.unsynced ≡ unsynced_in (reverse traced.trace.items)
-  pub cut_room : length traced.trace.items + writes_in (reverse traced.trace.items) ≤ 2 * traced.changes
+  pub cut_room : length traced.trace.items + writes_in (reverse traced.trace.items)
+      ≤ 2 * traced.changes
 
 -- a disk has this content after so many changes, and its trace fits
 pub record IsTracedAs (content : Content) (changes : ℕ) (disk : Traced) : Type 0 where

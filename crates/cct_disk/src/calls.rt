@@ -5,7 +5,7 @@ ghost use Rattle.cct_edge.specs.Memory.{FailsNext};
 
 use cct_edge::Failed;
 
-// Counts one more fault, and gives the error that tells it.
+// Counts one more fault, and gives the error that shows it.
 pub(crate) fn count_fault(faults: &mut u64) -> Failed
     ensures counted { faults.new ≡ next_count faults.old }
     ensures later { faults.old ≤ faults.new }

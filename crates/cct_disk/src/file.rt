@@ -1,8 +1,10 @@
 // A disk over a file, which tells nothing of its bytes.
-ghost use Rattle.std.specs.Prelude.{◌≡◌, ◌↔◌, false, true, None, IfOk, IsTrue, IsOk, IsErr, OnOk, OnErr, length};
+ghost use Rattle.std.specs.Prelude.{◌≡◌, ◌↔◌, false, true, None, IfOk, IsTrue, IsOk, IsErr, OnOk};
+ghost use Rattle.std.specs.Prelude.{OnErr, length};
 ghost use Rattle.cct_edge.specs.Faults.{CountsFaults, next_count};
 ghost use Rattle.cct_disk.specs.Disk.{CountsCut};
-ghost use Rattle.cct_disk.specs.File.{FileGoesOn, FileOutlasts, is_open, file_len, file_faults, file_cuts};
+ghost use Rattle.cct_disk.specs.File.{FileGoesOn, FileOutlasts, is_open, file_len, file_faults};
+ghost use Rattle.cct_disk.specs.File.{file_cuts};
 ghost use Rattle.cct_disk.specs.Laws.{untold_fits};
 
 use crate::Disk;
@@ -21,10 +23,12 @@ const PIECE: usize = 16_384;
 // So often.
 const PIECES: u64 = MADE_LEN / PIECE as u64;
 
-/// A disk over a file, which tells nothing of its bytes. `docs/JOURNAL.md` says what a real file does and doesn't do.
+/// A disk over a file, which tells nothing of its bytes. `docs/JOURNAL.md` says what a real file
+/// does and doesn't do.
 ///
-/// A cut leaves what was written, and answers Ok where there is a file. After a sync that failed there is none, and each
-/// call fails: the system may have dropped what was to be synced, and answer a later sync as done all the same.
+/// A cut leaves what was written, and answers Ok where there is a file. After a sync that failed
+/// there is none, and each call fails: the system may have dropped what was to be synced, and
+/// answer a later sync as done all the same.
 #[derive(Drop)]
 pub struct FileDisk<R: Files> {
     file: Option<R::File>,
@@ -35,11 +39,11 @@ pub struct FileDisk<R: Files> {
 
 /// A file of which a process can take the lock, so that no other process takes it.
 pub trait Lockable {
-    /// Takes the lock, without waiting, for as long as the file is open. The system lets go of it when the process ends,
-    /// however it ends.
+    /// Takes the lock, without waiting, for as long as the file is open. The system lets go of it
+    /// when the process ends, however it ends.
     ///
-    /// [`TryLockError::WouldBlock`] comes where another opening of the file has the lock, and [`TryLockError::Error`] where
-    /// the system has no lock for it.
+    /// [`TryLockError::WouldBlock`] comes where another opening of the file has the lock, and
+    /// [`TryLockError::Error`] where the system has no lock for it.
     fn take_lock(&self) -> Result<(), TryLockError>;
 }
 
@@ -54,11 +58,11 @@ impl Lockable for File {
 pub struct InUse;
 
 impl<R: Files> FileDisk<R> {
-    /// Opens a file, for reading and writing, at its length. One that isn't there is made: 2,097,152 zeros are written and
-    /// synced. It takes no lock, and heeds none.
+    /// Opens a file, for reading and writing, at its length. One that isn't there is made:
+    /// 2,097,152 zeros are written and synced. It takes no lock, and heeds none.
     ///
-    /// Where it can't be opened, made or measured, the disk has 2,097,152 bytes, and each call fails. A file that is made
-    /// and can't be filled is removed again.
+    /// Where it can't be opened, made or measured, the disk has 2,097,152 bytes, and each call
+    /// fails. A file that is made and can't be filled is removed again.
     pub fn open_file(rt: &R, path: &str) -> FileDisk<R>
         ensures len { is_open result ≡ false → file_len result ≡ MADE_LEN }
         ensures faults { file_faults result ≡ 0 }
@@ -70,8 +74,8 @@ impl<R: Files> FileDisk<R> {
         }
     }
 
-    /// As [`FileDisk::open_file`], and takes the lock of the file before a byte of it is read or written. The disk has the
-    /// lock until it is dropped, or a sync of it fails.
+    /// As [`FileDisk::open_file`], and takes the lock of the file before a byte of it is read or
+    /// written. The disk has the lock until it is dropped, or a sync of it fails.
     ///
     /// `InUse` where another process has the lock. Then nothing is written.
     pub fn open_locked(rt: &R, path: &str) -> Result<FileDisk<R>, InUse>
@@ -262,8 +266,8 @@ impl<R: Files> Disk for FileDisk<R> {
         ensures counted { CountsFaults (file_faults self.old) (file_faults self.new) result }
         ensures closed { is_open self.old ≡ false → IsErr result }
         ensures open { OnOk result (is_open self.new ≡ is_open self.old) }
-        // After a sync that failed there is no file any more: the system may have dropped what wasn't written, and
-        // report a later sync as done.
+        // After a sync that failed there is no file any more: the system may have dropped what
+        // wasn't written, and report a later sync as done.
         ensures given_up { OnErr result (is_open self.new ≡ false) }
     {
         let done = match &self.file {

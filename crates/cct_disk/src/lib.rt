@@ -1,4 +1,5 @@
-//! A disk of a fixed length whose power may be cut between any two calls: the trait, a disk in memory and a file.
+//! A disk of a fixed length whose power may be cut between any two calls: the trait, a disk in
+//! memory and a file.
 #![tactic(auto)]
 
 mod calls;

@@ -1,12 +1,15 @@
 // A disk in memory that keeps a trace of its changes, and whose calls fail where they are told to.
-ghost use Rattle.std.specs.Prelude.{◌≡◌, ◌⊎◌, ◌↔◌, ◌+◌, ◌<◌, ◌≤◌, true, Some, IsErr, IfOk, OnOk, OnErr};
+ghost use Rattle.std.specs.Prelude.{◌≡◌, ◌⊎◌, ◌↔◌, ◌+◌, ◌<◌, ◌≤◌, true, Some, IsErr, IfOk, OnOk};
+ghost use Rattle.std.specs.Prelude.{OnErr};
 ghost use Rattle.std.specs.Prelude.{ℕ, List, length, take, drop, set};
 ghost use Rattle.cct_edge.specs.Faults.{next_count};
 ghost use Rattle.cct_edge.specs.Memory.{FailsNext};
-ghost use Rattle.cct_disk.specs.Content.{written, settled, unsynced_in, may_leave, left_since, ElapsesTo};
+ghost use Rattle.cct_disk.specs.Content.{written, settled, unsynced_in, may_leave, left_since};
+ghost use Rattle.cct_disk.specs.Content.{ElapsesTo};
 ghost use Rattle.cct_disk.specs.Disk.{SameOutside, Follows, IsWithin, Only};
 ghost use Rattle.cct_disk.specs.Traced.{IsTraced, HasRoom, PassesRoom};
-ghost use Rattle.cct_disk.specs.Memory.{blank, Answers, AnswersTorn, IsAfterCut, LacksRoom, after_change, after_read};
+ghost use Rattle.cct_disk.specs.Memory.{blank, Answers, AnswersTorn, IsAfterCut, LacksRoom};
+ghost use Rattle.cct_disk.specs.Memory.{after_change, after_read};
 ghost use Rattle.cct_disk.specs.Memory.{MemoryGoesOn, MemoryOutlasts};
 ghost use Rattle.cct_disk.specs.Laws.{fits_bytes, bytes_are_image, now_counts, now_only};
 
@@ -17,11 +20,12 @@ use cct_edge::Failed;
 use std::alloc::{AllocError, Global};
 use std::marker::Model;
 
-/// A disk in memory, which is honest and tells what a read gives. All its memory is taken when it is made.
+/// A disk in memory, which is honest and says what a read gives. All its memory is taken when it is
+/// made.
 ///
-/// A cut sets each byte that was written since the last sync or cut by its choice: 0 leaves the byte before those
-/// writes, 1 the byte that was written, 2 the latter at even places and the former at odd ones, and any other choice
-/// the sum of choice and place, modulo 256.
+/// A cut sets each byte that was written since the last sync or cut by its choice: 0 leaves the
+/// byte before those writes, 1 the byte that was written, 2 the latter at even places and the
+/// former at odd ones, and any other choice the sum of choice and place, modulo 256.
 #[derive(Drop)]
 pub struct MemDisk {
     content: Traced,
@@ -48,11 +52,12 @@ impl Model for MemDisk {
 }
 
 impl MemDisk {
-    /// A disk of `len` zeros. The calls whose numbers stand in `fails` fail and change nothing; reads, writes, syncs
-    /// and cuts are counted together, and the first is 1.
+    /// A disk of `len` zeros. The calls whose numbers stand in `fails` fail and change nothing;
+    /// reads, writes, syncs and cuts are counted together, and the first is 1.
     ///
-    /// It takes the room for 262,144 writes, syncs and cuts, and for 8,388,608 bytes that they replace: a write takes
-    /// its length of that, a cut the lengths of all writes since the last sync or cut.
+    /// It takes the room for 262,144 writes, syncs and cuts, and for 8,388,608 bytes that they
+    /// replace: a write takes its length of that, a cut the lengths of all writes since the last
+    /// sync or cut.
     pub fn new(alloc: Global, len: u64, fails: Vec<u64>) -> Result<MemDisk, AllocError>
         ensures { IfOk result (λ s. s ≡ blank len fails.items) }
     {
@@ -63,8 +68,8 @@ impl MemDisk {
         })
     }
 
-    /// Sets one byte, for tests. Where no write since the last sync or cut covers it, it is as if it had always stood
-    /// there: every image has it.
+    /// Sets one byte, for tests. Where no write since the last sync or cut covers it, it is as if
+    /// it had always stood there: every image has it.
     pub fn poke(&mut self, at: u64, byte: u8)
         requires { at < length self.old.content.bytes }
         ensures { self.new ≡ record self.old {
@@ -94,8 +99,8 @@ impl MemDisk {
     }
 }
 
-// Begins a call that changes a disk and replaces so many bytes. It fails where its number is told to fail, and where
-// there is no room.
+// Begins a call that changes a disk and replaces so many bytes. It fails where its number is told
+// to fail, and where there is no room.
 fn begin_change(content: &Traced, calls: &mut Calls, replaced: usize) -> Result<(), Failed>
     requires { IsTraced content.now }
     ensures fails { IsErr result ↔

@@ -4,7 +4,8 @@ ghost use Rattle.cct_disk.specs.Settle.{Settles};
 
 use crate::Disk;
 
-/// A disk that notes the calls made of it: its caller makes them later, elsewhere, in the same order.
+/// A disk that notes the calls made of it: its caller makes them later, elsewhere, in the same
+/// order.
 ///
 /// What a read gives and what a power cut may leave is as if each call was made when it was noted.
 pub trait Settle: Disk {

@@ -4,7 +4,8 @@ ghost use Rattle.std.specs.Prelude.{ℕ, List, length, take, drop};
 ghost use Rattle.cct_edge.specs.Memory.{FailsNext};
 ghost use Rattle.cct_disk.specs.Content.{settled, unsynced_in, may_leave, left_since, ElapsesTo};
 ghost use Rattle.cct_disk.specs.Disk.{SameOutside, Follows, IsWithin, Only};
-ghost use Rattle.cct_disk.specs.Memory.{blank, Answers, AnswersTorn, IsAfterCut, LacksRoom, after_change, after_read};
+ghost use Rattle.cct_disk.specs.Memory.{blank, Answers, AnswersTorn, IsAfterCut, LacksRoom};
+ghost use Rattle.cct_disk.specs.Memory.{after_change, after_read};
 ghost use Rattle.cct_disk.specs.Torn.{IsTornAfterCut, TornGoesOn, TornOutlasts};
 ghost use Rattle.cct_disk.specs.Laws.{fits_bytes, bytes_are_image, now_counts, now_only};
 
@@ -16,10 +17,11 @@ use std::marker::Model;
 
 /// A `MemDisk` that tears a write that is told to fail.
 ///
-/// Such a write fails, but sets each byte of its range by the disk's choice as a cut does: 0 leaves the byte that stood
-/// there, 1 the byte to be written, 2 the latter at even places and the former at odd ones, and any other choice the
-/// sum of choice and place, modulo 256. Its range counts as written: until a sync or a cut, a cut may leave any bytes
-/// there. Each other call that is told to fail, and each that lacks room, fails and changes nothing.
+/// Such a write fails, but sets each byte of its range by the disk's choice as a cut does: 0 leaves
+/// the byte that stood there, 1 the byte to be written, 2 the latter at even places and the former
+/// at odd ones, and any other choice the sum of choice and place, modulo 256. Its range counts as
+/// written: until a sync or a cut, a cut may leave any bytes there. Each other call that is told to
+/// fail, and each that lacks room, fails and changes nothing.
 #[derive(Drop)]
 pub struct TornDisk {
     memory: MemDisk,
@@ -35,8 +37,9 @@ impl Model for TornDisk {
 }
 
 impl TornDisk {
-    /// A disk of `len` zeros, with the room of a `MemDisk`. The calls whose numbers stand in `fails` fail, and the
-    /// writes among them are torn by `choice`; reads, writes, syncs and cuts are counted together, and the first is 1.
+    /// A disk of `len` zeros, with the room of a `MemDisk`. The calls whose numbers stand in
+    /// `fails` fail, and the writes among them are torn by `choice`; reads, writes, syncs and cuts
+    /// are counted together, and the first is 1.
     pub fn new(
         alloc: Global,
         len: u64,
@@ -101,15 +104,18 @@ impl Disk for TornDisk {
         ensures images { Follows (SameOutside at (length bytes.now)) (may_leave self.old.memory.content)
             (may_leave self.new.memory.content) }
         ensures time { ElapsesTo self.old.memory.content self.new.memory.content }
-        ensures answers { AnswersTorn self.old.choice at bytes.now self.old.memory self.new.memory result }
+        ensures answers { AnswersTorn self.old.choice at bytes.now self.old.memory self.new.memory
+            result }
         ensures choice { self.new.choice ≡ self.old.choice }
     {
         self.memory.write_or_tear(at, bytes, self.choice)
     }
 
     fn sync(&mut self) -> Result<(), Failed>
-        ensures kept { OnOk result (Only self.new.memory.content.bytes (may_leave self.new.memory.content)) }
-        ensures images { IsWithin (may_leave self.old.memory.content) (may_leave self.new.memory.content) }
+        ensures kept { OnOk result (Only self.new.memory.content.bytes
+            (may_leave self.new.memory.content)) }
+        ensures images { IsWithin (may_leave self.old.memory.content)
+            (may_leave self.new.memory.content) }
         ensures time { ElapsesTo self.old.memory.content self.new.memory.content }
         ensures answers { Answers (FailsNext self.old.memory.fails self.old.memory.calls ⊎ LacksRoom self.old.memory 0)
             (λ now. now ≡ after_change (settled self.old.memory.content) self.old.memory)
@@ -124,8 +130,10 @@ impl Disk for TornDisk {
         // What a read gives is one of the images that the cut might leave.
         ensures left { OnOk result (may_leave self.old.memory.content self.new.memory.content.bytes) }
         // A further cut leaves the same.
-        ensures kept { OnOk result (Only self.new.memory.content.bytes (may_leave self.new.memory.content)) }
-        ensures images { IsWithin (may_leave self.old.memory.content) (may_leave self.new.memory.content) }
+        ensures kept { OnOk result (Only self.new.memory.content.bytes
+            (may_leave self.new.memory.content)) }
+        ensures images { IsWithin (may_leave self.old.memory.content)
+            (may_leave self.new.memory.content) }
         ensures time { ElapsesTo self.old.memory.content self.new.memory.content }
         ensures answers { Answers (FailsNext self.old.memory.fails self.old.memory.calls
             ⊎ LacksRoom self.old.memory (unsynced_in self.old.memory.content.past))

@@ -1,10 +1,14 @@
-// Bytes with a trace of their changes: which spans were written, what stood there before, and what was settled.
-ghost use Rattle.std.specs.Prelude.{◌≡◌, ◌↔◌, ◌+◌, ◌-◌, ◌<◌, ◌≤◌, ◌∷◌, [], ◌++◌, IsTrue, IfOk, IfSome};
+// Bytes with a trace of their changes: which spans were written, what stood there before, and what
+// was settled.
+ghost use Rattle.std.specs.Prelude.{◌≡◌, ◌↔◌, ◌+◌, ◌-◌, ◌<◌, ◌≤◌, ◌∷◌, [], ◌++◌, IsTrue, IfOk};
+ghost use Rattle.std.specs.Prelude.{IfSome};
 ghost use Rattle.std.specs.Prelude.{ℕ, length, take, reverse, get_or, set, replicate, vec_capacity};
 ghost use Rattle.cct_disk.specs.Disk.{put_at, SameOutside};
-ghost use Rattle.cct_disk.specs.Content.{window, written, written_torn, settled, unsynced_in, cut_byte};
+ghost use Rattle.cct_disk.specs.Content.{window, written, written_torn, settled, unsynced_in};
+ghost use Rattle.cct_disk.specs.Content.{cut_byte};
 ghost use Rattle.cct_disk.specs.Content.{IsCut, CutsBytes, AddsNoImage};
-ghost use Rattle.cct_disk.specs.Traced.{content_of, HasRoom, newest_span, IsKept, IsTraced, IsTracedAs};
+ghost use Rattle.cct_disk.specs.Traced.{content_of, HasRoom, newest_span, IsKept, IsTraced};
+ghost use Rattle.cct_disk.specs.Traced.{IsTracedAs};
 ghost use Rattle.cct_disk.specs.declared.traced.Change.TheVariants.{Wrote};
 
 use std::alloc::{AllocError, Global};
@@ -46,7 +50,8 @@ pub(crate) struct Traced {
 impl Traced {
     // So many zeros, without a change, and with the room for all that may come.
     pub(crate) fn new(alloc: Global, len: usize) -> Result<Traced, AllocError>
-        ensures { IfOk result (IsTracedAs (record { bytes = replicate len 0; past = []; replaced = [] }) 0) }
+        ensures { IfOk result (IsTracedAs
+            (record { bytes = replicate len 0; past = []; replaced = [] }) 0) }
     {
         Ok(Traced {
             bytes: Vec::from_elem(alloc, 0, len)?,
@@ -83,7 +88,8 @@ impl Traced {
         requires traced { IsTraced self.old }
         requires place { at + length bytes.now ≤ length self.old.bytes.items }
         requires room { HasRoom self.old (length bytes.now) }
-        ensures { IsTracedAs (written at bytes.now (content_of self.old)) (self.old.changes + 1) self.new }
+        ensures { IsTracedAs (written at bytes.now (content_of self.old)) (self.old.changes + 1)
+            self.new }
     {
         let len = bytes.len();
         overwrite(&mut self.bytes, &mut self.replaced, at, bytes);
@@ -92,13 +98,14 @@ impl Traced {
         self.unsynced += len;
     }
 
-    // Writes, but leaves in the range what a cut would leave there by this choice: each byte is set between the one
-    // that stood there and the one to be written.
+    // Writes, but leaves in the range what a cut would leave there by this choice: each byte is set
+    // between the one that stood there and the one to be written.
     pub(crate) fn write_torn(&mut self, at: usize, bytes: &[u8], choice: u64)
         requires traced { IsTraced self.old }
         requires place { at + length bytes.now ≤ length self.old.bytes.items }
         requires room { HasRoom self.old (length bytes.now) }
-        ensures { IsTracedAs (written_torn choice at bytes.now (content_of self.old)) (self.old.changes + 1) self.new }
+        ensures { IsTracedAs (written_torn choice at bytes.now (content_of self.old))
+            (self.old.changes + 1) self.new }
     {
         self.write(at, bytes);
         let kept = self.replaced.len() - bytes.len();
@@ -164,7 +171,8 @@ fn overwrite(bytes: &mut Vec<u8>, replaced: &mut Vec<u8>, at: usize, new: &[u8])
     requires place { at + length new.now ≤ length bytes.old.items }
     requires room { length replaced.old.items + length new.now ≤ vec_capacity replaced.old }
     ensures bytes { bytes.new.items ≡ put_at bytes.old.items at new.now }
-    ensures replaced { replaced.new.items ≡ replaced.old.items ++ window at (length new.now) bytes.old.items }
+    ensures replaced { replaced.new.items ≡ replaced.old.items
+        ++ window at (length new.now) bytes.old.items }
     ensures capacity { vec_capacity replaced.old ≤ vec_capacity replaced.new }
 {
     let end = at + new.len();
@@ -188,8 +196,8 @@ fn span_before(trace: &[Change], left: usize) -> Option<Span>
     }
 }
 
-// Sets the bytes of a span by the choice between what stands there and what stands in `replaced` from `old` on, and
-// keeps what it replaces.
+// Sets the bytes of a span by the choice between what is there and what is in `replaced` from `old`
+// on, and keeps what it replaces.
 fn rewrite(bytes: &mut Vec<u8>, replaced: &mut Vec<u8>, span: Span, old: usize, choice: u64)
     requires place { span.at + span.len ≤ length bytes.old.items }
     requires from { old + span.len ≤ length replaced.old.items }
@@ -198,7 +206,8 @@ fn rewrite(bytes: &mut Vec<u8>, replaced: &mut Vec<u8>, span: Span, old: usize, 
     ensures inside { (i : ℕ) → i < span.len → get_or bytes.new.items (span.at + i) 0
         ≡ cut_byte choice (span.at + i) (get_or replaced.old.items (old + i) 0)
         (get_or bytes.old.items (span.at + i) 0) }
-    ensures replaced { replaced.new.items ≡ replaced.old.items ++ window span.at span.len bytes.old.items }
+    ensures replaced { replaced.new.items ≡ replaced.old.items
+        ++ window span.at span.len bytes.old.items }
     ensures capacity { vec_capacity replaced.old ≤ vec_capacity replaced.new }
 {
     replaced
@@ -207,7 +216,7 @@ fn rewrite(bytes: &mut Vec<u8>, replaced: &mut Vec<u8>, span: Span, old: usize, 
     choose(bytes, span.at, &replaced[old..old + span.len], choice);
 }
 
-// Sets the bytes from a place on by the choice between what stands there and the old ones.
+// Sets the bytes from a place on by the choice between what is there and the old ones.
 fn choose(bytes: &mut Vec<u8>, at: usize, old: &[u8], choice: u64)
     requires { at + length old.now ≤ length bytes.old.items }
     ensures outside { SameOutside at (length old.now) bytes.old.items bytes.new.items }

@@ -1,5 +1,5 @@
--- Calls that a caller makes on a part of his own, newest first: what they make of its bytes, and what a power cut may leave
--- while he makes them.
+-- Calls that a caller makes on a part of his own, newest first: what they make of its bytes, and
+-- what a power cut may leave while he makes them.
 use Rattle.std.specs.Prelude.{◌≡◌, ◌⊎◌, ℕ, ◌+◌, ◌≤◌, List, [], ◌∷◌, length, take, drop}
 use Rattle.cct_disk.specs.Disk.{put_at, SameOutside}
 use Rattle.cct_disk_queue.specs.declared.calls.Call.{Call}
@@ -40,8 +40,8 @@ AreWithin size [] = Unit {0}
 AreWithin size (Write at bytes ∷ before) = (at + length bytes ≤ size) × AreWithin size before
 AreWithin size (Sync ∷ before) = AreWithin size before
 
--- What a power cut may leave after these calls, as the clauses of a disk say: a write leaves anything in its range, also
--- the bytes that were written, and a sync only the bytes.
+-- What a power cut may leave after these calls, as the clauses of a disk say: a write leaves
+-- anything in its range, also the bytes that were written, and a sync only the bytes.
 abbrev pub Leaves : List ℕ → List Act → List ℕ → Type 0
 Leaves base [] image = image ≡ base
 Leaves base (Write at bytes ∷ before) image =

@@ -7,7 +7,8 @@ use Rattle.cct_edge.specs.Faults.{next_count}
 use Rattle.cct_disk.specs.Disk.{GoesOn, Elapses}
 use Rattle.cct_disk_queue.specs.Calls.{Act, AreWithin, Leaves, Since, Sync, Write, after}
 
--- what the part held before the calls that are noted, these, newest first, and how often a call failed
+-- what the part held before the calls that are noted, these, newest first, and how often a call
+-- failed
 pub record Queue : Type 0 where
   pub base : List ℕ
   pub calls : List Act
@@ -40,19 +41,21 @@ pub record IsQueued (base : List ℕ) (calls : List Act) : Type 0 where
 
 -- the disk goes on
 abbrev pub QueueGoesOn : Queue → Queue → Type 0
-QueueGoesOn = GoesOn (λ (s : Queue). length (bytes_of s)) (λ _. true) (λ s. Some (bytes_of s)) (λ _. 0)
+QueueGoesOn =
+    GoesOn (λ (s : Queue). length (bytes_of s)) (λ _. true) (λ s. Some (bytes_of s)) (λ _. 0)
 
 -- its clock goes on
 abbrev pub QueueElapses : Queue → Queue → Type 0
 QueueElapses = Elapses (λ (s : Queue). length s.calls) since leaves
 
--- bytes that are told
+-- bytes that are reported
 abbrev told : Option (List ℕ) → List ℕ
 told None = []
 told (Some bytes) = bytes
 
 -- what a read gives is as long as the disk
-pub fits_bytes : (s : Queue) (bytes : List ℕ) → Some (bytes_of s) ≡ Some bytes → length bytes ≡ length (bytes_of s)
+pub fits_bytes : (s : Queue) (bytes : List ℕ) → Some (bytes_of s) ≡ Some bytes → length bytes
+    ≡ length (bytes_of s)
 fits_bytes s bytes is = ap (λ (o : Option (List ℕ)). length (told o)) (sym is)
 
 -- the bytes after the calls are an image
@@ -62,15 +65,18 @@ image_after base (Write at bytes ∷ before) = inl refl
 image_after base (Sync ∷ before) = refl
 
 pub image_now : (s : Queue) (bytes : List ℕ) → Some (bytes_of s) ≡ Some bytes → leaves s bytes
-image_now s bytes is = subst (λ (o : Option (List ℕ)). leaves s (told o)) is (image_after s.base s.calls)
+image_now s bytes is =
+    subst (λ (o : Option (List ℕ)). leaves s (told o)) is (image_after s.base s.calls)
 
 -- what a cut may leave now it might have left since any moment before
-pub now_counts : (base : List ℕ) (calls : List Act) (t : ℕ) (image : List ℕ) → Leaves base calls image → Since base calls t image
+pub now_counts : (base : List ℕ) (calls : List Act) (t : ℕ) (image : List ℕ) →
+    Leaves base calls image → Since base calls t image
 now_counts base [] t image now = now
 now_counts base (call ∷ before) t image now = inl now
 
 -- and since now nothing else
-pub now_only : (base : List ℕ) (calls : List Act) (image : List ℕ) → Since base calls (length calls) image → Leaves base calls image
+pub now_only : (base : List ℕ) (calls : List Act) (image : List ℕ) →
+    Since base calls (length calls) image → Leaves base calls image
 now_only base [] image now = now
 now_only base (call ∷ before) image (inl now) = now
 now_only base (call ∷ before) image (inr earlier) = absurd (lt_irrefl (length before) earlier.0)

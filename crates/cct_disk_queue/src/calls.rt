@@ -21,7 +21,8 @@ pub enum Call<'q> {
     Sync,
 }
 
-/// The same, where the bytes of all writes are one after the other: those of this one are `len` from `from` on.
+/// The same, where the bytes of all writes are one after the other: those of this one are `len`
+/// from `from` on.
 #[derive(Clone, Copy, Default)]
 pub(crate) enum Note {
     Write { at: u64, from: usize, len: usize },
@@ -41,7 +42,8 @@ pub(crate) fn note_write(
     ensures there { AreIn (length kept.new.items) (reverse notes.new.items) }
     ensures noted { OnOk result (map (called kept.new.items) (reverse notes.new.items)
         ≡ Write at bytes.now ∷ map (called kept.old.items) (reverse notes.old.items)) }
-    ensures failed { OnErr result ((notes.new.items ≡ notes.old.items) × (kept.new.items ≡ kept.old.items)) }
+    ensures failed { OnErr result ((notes.new.items ≡ notes.old.items)
+        × (kept.new.items ≡ kept.old.items)) }
 {
     let from = kept.len();
     if notes.is_full() || kept.try_extend_from_slice(bytes).is_err() {
@@ -73,7 +75,8 @@ pub(crate) fn call_of(note: Note, kept: &[u8]) -> Call<'_>
 #[tactic(auto, using(crate::proofs::Noted::in_at, crate::proofs::Noted::act_at, crate::proofs::Noted::no_act_at))]
 pub(crate) fn call_at<'q>(notes: &[Note], kept: &'q [u8], index: usize) -> Option<Call<'q>>
     requires { AreIn (length kept.now) (reverse notes.now) }
-    ensures { option_map act_of result ≡ slice_get (reverse (map (called kept.now) (reverse notes.now))) index }
+    ensures { option_map act_of result ≡ slice_get
+        (reverse (map (called kept.now) (reverse notes.now))) index }
 {
     if index < notes.len() {
         Some(call_of(notes[index], kept))

@@ -1,4 +1,5 @@
-//! A disk that notes the calls made of it, in order, each write with its bytes: its caller makes them later, on a part of his.
+//! A disk that notes the calls made of it, in order, each write with its bytes: its caller makes
+//! them later, on a part of his.
 #![tactic(auto)]
 
 mod calls;

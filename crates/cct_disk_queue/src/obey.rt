@@ -9,11 +9,12 @@ use crate::calls::Note;
 use cct_disk::Disk;
 use cct_edge::Failed;
 
-/// Makes the calls that a queue notes on a part, in their order, up to the first that fails. So does a caller who obeys, in any
-/// language.
+/// Makes the calls that a queue notes on a part, in their order, up to the first that fails. So
+/// does a caller who obeys, in any language.
 pub fn make_calls<D: Disk>(queue: &QueueDisk, part: &mut D) -> Result<(), Failed>
     requires within { AreWithin (D.size part.old) queue.now.calls }
-    // Whenever the power is cut, the part has an image that the queue might have left since its base.
+    // Whenever the power is cut, the part has an image that the queue might have left since its
+    // base.
     ensures moments { (base : List ℕ) → Holds D.honest D.seen D.may_leave part.old base
         → LeavesOnly D.moment D.left_since part.old part.new (Since base queue.now.calls 0) }
     // Where each was done, the part has what the queue tells, and leaves no more than that might.

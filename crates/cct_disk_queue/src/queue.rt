@@ -1,9 +1,11 @@
 //! The disk whose calls a caller makes.
-ghost use Rattle.std.specs.Prelude.{◌≡◌, ◌+◌, ◌≤◌, ◌∷◌, [], ℕ, List, Option, length, map, take, drop, reverse, slice_get, true, Some, OnOk, OnErr, IsErr};
+ghost use Rattle.std.specs.Prelude.{◌≡◌, ◌+◌, ◌≤◌, ◌∷◌, [], ℕ, List, Option, length, map, take};
+ghost use Rattle.std.specs.Prelude.{drop, reverse, slice_get, true, Some, OnOk, OnErr, IsErr};
 ghost use Rattle.cct_edge.specs.Faults.{next_count, HasCause};
 ghost use Rattle.std.specs.Option.{option_map};
 ghost use Rattle.cct_disk_queue.specs.Calls.{AreIn, Sync, act_of, called};
-ghost use Rattle.cct_disk_queue.specs.Queue.{bytes_of, faulted, fits_bytes, image_now, leaves, noted, now_counts, now_only, since};
+ghost use Rattle.cct_disk_queue.specs.Queue.{bytes_of, faulted, fits_bytes, image_now, leaves};
+ghost use Rattle.cct_disk_queue.specs.Queue.{noted, now_counts, now_only, since};
 
 use crate::calls::{Call, MOST_BYTES, MOST_CALLS, Note, call_at, make_all, note_write};
 use arrayvec::ArrayVec;
@@ -11,12 +13,12 @@ use cct_disk::{Disk, Settle};
 use cct_edge::Failed;
 use std::marker::Model;
 
-/// A disk whose calls a caller makes on a part of his own. It has what the part held before the calls that are noted, and
-/// tells what they make of that.
+/// A disk whose calls a caller makes on a part of his own. It has what the part held before the
+/// calls that are noted, and says what they make of that.
 ///
-/// It is honest if its caller is: if he makes the calls in their order, each on a part that keeps what was synced, and says
-/// that he made them only where none failed. A call fails where there is no room to note it, a read where a call is noted,
-/// and each power cut.
+/// It is honest if its caller is: if he makes the calls in their order, each on a part that keeps
+/// what was synced, and says that he made them only where none failed. A call fails where there is
+/// no room to note it, a read where a call is noted, and each power cut.
 #[derive(Drop)]
 pub struct QueueDisk {
     base: Vec<u8>,
@@ -121,7 +123,8 @@ impl Disk for QueueDisk {
 
     fn read(&mut self, at: u64, room: &mut [u8]) -> Result<(), Failed>
         requires { at + length room.old ≤ length (bytes_of self.old) }
-        ensures gives { OnOk result (room.new ≡ take (length room.new) (drop at (bytes_of self.old))) }
+        ensures gives { OnOk result (room.new
+            ≡ take (length room.new) (drop at (bytes_of self.old))) }
         ensures room { length room.new ≡ length room.old }
         ensures stays { OnOk result (self.new ≡ self.old) }
         ensures failed { OnErr result (self.new ≡ faulted self.old) }

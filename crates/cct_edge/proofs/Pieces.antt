@@ -3,7 +3,7 @@ use Rattle.std.proofs.Common.{◌≡◌, ℕ, ◌+◌, ◌-◌, List, ◌++◌, 
 use Rattle.std.specs.Prelude.{take, drop}
 use Rattle.std.proofs.lemmas.List.{append_assoc, take-append-drop, take_rest, drop-drop}
 
--- a piece that was copied stands at the front of what was left
+-- a piece that was copied is at the front of what was left
 pub piece_is_front : (bytes room : List ℕ) (taken n : ℕ) → take n room ≡ take n (drop taken bytes) →
     drop taken bytes ≡ take n room ++ drop (taken + n) bytes
 piece_is_front bytes room taken n copied =

@@ -9,16 +9,16 @@ last_count = 2 ^ 64 - 1
 abbrev pub next_count : ℕ → ℕ
 next_count count = min (count + 1) last_count
 
--- a count rose, or it stands at its last value
+-- a count rose, or it is at its last value
 abbrev pub Rose : ℕ → ℕ → Type 0
 Rose before now = min (before + 1) last_count ≤ now
 
--- a count never falls; and if a call failed so, it rose, or it stands at its last value
+-- a count never falls; and if a call failed so, it rose, or it is at its last value
 pub record Caused (before now : ℕ) (Fails : Type 0) : Type 0 where
   pub later : before ≤ now
   pub rose : Fails → Rose before now
 
--- a count never falls, and an answer is an error only if the count rose, or stands at its last value
+-- a count never falls, and an answer is an error only if the count rose, or is at its last value
 abbrev pub HasCause : {T E : Type 0} → ℕ → ℕ → Result T E → Type 0
 HasCause before now result = Caused before now (IsErr result)
 

@@ -9,7 +9,7 @@ use thiserror::Error;
 #[error("the source or the sink failed")]
 pub struct Failed;
 
-// Counts one more fault, and gives the error that tells it.
+// Counts one more fault, and gives the error that shows it.
 pub(crate) fn count_fault(faults: &mut u64) -> Failed
     ensures counted { faults.new ≡ next_count faults.old }
     ensures later { faults.old ≤ faults.new }

@@ -1,10 +1,12 @@
 // A source and a sink in memory, whose calls fail where they are told to.
-ghost use Rattle.std.specs.Prelude.{◌≡◌, ◌⊎◌, ◌↔◌, ◌<◌, ◌≤◌, [], Some, IsTrue, IsErr, IfOk, MatchResult, OnOk, OnErr};
+ghost use Rattle.std.specs.Prelude.{◌≡◌, ◌⊎◌, ◌↔◌, ◌<◌, ◌≤◌, [], Some, IsTrue, IsErr, IfOk};
+ghost use Rattle.std.specs.Prelude.{MatchResult, OnOk, OnErr};
 ghost use Rattle.std.specs.Prelude.{Contains, length, take, min};
 ghost use Rattle.std.specs.Io.{ReadsAtMost};
 ghost use Rattle.std.specs.Io.KnownBytes.{ReadConsumes};
 ghost use Rattle.cct_edge.specs.Faults.{HasCause, next_count};
-ghost use Rattle.cct_edge.specs.Memory.{FailsNext, PassesRoom, amount_into, input_after, input_after_fault};
+ghost use Rattle.cct_edge.specs.Memory.{FailsNext, PassesRoom, amount_into, input_after};
+ghost use Rattle.cct_edge.specs.Memory.{input_after_fault};
 ghost use Rattle.cct_edge.specs.Memory.{output_after, output_after_fault};
 
 use crate::fault::count_fault;
@@ -31,7 +33,7 @@ impl Calls {
         }
     }
 
-    // Counts one more call, and tells whether it fails.
+    // Counts one more call, and says whether it fails.
     fn count(&mut self) -> bool
         ensures fails { IsTrue result ↔ FailsNext self.old.fails.items self.old.made }
         ensures counted { self.new ≡ record self.old { made = next_count self.old.made } }
@@ -41,7 +43,8 @@ impl Calls {
     }
 }
 
-// Copies as much of the front of `bytes` into the front of `room` as fits, but at most `most` bytes.
+// Copies as much of the front of `bytes` into the front of `room` as fits, but at most `most`
+// bytes.
 fn copy_front(bytes: &[u8], most: usize, room: &mut [u8]) -> usize
     ensures amount { result ≡ min (length room.old) (min most (length bytes.now)) }
     ensures copied { take result room.new ≡ take result bytes.now }
@@ -78,8 +81,8 @@ impl Model for MemSource {
 }
 
 impl MemSource {
-    /// A source that gives `bytes`, at most `most` of them in one call. The calls whose numbers stand in `fails`
-    /// fail; the first call is 1.
+    /// A source that gives `bytes`, at most `most` of them in one call. The calls whose numbers
+    /// stand in `fails` fail; the first call is 1.
     pub fn new(bytes: Vec<u8>, most: usize, fails: Vec<u64>) -> MemSource
         requires { 1 ≤ most }
         ensures { result ≡ record {
@@ -156,8 +159,8 @@ impl Model for MemSink {
 }
 
 impl MemSink {
-    /// An empty sink for `room` bytes, whose memory it takes at once. A call whose number stands in `fails` fails, and
-    /// so does one whose piece passes the room; the first call is 1.
+    /// An empty sink for `room` bytes, whose memory it takes at once. A call whose number is in
+    /// `fails` fails, and so does one whose piece passes the room; the first call is 1.
     pub fn new(alloc: Global, room: usize, fails: Vec<u64>) -> Result<MemSink, AllocError>
         ensures { IfOk result (λ s. s ≡ record {
           written = [];

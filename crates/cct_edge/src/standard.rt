@@ -1,5 +1,5 @@
-// A source over any reader and a sink over any writer. As a source and a sink they tell nothing of their bytes; their
-// own clauses say what the reader and the writer did, where those are known.
+// A source over any reader and a sink over any writer. As a source and a sink they tell nothing of
+// their bytes; their own clauses say what the reader and the writer did, where those are known.
 ghost use Rattle.std.specs.Prelude.{◌≡◌, None, OnOk, OnErr, MatchResult};
 ghost use Rattle.std.specs.Io.{ReadsAtMost};
 ghost use Rattle.std.specs.Io.KnownBytes.{Appends, ReadConsumes};
@@ -11,7 +11,8 @@ use crate::fault::count_fault;
 use crate::{Failed, Sink, Source};
 use std::io::{Read, Write};
 
-/// A source over a reader. Each error of the reader is a failure, an interrupted read too, and counts as one fault.
+/// A source over a reader. Each error of the reader is a failure, an interrupted read too, and
+/// counts as one fault.
 #[derive(Drop)]
 pub struct StdSource<R> {
     reader: R,
@@ -50,8 +51,8 @@ impl<R: Read> Source for StdSource<R> {
     }
 }
 
-/// A sink over a writer, which flushes it after each piece. Each error of the writer is a failure and counts as one
-/// fault, and so is each write of a nonempty piece that takes no byte.
+/// A sink over a writer, which flushes it after each piece. Each error of the writer is a failure
+/// and counts as one fault, and so is each write of a nonempty piece that takes no byte.
 #[derive(Drop)]
 pub struct StdSink<W> {
     writer: W,

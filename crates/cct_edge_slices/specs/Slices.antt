@@ -1,5 +1,6 @@
 -- What contracts see of a source and a sink over slices.
-use Rattle.std.specs.Prelude.{◌≡◌, ◌+◌, ◌<◌, ◌≤◌, ℕ, List, ◌++◌, Option, Some, Result, MatchResult, length, take, drop, min}
+use Rattle.std.specs.Prelude.{◌≡◌, ◌+◌, ◌<◌, ◌≤◌, ℕ, List, ◌++◌, Option, Some, Result, MatchResult}
+use Rattle.std.specs.Prelude.{length, take, drop, min}
 use Rattle.std.specs.Borrow.{GName}
 use Rattle.cct_edge.specs.declared.fault.Failed.{Failed}
 use Rattle.cct_edge_slices.specs.declared.given.Given.{Given}
@@ -9,14 +10,15 @@ use Rattle.cct_edge_slices.specs.declared.page.Page.{Page}
 abbrev pub given_bytes : Given → List ℕ
 given_bytes source = source.left.now
 
--- a source tells them
+-- a source shows them
 abbrev pub given_left : Given → Option (List ℕ)
 given_left source = Some (given_bytes source)
 
 -- A take never fails, and gives what fits into a room of so many bytes.
 abbrev pub given_takes : Given → ℕ → Result ℕ Failed → Given → Type 0
 given_takes before room answer now = MatchResult answer
-    (λ n. (n ≡ min room (length (given_bytes before))) × (given_bytes now ≡ drop n (given_bytes before)))
+    (λ n. (n ≡ min room (length (given_bytes before)))
+    × (given_bytes now ≡ drop n (given_bytes before)))
     (λ _. ⊥)
 
 -- which reference a page writes through
@@ -39,7 +41,7 @@ page_room page = length page.bytes.now
 abbrev pub page_faults : Page → ℕ
 page_faults page = page.faults
 
--- a page tells what has been written
+-- a page says what has been written
 abbrev pub page_written : Page → Option (List ℕ)
 page_written page = Some (written_on page)
 
@@ -47,7 +49,8 @@ page_written page = Some (written_on page)
 abbrev pub page_bytes : Page → List ℕ
 page_bytes page = page.bytes.now
 
--- A page stays where it is and as long as it is; what is written there grows, within it; and after that it is as before.
+-- A page stays where it is and as long as it is; what is written there grows, within it; and after
+-- that it is as before.
 abbrev pub PageStays : Page → Page → Type 0
 PageStays before now = (page_name now ≡ page_name before) × (page_room now ≡ page_room before)
     × (written_count before ≤ written_count now)

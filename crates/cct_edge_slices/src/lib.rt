@@ -1,4 +1,5 @@
-//! A source and a sink over slices, which tell their bytes: for a program that hands its memory over, and takes none.
+//! A source and a sink over slices, which tell their bytes: for a program that hands its memory
+//! over, and takes none.
 #![tactic(auto)]
 
 mod given;

@@ -1,12 +1,15 @@
 //! A sink into a slice.
-ghost use Rattle.std.specs.Prelude.{◌≡◌, ◌+◌, ◌≤◌, ◌++◌, [], IsErr, OnOk, OnErr, drop, length, take};
+ghost use Rattle.std.specs.Prelude.{◌≡◌, ◌+◌, ◌≤◌, ◌++◌, [], IsErr, OnOk, OnErr, drop, length};
+ghost use Rattle.std.specs.Prelude.{take};
 ghost use Rattle.std.specs.Io.KnownBytes.{Appends};
 ghost use Rattle.cct_edge.specs.Bytes.{AppendsFront, Serves};
-ghost use Rattle.cct_edge_slices.specs.Slices.{page_bytes, page_faults, page_name, page_puts, page_written, written_count, written_on};
+ghost use Rattle.cct_edge_slices.specs.Slices.{page_bytes, page_faults, page_name, page_puts};
+ghost use Rattle.cct_edge_slices.specs.Slices.{page_written, written_count, written_on};
 
 use cct_edge::{Failed, Sink};
 
-/// A sink into a slice, from its front on. A piece that doesn't fit into what is left is a fault, and nothing of it is written.
+/// A sink into a slice, from its front on. A piece that doesn't fit into what is left is a fault,
+/// and nothing of it is written.
 #[derive(Drop)]
 pub struct Page<'p> {
     bytes: &'p mut [u8],
@@ -65,7 +68,8 @@ impl Sink for Page<'_> {
     fn put(&mut self, piece: &[u8]) -> Result<(), Failed>
         ensures one { page_puts self.old piece.now result self.new }
         ensures ok { OnOk result (Appends (page_written self.old) (page_written self.new) piece.now) }
-        ensures err { OnErr result (AppendsFront (page_written self.old) (page_written self.new) piece.now) }
+        ensures err { OnErr result (AppendsFront (page_written self.old) (page_written self.new)
+            piece.now) }
         ensures serves { Serves page_written page_faults self.old self.new (IsErr result) }
     {
         match self.bytes.len().checked_sub(self.used) {
@@ -84,8 +88,10 @@ impl Sink for Page<'_> {
 /// Puts a piece into bytes, from this place on.
 fn put_at(bytes: &mut [u8], place: usize, piece: &[u8])
     requires { place + length piece.now ≤ length bytes.old }
-    ensures written { take (place + length piece.now) bytes.new ≡ take place bytes.old ++ piece.now }
-    ensures rest { drop (place + length piece.now) bytes.new ≡ drop (place + length piece.now) bytes.old }
+    ensures written { take (place + length piece.now) bytes.new ≡ take place bytes.old
+        ++ piece.now }
+    ensures rest { drop (place + length piece.now) bytes.new
+        ≡ drop (place + length piece.now) bytes.old }
     ensures room { length bytes.new ≡ length bytes.old }
 {
     bytes[place..place + piece.len()].copy_from_slice(piece);

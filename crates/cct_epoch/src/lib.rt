@@ -1,5 +1,6 @@
-//! Readings of a coin acceptor in an epoch: how many events two event counters tell, and what a reading means beside the
-//! inhibit mask, the event counter and the accept counter that are recorded.
+//! Readings of a coin acceptor in an epoch: how many events two event counters tell, and what a
+//! reading means beside the inhibit mask, the event counter and the accept counter that are
+//! recorded.
 #![tactic(auto)]
 
 mod judging;

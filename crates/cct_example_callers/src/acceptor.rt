@@ -26,7 +26,8 @@ pub(crate) fn setup() -> DeviceSetup
     }
 }
 
-/// What the acceptor answers to bytes that come one by one, and a gap after them: nothing if it is silent.
+/// What the acceptor answers to bytes that come one by one, and a gap after them: nothing if it is
+/// silent.
 fn answer(acceptor: &mut Acceptor<'_>, bytes: &[u8]) -> ArrayVec<u8, MOST_SENT> {
     let mut answer = ArrayVec::new();
     for byte in bytes {
@@ -44,7 +45,8 @@ fn a_coin_is_taken_and_told(rt: HostRuntime) -> Result<(), Fail> {
     // After a reset every coin is inhibited: it comes back, and is an event too.
     assert_eq!(rt; acceptor.insert(5), Inserted::Inhibited);
 
-    // Header 231 sets the inhibit mask, low byte first: bit 4 is coin place 5. The reply has header 0 and no data.
+    // Header 231 sets the inhibit mask, low byte first: bit 4 is coin place 5. The reply has header
+    // 0 and no data.
     let heard = answer(&mut acceptor, b"\x02\x02\x01\xe7\x10\x00\x04");
     assert_eq!(rt; heard.as_slice(), b"\x01\x00\x02\x00\xfd".as_slice());
     assert_eq!(rt;
@@ -52,7 +54,8 @@ fn a_coin_is_taken_and_told(rt: HostRuntime) -> Result<(), Fail> {
         Inserted::Accepted(Coin { place: 5, path: 1 })
     );
 
-    // Header 229 reads the event counter, 2, and the last five events, newest first: place 5 by path 1, and error 2.
+    // Header 229 reads the event counter, 2, and the last five events, newest first: place 5 by
+    // path 1, and error 2.
     let heard = answer(&mut acceptor, b"\x02\x00\x01\xe5\x18");
     assert_eq!(rt;
         heard.as_slice(),

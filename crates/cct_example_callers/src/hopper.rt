@@ -1,4 +1,5 @@
-//! A hopper at address 3 under the simple checksum is to pay four coins. Two fall, and the third sticks.
+//! A hopper at address 3 under the simple checksum is to pay four coins. Two fall, and the third
+//! sticks.
 ghost use Rattle.cct_model_wire.specs.Device.{IsHopper, IsSound};
 
 use crate::texts::texts;
@@ -27,7 +28,8 @@ fn setup() -> DeviceSetup
     }
 }
 
-/// What the hopper answers to bytes that come one by one, and a gap after them: nothing if it is silent.
+/// What the hopper answers to bytes that come one by one, and a gap after them: nothing if it is
+/// silent.
 fn answer(hopper: &mut Hopper<'_>, bytes: &[u8]) -> ArrayVec<u8, MOST_SENT> {
     let mut answer = ArrayVec::new();
     for byte in bytes {
@@ -44,7 +46,8 @@ fn a_payout_ends_with_a_jam(rt: HostRuntime) -> Result<(), Fail> {
         panic!(rt; "a hopper is off after power-up");
     };
 
-    // Each state is a type. Off has no call that pays; idle pays only if the serial number is its own.
+    // Each state is a type. Off has no call that pays; idle pays only if the serial number is its
+    // own.
     let idle = off.enable();
     let Err((idle, DispenseNo::WrongSerial)) = idle.dispense(SERIAL + 1, 4) else {
         panic!(rt; "another hopper's serial number");
@@ -53,7 +56,8 @@ fn a_payout_ends_with_a_jam(rt: HostRuntime) -> Result<(), Fail> {
         panic!(rt; "its own serial number");
     };
 
-    // Paying has no call that dispenses. A coin that falls is one fewer, and after the last one it is idle.
+    // Paying has no call that dispenses. A coin that falls is one fewer, and after the last one it
+    // is idle.
     let AfterFall::Paying(paying) = paying.fall() else {
         panic!(rt; "three are left");
     };

@@ -15,8 +15,8 @@ use cct_wire::Link;
 use std::alloc::Global;
 use std::test::Fail;
 
-/// A serial line, on which everyone hears the bytes that are sent. This one is played in memory: at its other end is one
-/// acceptor. A real one has the same two calls.
+/// A serial line, on which everyone hears the bytes that are sent. This one is played in memory: at
+/// its other end is one acceptor. A real one has the same two calls.
 #[derive(Drop)]
 struct Serial<'s> {
     acceptor: Acceptor<'s>,
@@ -36,7 +36,8 @@ impl Serial<'_> {
         let _ = self.waiting.try_extend_from_slice(answer.as_slice());
     }
 
-    /// The bytes that came in until the line was quiet: a real line waits for so long as the standard says.
+    /// The bytes that came in until the line was quiet: a real line waits for so long as the
+    /// standard says.
     fn receive(&mut self, heard: &mut ArrayVec<u8, MOST_HEARD>) {
         *heard = self.waiting.take();
     }
@@ -107,7 +108,8 @@ fn a_coin_is_posted(rt: HostRuntime) -> Result<(), Fail> {
         Err((_, why)) => return Err(Fail::from(why)),
     };
 
-    // A start has five rows: three exchanges, the record of the epoch, and the mask. Each `next` makes one attempt of one.
+    // A start has five rows: three exchanges, the record of the epoch, and the mask. Each `next`
+    // makes one attempt of one.
     host.command(&Command::Start {
         addr: 2,
         mask: 0xffff,
@@ -126,8 +128,8 @@ fn a_coin_is_posted(rt: HostRuntime) -> Result<(), Fail> {
         panic!(rt; "the acceptor is started");
     };
 
-    // A coin falls in while no exchange is made. A round reads the credits and the mask, before and after them the number of
-    // coins that were accepted, and puts what it read.
+    // A coin falls in while no exchange is made. A round reads the credits and the mask, before and
+    // after them the number of coins that were accepted, and puts what it read.
     assert_eq!(rt;
         line.acceptor.insert(5),
         Inserted::Accepted(Coin { place: 5, path: 1 })

@@ -1,4 +1,5 @@
-//! A journal on a disk in memory: one record is put, the power is cut in the put of the next one, and it goes on.
+//! A journal on a disk in memory: one record is put, the power is cut in the put of the next one,
+//! and it goes on.
 ghost use Rattle.std.specs.Prelude.{◌≡◌, IfOk, IfSome, OnOk, false};
 ghost use Rattle.cct_model_wire.specs.Setup.{IsSoundSetup};
 ghost use Rattle.cct_record.specs.Body.{Encodable};
@@ -12,7 +13,8 @@ use cct_journal_carry::Tally;
 use cct_model_lines::{CarryEpoch, Devices, Record, Setup};
 use std::test::Fail;
 
-/// An epoch begins at the acceptor of address 2, which accepted no coin yet: it is to accept all its coins.
+/// An epoch begins at the acceptor of address 2, which accepted no coin yet: it is to accept all
+/// its coins.
 const BEGUN: Record = Record::Epoch {
     addr: 2,
     mask: 0xffff,
@@ -58,8 +60,8 @@ fn opened(disk: MemDisk) -> Result<Journal<MemDisk>, OpenNo>
     }
 }
 
-/// The tally of all records of a journal, if it is one of this machine: it begins with the carry, and goes over the records
-/// of the current half.
+/// The tally of all records of a journal, if it is one of this machine: it begins with the carry,
+/// and goes over the records of the current half.
 fn tally_of<'s, D: Disk>(
     setup: &'s Setup,
     journal: &mut Journal<D>,
@@ -67,7 +69,8 @@ fn tally_of<'s, D: Disk>(
     requires sound { IsSoundSetup setup.now }
     requires whole { has_failed journal.old ≡ false }
     ensures whole { has_failed journal.new ≡ false }
-    ensures counted { IfOk result (λ found. IfSome found (λ tally. many_of tally ≡ used_of journal.new)) }
+    ensures counted { IfOk result (λ found. IfSome found
+        (λ tally. many_of tally ≡ used_of journal.new)) }
 {
     let Some(mut tally) = Tally::resume(setup, journal.base(), journal.carry()) else {
         return Ok(None);
@@ -91,8 +94,9 @@ fn a_record_outlives_a_power_cut(rt: HostRuntime) -> Result<(), Fail> {
     let mut tally = Tally::new(&setup);
     put(&mut journal, &mut tally, &BEGUN)?;
 
-    // The half is full, so the next put begins the other one first. The power is cut after the second of the four disk
-    // calls of the put itself: the body was written and synced, and the gate that makes it count wasn't.
+    // The half is full, so the next put begins the other one first. The power is cut after the
+    // second of the four disk calls of the put itself: the body was written and synced, and the
+    // gate that makes it count wasn't.
     assert!(rt; journal.used() < journal.capacity());
     let mut disk = journal
         .put_calls(&ENDED, tally.carry(), 2)
@@ -108,7 +112,8 @@ fn a_record_outlives_a_power_cut(rt: HostRuntime) -> Result<(), Fail> {
     put(&mut journal, &mut tally, &ENDED)?;
     assert_eq!(rt; journal.used(), 2);
 
-    // It stands in the other half, which began with the carry of the first record: the epoch that it tells.
+    // It is in the other half, which began with the carry of the first record: the epoch that it
+    // tells.
     assert_eq!(rt; journal.base(), 1);
     assert!(rt; matches!(journal.read_at(1)?, Record::EpochEnd { addr: 2 }));
     let epoch = CarryEpoch {

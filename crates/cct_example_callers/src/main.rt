@@ -1,6 +1,7 @@
-//! Callers, to be copied (`docs/CALLERS.md` shows them step by step). The program itself is one: a machine whose setup
-//! stands in the program, and whose steps come from standard input. The others are tests: a coin acceptor, a hopper, a
-//! journal whose power is cut, a disk over a memory part, a host over a serial line, and single messages.
+//! Callers, to be copied (`docs/CALLERS.md` shows them step by step). The program itself is one: a
+//! machine whose setup is in the program, and whose steps come from standard input. The others are
+//! tests: a coin acceptor, a hopper, a journal whose power is cut, a disk over a memory part, a
+//! host over a serial line, and single messages.
 #![tactic(auto)]
 
 #[cfg(test)]
@@ -35,7 +36,8 @@ fn main(rt: HostRuntime) -> ExitCode {
     ExitCode::from(status.code())
 }
 
-/// Plays the steps on standard input over a blank disk, and then lists the records that stand there.
+/// Plays the steps on standard input over a blank disk, and then lists the records that stand
+/// there.
 fn play(rt: &HostRuntime) -> Result<Status, AllocError> {
     let alloc = rt.alloc();
     let run = vec![in alloc; String::from_str(alloc, "run")?]?;

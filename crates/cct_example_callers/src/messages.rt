@@ -1,4 +1,5 @@
-//! Single messages, without a host and without a device: their checks, their bytes, and what they ask and reply.
+//! Single messages, without a host and without a device: their checks, their bytes, and what they
+//! ask and reply.
 
 use arrayvec::ArrayVec;
 use cct_check::{crc16, crc16_step, simple_sum};
@@ -30,7 +31,8 @@ fn a_message_and_its_bytes(rt: HostRuntime) -> Result<(), Fail> {
         b"\x02\x02\x01\xe7\x10\x00\x04".as_slice()
     );
 
-    // Under the CRC the low byte of the check stands where the source was, and the high byte at the end.
+    // Under the CRC the low byte of the check is where the source was, and the high byte at the
+    // end.
     write(CheckKind::Crc, 2, 1, 231, b"\x10\x00", &mut bytes);
     assert_eq!(rt;
         bytes.as_slice(),
@@ -38,7 +40,8 @@ fn a_message_and_its_bytes(rt: HostRuntime) -> Result<(), Fail> {
     );
     assert_eq!(rt; crc16(b"\x02\x02\xe7\x10\x00"), 0x8f39);
 
-    // What is read is a view: its data stay in the bytes. Else the first thing that is wrong is told.
+    // What is read is a view: its data stay in the bytes. Else the first thing that is wrong is
+    // reported.
     let whole = FrameView {
         to: 2,
         from: None,
@@ -62,7 +65,8 @@ fn a_request_and_its_reply(rt: HostRuntime) -> Result<(), Fail> {
     encode_request(CheckKind::Simple, 2, &Request::ReadCredits, &mut sent);
     assert_eq!(rt; sent.as_slice(), b"\x02\x00\x01\xe5\x18".as_slice());
 
-    // On the wire the host hears its own bytes first. `hear` takes them off, and reads what follows.
+    // On the wire the host hears its own bytes first. `hear` takes them off, and reads what
+    // follows.
     let heard =
         b"\x02\x00\x01\xe5\x18\x01\x0b\x02\x00\x01\x05\x01\x00\x00\x00\x00\x00\x00\x00\x00\xeb";
     let Heard::Message(view) = hear(CheckKind::Simple, sent.as_slice(), heard) else {

@@ -37,7 +37,8 @@ impl Part {
     }
 }
 
-/// A disk over a part. It stores each byte inverted, so an erased part is a blank disk. It claims nothing of its bytes.
+/// A disk over a part. It stores each byte inverted, so an erased part is a blank disk. It claims
+/// nothing of its bytes.
 #[derive(Drop)]
 struct PartDisk {
     part: Part,
@@ -155,7 +156,8 @@ fn an_erased_part_takes_a_journal(rt: HostRuntime) -> Result<(), Fail> {
     let mut journal = Journal::create(PartDisk::filled(0xff)).map_err(|(_, why)| why)?;
     journal.put(&SOLD, &Carry::empty())?;
 
-    // The gate of the first record is a5, and its body begins with its kind, 8: on the part both are inverted.
+    // The gate of the first record is a5, and its body begins with its kind, 8: on the part both
+    // are inverted.
     let disk = journal.into_disk();
     assert_eq!(rt;
         (disk.part.cells[1152], disk.part.cells[1153]),

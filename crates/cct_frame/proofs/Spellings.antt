@@ -22,7 +22,7 @@ passed false b x m e = cc
 agreed : (said : ℕ) (rest : List ℕ) → length_agrees said rest ≡ true → (said ≤ 255) × (length rest ≡ said + 1)
 agreed said rest e = grind (arith, nat_tests)
 
--- the second byte of a message tells its length
+-- the second byte of a message shows its length
 length_said : (kind : CheckKind) (p : List ℕ) (m : Message) → message kind p ≡ Some m → (5 ≤ length p) × (slice_index p 1 + 5 ≡ length p)
 length_said kind p m e = grind (arith, none_short kind p, none_length kind p, e)
 

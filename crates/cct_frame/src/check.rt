@@ -9,8 +9,8 @@ use cct_model_wire::CheckKind;
 /// The place of the byte that the CRC passes over, since it is its own low byte.
 const LOW_BYTE: usize = 2;
 
-/// What a check makes of the first bytes of a message, and of `byte`, which stands at `place` and comes after them: it
-/// made `check` of those. Before the first byte that is 0.
+/// What a check makes of the first bytes of a message, and of `byte`, which is at `place` and comes
+/// after them: it made `check` of those. Before the first byte that is 0.
 #[inline]
 #[tactic(auto, unfolding(crate::specs::Frame::run_over), using(crate::proofs::Running::sum_more, crate::proofs::Running::crc_passes))]
 pub fn check_step(kind: CheckKind, check: u16, place: usize, byte: u8) -> u16

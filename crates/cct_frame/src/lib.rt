@@ -1,5 +1,5 @@
-//! Frames: messages of the wire under either check, read from the piece that carries them and written into one, without
-//! a copy of their data and without memory of their own.
+//! Frames: messages of the wire under either check, read from the piece that carries them and
+//! written into one, without a copy of their data and without memory of their own.
 #![tactic(auto)]
 
 mod check;

@@ -1,7 +1,9 @@
 //! A message is read where it stands.
-ghost use Rattle.std.specs.Prelude.{◌≡◌, ◌≢◌, ◌↔◌, ◌+◌, ◌-◌, ◌<◌, ◌≤◌, IfOk, IfErr, OnOk, OnErr, length, slice_index, slice_range, take};
+ghost use Rattle.std.specs.Prelude.{◌≡◌, ◌≢◌, ◌↔◌, ◌+◌, ◌-◌, ◌<◌, ◌≤◌, IfOk, IfErr, OnOk, OnErr};
+ghost use Rattle.std.specs.Prelude.{length, slice_index, slice_range, take};
 ghost use Rattle.cct_model_wire.specs.Message.{closing_byte, crc, message};
-ghost use Rattle.cct_frame.specs.Frame.{before_last, check_fault, crc_fault, crc_in, fault_in, message_of, run_over, source_in, sum_fault, under_crc};
+ghost use Rattle.cct_frame.specs.Frame.{before_last, check_fault, crc_fault, crc_in, fault_in};
+ghost use Rattle.cct_frame.specs.Frame.{message_of, run_over, source_in, sum_fault, under_crc};
 
 use crate::check::check_of;
 use cct_model_wire::CheckKind;
@@ -32,7 +34,8 @@ pub enum FrameFault {
     /// The last byte is `got`, and `want` would make the sum of all bytes 0 modulo 256.
     #[error("the check is {got}, and {want} was wanted")]
     Check { want: u8, got: u8 },
-    /// The third byte and the last are the low and the high byte of `got`, and the CRC of all others is `want`.
+    /// The third byte and the last are the low and the high byte of `got`, and the CRC of all
+    /// others is `want`.
     #[error("the CRC is {got}, and {want} was wanted")]
     CrcCheck { want: u16, got: u16 },
 }
@@ -40,22 +43,24 @@ pub enum FrameFault {
 /// The bytes of a message without data: destination, number of data bytes, source, header, check.
 const SHORTEST: usize = 5;
 
-/// Reads the one message that a whole piece is. The tests come in the order of [`FrameFault`]'s variants, and the first
-/// that fails is told.
+/// Reads the one message that a whole piece is. The tests come in the order of [`FrameFault`]'s
+/// variants, and the first that fails is reported.
 pub fn read<'a>(kind: CheckKind, piece: &'a [u8]) -> Result<FrameView<'a>, FrameFault>
     // the view of a message
     ensures whole { IfOk result (λ view. message kind piece.now ≡ Some (message_of view)) }
-    ensures body { IfOk result (λ view. view.body.now ≡ slice_range piece.now 4 (length piece.now - 1)) }
+    ensures body { IfOk result (λ view. view.body.now
+        ≡ slice_range piece.now 4 (length piece.now - 1)) }
     // Nothing is copied: the data stay in the bytes that were read, from the fifth on.
-    ensures in_place { IfOk result (λ view. view.body.ref_ptr ≡ (piece.entry.ref_ptr.0, piece.entry.ref_ptr.1 + 4)) }
+    ensures in_place { IfOk result (λ view. view.body.ref_ptr
+        ≡ (piece.entry.ref_ptr.0, piece.entry.ref_ptr.1 + 4)) }
     ensures faultless { OnOk result (fault_in kind piece.now ≡ None) }
 
-    // why there is none:
-    // The first thing that is wrong is reported: too few bytes, then a wrong length, then a wrong check.
+    // why there is none: The first thing that is wrong is reported: too few bytes, then a wrong
+    // length, then a wrong check.
     ensures first_fault { IfErr result (λ fault. fault_in kind piece.now ≡ Some fault) }
     ensures no_message { OnErr result (message kind piece.now ≡ None) }
 
-    // when each fault is told
+    // when each fault is reported
     ensures short { (result ≡ Err (FrameFault.Short (length piece.now))) ↔ (length piece.now < 5) }
     ensures wrong_length { (result ≡ Err (FrameFault.Length (slice_index piece.now 1) (length piece.now)))
         ↔ ((5 ≤ length piece.now) × (slice_index piece.now 1 + 5 ≢ length piece.now)) }
@@ -84,8 +89,10 @@ pub fn read_checked<'a>(
 ) -> Result<FrameView<'a>, FrameFault>
     requires { check ≡ run_over kind (before_last piece.now) }
     ensures whole { IfOk result (λ view. message kind piece.now ≡ Some (message_of view)) }
-    ensures body { IfOk result (λ view. view.body.now ≡ slice_range piece.now 4 (length piece.now - 1)) }
-    ensures in_place { IfOk result (λ view. view.body.ref_ptr ≡ (piece.entry.ref_ptr.0, piece.entry.ref_ptr.1 + 4)) }
+    ensures body { IfOk result (λ view. view.body.now
+        ≡ slice_range piece.now 4 (length piece.now - 1)) }
+    ensures in_place { IfOk result (λ view. view.body.ref_ptr
+        ≡ (piece.entry.ref_ptr.0, piece.entry.ref_ptr.1 + 4)) }
     ensures faultless { OnOk result (fault_in kind piece.now ≡ None) }
 
     ensures first_fault { IfErr result (λ fault. fault_in kind piece.now ≡ Some fault) }

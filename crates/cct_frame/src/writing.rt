@@ -6,7 +6,8 @@ use crate::check::crc_of;
 use arrayvec::ArrayVec;
 use cct_model_wire::{CheckKind, MOST_SENT};
 
-/// Writes one message in the place of what `out` holds. Under the CRC a message has no source, and `from` isn't used.
+/// Writes one message in the place of what `out` holds. Under the CRC a message has no source, and
+/// `from` isn't used.
 pub fn write(
     kind: CheckKind,
     to: u8,
@@ -16,7 +17,8 @@ pub fn write(
     out: &mut ArrayVec<u8, MOST_SENT>,
 )
     requires { length body.now ≤ 255 }
-    ensures { out.new.items ≡ spelling kind (record { to = to; from = Some from; header = header; body = body.now }) }
+    ensures { out.new.items ≡ spelling kind
+        (record { to = to; from = Some from; header = header; body = body.now }) }
 {
     match kind {
         CheckKind::Simple => write_simple(to, from, header, body, out),
@@ -24,8 +26,8 @@ pub fn write(
     }
 }
 
-/// Writes a message under the simple check. Its bytes are summed as they are written, and few as they are, they are pushed
-/// one by one: a copy costs more.
+/// Writes a message under the simple check. Its bytes are summed as they are written, and few as
+/// they are, they are pushed one by one: a copy costs more.
 #[tactic(auto, unfolding(cct_model_wire::specs::Message::spelling))]
 fn write_simple(to: u8, from: u8, header: u8, body: &[u8], out: &mut ArrayVec<u8, MOST_SENT>)
     requires { length body.now ≤ 255 }

@@ -1,5 +1,6 @@
 -- A load: the setup that it is played on, and its lines, which a seed gives.
-use Rattle.std.specs.Prelude.{ℕ, zero, suc, ◌+◌, ◌-◌, ◌*◌, ◌/◌, ◌%◌, ◌^◌, ◌==◌, nat_lt, List, [], ◌∷◌, ◌++◌, map}
+use Rattle.std.specs.Prelude.{ℕ, zero, suc, ◌+◌, ◌-◌, ◌*◌, ◌/◌, ◌%◌, ◌^◌, ◌==◌, nat_lt, List, []}
+use Rattle.std.specs.Prelude.{◌∷◌, ◌++◌, map}
 use Rattle.std.specs.Prelude.{if◌then◌else◌, None, codes}
 use Rattle.std.specs.List.{flat_map, range_with_len}
 use Rattle.cct_model_lines.specs.terms.coin.TheConstants.{COIN_PLACES}
@@ -55,7 +56,8 @@ crash_or_balance number = if number % 64 == 0 then step.Crash None (number % 5) 
 abbrev pub opening_line : ℕ → Step
 opening_line n = if n == 0 then step.Command (command.Start 2 65535) else step.Next 2
 
--- The line at a place of a round, from 0 on: coins fall in and are read, and an order with this id pays one coin.
+-- The line at a place of a round, from 0 on: coins fall in and are read, and an order with this id
+-- pays one coin.
 abbrev pub round_line : ℕ → ℕ → ℕ → Step
 round_line id number place =
     if place == 0 then coin_of number
@@ -68,8 +70,8 @@ round_line id number place =
     else if nat_lt place 19 then step.Next 3
     else crash_or_balance number
 
--- A line of a load, by its number from 0 on: six before the first round, and then 20 a round, whose payment has the
--- number of the round as id, from 1 on.
+-- A line of a load, by its number from 0 on: six before the first round, and then 20 a round, whose
+-- payment has the number of the round as id, from 1 on.
 unfoldable pub line_at : ℕ → ℕ → Step
 line_at seed n =
     if nat_lt n 6 then opening_line n

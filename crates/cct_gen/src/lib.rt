@@ -1,4 +1,5 @@
-//! The load generator: the setup that a load is played on, and each line of the load by its number, drawn from a seed.
+//! The load generator: the setup that a load is played on, and each line of the load by its number,
+//! drawn from a seed.
 #![tactic(auto)]
 
 mod line;

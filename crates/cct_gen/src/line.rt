@@ -1,7 +1,8 @@
 //! The lines of a load.
 ghost use Rattle.std.specs.Prelude.{◌≡◌, ◌<◌, ◌+◌, ◌*◌, IsTrue};
 ghost use Rattle.cct_model_lines.specs.Script.{IsInRange, is_known};
-ghost use Rattle.cct_gen.specs.Load.{load_setup, drawn, coin_of, coin_or_alien, coin_or_loss, crash_or_balance};
+ghost use Rattle.cct_gen.specs.Load.{load_setup, drawn, coin_of, coin_or_alien, coin_or_loss};
+ghost use Rattle.cct_gen.specs.Load.{crash_or_balance};
 ghost use Rattle.cct_gen.specs.Load.{opening_line, round_line, line_at};
 
 use cct_model_lines::{COIN_PLACES, Command, Piece, Step, WireFault};
@@ -18,8 +19,9 @@ const OPENING: u32 = 6;
 /// The lines of a round.
 const ROUND: u32 = 20;
 
-/// Line `n` of the load that a seed gives, from line 0 on: six lines that start an epoch, and then 20 a round, of at
-/// most 10,000 rounds. It names devices of the load's setup alone, and its numbers are in the ranges of a script's lines.
+/// Line `n` of the load that a seed gives, from line 0 on: six lines that start an epoch, and then
+/// 20 a round, of at most 10,000 rounds. It names devices of the load's setup alone, and its
+/// numbers are in the ranges of a script's lines.
 #[tactic(auto, using(crate::proofs::Lines::line_in_range, crate::proofs::Lines::line_known))]
 pub fn nth_line(seed: u64, n: u32) -> Step
     requires { n < 6 + 20 * 10000 }

@@ -9,8 +9,8 @@ use cct_model_lines::{
     COIN_PLACES, CheckKind, DeviceBody, DeviceSetup, MOST_NAME, Name, Setup, Texts,
 };
 
-/// Puts into an empty setup the devices that a load is played on: a coin acceptor at address 2 whose 16 coins are worth
-/// 10 each, and a hopper at address 3 whose coins are worth 10.
+/// Puts into an empty setup the devices that a load is played on: a coin acceptor at address 2
+/// whose 16 coins are worth 10 each, and a hopper at address 3 whose coins are worth 10.
 pub fn load_setup(setup: &mut Setup)
     requires { setup.old.devices ≡ [] }
     ensures value { setup.new ≡ load_setup }

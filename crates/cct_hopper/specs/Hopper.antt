@@ -1,14 +1,17 @@
 -- A hopper that represents all that it met (ccTalk Generic Specification 4, part 3).
-use Rattle.std.specs.Prelude.{◌≡◌, ℕ, ◌==◌, Bool, true, false, List, [], Option, Some, None, Result, Ok, Err, if◌then◌else◌, not}
+use Rattle.std.specs.Prelude.{◌≡◌, ℕ, ◌==◌, Bool, true, false, List, [], Option, Some, None, Result}
+use Rattle.std.specs.Prelude.{Ok, Err, if◌then◌else◌, not}
 use Rattle.cct_model_wire.specs.declared.device.DeviceBody.{DeviceBody}
 use Rattle.cct_model_wire.specs.declared.device.DeviceBody.TheVariants as body
 use Rattle.cct_model_wire.specs.declared.device.DeviceSetup.{DeviceSetup}
 use Rattle.cct_model_wire.specs.declared.request.Request.{Request}
-use Rattle.cct_model_wire.specs.declared.request.Request.TheVariants.{ResetDevice, Enable, Dispense, StopNow, TestHopper}
+use Rattle.cct_model_wire.specs.declared.request.Request.TheVariants.{ResetDevice, Enable, Dispense}
+use Rattle.cct_model_wire.specs.declared.request.Request.TheVariants.{StopNow, TestHopper}
 use Rattle.cct_model_wire.specs.Acceptor as acceptor
 use Rattle.cct_model_wire.specs.Device.{IsHopper}
 use Rattle.cct_model_wire.specs.History.{Met}
-use Rattle.cct_model_wire.specs.Hopper.{enabled, remaining, payouts, last_paid, last_unpaid, has_timeout, is_tested, life_count}
+use Rattle.cct_model_wire.specs.Hopper.{enabled, remaining, payouts, last_paid, last_unpaid}
+use Rattle.cct_model_wire.specs.Hopper.{has_timeout, is_tested, life_count}
 use Rattle.cct_device_core.specs.Listening.{HeardSince}
 use Rattle.cct_life.specs.Life.{count_of}
 use Rattle.cct_hopper.specs.declared.device.Device.{Device}
@@ -27,8 +30,9 @@ start_of (body.Acceptor start values ids) = 0
 start_of (body.Hopper life value) = life
 start_of (body.Bill accepts values ids) = 0
 
--- What a hopper remembers in whatever state it is: its life count, its event counter, how many coins of its last payout
--- were paid and stayed unpaid, whether a jam ended that, and whether its test register was read.
+-- What a hopper remembers in whatever state it is: its life count, its event counter, how many
+-- coins of its last payout were paid and stayed unpaid, whether a jam ended that, and whether its
+-- test register was read.
 pub record Memory : Type 0 where
   pub life : ℕ
   pub counter : ℕ
@@ -50,7 +54,8 @@ memory device = record {
 
 -- What a hopper remembers after a reset: its life count alone.
 abbrev pub at_power_up : ℕ → Memory
-at_power_up life = record { life = life; counter = 0; paid = 0; unpaid = 0; timeout = false; tested = false }
+at_power_up life =
+    record { life = life; counter = 0; paid = 0; unpaid = 0; timeout = false; tested = false }
 
 -- What a hopper of this setup remembers that met all this.
 abbrev pub remembered : DeviceSetup → List Met → Memory
@@ -81,8 +86,9 @@ left_of (Off hopper) = 0
 left_of (Idle hopper) = 0
 left_of (Paying hopper) = hopper.remaining
 
--- A hopper represents one of this setup that met all this, newest first: its state and what it remembers are what that
--- made them. It is paying exactly where coins are left to pay, and off exactly where it may not pay.
+-- A hopper represents one of this setup that met all this, newest first: its state and what it
+-- remembers are what that made them. It is paying exactly where coins are left to pay, and off
+-- exactly where it may not pay.
 pub record StandsFor (hopper : Hopper) (d : DeviceSetup) (past : List Met) : Type 0 where
   pub kind : IsHopper d.body
   pub setup : (device_of hopper).setup.now ≡ d
@@ -106,7 +112,8 @@ IsAtGap hopper = HasHeard hopper []
 abbrev pub serial_of : HopperIdle → ℕ
 serial_of hopper = hopper.device.setup.now.serial
 
--- Why an idle hopper with its own serial number doesn't pay what it is asked, or none where it does.
+-- Why an idle hopper with its own serial number doesn't pay what it is asked, or none where it
+-- does.
 abbrev pub refusal : ℕ → ℕ → ℕ → Option DispenseNo
 refusal own serial count =
     if not (serial == own) then Some WrongSerial else if count == 0 then Some Nothing else None
@@ -121,8 +128,8 @@ abbrev pub after_fall : AfterFall → Hopper
 after_fall (fell.Paying hopper) = Paying hopper
 after_fall (fell.Idle hopper) = Idle hopper
 
--- Whether a request changes what a hopper holds: it resets it, enables it or turns it off, asks it to pay or to stop,
--- or reads its test register.
+-- Whether a request changes what a hopper holds: it resets it, enables it or turns it off, asks it
+-- to pay or to stop, or reads its test register.
 abbrev pub is_change : Request → Bool
 is_change ResetDevice = true
 is_change (Enable code) = true

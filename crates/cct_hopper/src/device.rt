@@ -1,12 +1,14 @@
 //! What a hopper holds in whatever state it is (ccTalk Generic Specification 4, part 3).
-ghost use Rattle.std.specs.Prelude.{◌≡◌, ◌<◌, ◌==◌, ◌+◌, ◌^◌, ℕ, List, [], ◌∷◌, ◌++◌, if◌then◌else◌};
+ghost use Rattle.std.specs.Prelude.{◌≡◌, ◌<◌, ◌==◌, ◌+◌, ◌^◌, ℕ, List, [], ◌∷◌, ◌++◌};
+ghost use Rattle.std.specs.Prelude.{if◌then◌else◌};
 ghost use Rattle.cct_device_core.specs.Listening.{kind_of};
 
 use cct_device_core::Listener;
 use cct_life::LifeCount;
 use cct_model_wire::DeviceSetup;
 
-/// The hopper itself, without what its state tells: whether it may pay, and how many coins are left to fall.
+/// The hopper itself, without what its state tells: whether it may pay, and how many coins are left
+/// to fall.
 #[derive(Clone, Copy, Debug)]
 pub(crate) struct Device<'s> {
     pub(crate) setup: &'s DeviceSetup,
@@ -31,7 +33,8 @@ impl<'s> Device<'s> {
     ghost use Rattle.cct_life.specs.Life.{count_of};
     ghost use Rattle.cct_hopper.specs.Hopper.{DeviceHeard, at_power_up, memory};
 
-    /// The hopper of a setup as after a reset, with this life count. What it heard since the last gap stays with it.
+    /// The hopper of a setup as after a reset, with this life count. What it heard since the last
+    /// gap stays with it.
     pub(crate) fn new(setup: &'s DeviceSetup, life: LifeCount, listener: Listener) -> Device<'s>
         requires serial { setup.now.serial < 2 ^ 24 }
         requires check { kind_of listener ≡ setup.now.kind }
@@ -56,7 +59,8 @@ impl<'s> Device<'s> {
     pub(crate) fn byte(&mut self, byte: u8)
         ensures setup { self.new.setup ≡ self.old.setup }
         ensures memory { memory self.new ≡ memory self.old }
-        ensures heard { (bytes : List ℕ) → DeviceHeard self.old bytes → DeviceHeard self.new (bytes ++ byte ∷ []) }
+        ensures heard { (bytes : List ℕ) → DeviceHeard self.old bytes →
+            DeviceHeard self.new (bytes ++ byte ∷ []) }
     {
         self.listener.byte(self.setup.addr, byte);
     }

@@ -1,13 +1,16 @@
 //! The hopper as a device (ccTalk Generic Specification 4, part 3).
-ghost use Rattle.std.specs.Prelude.{◌≡◌, ◌≢◌, ◌==◌, ℕ, List, [], ◌∷◌, ◌++◌, false, true, not, Some, IfSome, MatchOption};
+ghost use Rattle.std.specs.Prelude.{◌≡◌, ◌≢◌, ◌==◌, ℕ, List, [], ◌∷◌, ◌++◌, false, true, not, Some};
+ghost use Rattle.std.specs.Prelude.{IfSome, MatchOption};
 ghost use Rattle.std.specs.Option.{option_map};
 ghost use Rattle.cct_model_wire.specs.declared.device.DeviceSetup.{DeviceSetup};
 ghost use Rattle.cct_model_wire.specs.declared.request.TheConstants.{ENABLE_CODE};
-ghost use Rattle.cct_model_wire.specs.declared.request.Request.TheVariants.{Dispense, Enable, StopNow, TestHopper};
+ghost use Rattle.cct_model_wire.specs.declared.request.Request.TheVariants.{Dispense, Enable};
+ghost use Rattle.cct_model_wire.specs.declared.request.Request.TheVariants.{StopNow, TestHopper};
 ghost use Rattle.cct_model_wire.specs.Device.{IsHopper, IsSound, reply_of};
 ghost use Rattle.cct_model_wire.specs.Exchange.{answer, asks_of};
 ghost use Rattle.cct_model_wire.specs.History.{Met, fall, heard, jam, reset};
-ghost use Rattle.cct_model_wire.specs.Hopper.{dispense_reply, hopper_reply, register_of, remaining, taken_of};
+ghost use Rattle.cct_model_wire.specs.Hopper.{dispense_reply, hopper_reply, register_of, remaining};
+ghost use Rattle.cct_model_wire.specs.Hopper.{taken_of};
 ghost use Rattle.cct_model_wire.specs.Reply.{IsSayable, reply_shown};
 
 use crate::device::Device;
@@ -19,7 +22,8 @@ use cct_device_core::{Asked, asked_whole, common_reply, give};
 use cct_life::LifeCount;
 use cct_model_wire::{DeviceBody, DeviceSetup, ENABLE_CODE, MOST_SENT, Reply, Request};
 
-/// A hopper of a setup, in one of its three states. Its contracts tell it by all that it met, newest first.
+/// A hopper of a setup, in one of its three states. Its contracts tell it by all that it met,
+/// newest first.
 #[derive(Debug, Drop)]
 pub enum Hopper<'s> {
     /// It may not pay.
@@ -31,7 +35,8 @@ pub enum Hopper<'s> {
 }
 
 impl<'s> Hopper<'s> {
-    ghost use Rattle.cct_hopper.specs.Hopper.{HasHeard, IsAtGap, StandsFor, device_of, is_change, left_of, may_pay, start_of};
+    ghost use Rattle.cct_hopper.specs.Hopper.{HasHeard, IsAtGap, StandsFor, device_of, is_change};
+    ghost use Rattle.cct_hopper.specs.Hopper.{left_of, may_pay, start_of};
 
     /// A hopper as after a reset, with its life count where the setup starts it.
     pub fn new(setup: &'s DeviceSetup) -> Hopper<'s>
@@ -49,7 +54,8 @@ impl<'s> Hopper<'s> {
         }
     }
 
-    /// A coin falls out, which is paid where the hopper is paying: true then, and false where it is nothing to it.
+    /// A coin falls out, which is paid where the hopper is paying: true then, and false where it is
+    /// nothing to it.
     pub fn fall(&mut self) -> bool
         ensures stands { (d : DeviceSetup) (past : List Met) → StandsFor self.old d past
             → StandsFor self.new d (fall ∷ past) }
@@ -69,8 +75,8 @@ impl<'s> Hopper<'s> {
         }
     }
 
-    /// A coin is stuck, which ends the payout where the hopper is paying: true then, and false where it is nothing to
-    /// it.
+    /// A coin is stuck, which ends the payout where the hopper is paying: true then, and false
+    /// where it is nothing to it.
     pub fn jam(&mut self) -> bool
         ensures stands { (d : DeviceSetup) (past : List Met) → StandsFor self.old d past
             → StandsFor self.new d (jam ∷ past) }
@@ -87,7 +93,8 @@ impl<'s> Hopper<'s> {
         }
     }
 
-    /// The hopper starts again as after power-up: it is off, and a payout is forgotten. The life count goes on.
+    /// The hopper starts again as after power-up: it is off, and a payout is forgotten. The life
+    /// count goes on.
     pub fn reset(&mut self)
         ensures stands { (d : DeviceSetup) (past : List Met) → StandsFor self.old d past
             → StandsFor self.new d (reset ∷ past) }
@@ -104,8 +111,10 @@ impl<'s> Hopper<'s> {
     /// Hears one byte more. It acts on it, and answers, only when a gap comes.
     #[inline]
     pub fn byte(&mut self, byte: u8)
-        ensures stands { (d : DeviceSetup) (past : List Met) → StandsFor self.old d past → StandsFor self.new d past }
-        ensures heard { (bytes : List ℕ) → HasHeard self.old bytes → HasHeard self.new (bytes ++ byte ∷ []) }
+        ensures stands { (d : DeviceSetup) (past : List Met) → StandsFor self.old d past →
+            StandsFor self.new d past }
+        ensures heard { (bytes : List ℕ) → HasHeard self.old bytes →
+            HasHeard self.new (bytes ++ byte ∷ []) }
     {
         match self {
             Hopper::Off(hopper) => hopper.device.byte(byte),
@@ -114,10 +123,10 @@ impl<'s> Hopper<'s> {
         }
     }
 
-    /// A gap: the hopper acts on what the bytes since the last one ask, and answers: true with the answer in `out`, or
-    /// false with nothing there where the hopper is silent. It is silent to bytes that are no message under its check,
-    /// to another address, to a request that no hopper knows, and to every broadcast but the address poll, which asks
-    /// nothing at its own address.
+    /// A gap: the hopper acts on what the bytes since the last one ask, and answers: true with the
+    /// answer in `out`, or false with nothing there where the hopper is silent. It is silent to
+    /// bytes that are no message under its check, to another address, to a request that no hopper
+    /// knows, and to every broadcast but the address poll, which asks nothing at its own address.
     pub fn gap(&mut self, out: &mut ArrayVec<u8, MOST_SENT>) -> bool
         // A gap does what the bytes since the last one ask, and nothing if they ask nothing.
         ensures stands { (d : DeviceSetup) (past : List Met) (bytes : List ℕ) → StandsFor self.old d past
@@ -144,12 +153,14 @@ impl<'s> Hopper<'s> {
         }
     }
 
-    /// Hears a piece and then a gap, where no byte came since the last one. It acts and answers as `gap` says.
+    /// Hears a piece and then a gap, where no byte came since the last one. It acts and answers as
+    /// `gap` says.
     pub fn hear(&mut self, piece: &[u8], out: &mut ArrayVec<u8, MOST_SENT>) -> bool
         requires gap { IsAtGap self.old }
         ensures stands { (d : DeviceSetup) (past : List Met) → StandsFor self.old d past
             → StandsFor self.new d (heard (asks_of d piece.now) ∷ past) }
-        // Byte for byte, the answer is the one that all that came before makes it; else there is silence.
+        // Byte for byte, the answer is the one that all that came before makes it; else there is
+        // silence.
         ensures answer { (d : DeviceSetup) (past : List Met) → StandsFor self.old d past
             → MatchOption (answer d past piece.now) ((result ≡ false) × (out.new.items ≡ []))
             (λ bytes. (result ≡ true) × (out.new.items ≡ bytes)) }
@@ -169,7 +180,8 @@ impl<'s> Hopper<'s> {
     /// No byte came since the last gap any more.
     #[inline]
     fn forget_bytes(&mut self)
-        ensures stands { (d : DeviceSetup) (past : List Met) → StandsFor self.old d past → StandsFor self.new d past }
+        ensures stands { (d : DeviceSetup) (past : List Met) → StandsFor self.old d past →
+            StandsFor self.new d past }
         ensures gap { IsAtGap self.new }
     {
         match self {
@@ -319,7 +331,7 @@ impl<'s> Hopper<'s> {
         }
     }
 
-    /// Header 172: stops a payout, and tells how many coins were left.
+    /// Header 172: stops a payout, and says how many coins were left.
     fn stop(&mut self) -> u8
         ensures stands { (d : DeviceSetup) (past : List Met) → StandsFor self.old d past
             → StandsFor self.new d (heard (Some StopNow) ∷ past) }

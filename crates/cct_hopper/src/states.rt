@@ -1,6 +1,8 @@
-//! The three states of a hopper as types (ccTalk Generic Specification 4, part 3). Each owns the whole hopper, and each
-//! call consumes it and gives the next one, so nobody asks a hopper to pay that is off or pays already.
-ghost use Rattle.std.specs.Prelude.{◌≡◌, ◌≢◌, ◌==◌, ◌≤◌, ◌<◌, ◌+◌, ◌^◌, ⊤, false, Some, None, List, ℕ, [], ◌∷◌, IfSome, MatchOption, MatchResult};
+//! The three states of a hopper as types (ccTalk Generic Specification 4, part 3). Each owns the
+//! whole hopper, and each call consumes it and gives the next one, so nobody asks a hopper to pay
+//! that is off or pays already.
+ghost use Rattle.std.specs.Prelude.{◌≡◌, ◌≢◌, ◌==◌, ◌≤◌, ◌<◌, ◌+◌, ◌^◌, ⊤, false, Some, None, List};
+ghost use Rattle.std.specs.Prelude.{ℕ, [], ◌∷◌, IfSome, MatchOption, MatchResult};
 
 use crate::device::{Device, next_event};
 use cct_device_core::Listener;
@@ -77,7 +79,8 @@ impl<'s> HopperOff<'s> {
     pub fn enable(self) -> HopperIdle<'s>
         ensures stands { (d : DeviceSetup) (past : List Met) → StandsFor (Off self.entry) d past
             → StandsFor (Idle result) d (heard (Some (Enable ENABLE_CODE)) ∷ past) }
-        ensures heard { (bytes : List ℕ) → HasHeard (Off self.entry) bytes → HasHeard (Idle result) bytes }
+        ensures heard { (bytes : List ℕ) → HasHeard (Off self.entry) bytes →
+            HasHeard (Idle result) bytes }
     {
         HopperIdle {
             device: self.device,
@@ -88,14 +91,16 @@ impl<'s> HopperOff<'s> {
     pub fn reset(self) -> HopperOff<'s>
         ensures stands { (d : DeviceSetup) (past : List Met) → StandsFor (Off self.entry) d past
             → StandsFor (Off result) d (reset ∷ past) }
-        ensures heard { (bytes : List ℕ) → HasHeard (Off self.entry) bytes → HasHeard (Off result) bytes }
+        ensures heard { (bytes : List ℕ) → HasHeard (Off self.entry) bytes →
+            HasHeard (Off result) bytes }
     {
         HopperOff {
             device: Device::new(self.device.setup, self.device.life, self.device.listener),
         }
     }
 
-    /// The same hopper once more, where the one at hand is let go or replaced: what borrows isn't moved out of it.
+    /// The same hopper once more, where the one at hand is let go or replaced: what borrows isn't
+    /// moved out of it.
     pub(crate) fn twin(&self) -> HopperOff<'s>
         ensures { result ≡ self.now }
     {
@@ -110,14 +115,16 @@ impl<'s> HopperIdle<'s> {
     ghost use Rattle.cct_model_wire.specs.declared.request.TheConstants.{ENABLE_CODE};
     ghost use Rattle.cct_model_wire.specs.declared.request.Request.TheVariants.{Dispense, Enable};
     ghost use Rattle.cct_model_wire.specs.History.{Met, heard, reset};
-    ghost use Rattle.cct_hopper.specs.Hopper.{HasHeard, StandsFor, after_dispense, refusal, serial_of};
+    ghost use Rattle.cct_hopper.specs.Hopper.{HasHeard, StandsFor, after_dispense, refusal};
+    ghost use Rattle.cct_hopper.specs.Hopper.{serial_of};
     ghost use Rattle.cct_hopper.specs.declared.hopper.Hopper.TheVariants.{Idle, Off};
 
     /// Header 164 with any other code.
     pub fn disable(self) -> HopperOff<'s>
         ensures stands { (d : DeviceSetup) (past : List Met) (code : ℕ) → code ≢ ENABLE_CODE
             → StandsFor (Idle self.entry) d past → StandsFor (Off result) d (heard (Some (Enable code)) ∷ past) }
-        ensures heard { (bytes : List ℕ) → HasHeard (Idle self.entry) bytes → HasHeard (Off result) bytes }
+        ensures heard { (bytes : List ℕ) → HasHeard (Idle self.entry) bytes →
+            HasHeard (Off result) bytes }
     {
         HopperOff {
             device: self.device,
@@ -140,8 +147,8 @@ impl<'s> HopperIdle<'s> {
         }
     }
 
-    /// Header 167: pays so many coins, where the serial number is its own and the count isn't 0. Else it comes back as
-    /// it was, with the reason: the serial number is looked at first.
+    /// Header 167: pays so many coins, where the serial number is its own and the count isn't 0.
+    /// Else it comes back as it was, with the reason: the serial number is looked at first.
     pub fn dispense(
         self,
         serial: u32,
@@ -153,7 +160,8 @@ impl<'s> HopperIdle<'s> {
         // It comes back as it was, with the reason; the serial number is looked at first.
         ensures refused { MatchResult result (λ _. refusal (serial_of self.entry) serial count ≡ None)
             (λ no. (no.0 ≡ self.entry) × (refusal (serial_of self.entry) serial count ≡ Some no.1)) }
-        ensures heard { (bytes : List ℕ) → HasHeard (Idle self.entry) bytes → HasHeard (after_dispense result) bytes }
+        ensures heard { (bytes : List ℕ) → HasHeard (Idle self.entry) bytes →
+            HasHeard (after_dispense result) bytes }
     {
         if let Some(no) = self.refusal(serial, count) {
             return Err((self.twin(), no));
@@ -173,14 +181,16 @@ impl<'s> HopperIdle<'s> {
     pub fn reset(self) -> HopperOff<'s>
         ensures stands { (d : DeviceSetup) (past : List Met) → StandsFor (Idle self.entry) d past
             → StandsFor (Off result) d (reset ∷ past) }
-        ensures heard { (bytes : List ℕ) → HasHeard (Idle self.entry) bytes → HasHeard (Off result) bytes }
+        ensures heard { (bytes : List ℕ) → HasHeard (Idle self.entry) bytes →
+            HasHeard (Off result) bytes }
     {
         HopperOff {
             device: Device::new(self.device.setup, self.device.life, self.device.listener),
         }
     }
 
-    /// The same hopper once more, where the one at hand is let go or replaced: what borrows isn't moved out of it.
+    /// The same hopper once more, where the one at hand is let go or replaced: what borrows isn't
+    /// moved out of it.
     pub(crate) fn twin(&self) -> HopperIdle<'s>
         ensures { result ≡ self.now }
     {
@@ -199,11 +209,13 @@ impl<'s> HopperPaying<'s> {
     ghost use Rattle.cct_hopper.specs.Hopper.{HasHeard, StandsFor, after_fall};
     ghost use Rattle.cct_hopper.specs.declared.hopper.Hopper.TheVariants.{Idle, Off, Paying};
 
-    /// A coin falls out: it is paid, and the life count rises. After the last one the hopper is idle.
+    /// A coin falls out: it is paid, and the life count rises. After the last one the hopper is
+    /// idle.
     pub fn fall(self) -> AfterFall<'s>
         ensures stands { (d : DeviceSetup) (past : List Met) → StandsFor (Paying self.entry) d past
             → StandsFor (after_fall result) d (fall ∷ past) }
-        ensures heard { (bytes : List ℕ) → HasHeard (Paying self.entry) bytes → HasHeard (after_fall result) bytes }
+        ensures heard { (bytes : List ℕ) → HasHeard (Paying self.entry) bytes →
+            HasHeard (after_fall result) bytes }
     {
         let left = self.remaining - 1;
         let mut device = self.device;
@@ -219,11 +231,12 @@ impl<'s> HopperPaying<'s> {
         }
     }
 
-    /// A coin is stuck: what is left stays unpaid, and the test register tells a timeout.
+    /// A coin is stuck: what is left stays unpaid, and the test register shows a timeout.
     pub fn jam(self) -> HopperIdle<'s>
         ensures stands { (d : DeviceSetup) (past : List Met) → StandsFor (Paying self.entry) d past
             → StandsFor (Idle result) d (jam ∷ past) }
-        ensures heard { (bytes : List ℕ) → HasHeard (Paying self.entry) bytes → HasHeard (Idle result) bytes }
+        ensures heard { (bytes : List ℕ) → HasHeard (Paying self.entry) bytes →
+            HasHeard (Idle result) bytes }
     {
         let mut device = self.device;
         device.unpaid = self.remaining;
@@ -231,13 +244,14 @@ impl<'s> HopperPaying<'s> {
         HopperIdle { device }
     }
 
-    /// Header 172: what is left stays unpaid, and is told. The hopper may still pay afterwards.
+    /// Header 172: what is left stays unpaid, and is reported. The hopper may still pay afterwards.
     pub fn stop(self) -> (HopperIdle<'s>, u8)
         ensures stands { (d : DeviceSetup) (past : List Met) → StandsFor (Paying self.entry) d past
             → StandsFor (Idle result.0) d (heard (Some StopNow) ∷ past) }
         ensures told { (d : DeviceSetup) (past : List Met) → StandsFor (Paying self.entry) d past
             → result.1 ≡ remaining d.serial past }
-        ensures heard { (bytes : List ℕ) → HasHeard (Paying self.entry) bytes → HasHeard (Idle result.0) bytes }
+        ensures heard { (bytes : List ℕ) → HasHeard (Paying self.entry) bytes →
+            HasHeard (Idle result.0) bytes }
     {
         let mut device = self.device;
         device.unpaid = self.remaining;
@@ -248,7 +262,8 @@ impl<'s> HopperPaying<'s> {
     pub(crate) fn disable(self) -> HopperOff<'s>
         ensures stands { (d : DeviceSetup) (past : List Met) (code : ℕ) → code ≢ ENABLE_CODE
             → StandsFor (Paying self.entry) d past → StandsFor (Off result) d (heard (Some (Enable code)) ∷ past) }
-        ensures heard { (bytes : List ℕ) → HasHeard (Paying self.entry) bytes → HasHeard (Off result) bytes }
+        ensures heard { (bytes : List ℕ) → HasHeard (Paying self.entry) bytes →
+            HasHeard (Off result) bytes }
     {
         let mut device = self.device;
         device.unpaid = self.remaining;
@@ -259,14 +274,16 @@ impl<'s> HopperPaying<'s> {
     pub fn reset(self) -> HopperOff<'s>
         ensures stands { (d : DeviceSetup) (past : List Met) → StandsFor (Paying self.entry) d past
             → StandsFor (Off result) d (reset ∷ past) }
-        ensures heard { (bytes : List ℕ) → HasHeard (Paying self.entry) bytes → HasHeard (Off result) bytes }
+        ensures heard { (bytes : List ℕ) → HasHeard (Paying self.entry) bytes →
+            HasHeard (Off result) bytes }
     {
         HopperOff {
             device: Device::new(self.device.setup, self.device.life, self.device.listener),
         }
     }
 
-    /// The same hopper once more, where the one at hand is let go or replaced: what borrows isn't moved out of it.
+    /// The same hopper once more, where the one at hand is let go or replaced: what borrows isn't
+    /// moved out of it.
     pub(crate) fn twin(&self) -> HopperPaying<'s>
         ensures device { result.device ≡ self.now.device }
         ensures remaining { result.remaining ≡ self.now.remaining }

@@ -168,7 +168,7 @@ asked_entries hears scans past c since sent heard end asks heard_is end_is =
     ∙ ap (λ p. with_end a (entry.Wire a sent p) (end_of_scan (scan_line sent p ∷ since))) heard_is))
 asked_entries hears sales past c since sent heard end asks heard_is end_is = absurd asks
 
--- a job that stands beside the epoch and the open order of a place stands beside those of its lines over a dose
+-- a job that is beside the epoch and the open order of a place is beside those of its lines over a dose
 stands_dosed : (place : Place) (past : List Entry) (sent : List ℕ) (job : Job) (c : Command) (since : List Line)
     → StandsAt place job c since (model.epoch (lines_at place past)) (order (lines_at place past))
     → StandsAt place job c since (model.epoch (dosed_at place past sent ++ lines_at place past))

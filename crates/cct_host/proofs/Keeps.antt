@@ -69,7 +69,7 @@ knows_ended (device d) state owed end lines knows = (knows.0, knows.1, refl, ref
 knows_ended scans state owed end lines knows = refl
 knows_ended sales state owed end lines knows = (knows.0, refl, refl)
 
--- a job that stands beside an epoch and an open order stands beside the same
+-- a job that is beside an epoch and an open order is beside the same
 pub works_same : (place : Place) (job : Option Job) (old new : model.Job) (state after : EpochState)
     (owed left : Option OpenOrder) → new ≡ old → after ≡ state → left ≡ owed → Works place job old state owed
     → Works place job new after left

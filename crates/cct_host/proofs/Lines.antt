@@ -29,7 +29,7 @@ use Rattle.cct_host.specs.Attempt.{Attempt, news_of, used_by}
 use Rattle.cct_host.specs.Attempt as attempt
 use Rattle.cct_host.specs.Place.{AreAt, IsAsBefore, Place, addr_of, device, line_at, lines_at, sales, scans}
 
--- what stands at an address, where that is a place's
+-- what is at an address, where that is a place's
 abbrev pub only : ℕ → Place → Line → List Line
 only addr place x = cond (addr == addr_of place) (x ∷ []) []
 

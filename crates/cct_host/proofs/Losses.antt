@@ -191,7 +191,7 @@ either_due None P is = tt
 either_due (Some r) P is = is
 
 module _ {D : Type 0} {g : Ghosts D} where
-  -- what stands before a record that is due
+  -- what is before a record that is due
   pub stands_before : (setup : Setup) (journal : Journal D g) (so_far : Carry) (due : Option Record) (rs : List Record)
       → KeepsRecords setup g.honest g.seen g.may_leave (journals.disk_of journal) (journals.place_of journal) rs
       → so_far ≡ carry_of setup rs → journals.JournalStandsBefore (carry_of setup) journal so_far due rs

@@ -118,7 +118,7 @@ reads_all seen disk old rest up =
       count = up.count;
     }
 
--- a journal that was only read tells the same
+-- a journal that was only read shows the same
 module _ {D : Type 0} {g : Ghosts D} (old new : OldJournal D g) (place : olds.place_of new ≡ olds.place_of old)
     (seen : g.seen (olds.disk_of new) ≡ g.seen (olds.disk_of old)) where
   pub counts_still : OldCounts g.seen (olds.disk_of old) (olds.place_of old)

@@ -33,7 +33,7 @@ host_quiet {D} {g} host past e quiet stands =
           (reverse rs)) same (stands.on_disk trusted);
     }
 
--- a balance that is told is no line
+-- a balance that is reported is no line
 balance_line : (t : Totals) (place : Place) (past : List Entry)
     → lines_at place (entry.Balance t ∷ past) ≡ lines_at place past
 balance_line t (device d) past = refl

@@ -60,7 +60,7 @@ last_set : (report : List Entry) (e said : Entry) → set (report ++ e ∷ []) (
 last_set [] e said = refl
 last_set (x ∷ xs) e said = ap (λ es. x ∷ es) (last_set xs e said)
 
--- an exchange whose entry was filled where it stands in the report
+-- an exchange whose entry was filled where it is in the report
 pub converses : {L : Type 0} (gives : L → List ℕ → List ℕ → L → Type 0) (before after : L) (addr : ℕ) (old new : Job)
     (report pushed : List Entry) (e said : Entry) (index : ℕ)
     → index ≡ length report → pushed ≡ report ++ e ∷ [] → Fills gives before after addr old new said

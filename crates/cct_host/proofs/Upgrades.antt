@@ -1,4 +1,4 @@
--- A journal of an older version is brought forward: what stands on its disk, and why it isn't.
+-- A journal of an older version is brought forward: what is on its disk, and why it isn't.
 use Rattle.std.proofs.Common.{◌≡◌, ℕ, ◌+◌, ◌&&◌, true, List, [], ◌∷◌, ◌++◌, length, reverse, inl, inr, refl, sym, ap, subst, ◌∙◌, arith, append-nil, true≢false, Bool, Option, Some}
 use Rattle.std.specs.Prelude.{Err, IfOk, Ok, Result}
 use Rattle.std.proofs.lemmas.Bool.{and_parts}

@@ -1,5 +1,5 @@
--- What one attempt of a job makes: nothing without a job, else one exchange or one put, and the end where it brings
--- one.
+-- What one attempt of a job makes: nothing without a job, else one exchange or one put, and the end
+-- where it brings one.
 use Rattle.std.specs.Prelude.{◌≡◌, ℕ, List, [], ◌∷◌, Option, Some, None, ⊤}
 use Rattle.cct_model.specs.lines.record.Record.{Record}
 use Rattle.cct_model.specs.lines.entry.End.{End}
@@ -20,7 +20,8 @@ news_of addr idle = entry.Idle addr ∷ []
 news_of addr (asked sent heard end) = with_end addr (entry.Wire addr sent heard) end
 news_of addr (put r end) = with_end addr (entry.Put r) end
 
--- What an attempt does with its link: its exchange is in what the link gives, and without one the link stays.
+-- What an attempt does with its link: its exchange is in what the link gives, and without one the
+-- link stays.
 abbrev pub Links : {L : Type 0} → (L → List ℕ → List ℕ → L → Type 0) → L → L → Attempt → Type 0
 Links gives old new idle = new ≡ old
 Links gives old new (asked sent heard end) = gives old sent heard new

@@ -1,5 +1,7 @@
 -- Desks that represent all that happened.
-use Rattle.std.specs.Prelude.{◌≡◌, ◌+◌, ◌-◌, ◌≤◌, ◌<◌, ◌==◌, ℕ, List, ◌∷◌, ◌++◌, if◌then◌else◌, Option, Some, None, Result, length, max, option_and_then, reverse, slice_get}
+use Rattle.std.specs.Prelude.{◌≡◌, ◌+◌, ◌-◌, ◌≤◌, ◌<◌, ◌==◌, ℕ, List, ◌∷◌, ◌++◌, if◌then◌else◌}
+use Rattle.std.specs.Prelude.{Option, Some, None, Result, length, max, option_and_then, reverse}
+use Rattle.std.specs.Prelude.{slice_get}
 use Rattle.std.specs.List.{position}
 use Rattle.std.specs.Option.{IfSome}
 use Rattle.cct_model.specs.terms.wire.TheConstants.{BROADCAST, HOST}
@@ -18,7 +20,8 @@ use Rattle.cct_model.specs.Setup.{IsSoundSetup}
 use Rattle.cct_host.specs.declared.desk.JobDesk.{JobDesk}
 use Rattle.cct_host.specs.declared.desks.Desks.{Desks}
 use Rattle.cct_host.specs.Attempt.{Attempt, HeardBy, Links, news_of, put_of}
-use Rattle.cct_host.specs.Desk.{AllSit, Sits, greatest_paying, held_at, held_in, no_of, puts_at, reserved_over, sum_in}
+use Rattle.cct_host.specs.Desk.{AllSit, Sits, greatest_paying, held_at, held_in, no_of, puts_at}
+use Rattle.cct_host.specs.Desk.{reserved_over, sum_in}
 use Rattle.cct_host.specs.Held.{coins_by, due_by, price_by, sending_by}
 use Rattle.cct_host.specs.Place.{OwnsItsPut, sales, scans}
 use Rattle.cct_host.specs.Running.{amount_of, needed, rows_begun}
@@ -27,7 +30,8 @@ use Rattle.cct_host.specs.Running.{amount_of, needed, rows_begun}
 abbrev pub setup_of : Desks → Setup
 setup_of desks = desks.setup.now
 
--- How many records are held: those that jobs may still put, and one for each open order that no job is running to close.
+-- How many records are held: those that jobs may still put, and one for each open order that no job
+-- is running to close.
 abbrev pub held_of : Desks → ℕ
 held_of desks = held_in desks.devices.items + held_at desks.sale
 
@@ -38,7 +42,8 @@ puts_of desks = sum_in puts_at desks.devices.items + puts_at desks.sale
 -- What all jobs reserve.
 abbrev pub reserved_of : Desks → ℕ
 reserved_of desks =
-    reserved_over (setup_of desks) (setup_of desks).devices desks.devices.items + price_by desks.sale.job
+    reserved_over (setup_of desks) (setup_of desks).devices desks.devices.items
+    + price_by desks.sale.job
 
 -- The greatest id of the running payments and the running sale.
 abbrev pub working_id : Desks → ℕ
@@ -50,15 +55,16 @@ index_at setup addr = position (λ d. d.addr == addr) setup.devices
 
 -- The desk of the device at an address, if there is one.
 abbrev pub desk_there : Desks → ℕ → Option JobDesk
-desk_there desks addr = option_and_then (slice_get desks.devices.items) (index_at (setup_of desks) addr)
+desk_there desks addr =
+    option_and_then (slice_get desks.devices.items) (index_at (setup_of desks) addr)
 
 -- This is the index of the desk of the device at an address, if there is one.
 pub record FindsDesk (desks : Desks) (addr : ℕ) (found : Option ℕ) : Type 0 where
   pub is : found ≡ index_at (setup_of desks) addr
   pub within : IfSome found (λ i. i < length desks.devices.items)
 
--- The record that the job at an address is about to put, if it is about to put one, where this desk of a device is
--- there; one without a device that puts something is the sale's.
+-- The record that the job at an address is about to put, if it is about to put one, where this desk
+-- of a device is there; one without a device that puts something is the sale's.
 abbrev pub due_at_desk : JobDesk → ℕ → Option JobDesk → Option Record
 due_at_desk sale addr (Some desk) = due_by desk.job
 due_at_desk sale addr None = if addr == HOST then due_by sale.job else None
@@ -67,8 +73,8 @@ due_at_desk sale addr None = if addr == HOST then due_by sale.job else None
 abbrev pub due_on : Desks → ℕ → Option Record
 due_on desks addr = due_at_desk desks.sale addr (desk_there desks addr)
 
--- The request that the job at an address sends next, if it is about to send one, where this desk of a device is there; one
--- without a device that sends something is that of scans.
+-- The request that the job at an address sends next, if it is about to send one, where this desk of
+-- a device is there; one without a device that sends something is that of scans.
 abbrev pub sending_at_desk : JobDesk → ℕ → Option JobDesk → Option Sending
 sending_at_desk scan addr (Some desk) = sending_by desk.job
 sending_at_desk scan addr None = if addr == BROADCAST then sending_by scan.job else None
@@ -77,8 +83,8 @@ sending_at_desk scan addr None = if addr == BROADCAST then sending_by scan.job e
 abbrev pub sending_on : Desks → ℕ → Option Sending
 sending_on desks addr = sending_at_desk desks.scan addr (desk_there desks addr)
 
--- What the job at an address reserves, where this desk of a device is there; one without a device that reserves
--- something is the sale's.
+-- What the job at an address reserves, where this desk of a device is there; one without a device
+-- that reserves something is the sale's.
 abbrev pub amount_at_desk : Setup → JobDesk → ℕ → Option JobDesk → ℕ
 amount_at_desk setup sale addr (Some desk) = coins_of setup addr (coins_by desk.job)
 amount_at_desk setup sale addr None = if addr == HOST then price_by sale.job else 0
@@ -95,8 +101,8 @@ pub record TakesIn (c : Command) (old new : Desks) : Type 0 where
   -- And exactly the coins of a payment, or the price of a sale, are reserved more.
   pub reserves : reserved_of new ≡ reserved_of old + amount_of (setup_of old) c
 
--- A `next` at an address frees room: that of the record that it puts, if it puts one, and then all that the job there
--- reserved; what the others reserve stays.
+-- A `next` at an address frees room: that of the record that it puts, if it puts one, and then all
+-- that the job there reserved; what the others reserve stays.
 pub record FreesIn (addr : ℕ) (old new : Desks) : Type 0 where
   pub setup : setup_of new ≡ setup_of old
   -- What its jobs may still put never rises, and falls if a record was due.
@@ -107,9 +113,9 @@ pub record FreesIn (addr : ℕ) (old new : Desks) : Type 0 where
   pub clears : IfSome (due_on old addr) (λ r. amount_on new addr ≡ 0)
   pub frees : reserved_of new + (amount_on old addr - amount_on new addr) ≡ reserved_of old
 
--- Desks represent a transcript, newest entry first: their setup is sound, each has the job, the epoch and the open order
--- that the lines of its device tell, the scan is that of the lines of address 0, the sale that of the lines of address
--- 1, and the greatest id of the records is known.
+-- Desks represent a transcript, newest entry first: their setup is sound, each has the job, the
+-- epoch and the open order that the lines of its device tell, the scan is that of the lines of
+-- address 0, the sale that of the lines of address 1, and the greatest id of the records is known.
 pub record StandsFor (desks : Desks) (past : List Entry) : Type 0 where
   pub sound : IsSoundSetup (setup_of desks)
   pub devices : AllSit past (setup_of desks).devices desks.devices.items
@@ -120,29 +126,36 @@ pub record StandsFor (desks : Desks) (past : List Entry) : Type 0 where
 -- Nothing changed.
 abbrev pub Stays : Desks → Desks → Type 0
 Stays old new =
-    (new.setup ≡ old.setup) × (new.devices.items ≡ old.devices.items) × (new.scan ≡ old.scan) × (new.sale ≡ old.sale)
+    (new.setup ≡ old.setup) × (new.devices.items ≡ old.devices.items) × (new.scan ≡ old.scan)
+    × (new.sale ≡ old.sale)
     × (new.last ≡ old.last)
 
--- A command is taken or refused as it has to be after whatever happened, and the desks go on by its entry.
+-- A command is taken or refused as it has to be after whatever happened, and the desks go on by its
+-- entry.
 abbrev pub Answers : Desks → Desks → Command → Result Unit CommandNo → Type 0
 Answers old new c result =
     (past : List Entry) → StandsFor old past
-    → (no_of result ≡ state_refusal (setup_of old) past c) × StandsFor new (command_entry c (no_of result) ∷ past)
+    → (no_of result ≡ state_refusal (setup_of old) past c)
+    × StandsFor new (command_entry c (no_of result) ∷ past)
 
 -- A command is refused for this reason, if for any, after whatever happened.
 abbrev pub Refuses : Desks → Command → Option CommandNo → Type 0
-Refuses desks c why = (past : List Entry) → StandsFor desks past → why ≡ state_refusal (setup_of desks) past c
+Refuses desks c why =
+    (past : List Entry) → StandsFor desks past → why ≡ state_refusal (setup_of desks) past c
 
--- A `next` at an address makes one attempt over a link, and puts the record that was due there, if one was. What it adds
--- to the report are the entries of a `next` after whatever happened, where what it heard is what follows the piece that it sent, and an order that it closes was opened at
+-- A `next` at an address makes one attempt over a link, and puts the record that was due there, if
+-- one was. What it adds to the report are the entries of a `next` after whatever happened, where
+-- what it heard is what follows the piece that it sent, and an order that it closes was opened at
 -- that address; and the desks go on by them.
-pub record Nexts {L : Type 0} (gives : L → List ℕ → List ℕ → L → Type 0) (old new : L) (addr : ℕ) (before after : Desks)
+pub record Nexts {L : Type 0} (gives : L → List ℕ → List ℕ → L → Type 0) (old new : L) (addr : ℕ)
+    (before after : Desks)
     (report reported : List Entry) : Type 0 where
   pub what : Attempt
   pub reported_is : reported ≡ report ++ reverse (news_of addr what)
   pub link : Links gives old new what
   pub put_is : put_of what ≡ due_on before addr
-  pub goes : (hears : List ℕ → List ℕ) (past : List Entry) → HeardBy hears what → StandsFor before past
+  pub goes : (hears : List ℕ → List ℕ) (past : List Entry) → HeardBy hears what →
+      StandsFor before past
       → OwnsItsPut (setup_of before) past addr
       → EntriesOfNext hears (setup_of before) past addr (news_of addr what) × StandsFor after
       (news_of addr what ++ past)

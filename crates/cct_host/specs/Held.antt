@@ -1,4 +1,5 @@
--- What the job at a place is still to do: the records that it may put, what it reserves, and the record that is next.
+-- What the job at a place is still to do: the records that it may put, what it reserves, and the
+-- record that is next.
 use Rattle.std.specs.Prelude.{ℕ, ◌+◌, Bool, true, false, Option, Some, None, ⊤}
 use Rattle.std.proofs.Props.{props}
 use Rattle.cct_model.specs.lines.record.Record.{Record}
@@ -53,7 +54,8 @@ abbrev pub coins_by : Option Job → ℕ
 coins_by None = 0
 coins_by (Some job) = coins_in (ahead job)
 
--- What the job at a place is about to put, if it is about to put something, can be spelt in a journal.
+-- What the job at a place is about to put, if it is about to put something, can be spelt in a
+-- journal.
 abbrev pub FitsIn : Option Job → Type 0
 FitsIn None = ⊤
 FitsIn (Some job) = PutsFit job

@@ -1,5 +1,5 @@
--- Where the host may have a job: at each device, at the address of all devices, where scans are, and at its own, where
--- sales are.
+-- Where the host may have a job: at each device, at the address of all devices, where scans are,
+-- and at its own, where sales are.
 use Rattle.std.specs.Prelude.{◌≡◌, ◌≢◌, ℕ, List, ◌∷◌, ◌++◌, Option, Some, None, ⊤}
 use Rattle.std.specs.Option.{IfSome}
 use Rattle.cct_model.specs.terms.wire.TheConstants.{BROADCAST, HOST}
@@ -66,7 +66,8 @@ abbrev pub Asks : Place → Command → List Line → EpochState → Option Open
 Asks (device d) c since state owed sent =
     (q : Request) × (table.row d c since state owed ≡ model.sends q) × (sent ≡ ask d.kind d.addr q)
 Asks scans c since state owed sent =
-    (poll : CheckKind × ℕ) × (scan_row since ≡ Some poll) × (sent ≡ ask poll.0 poll.1 (poll_of poll.1))
+    (poll : CheckKind × ℕ) × (scan_row since ≡ Some poll)
+    × (sent ≡ ask poll.0 poll.1 (poll_of poll.1))
 Asks sales c since state owed sent = ⊥
 
 -- A job represents the lines of a place since its command was taken.
@@ -75,7 +76,8 @@ StandsAt (device d) job c since state owed = Stands d job c since state owed
 StandsAt scans job c since state owed = StandsScan job since
 StandsAt sales job c since state owed = StandsSale job c since
 
--- The entries of a `next` at a place, newest first, by the job there. What follows a piece that is sent is an argument.
+-- The entries of a `next` at a place, newest first, by the job there. What follows a piece that is
+-- sent is an argument.
 abbrev pub NextAt : (List ℕ → List ℕ) → Place → List Entry → model.Job → List Entry → Type 0
 NextAt hears (device d) past job news = NextEntries hears d past job news
 NextAt hears scans past job news = ScanEntries hears job news
@@ -92,12 +94,14 @@ IsAsBefore place past news =
 abbrev pub AreAt : ℕ → List Entry → List Entry → Type 0
 AreAt addr past news = (place : Place) → addr_of place ≢ addr → IsAsBefore place past news
 
--- The record that the job at an address is about to put, if it puts one, closes no order of another address.
+-- The record that the job at an address is about to put, if it puts one, closes no order of another
+-- address.
 abbrev pub OwnsItsPut : Setup → List Entry → ℕ → Type 0
 OwnsItsPut setup past addr = IfSome (due_at setup past addr) (ClosesItsOwn past addr)
 
 -- The same of a place; a scan puts nothing, and a sale closes no order.
 abbrev pub OwnsAt : Place → List Entry → Type 0
-OwnsAt (device d) past = IfSome (due_of d (lines_of d past) (model.job (lines_of d past))) (ClosesItsOwn past d.addr)
+OwnsAt (device d) past =
+    IfSome (due_of d (lines_of d past) (model.job (lines_of d past))) (ClosesItsOwn past d.addr)
 OwnsAt scans past = ⊤
 OwnsAt sales past = ⊤

@@ -1,4 +1,5 @@
--- Desks of a host that starts over a carry or over records, newest first: they have what these tell, and no job.
+-- Desks of a host that starts over a carry or over records, newest first: they have what these
+-- tell, and no job.
 use Rattle.std.specs.Prelude.{◌≡◌, ℕ, List, [], ◌∷◌, None, ⊤}
 use Rattle.std.specs.List.{All}
 use Rattle.cct_model.specs.terms.device.DeviceSetup.{DeviceSetup}
@@ -24,8 +25,8 @@ pub record AreUnused (desks : Desks) : Type 0 where
   pub scan : IsFree desks.scan
   pub sale : IsFree desks.sale
 
--- The desk of a device has the epoch and the open order that are known of its address, and no job is
--- running.
+-- The desk of a device has the epoch and the open order that are known of its address, and no job
+-- is running.
 pub record ReplaysAt (d : DeviceSetup) (desk : JobDesk) (k : Known) : Type 0 where
   pub epoch_is : desk.epoch ≡ k.epoch_at d.addr
   pub order_is : order_of desk.orders.order ≡ k.order_at d.addr
@@ -39,8 +40,8 @@ AllReplay (d ∷ ds) (desk ∷ desks) k = ReplaysAt d desk k × AllReplay ds des
 AllReplay [] (desk ∷ desks) k = ⊥
 AllReplay (d ∷ ds) [] k = ⊥
 
--- Desks begin with what is known and with this greatest id: the setup is sound, no job is at any address, and each desk of
--- a device has what is known of it.
+-- Desks begin with what is known and with this greatest id: the setup is sound, no job is at any
+-- address, and each desk of a device has what is known of it.
 pub record BeginsWith (desks : Desks) (k : Known) (last : ℕ) : Type 0 where
   pub sound : IsSoundSetup (setup_of desks)
   pub unused : AreUnused desks

@@ -1,5 +1,6 @@
 -- Jobs that have something to do, and what becomes of a job.
-use Rattle.std.specs.Prelude.{◌≡◌, ℕ, Bool, true, false, not, List, [], ◌∷◌, ◌++◌, Option, Some, None, is_some}
+use Rattle.std.specs.Prelude.{◌≡◌, ℕ, Bool, true, false, not, List, [], ◌∷◌, ◌++◌, Option, Some}
+use Rattle.std.specs.Prelude.{None, is_some}
 use Rattle.std.specs.Option.{option_or}
 use Rattle.cct_model.specs.terms.device.DeviceSetup.{DeviceSetup}
 use Rattle.cct_model.specs.terms.device.Setup.{Setup}
@@ -19,7 +20,8 @@ use Rattle.cct_model.specs.Job.{address_of}
 use Rattle.cct_model.specs.Job as model
 use Rattle.cct_model.specs.Rows.{TableRow, has_waits, need_in, rows_for}
 use Rattle.cct_model.specs.Money.{coins_of}
-use Rattle.cct_model.specs.Refusal.{View, first_of, id_refusal, money_in, state_fails, state_tests, tests_of, unless}
+use Rattle.cct_model.specs.Refusal.{View, first_of, id_refusal, money_in, state_fails, state_tests}
+use Rattle.cct_model.specs.Refusal.{tests_of, unless}
 use Rattle.cct_jobs.specs.declared.job.Job.{Job}
 use Rattle.cct_host.specs.declared.orders.OrderState.{OrderState}
 use Rattle.cct_jobs.specs.Ahead.{ahead}
@@ -47,9 +49,11 @@ halts_in (Some job) = has_waits (ahead job)
 
 -- The tests of a halt: the device is a hopper, and there is a payout that could be stopped.
 abbrev pub halting_refusal : DeviceSetup → Option Job → Option CommandNo
-halting_refusal d job = option_or (unless (is_hopper d.body) WrongKind) (unless (halts_in job) NoPayout)
+halting_refusal d job =
+    option_or (unless (is_hopper d.body) WrongKind) (unless (halts_in job) NoPayout)
 
--- What the tests of a command to a device look at: its job, its epoch, its open order and the last id.
+-- What the tests of a command to a device look at: its job, its epoch, its open order and the last
+-- id.
 abbrev pub seen_at : DeviceSetup → Option Job → EpochState → OrderState → ℕ → View
 seen_at d job state owed last = record {
   found = Some d;
@@ -61,8 +65,10 @@ seen_at d job state owed last = record {
 }
 
 -- Why a command to a device is refused beside these, if it is.
-abbrev pub refusal_beside : DeviceSetup → Option Job → EpochState → OrderState → ℕ → Command → Option CommandNo
-refusal_beside d job state owed last c = first_of (state_fails (seen_at d job state owed last)) (state_tests c)
+abbrev pub refusal_beside : DeviceSetup → Option Job → EpochState → OrderState → ℕ → Command →
+    Option CommandNo
+refusal_beside d job state owed last c =
+    first_of (state_fails (seen_at d job state owed last)) (state_tests c)
 
 -- The tests of a sale: one is there, and then its id isn't new.
 abbrev pub sale_refusal : Option Job → ℕ → ℕ → Option CommandNo
@@ -108,10 +114,11 @@ begun_left (Some job) begun = begun
 
 -- What is recorded of the payments or the sales at a place after an attempt.
 abbrev pub orders_left : Option Job → OrderState → OrderState
-orders_left kept owed = record { order = owed.order; id = id_left kept owed.id; begun = begun_left kept owed.begun }
+orders_left kept owed =
+    record { order = owed.order; id = id_left kept owed.id; begun = begun_left kept owed.begun }
 
--- What becomes of a job with this end: one that is done adds its end to the entries and frees the address; another
--- stays, and adds nothing.
+-- What becomes of a job with this end: one that is done adds its end to the entries and frees the
+-- address; another stays, and adds nothing.
 abbrev pub Settles : Option End → Job → ℕ → Option Job → List Entry → List Entry → Type 0
 Settles (Some end) job addr kept old new = (kept ≡ None) × (new ≡ old ++ entry.Ended addr end ∷ [])
 Settles None job addr kept old new = (kept ≡ Some job) × (new ≡ old)

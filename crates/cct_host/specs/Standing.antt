@@ -34,8 +34,8 @@ order_there past (Some d) = order (lines_of d past)
 abbrev pub order_at : Setup → List Entry → ℕ → Option OpenOrder
 order_at setup past addr = order_there past (device_at setup.devices addr)
 
--- The command whose job is at an address where no device was found: a scan is at the address of all devices, and a sale
--- at that of the host.
+-- The command whose job is at an address where no device was found: a scan is at the address of all
+-- devices, and a sale at that of the host.
 abbrev pub bare_command : List Entry → ℕ → Option Command
 bare_command past addr =
     if addr == BROADCAST then command_of (job (scan_lines past))
@@ -50,7 +50,7 @@ command_there past addr (Some d) = command_of (job (lines_of d past))
 abbrev pub command_at : Setup → List Entry → ℕ → Option Command
 command_at setup past addr = command_there past addr (device_at setup.devices addr)
 
--- How many records a journal of this capacity takes beside those that are put and those that are held for jobs and for
--- open orders; none where it has no such room.
+-- How many records a journal of this capacity takes beside those that are put and those that are
+-- held for jobs and for open orders; none where it has no such room.
 abbrev pub room_after : ℕ → Setup → List Entry → ℕ
 room_after capacity setup past = capacity - (length (records past) + held setup past)

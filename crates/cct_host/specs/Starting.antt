@@ -24,14 +24,17 @@ use Rattle.cct_host.specs.Desks as all_desks
 use Rattle.cct_host.specs.OnDisk.{ReadsRecords, StopsAt}
 use Rattle.cct_host.specs.Replayed.{BeginsWith, Replays, Resumes}
 
--- A tally went over a carry that fits its setup, and over records after it, oldest first, each of which follows.
+-- A tally went over a carry that fits its setup, and over records after it, oldest first, each of
+-- which follows.
 pub record TalliesOver (setup : Setup) (c : Carry) (rest : List Record) (now : Carry) : Type 0 where
   pub fits : Fits setup c
   pub follow : all_follow_carry setup c rest ≡ true
   pub carry_is : now ≡ carry_over setup c rest
 
--- A tally went over a carry of so many records, and over the first of those after it, oldest first, up to an index.
-pub record TalliesFirst (setup : Setup) (base : ℕ) (c : Carry) (rest : List Record) (index : ℕ) (now : Carry) : Type 0
+-- A tally went over a carry of so many records, and over the first of those after it, oldest first,
+-- up to an index.
+pub record TalliesFirst (setup : Setup) (base : ℕ) (c : Carry) (rest : List Record) (index : ℕ)
+    (now : Carry) : Type 0
   where
     pub first : List Record
     pub later : List Record
@@ -39,15 +42,16 @@ pub record TalliesFirst (setup : Setup) (base : ℕ) (c : Carry) (rest : List Re
     pub many : index ≡ base + length first
     pub over : TalliesOver setup c first now
 
--- A tally went over a carry of so many records that fits its setup, and over some records after it, oldest first, each of
--- which follows: so many are these in all.
-pub record TalliesSome (setup : Setup) (base : ℕ) (c : Carry) (many : ℕ) (now : Carry) : Type 0 where
-  pub rest : List Record
-  pub count : many ≡ base + length rest
-  pub over : TalliesOver setup c rest now
+-- A tally went over a carry of so many records that fits its setup, and over some records after it,
+-- oldest first, each of which follows: so many are these in all.
+pub record TalliesSome (setup : Setup) (base : ℕ) (c : Carry) (many : ℕ) (now : Carry) : Type 0
+  where
+    pub rest : List Record
+    pub count : many ≡ base + length rest
+    pub over : TalliesOver setup c rest now
 
--- Desks and a ledger went over records, newest first: they have what these tell, and each record follows those before
--- it.
+-- Desks and a ledger went over records, newest first: they have what these tell, and each record
+-- follows those before it.
 pub record WentOver (desks : Desks) (ledger : Ledger) (before : List Record) : Type 0 where
   pub replays : Replays desks before
   pub money : ledgers.StandsFor ledger before 0
@@ -58,7 +62,8 @@ pub record BeginFrom (desks : Desks) (ledger : Ledger) (many : ℕ) (c : Carry) 
   pub resumes : Resumes desks c
   pub money : IsResumed (all_desks.setup_of desks) many c ledger
 
--- The record of this index is the first of records, oldest first, that doesn't follow those before it.
+-- The record of this index is the first of records, oldest first, that doesn't follow those before
+-- it.
 pub record IsFirstUnfollowing (setup : Setup) (records : List Record) (index : ℕ) : Type 0 where
   pub before : List Record
   pub bad : Record
@@ -79,39 +84,47 @@ RefusesResume Disk setup base carry rest = ⊤
 RefusesResume (BadRecord index) setup base carry rest = StopsAt setup base carry rest index
 
 -- The first ones of records, those before the current half of a journal, follow one another.
-abbrev pub FirstFollow : {D : Type 0} {seen : D → Option (List ℕ)} {disk : D} {place : Place} {records : List Record}
+abbrev pub FirstFollow : {D : Type 0} {seen : D → Option (List ℕ)} {disk : D} {place : Place}
+    {records : List Record}
     → (setup : Setup) → ReadsRecords setup seen disk place records → Type 0
 FirstFollow setup reads = all_follow setup (reverse reads.continues.first) ≡ true
 
 -- A journal stays as it is, and its disk was only read; a call of it failed, where one so failed.
-pub record OnlyReadIn {D : Type 0} {g : Ghosts D} (old new : Journal D g) (Fails : Type 0) : Type 0 where
-  pub place : journals.place_of new ≡ journals.place_of old
-  pub whole : journals.has_failed new ≡ journals.has_failed old
-  pub disk : OnlyReads g.size g.honest g.seen g.may_leave g.moment g.left_since g.cuts (journals.disk_of old)
-      (journals.disk_of new)
-  pub cause : Caused (g.faults (journals.disk_of old)) (g.faults (journals.disk_of new)) Fails
+pub record OnlyReadIn {D : Type 0} {g : Ghosts D} (old new : Journal D g) (Fails : Type 0) : Type 0
+  where
+    pub place : journals.place_of new ≡ journals.place_of old
+    pub whole : journals.has_failed new ≡ journals.has_failed old
+    pub disk : OnlyReads g.size g.honest g.seen g.may_leave g.moment g.left_since g.cuts
+        (journals.disk_of old)
+        (journals.disk_of new)
+    pub cause : Caused (g.faults (journals.disk_of old)) (g.faults (journals.disk_of new)) Fails
 
--- A host stands over records, newest first, as one that has just started: its desks and its ledger have what they tell,
--- each follows those before it, its carry is theirs, and so many does its journal count.
-pub record HasReplayed {D : Type 0} {g : Ghosts D} (host : Host D g) (before : List Record) : Type 0 where
-  pub over : WentOver host.desks host.ledger before
-  pub used : journals.used_of host.journal ≡ length before
-  pub carry_is : tallies.carry_in host.tally ≡ carry (all_desks.setup_of host.desks) before
+-- A host is over records, newest first, as one that has just started: its desks and its ledger have
+-- what they tell, each follows those before it, its carry is theirs, and so many does its journal
+-- count.
+pub record HasReplayed {D : Type 0} {g : Ghosts D} (host : Host D g) (before : List Record) : Type 0
+  where
+    pub over : WentOver host.desks host.ledger before
+    pub used : journals.used_of host.journal ≡ length before
+    pub carry_is : tallies.carry_in host.tally ≡ carry (all_desks.setup_of host.desks) before
 
--- A host stands over a carry of so many records and the rest after them, oldest first, as one that has just started: the
--- carry fits its setup, each of the rest follows, and its desks, its ledger and its own carry begin with what these
--- tell; so many does its journal count.
-pub record HasResumed {D : Type 0} {g : Ghosts D} (host : Host D g) (base : ℕ) (c : Carry) (rest : List Record) : Type 0
+-- A host is over a carry of so many records and the rest after them, oldest first, as one that has
+-- just started: the carry fits its setup, each of the rest follows, and its desks, its ledger and
+-- its own carry begin with what these tell; so many does its journal count.
+pub record HasResumed {D : Type 0} {g : Ghosts D} (host : Host D g) (base : ℕ) (c : Carry)
+    (rest : List Record) : Type 0
   where
     pub fits : Fits (all_desks.setup_of host.desks) c
     pub follow : all_follow_carry (all_desks.setup_of host.desks) c rest ≡ true
     pub carry_is : tallies.carry_in host.tally ≡ carry_over (all_desks.setup_of host.desks) c rest
-    pub from_carry : BeginFrom host.desks host.ledger (base + length rest) (tallies.carry_in host.tally)
+    pub from_carry : BeginFrom host.desks host.ledger (base + length rest)
+        (tallies.carry_in host.tally)
     pub used : journals.used_of host.journal ≡ base + length rest
 
--- A host stands over a carry of so many records and some records after them, as one that has just started. The carry of no
--- record is the empty one.
-pub record HasResumedSome {D : Type 0} {g : Ghosts D} (host : Host D g) (base : ℕ) (c : Carry) : Type 0 where
+-- A host is over a carry of so many records and some records after them, as one that has just
+-- started. The carry of no record is the empty one.
+pub record HasResumedSome {D : Type 0} {g : Ghosts D} (host : Host D g) (base : ℕ) (c : Carry)
+    : Type 0 where
   pub rest : List Record
   pub resumed : HasResumed host base c rest
   pub empty : base ≡ 0 → c ≡ empty_carry

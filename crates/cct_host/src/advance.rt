@@ -1,5 +1,6 @@
-//! One attempt of a job, over the parts of a host: a record is put before its entry is told.
-ghost use Rattle.std.specs.Prelude.{◌≡◌, ◌≤◌, ◌<◌, ◌+◌, ◌-◌, ◌^◌, ◌∷◌, ◌++◌, ℕ, List, Option, Some, None, IfSome, OnErr, OnOk, true, false, length};
+//! One attempt of a job, over the parts of a host: a record is put before its entry is reported.
+ghost use Rattle.std.specs.Prelude.{◌≡◌, ◌≤◌, ◌<◌, ◌+◌, ◌-◌, ◌^◌, ◌∷◌, ◌++◌, ℕ, List, Option, Some};
+ghost use Rattle.std.specs.Prelude.{None, IfSome, OnErr, OnOk, true, false, length};
 ghost use Rattle.arrayvec.specs.ArrayVec.{array_vec_len};
 ghost use Rattle.cct_edge.specs.Faults.{HasCause};
 ghost use Rattle.cct_model.specs.lines.entry.Entry.{Entry};
@@ -27,7 +28,8 @@ use cct_ledger::{Ledger, NotAllowed};
 use cct_model::{Carry, Entry, Record};
 use cct_wire::Link;
 
-/// The job at an address makes one attempt: what it is about to put stands in the journal before it goes on.
+/// The job at an address makes one attempt: what it is about to put is in the journal before it
+/// goes on.
 pub(crate) fn advance<D: Disk, L: Link>(
     desks: &mut Desks<'_>,
     ledger: &mut Ledger<'_>,
@@ -56,7 +58,8 @@ pub(crate) fn advance<D: Disk, L: Link>(
     ensures link { OnErr result (link.new ≡ link.old) }
 
     // the disk
-    ensures cause { HasCause (D.faults (journals.disk_of journal.old)) (D.faults (journals.disk_of journal.new)) result }
+    ensures cause { HasCause (D.faults (journals.disk_of journal.old))
+        (D.faults (journals.disk_of journal.new)) result }
     ensures goes_on { GoesOn D.size D.honest D.seen D.cuts (journals.disk_of journal.old)
         (journals.disk_of journal.new) }
 {
@@ -69,8 +72,8 @@ pub(crate) fn advance<D: Disk, L: Link>(
     }
 }
 
-/// The job at an address puts the record that it is about to put, and goes on. In a function of its own its record takes no
-/// room where none is due.
+/// The job at an address puts the record that it is about to put, and goes on. In a function of its
+/// own its record takes no room where none is due.
 #[inline(never)]
 fn put_and_go_on<D: Disk, L: Link>(
     desks: &mut Desks<'_>,
@@ -102,7 +105,8 @@ fn put_and_go_on<D: Disk, L: Link>(
     ensures link { OnErr result (link.new ≡ link.old) }
 
     // the disk
-    ensures cause { HasCause (D.faults (journals.disk_of journal.old)) (D.faults (journals.disk_of journal.new)) result }
+    ensures cause { HasCause (D.faults (journals.disk_of journal.old))
+        (D.faults (journals.disk_of journal.new)) result }
     ensures goes_on { GoesOn D.size D.honest D.seen D.cuts (journals.disk_of journal.old)
         (journals.disk_of journal.new) }
 {
@@ -114,7 +118,8 @@ fn put_and_go_on<D: Disk, L: Link>(
     Ok(())
 }
 
-/// The job at an address, which has no record to put, makes its attempt, and the ledger frees what it reserves no more.
+/// The job at an address, which has no record to put, makes its attempt, and the ledger frees what
+/// it reserves no more.
 fn ask<L: Link>(
     desks: &mut Desks<'_>,
     ledger: &mut Ledger<'_>,
@@ -139,7 +144,8 @@ fn ask<L: Link>(
     }
 }
 
-/// Puts the record that is due, if one is, into a journal that takes it, with the carry of those before it.
+/// Puts the record that is due, if one is, into a journal that takes it, with the carry of those
+/// before it.
 fn put<D: Disk>(
     journal: &mut Journal<D>,
     due: &Option<Record>,
@@ -151,7 +157,8 @@ fn put<D: Disk>(
     requires rightly { IsRightly (journals.used_of journal.old) so_far.now }
     ensures puts { OnOk result (Puts due.now so_far.now journal.old journal.new) }
     ensures fails { OnErr result (PutFails due.now so_far.now journal.old journal.new) }
-    ensures cause { HasCause (D.faults (journals.disk_of journal.old)) (D.faults (journals.disk_of journal.new)) result }
+    ensures cause { HasCause (D.faults (journals.disk_of journal.old))
+        (D.faults (journals.disk_of journal.new)) result }
     ensures goes_on { GoesOn D.size D.honest D.seen D.cuts (journals.disk_of journal.old)
         (journals.disk_of journal.new) }
 {
@@ -195,13 +202,14 @@ fn go_on<L: Link>(
     }
 }
 
-/// The ledger takes the record that was put, if one was. One that doesn't follow those before it would leave the ledger
-/// as it is; a host puts none.
+/// The ledger takes the record that was put, if one was. One that doesn't follow those before it
+/// would leave the ledger as it is; a host puts none.
 fn enter(ledger: &mut Ledger<'_>, due: &Option<Record>)
     requires few { IfSome due.now (λ r. ledgers.applied ledger.old < 2 ^ 32 - 1) }
     ensures setup { ledgers.setup_of ledger.new ≡ ledgers.setup_of ledger.old }
     ensures reserved { ledgers.reserved_of ledger.new ≡ ledgers.reserved_of ledger.old }
-    ensures counted { ledgers.applied ledger.new ≤ ledgers.applied ledger.old + length (put_by due.now) }
+    ensures counted { ledgers.applied ledger.new ≤ ledgers.applied ledger.old
+        + length (put_by due.now) }
     ensures posts { (before : List Record) (beside : ℕ)
         → IfSome due.now (λ r. is_allowed (ledgers.setup_of ledger.old) before beside r ≡ true)
         → ledgers.StandsFor ledger.old before beside
@@ -215,13 +223,14 @@ fn enter(ledger: &mut Ledger<'_>, due: &Option<Record>)
     }
 }
 
-/// The tally counts the record that was put, if one was, and goes on by it. One that doesn't follow those before it would be
-/// counted alone; a host puts none.
+/// The tally counts the record that was put, if one was, and goes on by it. One that doesn't follow
+/// those before it would be counted alone; a host puts none.
 fn count(tally: &mut Tally<'_>, due: &Option<Record>)
     requires few { IfSome due.now (λ r. tallies.many_of tally.old < 2 ^ 32 - 1) }
     requires encodable { IfSome due.now Encodable }
     ensures setup { tallies.setup_of tally.new ≡ tallies.setup_of tally.old }
-    ensures counted { tallies.many_of tally.new ≡ tallies.many_of tally.old + length (put_by due.now) }
+    ensures counted { tallies.many_of tally.new ≡ tallies.many_of tally.old
+        + length (put_by due.now) }
     ensures adds { (before : List Record)
         → IfSome due.now (λ r. all_follow (tallies.setup_of tally.old) (r ∷ before) ≡ true)
         → tallies.carry_in tally.old ≡ carry (tallies.setup_of tally.old) before

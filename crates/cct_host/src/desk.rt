@@ -1,5 +1,7 @@
-//! The host's desk for one place: a device, the address of all devices, where scans are, or that of sales.
-ghost use Rattle.std.specs.Prelude.{◌≡◌, ◌<◌, ◌≤◌, ◌^◌, [], Option, Some, None, true, false, IfSome, OnErr, OnOk, is_some};
+//! The host's desk for one place: a device, the address of all devices, where scans are, or that of
+//! sales.
+ghost use Rattle.std.specs.Prelude.{◌≡◌, ◌<◌, ◌≤◌, ◌^◌, [], Option, Some, None, true, false};
+ghost use Rattle.std.specs.Prelude.{IfSome, OnErr, OnOk, is_some};
 ghost use Rattle.std.specs.Option.{option_map};
 ghost use Rattle.arrayvec.specs.ArrayVec.{array_vec_len};
 ghost use Rattle.cct_model.specs.declared.judging.OpenOrder.{OpenOrder};
@@ -9,7 +11,8 @@ ghost use Rattle.cct_model.specs.Exchange.{device_at};
 ghost use Rattle.cct_model.specs.Job.{address_of, works};
 ghost use Rattle.cct_model.specs.Refusal.{running_id};
 ghost use Rattle.cct_jobs.specs.Jobs.{accepts_of, is_of_device, order_of, owed_after, is_halt};
-ghost use Rattle.cct_host.specs.Held.{FitsIn, FitsIn-prop, due_by, price_by, sells_only, sending_by};
+ghost use Rattle.cct_host.specs.Held.{FitsIn, FitsIn-prop, due_by, price_by, sells_only};
+ghost use Rattle.cct_host.specs.Held.{sending_by};
 ghost use Rattle.cct_host.specs.Place as places;
 ghost use Rattle.cct_host.specs.Running.{is_running, orders_left};
 
@@ -51,7 +54,8 @@ impl Default for JobDesk {
 }
 
 impl JobDesk {
-    ghost use Rattle.cct_host.specs.Desk.{Attempts, Commands, CommandsAbove, Frees, Takes, TakesFor, puts_at};
+    ghost use Rattle.cct_host.specs.Desk.{Attempts, Commands, CommandsAbove, Frees, Takes};
+    ghost use Rattle.cct_host.specs.Desk.{TakesFor, puts_at};
 
     /// What the job sends next, if it is about to send.
     pub(crate) fn sending(&self) -> Option<Sending>
@@ -66,8 +70,8 @@ impl JobDesk {
         }
     }
 
-    /// A command to the device of this desk is taken, or refused for the first reason that holds; a refused one changes
-    /// nothing.
+    /// A command to the device of this desk is taken, or refused for the first reason that holds; a
+    /// refused one changes nothing.
     pub(crate) fn command(
         &mut self,
         command: &Command,
@@ -99,7 +103,8 @@ impl JobDesk {
         requires halt { is_halt command.now ≡ true }
         ensures stays { OnErr result (self.new ≡ self.old) }
         ensures takes { OnOk result (TakesFor setup.now command.now self.old self.new) }
-        ensures commands { Commands setup.now (places.device device.now) self.old self.new command.now result }
+        ensures commands { Commands setup.now (places.device device.now) self.old self.new
+            command.now result }
     {
         match self.halting_refusal(device) {
             Some(why) => Err(why),
@@ -113,7 +118,8 @@ impl JobDesk {
         }
     }
 
-    /// A command that begins a job is taken, or refused for the first reason that holds; a refused one changes nothing.
+    /// A command that begins a job is taken, or refused for the first reason that holds; a refused
+    /// one changes nothing.
     fn begin(
         &mut self,
         command: &Command,
@@ -168,7 +174,8 @@ impl JobDesk {
         }
     }
 
-    /// A sale is taken, or refused since one runs or its id isn't above the last one; a refused one changes nothing.
+    /// A sale is taken, or refused since one runs or its id isn't above the last one; a refused one
+    /// changes nothing.
     pub(crate) fn sell(
         &mut self,
         id: u32,
@@ -179,7 +186,8 @@ impl JobDesk {
         ensures stays { OnErr result (self.new ≡ self.old) }
         ensures takes { OnOk result (Takes 1 1 price_by price self.old self.new) }
         ensures sells { sells_only self.old.job ≡ true → sells_only self.new.job ≡ true }
-        ensures commands { CommandsAbove setup.now last places.sales self.old self.new (Command.Vend id price) result }
+        ensures commands { CommandsAbove setup.now last places.sales self.old self.new
+            (Command.Vend id price) result }
     {
         match self.sale_refusal(id, last) {
             Some(why) => Err(why),
@@ -193,8 +201,8 @@ impl JobDesk {
         }
     }
 
-    /// The job makes one attempt of one row over a link, with the record that it is about to put, if there is one; with
-    /// no job the address is idle. It gives the id that its put used, or 0.
+    /// The job makes one attempt of one row over a link, with the record that it is about to put,
+    /// if there is one; with no job the address is idle. It gives the id that its put used, or 0.
     #[tactic(auto, using(crate::proofs::Counts::counted_by))]
     pub(crate) fn next<L: Link>(
         &mut self,
@@ -225,7 +233,8 @@ impl JobDesk {
         }
     }
 
-    /// The job, which has no record to put, makes one exchange over a link; with no job the address is idle.
+    /// The job, which has no record to put, makes one exchange over a link; with no job the address
+    /// is idle.
     pub(crate) fn ask<L: Link>(&mut self, addr: u8, link: &mut L, report: &mut ArrayVec<Entry, 8>)
         requires due { due_by self.old.job ≡ None }
         requires room { array_vec_len report.old ≤ 6 }
@@ -276,7 +285,8 @@ fn leave_orders(job: &Option<Job>, orders: &mut OrderState)
 /// The id of the payment or the sale that a command begins, or 0.
 #[tactic(auto, using(crate::proofs::Keeps::no_id_told))]
 fn id_begun(command: &Command) -> u32
-    ensures { (d : DeviceSetup) → is_of_device command.now ≡ true → result ≡ running_id d (works command.now []) }
+    ensures { (d : DeviceSetup) → is_of_device command.now ≡ true → result
+        ≡ running_id d (works command.now []) }
 {
     match *command {
         Command::Pay { id, .. } => id,

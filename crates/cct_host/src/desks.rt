@@ -1,5 +1,8 @@
-//! The host's desks: a job at each address, the epochs of its acceptors, and the open orders of its hoppers.
-ghost use Rattle.std.specs.Prelude.{◌≡◌, ◌==◌, ◌<◌, ◌≤◌, ℕ, List, [], ◌∷◌, ◌+◌, ◌-◌, ◌*◌, IfSome, OnErr, OnOk, Option, Some, None, false, is_some, length, max, true};
+//! The host's desks: a job at each address, the epochs of its acceptors, and the open orders of its
+//! hoppers.
+ghost use Rattle.std.specs.Prelude.{◌≡◌, ◌==◌, ◌<◌, ◌≤◌, ℕ, List, [], ◌∷◌, ◌+◌, ◌-◌, ◌*◌, IfSome};
+ghost use Rattle.std.specs.Prelude.{OnErr, OnOk, Option, Some, None, false, is_some, length, max};
+ghost use Rattle.std.specs.Prelude.{true};
 ghost use Rattle.std.specs.List.{All, position};
 ghost use Rattle.arrayvec.specs.ArrayVec.{array_vec_len};
 ghost use Rattle.cct_model.specs.Exchange.{device_at};
@@ -28,9 +31,9 @@ use cct_model::{
 };
 use cct_wire::Link;
 
-/// The desks of a host: the jobs at all addresses, the epochs of the acceptors, and the open orders of the hoppers.
-/// They represent a transcript, newest entry first, by themselves; what is at the other end of the wire is any
-/// [`Link`]. They take no memory.
+/// The desks of a host: the jobs at all addresses, the epochs of the acceptors, and the open orders
+/// of the hoppers. They represent a transcript, newest entry first, by themselves; what is at the
+/// other end of the wire is any [`Link`]. They take no memory.
 #[derive(Drop)]
 pub struct Desks<'s> {
     setup: &'s Setup,
@@ -49,7 +52,10 @@ pub struct Desks<'s> {
 }
 
 impl<'s> Desks<'s> {
-    ghost use Rattle.cct_host.specs.Desks.{Answers, FindsDesk, FreesIn, Nexts, Refuses, StandsFor, Stays, TakesIn, amount_at_desk, amount_on, desk_there, due_at_desk, due_on, held_of, puts_of, sending_on, setup_of, working_id};
+    ghost use Rattle.cct_host.specs.Desks.{Answers, FindsDesk, FreesIn, Nexts, Refuses, StandsFor};
+    ghost use Rattle.cct_host.specs.Desks.{Stays, TakesIn, amount_at_desk, amount_on, desk_there};
+    ghost use Rattle.cct_host.specs.Desks.{due_at_desk, due_on, held_of, puts_of, sending_on};
+    ghost use Rattle.cct_host.specs.Desks.{setup_of, working_id};
     ghost use Rattle.cct_host.specs.Replayed.{Replays, Resumes};
 
     /// The desks of a host to which nothing has happened: there is no job, and no epoch runs.
@@ -68,8 +74,8 @@ impl<'s> Desks<'s> {
         }
     }
 
-    /// The desks of a host that starts after the records of a carry: there is no job, and there are the epochs that run and
-    /// the orders that are open by the carry.
+    /// The desks of a host that starts after the records of a carry: there is no job, and there are
+    /// the epochs that run and the orders that are open by the carry.
     pub fn resume(setup: &'s Setup, carry: &Carry) -> Self
         requires sound { IsSoundSetup setup.now }
         requires rightly { (many : ℕ) × IsRightly many carry.now }
@@ -92,15 +98,17 @@ impl<'s> Desks<'s> {
         self.setup
     }
 
-    /// The operator gives a command. A refused one, for the first reason that holds, changes nothing.
+    /// The operator gives a command. A refused one, for the first reason that holds, changes
+    /// nothing.
     pub fn command(&mut self, command: &Command) -> Result<(), CommandNo>
         ensures setup { setup_of self.new ≡ setup_of self.old }
         ensures stays { OnErr result (Stays self.old self.new) }
         ensures takes { OnOk result (TakesIn command.now self.old self.new) }
-        // The first reason that holds, whatever room and money there is: no device, another kind, a job, the epoch, the
-        // least place of a mask without a value; of a hopper the open order, then an id that isn't above the last one;
-        // a halt without a payout; of a sale another one that is running, then its id. The last id is the greatest of
-        // the records, of the payments and of the sale that runs.
+        // The first reason that holds, whatever room and money there is: no device, another kind, a
+        // job, the epoch, the least place of a mask without a value; of a hopper the open order,
+        // then an id that isn't above the last one; a halt without a payout; of a sale another one
+        // that is running, then its id. The last id is the greatest of the records, of the payments
+        // and of the sale that runs.
         ensures answers { Answers self.old self.new command.now result }
     {
         match *command {
@@ -130,8 +138,8 @@ impl<'s> Desks<'s> {
         }
     }
 
-    /// Why a command is refused, if it is: the first reason that holds, whatever room there is for its records and
-    /// whatever is available. This only asks: the command isn't taken.
+    /// Why a command is refused, if it is: the first reason that holds, whatever room there is for
+    /// its records and whatever is available. This only asks: the command isn't taken.
     pub fn refusal(&self, command: &Command) -> Option<CommandNo>
         ensures { Refuses self.now command.now result }
     {
@@ -166,11 +174,13 @@ impl<'s> Desks<'s> {
         self.setup.device_at(command.address()).is_some()
     }
 
-    /// The last id: the greatest of the records, of the running payments and of the running sale, 0 where there is none.
+    /// The last id: the greatest of the records, of the running payments and of the running sale, 0
+    /// where there is none.
     #[tactic(auto, using(crate::proofs::Places::last_is))]
     pub(crate) fn last_id(&self) -> u32
         ensures value { result ≡ max self.now.last (working_id self.now) }
-        ensures stands { (past : List Entry) → StandsFor self.now past → result ≡ last_id (setup_of self.now) past }
+        ensures stands { (past : List Entry) → StandsFor self.now past → result
+            ≡ last_id (setup_of self.now) past }
     {
         let running = JobDesk::greatest_paying(self.devices.as_slice()).max(self.sale.orders.id);
         self.last.max(running)
@@ -187,21 +197,24 @@ impl<'s> Desks<'s> {
         }
     }
 
-    /// How many records are held: those that running jobs may still put, and one for each open order that no job is at
-    /// work to close.
+    /// How many records are held: those that running jobs may still put, and one for each open
+    /// order that no job is at work to close.
     pub fn held(&self) -> u32
         ensures value { result ≡ held_of self.now }
         ensures few { result ≤ 3 * (DEVICES + 1) }
-        ensures stands { (past : List Entry) → StandsFor self.now past → result ≡ held (setup_of self.now) past }
+        ensures stands { (past : List Entry) → StandsFor self.now past → result
+            ≡ held (setup_of self.now) past }
     {
         JobDesk::held_in(self.devices.as_slice()) + self.sale.held()
     }
 
-    /// A bound on how many records are held, told without a look at the desks: three for each device and for the sale.
+    /// A bound on how many records are held, told without a look at the desks: three for each
+    /// device and for the sale.
     pub(crate) fn most_held(&self) -> u32
         ensures most { held_of self.now ≤ result }
         ensures few { result ≤ 3 * (DEVICES + 1) }
-        ensures stands { (past : List Entry) → StandsFor self.now past → held (setup_of self.now) past ≤ result }
+        ensures stands { (past : List Entry) → StandsFor self.now past →
+            held (setup_of self.now) past ≤ result }
     {
         3 * (self.devices.len() as u32 + 1)
     }
@@ -255,7 +268,8 @@ impl<'s> Desks<'s> {
         }
     }
 
-    /// Whether the job at an address is about to put a record, where the desk at the address is found.
+    /// Whether the job at an address is about to put a record, where the desk at the address is
+    /// found.
     pub(crate) fn puts_there(&self, addr: u8, found: Option<usize>) -> bool
         requires found { FindsDesk self.now addr found }
         ensures value { result ≡ is_some (due_on self.now addr) }
@@ -279,7 +293,8 @@ impl<'s> Desks<'s> {
         }
     }
 
-    /// The record that the job at an address without a device is about to put, if it is about to put one: it is a sale.
+    /// The record that the job at an address without a device is about to put, if it is about to
+    /// put one: it is a sale.
     fn bare_due(&self, addr: u8) -> Option<Record>
         ensures value { result ≡ due_at_desk self.now.sale addr None }
         ensures fits { IfSome result Encodable }
@@ -288,9 +303,9 @@ impl<'s> Desks<'s> {
         if addr == HOST { self.sale.due() } else { None }
     }
 
-    /// What the job at an address reserves, in units of value: that of the coins of the order that a payment there is
-    /// still to open, and the price of a sale that is still to be put. The record that the job is about to put, if it
-    /// is about to put one, takes just that.
+    /// What the job at an address reserves, in units of value: that of the coins of the order that
+    /// a payment there is still to open, and the price of a sale that is still to be put. The
+    /// record that the job is about to put, if it is about to put one, takes just that.
     pub fn reserved_at(&self, addr: u8) -> u64
         ensures value { result ≡ amount_on self.now addr }
         ensures frees { (past : List Entry) → StandsFor self.now past → IfSome (due_on self.now addr)
@@ -312,7 +327,8 @@ impl<'s> Desks<'s> {
         }
     }
 
-    /// What so many coins of the hopper at an address are worth. Without a coin it isn't looked for.
+    /// What so many coins of the hopper at an address are worth. Without a coin it isn't looked
+    /// for.
     fn worth_of(&self, addr: u8, coins: u8) -> u64
         ensures { result ≡ money.coins_of (setup_of self.now) addr coins }
     {
@@ -334,22 +350,25 @@ impl<'s> Desks<'s> {
         }
     }
 
-    /// The job at an address makes one attempt of one row over a link, and adds its entries to the report: an exchange
-    /// or a put, and where the job is then done its end, which frees the address. With no job the address is idle.
+    /// The job at an address makes one attempt of one row over a link, and adds its entries to the
+    /// report: an exchange or a put, and where the job is then done its end, which frees the
+    /// address. With no job the address is idle.
     pub fn next<L: Link>(&mut self, addr: u8, link: &mut L, report: &mut ArrayVec<Entry, 8>)
         requires room { array_vec_len report.old ≤ 6 }
         ensures frees { FreesIn addr self.old self.new }
-        // Over any link: one attempt of one row, at most one exchange, whose bytes are those of its entry, and the job
-        // stays until it ends. A put alone moves the epoch and the open order; an order is closed at the hopper where
-        // it was opened.
-        ensures nexts { Nexts L.gives link.old link.new addr self.old self.new report.old.items report.new.items }
+        // Over any link: one attempt of one row, at most one exchange, whose bytes are those of its
+        // entry, and the job stays until it ends. A put alone moves the epoch and the open order;
+        // an order is closed at the hopper where it was opened.
+        ensures nexts { Nexts L.gives link.old link.new addr self.old self.new report.old.items
+            report.new.items }
     {
         let found = self.find(addr);
         let due = self.due_there(addr, found);
         self.next_there(addr, found, &due, link, report);
     }
 
-    /// The same, where the desk at the address is found, with the record that the job there is about to put.
+    /// The same, where the desk at the address is found, with the record that the job there is
+    /// about to put.
     pub(crate) fn next_there<L: Link>(
         &mut self,
         addr: u8,
@@ -363,7 +382,8 @@ impl<'s> Desks<'s> {
         requires due { due.now ≡ due_on self.old addr }
         ensures found { FindsDesk self.new addr found }
         ensures frees { FreesIn addr self.old self.new }
-        ensures nexts { Nexts L.gives link.old link.new addr self.old self.new report.old.items report.new.items }
+        ensures nexts { Nexts L.gives link.old link.new addr self.old self.new report.old.items
+            report.new.items }
     {
         match found {
             Some(index) => {
@@ -387,7 +407,8 @@ impl<'s> Desks<'s> {
         requires due { due_on self.old addr ≡ None }
         ensures found { FindsDesk self.new addr found }
         ensures frees { FreesIn addr self.old self.new }
-        ensures nexts { Nexts L.gives link.old link.new addr self.old self.new report.old.items report.new.items }
+        ensures nexts { Nexts L.gives link.old link.new addr self.old self.new report.old.items
+            report.new.items }
     {
         match found {
             Some(index) => self.devices[index].ask(addr, link, report),
@@ -395,7 +416,8 @@ impl<'s> Desks<'s> {
         }
     }
 
-    /// An address without a device is idle, but for a scan at the address of all devices, and a sale at the host's own.
+    /// An address without a device is idle, but for a scan at the address of all devices, and a
+    /// sale at the host's own.
     fn bare_next<L: Link>(
         &mut self,
         addr: u8,
@@ -408,7 +430,8 @@ impl<'s> Desks<'s> {
         requires due { due.now ≡ due_on self.old addr }
         requires room { array_vec_len report.old ≤ 6 }
         ensures frees { FreesIn addr self.old self.new }
-        ensures nexts { Nexts L.gives link.old link.new addr self.old self.new report.old.items report.new.items }
+        ensures nexts { Nexts L.gives link.old link.new addr self.old self.new report.old.items
+            report.new.items }
     {
         if addr == BROADCAST {
             let used = self.scan.next(addr, due, link, report);

@@ -26,7 +26,8 @@ pub(crate) fn converse<L: Link>(
 )
     requires asks { need_of job.old ≡ need.Exchange }
     requires room { array_vec_len report.old < 8 }
-    ensures converses { Converses L.gives link.old link.new addr job.old job.new report.old.items report.new.items }
+    ensures converses { Converses L.gives link.old link.new addr job.old job.new report.old.items
+        report.new.items }
     ensures keeps { KeepsTo (ahead job.old) job.new }
 {
     let index = report.len();
@@ -41,7 +42,8 @@ pub(crate) fn converse<L: Link>(
     }
 }
 
-/// A job sends its request over a link, and hears what follows. The pieces of an entry are filled where they stand.
+/// A job sends its request over a link, and hears what follows. The pieces of an entry are filled
+/// where they stand.
 fn fill<L: Link>(job: &mut Job, link: &mut L, addr: u8, said: &mut Entry)
     requires asks { need_of job.old ≡ need.Exchange }
     requires empty { said.old ≡ entry.Wire addr [] [] }
@@ -54,7 +56,8 @@ fn fill<L: Link>(job: &mut Job, link: &mut L, addr: u8, said: &mut Entry)
     }
 }
 
-/// A job sends its request over a link, and hears what follows. The two pieces are put in the place of what they hold.
+/// A job sends its request over a link, and hears what follows. The two pieces are put in the place
+/// of what they hold.
 fn talk<L: Link>(job: &mut Job, link: &mut L, sent: &mut Sent, heard: &mut Piece)
     requires asks { need_of job.old ≡ need.Exchange }
     ensures goes { L.gives link.old sent.new heard.new link.new }
@@ -72,8 +75,8 @@ fn talk<L: Link>(job: &mut Job, link: &mut L, sent: &mut Sent, heard: &mut Piece
     job.hear(sent.as_slice(), heard.as_slice());
 }
 
-/// The job at a desk makes one exchange over a link, which is a further entry. A job that is then done leaves the desk,
-/// and the report has its end.
+/// The job at a desk makes one exchange over a link, which is a further entry. A job that is then
+/// done leaves the desk, and the report has its end.
 pub(crate) fn exchange<L: Link>(
     at_desk: &mut Option<Job>,
     addr: u8,
@@ -101,8 +104,8 @@ pub(crate) fn exchange<L: Link>(
     }
 }
 
-/// The record of the job at a desk was put, which is a further entry, and the job goes on. A job that is then done leaves
-/// the desk, and the report has its end.
+/// The record of the job at a desk was put, which is a further entry, and the job goes on. A job
+/// that is then done leaves the desk, and the report has its end.
 pub(crate) fn put(
     at_desk: &mut Option<Job>,
     entry: &Record,
@@ -114,7 +117,8 @@ pub(crate) fn put(
     requires room { array_vec_len report.old ≤ 6 }
     ensures running { is_running at_desk.new ≡ true }
     ensures fits { FitsIn at_desk.new }
-    ensures puts { IfSome at_desk.old (λ job. Puts addr job entry.now at_desk.new report.old.items report.new.items) }
+    ensures puts { IfSome at_desk.old (λ job. Puts addr job entry.now at_desk.new report.old.items
+        report.new.items) }
 {
     let copy: Result<Record, AllocError> = entry.clone();
     report.push(Entry::Put(copy.unwrap()));
@@ -138,7 +142,8 @@ fn leave(at_desk: &mut Option<Job>)
     *at_desk = None;
 }
 
-/// A job that is done adds its end to the report, and one that runs adds nothing. The answer is whether it is done.
+/// A job that is done adds its end to the report, and one that runs adds nothing. The answer is
+/// whether it is done.
 #[tactic(auto, using(crate::proofs::Talks::ends_known))]
 fn tell_end(job: &Job, addr: u8, report: &mut ArrayVec<Entry, 8>) -> bool
     requires { array_vec_len report.old < 8 }
@@ -153,7 +158,8 @@ fn tell_end(job: &Job, addr: u8, report: &mut ArrayVec<Entry, 8>) -> bool
     is_done
 }
 
-/// Adds the end of a job that is done to the report. An end is wide: in a function of its own it is made where it is told.
+/// Adds the end of a job that is done to the report. An end is wide: in a function of its own it is
+/// made where it is reported.
 #[inline(never)]
 fn add_end(job: &Job, addr: u8, report: &mut ArrayVec<Entry, 8>)
     requires room { array_vec_len report.old < 8 }

@@ -1,5 +1,7 @@
-//! The host over its journal: a record is put before its entry is told, and no put finds the journal full.
-ghost use Rattle.std.specs.Prelude.{◌≡◌, ◌≤◌, ◌+◌, List, [], Option, Some, None, Err, IfErr, IfOk, MatchResult, OnErr, OnOk, IsTrue, false, is_ok, reverse};
+//! The host over its journal: a record is put before its entry is reported, and no put finds the
+//! journal full.
+ghost use Rattle.std.specs.Prelude.{◌≡◌, ◌≤◌, ◌+◌, List, [], Option, Some, None, Err, IfErr, IfOk};
+ghost use Rattle.std.specs.Prelude.{MatchResult, OnErr, OnOk, IsTrue, false, is_ok, reverse};
 ghost use Rattle.std.specs.Option.{option_or};
 ghost use Rattle.arrayvec.specs.ArrayVec.{array_vec_len};
 ghost use Rattle.cct_edge.specs.Faults.{Caused, HasCause};
@@ -41,11 +43,11 @@ use cct_model::{
 };
 use cct_wire::Link;
 
-/// The host: the desks of its jobs, over a journal of its records, with the ledger of what they are worth and the tally of
-/// what it needs of them.
+/// The host: the desks of its jobs, over a journal of its records, with the ledger of what they are
+/// worth and the tally of what it needs of them.
 ///
-/// Each record stands on the disk before the host goes on. Its contracts tell it by the transcript of all that happened,
-/// newest entry first. It takes no memory.
+/// Each record is on the disk before the host goes on. Its contracts tell it by the transcript of
+/// all that happened, newest entry first. It takes no memory.
 #[derive(Drop)]
 pub struct Host<'s, D: Disk> {
     pub(crate) desks: Desks<'s>,
@@ -57,41 +59,47 @@ pub struct Host<'s, D: Disk> {
 
 impl<'s, D: Disk> Host<'s, D> {
     ghost use Rattle.cct_host.specs.OnDisk.{KeepsRecords, ReadsRecords, ReadsRest};
-    ghost use Rattle.cct_host.specs.Host.{Answers, Fails, FailsBetween, Keeps, Nexts, Stays, capacity_in, disk_of, has_failed, journal_of, setup_of};
+    ghost use Rattle.cct_host.specs.Host.{Answers, Fails, FailsBetween, Keeps, Nexts, Stays};
+    ghost use Rattle.cct_host.specs.Host.{capacity_in, disk_of, has_failed, journal_of, setup_of};
     ghost use Rattle.cct_host.specs.Restarting.{RestartFails, Restarts};
-    ghost use Rattle.cct_host.specs.Starting.{FirstFollow, HasReplayed, HasResumed, HasResumedSome, RefusesResume, RefusesStart};
+    ghost use Rattle.cct_host.specs.Starting.{FirstFollow, HasReplayed, HasResumed, HasResumedSome};
+    ghost use Rattle.cct_host.specs.Starting.{RefusesResume, RefusesStart};
 
-    /// The host over a journal: it begins with the carry of the records before the current half, and goes over those of the
-    /// half, oldest first. It has no job, and the epochs, open orders and money that these tell. The disk is only read.
+    /// The host over a journal: it begins with the carry of the records before the current half,
+    /// and goes over those of the half, oldest first. It has no job, and the epochs, open orders
+    /// and money that these tell. The disk is only read.
     ///
-    /// Over a journal without records it always starts. [`StartNo::Disk`] comes where a call of the disk fails, and
-    /// [`StartNo::BadRecord`] at the first record of the half where the carry doesn't fit the setup, else at the first one
-    /// there that can't be read or doesn't follow those before it.
+    /// Over a journal without records it always starts. [`StartNo::Disk`] comes where a call of the
+    /// disk fails, and [`StartNo::BadRecord`] at the first record of the half where the carry
+    /// doesn't fit the setup, else at the first one there that can't be read or doesn't follow
+    /// those before it.
     pub fn start(setup: &'s Setup, journal: Journal<D>) -> Result<Host<'s, D>, (D, StartNo)>
         requires sound { IsSoundSetup setup.now }
         requires whole { journals.has_failed journal ≡ false }
         ensures setup { IfOk result (λ host. setup_of host ≡ setup.now) }
         ensures whole { IfOk result (λ host. has_failed host ≡ false) }
 
-        // what it knows, and why it isn't started:
-        // On any disk, also one that tells nothing, it begins with the carry of its journal, which fits the setup, and went
-        // over some records after that, each of which follows.
-        ensures begins { IfOk result (λ host. HasResumedSome host (journals.base_of journal) (journals.carry_before journal)) }
-        // On any disk that tells its bytes these are the ones that a read gives.
+        // what it knows, and why it isn't started: On any disk, also one that shows nothing, it
+        // begins with the carry of its journal, which fits the setup, and went over some records
+        // after that, each of which follows.
+        ensures begins { IfOk result (λ host. HasResumedSome host (journals.base_of journal)
+            (journals.carry_before journal)) }
+        // On any disk that shows its bytes these are the ones that a read gives.
         ensures resumes { IfOk result (λ host. (rest : List Record)
             → ReadsRest D.seen (journals.disk_of journal) (journals.place_of journal) rest
             → HasResumed host (journals.base_of journal) (journals.carry_before journal) rest) }
-        // Where the first ones of the records follow one another, it is as one that went over all of them.
+        // Where the first ones of the records follow one another, it is as one that went over all
+        // of them.
         ensures knows { IfOk result (λ host. (records : List Record)
             → (reads : ReadsRecords setup.now D.seen (journals.disk_of journal) (journals.place_of journal) records)
             → FirstFollow setup.now reads → HasReplayed host (reverse records)) }
-        // Only where the carry doesn't fit the setup, by the index of the first record after it; or at the first record
-        // that doesn't follow, by its index; or if the disk failed.
+        // Only where the carry doesn't fit the setup, by the index of the first record after it; or
+        // at the first record that doesn't follow, by its index; or if the disk failed.
         ensures stops { IfErr result (λ e. (rest : List Record)
             → ReadsRest D.seen (journals.disk_of journal) (journals.place_of journal) rest
             → RefusesResume e.1 setup.now (journals.base_of journal) (journals.carry_before journal) rest) }
-        // Where the first ones of the records follow one another, only at the first record that doesn't follow those before
-        // it, by its index, or if the disk failed.
+        // Where the first ones of the records follow one another, only at the first record that
+        // doesn't follow those before it, by its index, or if the disk failed.
         ensures refused { IfErr result (λ e. (records : List Record)
             → (reads : ReadsRecords setup.now D.seen (journals.disk_of journal) (journals.place_of journal) records)
             → FirstFollow setup.now reads → RefusesStart e.1 setup.now records) }
@@ -102,7 +110,8 @@ impl<'s, D: Disk> Host<'s, D> {
         ensures starts { journals.used_of journal ≡ 0 → IsTrue (is_ok result) }
         ensures fresh { IfOk result (λ host. journals.used_of journal ≡ 0 → HasReplayed host []) }
         // No call of the disk is made then.
-        ensures untouched { IfOk result (λ host. journals.used_of journal ≡ 0 → journal_of host ≡ journal) }
+        ensures untouched { IfOk result (λ host. journals.used_of journal ≡ 0 → journal_of host
+            ≡ journal) }
 
         // the journal and its disk
         ensures stands { IfOk result (λ host. (records : List Record)
@@ -127,13 +136,14 @@ impl<'s, D: Disk> Host<'s, D> {
         }
     }
 
-    /// The operator gives a command. A refused one, for the first reason that holds, changes nothing.
+    /// The operator gives a command. A refused one, for the first reason that holds, changes
+    /// nothing.
     pub fn command(&mut self, command: &Command) -> Result<(), CommandNo>
         ensures setup { setup_of self.new ≡ setup_of self.old }
         ensures journal { journal_of self.new ≡ journal_of self.old }
         ensures stays { OnErr result (Stays self.old self.new) }
-        // The first reason that holds: those of its desk, then the want of money, then that of room in the journal,
-        // beside the records that are put and held.
+        // The first reason that holds: those of its desk, then the want of money, then that of room
+        // in the journal, beside the records that are put and held.
         ensures answers { Answers self.old self.new command.now result }
     {
         match self.room_refusal(command) {
@@ -142,8 +152,8 @@ impl<'s, D: Disk> Host<'s, D> {
         }
     }
 
-    /// Why a command is refused beside the tests of its device, if it is: what it spends isn't available, or the journal
-    /// has no room for the records that it may put.
+    /// Why a command is refused beside the tests of its device, if it is: what it spends isn't
+    /// available, or the journal has no room for the records that it may put.
     fn room_refusal(&self, command: &Command) -> Option<CommandNo>
         ensures affords { result ≡ None → amount_of (setup_of self.now) command.now
             ≤ ledgers.available_of self.now.ledger }
@@ -158,7 +168,8 @@ impl<'s, D: Disk> Host<'s, D> {
         self.room_failing(&room_tests(command), need_of(command, there))
     }
 
-    /// Why the first of these tests of the money and the room fails, if one does, where so much room is wanted.
+    /// Why the first of these tests of the money and the room fails, if one does, where so much
+    /// room is wanted.
     #[tactic(auto, using(crate::proofs::Testing::first_more))]
     fn room_failing(&self, tests: &[Option<Test>], need: u32) -> Option<CommandNo>
         ensures affords { result ≡ None → money_in (setup_of self.now) (listed tests.now)
@@ -181,7 +192,8 @@ impl<'s, D: Disk> Host<'s, D> {
 
     /// Why a test of the money or of the room fails, if it does.
     fn room_fails(&self, test: &Test, need: u32) -> Option<CommandNo>
-        ensures affords { result ≡ None → amount_in (setup_of self.now) test.now ≤ ledgers.available_of self.now.ledger }
+        ensures affords { result ≡ None → amount_in (setup_of self.now) test.now
+            ≤ ledgers.available_of self.now.ledger }
         ensures fits { result ≡ None → is_room test.now ≡ true
             → journals.used_of self.now.journal + all_desks.held_of self.now.desks + need ≤ capacity_in self.now }
         ensures stands { (past : List Entry) → Keeps self.now past
@@ -211,8 +223,9 @@ impl<'s, D: Disk> Host<'s, D> {
         }
     }
 
-    /// Why a command is refused that needs room for so many records, if it is: beside the records that are put, and those
-    /// that are held for jobs and open orders, the journal has no such room.
+    /// Why a command is refused that needs room for so many records, if it is: beside the records
+    /// that are put, and those that are held for jobs and open orders, the journal has no such
+    /// room.
     fn full_refusal(&self, need: u32) -> Option<CommandNo>
         ensures fits { result ≡ None → journals.used_of self.now.journal + all_desks.held_of self.now.desks + need
             ≤ capacity_in self.now }
@@ -234,12 +247,12 @@ impl<'s, D: Disk> Host<'s, D> {
         }
     }
 
-    /// The job at an address makes one attempt of one row over a link, and adds its entries to the report: an exchange,
-    /// or a put of a record that then stands on the disk; and where the job is then done its end, which frees the
-    /// address. With no job the address is idle.
+    /// The job at an address makes one attempt of one row over a link, and adds its entries to the
+    /// report: an exchange, or a put of a record that then is on the disk; and where the job is
+    /// then done its end, which frees the address. With no job the address is idle.
     ///
-    /// Fails only where a call of the disk fails. Then no entry is added, and whether the record stands on the disk is
-    /// open: only [`Host::totals`] and [`Host::into_disk`] may be called.
+    /// Fails only where a call of the disk fails. Then no entry is added, and whether the record is
+    /// on the disk is open: only [`Host::totals`] and [`Host::into_disk`] may be called.
     pub fn next<L: Link>(
         &mut self,
         addr: u8,
@@ -252,16 +265,17 @@ impl<'s, D: Disk> Host<'s, D> {
 
         // the attempt
         ensures whole { OnOk result (has_failed self.new ≡ false) }
-        // After any past: the entries of one attempt of one row, and a record that was due stands on the disk before
-        // its entry is told. Whatever happened before, the journal counts only the record that is told.
+        // After any past: the entries of one attempt of one row, and a record that was due is on
+        // the disk before its entry is reported. Whatever happened before, the journal counts only
+        // the record that is reported.
         ensures nexts { OnOk result (Nexts L.gives link.old link.new addr self.old self.new report.old.items
             report.new.items) }
 
         // a put that failed
         ensures stays { OnErr result (report.new ≡ report.old) }
         ensures link { OnErr result (link.new ≡ link.old) }
-        // Only with a record due. The host has all of the past as before, and whatever a power cut leaves on a trusted
-        // disk stands for the records of the past, or for these and that one.
+        // Only with a record due. The host has all of the past as before, and whatever a power cut
+        // leaves on a trusted disk stands for the records of the past, or for these and that one.
         ensures fails { OnErr result (Fails self.old self.new addr) }
         // And so does whatever one might have left at a moment of it.
         ensures between { OnErr result (FailsBetween self.old self.new addr) }
@@ -281,13 +295,14 @@ impl<'s, D: Disk> Host<'s, D> {
         )
     }
 
-    /// The host has a power cut, in a put of the job at an address, after so many, 0 to 4, of its four disk calls, or
-    /// in none; and it starts again over what its disk then keeps, which `choice` chooses as for [`Disk::power_cut`]. No
-    /// job runs then.
+    /// The host has a power cut, in a put of the job at an address, after so many, 0 to 4, of its
+    /// four disk calls, or in none; and it starts again over what its disk then keeps, which
+    /// `choice` chooses as for [`Disk::power_cut`]. No job runs then.
     ///
-    /// [`CrashNo::Disk`] comes where a call of the disk fails. Then come, in this order, [`CrashNo::Alien`] and
-    /// [`CrashNo::BadRecord`] as the journal is opened again, [`CrashNo::Lost`], and [`CrashNo::BadRecord`] as from
-    /// [`Host::start`]. After any of them only [`Host::into_disk`] may be called.
+    /// [`CrashNo::Disk`] comes where a call of the disk fails. Then come, in this order,
+    /// [`CrashNo::Alien`] and [`CrashNo::BadRecord`] as the journal is opened again,
+    /// [`CrashNo::Lost`], and [`CrashNo::BadRecord`] as from [`Host::start`]. After any of them
+    /// only [`Host::into_disk`] may be called.
     pub fn restart(&mut self, at: Option<CrashAt>, choice: u64) -> Result<Crashed, CrashNo>
         requires whole { has_failed self.old ≡ false }
         requires few { IsCrash at }
@@ -334,7 +349,8 @@ impl<'s, D: Disk> Host<'s, D> {
     pub fn due(&self, addr: u8) -> Option<Record>
         ensures value { result ≡ all_desks.due_on self.now.desks addr }
         // It is the record that [`Host::next`] puts there.
-        ensures stands { (past : List Entry) → Keeps self.now past → result ≡ due_at (setup_of self.now) past addr }
+        ensures stands { (past : List Entry) → Keeps self.now past → result
+            ≡ due_at (setup_of self.now) past addr }
     {
         self.desks.due(addr)
     }
@@ -349,7 +365,8 @@ impl<'s, D: Disk> Host<'s, D> {
     /// What is available, reserved, paid and sold, in units of value.
     pub fn totals(&self) -> Totals
         // Also after a put that failed.
-        ensures { (past : List Entry) → Keeps self.now past → result ≡ totals (setup_of self.now) past }
+        ensures { (past : List Entry) → Keeps self.now past → result
+            ≡ totals (setup_of self.now) past }
     {
         self.ledger.totals()
     }
@@ -378,16 +395,18 @@ impl<'s, D: Settle> Host<'s, D> {
         ensures stands { (past : List Entry) → StandsFor self.old past → StandsFor self.new past }
         // No call of the disk is noted any more, and it is otherwise as before.
         ensures none { D.noted (disk_of self.new) ≡ 0 }
-        ensures disk { Settles D.size D.honest D.seen D.may_leave D.cuts D.faults (disk_of self.old) (disk_of self.new) }
+        ensures disk { Settles D.size D.honest D.seen D.may_leave D.cuts D.faults (disk_of self.old)
+            (disk_of self.new) }
     {
         self.journal.settle();
     }
 }
 
-/// A command is taken, which spends no more than is available, or refused for the first reason that holds whatever room
-/// there is; a taken one reserves what it spends.
+/// A command is taken, which spends no more than is available, or refused for the first reason that
+/// holds whatever room there is; a taken one reserves what it spends.
 fn take(desks: &mut Desks<'_>, ledger: &mut Ledger<'_>, command: &Command) -> Result<(), CommandNo>
-    requires available { amount_of (all_desks.setup_of desks.old) command.now ≤ ledgers.available_of ledger.old }
+    requires available { amount_of (all_desks.setup_of desks.old) command.now
+        ≤ ledgers.available_of ledger.old }
     requires reserved { ledgers.reserved_of ledger.old ≡ all_desks.reserved_of desks.old }
     ensures together { GoOnTogether desks.old desks.new ledger.old ledger.new }
     ensures takes { OnOk result (all_desks.TakesIn command.now desks.old desks.new) }

@@ -1,5 +1,5 @@
-//! The host: a job at each address, the epochs of its acceptors, and the open orders of its hoppers, over any link; and
-//! its records in a journal, with what they are worth.
+//! The host: a job at each address, the epochs of its acceptors, and the open orders of its
+//! hoppers, over any link; and its records in a journal, with what they are worth.
 #![tactic(auto)]
 
 mod advance;

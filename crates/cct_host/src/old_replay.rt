@@ -17,11 +17,11 @@ use cct_journal::{OldJournal, ReadNo};
 use cct_journal_carry::Tally;
 use cct_model::Setup;
 
-/// A tally of all records of a journal of an older version: it begins with the carry of those before the current half, and
-/// goes over the others, oldest first.
+/// A tally of all records of a journal of an older version: it begins with the carry of those
+/// before the current half, and goes over the others, oldest first.
 ///
-/// [`ReadNo::BadRecord`] comes at the first record of the current half where the carry doesn't fit the setup, and at the
-/// first one there that can't be read or doesn't follow.
+/// [`ReadNo::BadRecord`] comes at the first record of the current half where the carry doesn't fit
+/// the setup, and at the first one there that can't be read or doesn't follow.
 pub(crate) fn tally_old<'s, D: Disk>(
     setup: &'s Setup,
     journal: &mut OldJournal<D>,
@@ -53,7 +53,8 @@ pub(crate) fn tally_old<'s, D: Disk>(
     }
 }
 
-/// A tally of the records before the current half of a journal of an older version goes over those in it, oldest first.
+/// A tally of the records before the current half of a journal of an older version goes over those
+/// in it, oldest first.
 fn tally_rest<'s, D: Disk>(
     before: Tally<'s>,
     journal: &mut OldJournal<D>,

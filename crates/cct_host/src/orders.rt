@@ -2,8 +2,8 @@
 use cct_jobs::Owed;
 use cct_model::Command;
 
-/// The open order, if there is one, the id of the payment or the sale that is running, or 0, and the command whose job is
-/// running, if one is.
+/// The open order, if there is one, the id of the payment or the sale that is running, or 0, and
+/// the command whose job is running, if one is.
 #[derive(Clone, Copy)]
 pub(crate) struct OrderState {
     pub order: Option<Owed>,

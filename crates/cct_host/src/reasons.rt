@@ -3,20 +3,23 @@ ghost use Rattle.std.specs.Prelude.{◌≡◌, Option, Some, true};
 ghost use Rattle.cct_model.specs.terms.device.Setup.{Setup};
 ghost use Rattle.cct_model.specs.Exchange.{device_at};
 ghost use Rattle.cct_model.specs.Job.{address_of};
-ghost use Rattle.cct_model.specs.Refusal.{epoch_refusal, first_of, id_refusal, listed, order_refusal, running_refusal, settle_refusal, state_fails, unless, value_refusal};
+ghost use Rattle.cct_model.specs.Refusal.{epoch_refusal, first_of, id_refusal, listed};
+ghost use Rattle.cct_model.specs.Refusal.{order_refusal, running_refusal, settle_refusal};
+ghost use Rattle.cct_model.specs.Refusal.{state_fails, unless, value_refusal};
 ghost use Rattle.cct_model.specs.lines.command.CommandNo.TheVariants.{NoPayout, WrongKind};
 ghost use Rattle.cct_jobs.specs.Jobs.{is_of_device, order_of};
 ghost use Rattle.cct_host.specs.Desk.{RefusesAbove};
 ghost use Rattle.cct_host.specs.Place as places;
-ghost use Rattle.cct_host.specs.Running.{busy_by, halting_refusal, halts_in, refusal_beside, sale_refusal, seen_at};
+ghost use Rattle.cct_host.specs.Running.{busy_by, halting_refusal, halts_in, refusal_beside};
+ghost use Rattle.cct_host.specs.Running.{sale_refusal, seen_at};
 
 use crate::desk::JobDesk;
 use cct_journal_carry::valueless;
 use cct_model::{Command, CommandNo, DeviceSetup, EpochState, Test, state_tests};
 
 impl JobDesk {
-    /// Why a command to the device of this desk is refused, if it is: the first reason that holds, whatever room there
-    /// is for its records.
+    /// Why a command to the device of this desk is refused, if it is: the first reason that holds,
+    /// whatever room there is for its records.
     pub(crate) fn command_refusal(
         &self,
         command: &Command,
@@ -67,7 +70,8 @@ impl JobDesk {
         device: &DeviceSetup,
         last: u32,
     ) -> Option<CommandNo>
-        ensures { result ≡ refusal_beside device.now self.now.job self.now.epoch self.now.orders last command.now }
+        ensures { result ≡ refusal_beside device.now self.now.job self.now.epoch self.now.orders
+            last command.now }
     {
         self.first_failing(&state_tests(command), device, last)
     }
@@ -181,7 +185,8 @@ impl JobDesk {
     }
 }
 
-/// Why a command is refused because of the kind of its device: it isn't of a kind that knows the command.
+/// Why a command is refused because of the kind of its device: it isn't of a kind that knows the
+/// command.
 fn of_kind(knows: bool) -> Option<CommandNo>
     ensures { result ≡ unless knows WrongKind }
 {

@@ -21,7 +21,8 @@ pub(crate) fn resumed_desks(devices: &[DeviceSetup], carry: &Carry) -> ArrayVec<
     requires rightly { (many : ℕ) × IsRightly many carry.now }
     ensures many { length result.items ≡ length devices.now }
     ensures unused { All IsUnused result.items }
-    ensures resumed { (setup : Setup) → AllReplay devices.now result.items (known_by setup carry.now) }
+    ensures resumed { (setup : Setup) → AllReplay devices.now result.items
+        (known_by setup carry.now) }
 {
     let mut desks = ArrayVec::new();
     for device in devices {

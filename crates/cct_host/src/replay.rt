@@ -1,6 +1,7 @@
-//! A host that starts goes over the carry and the records of its journal: it reads them, or is shown them as they are
-//! found.
-ghost use Rattle.std.specs.Prelude.{◌≡◌, ◌≤◌, ◌<◌, ◌+◌, ℕ, List, Err, IfErr, IfOk, IsTrue, OnOk, Ok, is_ok};
+//! A host that starts goes over the carry and the records of its journal: it reads them, or is
+//! shown them as they are found.
+ghost use Rattle.std.specs.Prelude.{◌≡◌, ◌≤◌, ◌<◌, ◌+◌, ℕ, List, Err, IfErr, IfOk, IsTrue, OnOk};
+ghost use Rattle.std.specs.Prelude.{Ok, is_ok};
 ghost use Rattle.cct_model.specs.lines.record.Record.{Record};
 ghost use Rattle.cct_model.specs.lines.carry.Carry.{Carry};
 ghost use Rattle.cct_model.specs.Carried.{empty_carry};
@@ -9,7 +10,8 @@ ghost use Rattle.cct_model.specs.Setup.{IsSoundSetup};
 ghost use Rattle.cct_journal_carry.specs.Tally as tallies;
 ghost use Rattle.cct_journal.specs.Journal as journals;
 ghost use Rattle.cct_host.specs.OnDisk.{ReadsRest};
-ghost use Rattle.cct_host.specs.Starting.{OnlyReadIn, RefusesResume, TalliesFirst, TalliesOver, TalliesSome};
+ghost use Rattle.cct_host.specs.Starting.{OnlyReadIn, RefusesResume, TalliesFirst, TalliesOver};
+ghost use Rattle.cct_host.specs.Starting.{TalliesSome};
 
 use crate::refusal::StartNo;
 use cct_disk::Disk;
@@ -17,11 +19,11 @@ use cct_journal::{Journal, Replay};
 use cct_journal_carry::Tally;
 use cct_model::{Carry, Record, Setup};
 
-/// A tally of all records of a journal: it begins with the carry of those before the current half, and goes over the
-/// others, oldest first.
+/// A tally of all records of a journal: it begins with the carry of those before the current half,
+/// and goes over the others, oldest first.
 ///
-/// [`StartNo::BadRecord`] comes at the first record of the current half where the carry doesn't fit the setup, and at the
-/// first one there that can't be read or doesn't follow.
+/// [`StartNo::BadRecord`] comes at the first record of the current half where the carry doesn't fit
+/// the setup, and at the first one there that can't be read or doesn't follow.
 pub(crate) fn replay_all<'s, D: Disk>(
     setup: &'s Setup,
     journal: &mut Journal<D>,
@@ -37,7 +39,8 @@ pub(crate) fn replay_all<'s, D: Disk>(
         → ReadsRest D.seen (journals.disk_of journal.old) (journals.place_of journal.old) rest
         → TalliesOver setup.now (journals.carry_before journal.old) rest (tallies.carry_in tally)) }
     ensures starts { journals.used_of journal.old ≡ 0 → IsTrue (is_ok result) }
-    ensures fresh { IfOk result (λ tally. journals.used_of journal.old ≡ 0 → tallies.carry_in tally ≡ empty_carry) }
+    ensures fresh { IfOk result (λ tally. journals.used_of journal.old ≡ 0 → tallies.carry_in tally
+        ≡ empty_carry) }
     ensures refused { IfErr result (λ why. (rest : List Record)
         → ReadsRest D.seen (journals.disk_of journal.old) (journals.place_of journal.old) rest
         → RefusesResume why setup.now (journals.base_of journal.old) (journals.carry_before journal.old) rest) }
@@ -120,13 +123,13 @@ fn replay_next<D: Disk>(
     }
 }
 
-/// What goes over the carry and the records that are found after a power cut: a tally, up to the first record that doesn't
-/// follow.
+/// What goes over the carry and the records that are found after a power cut: a tally, up to the
+/// first record that doesn't follow.
 #[derive(Drop)]
 pub(crate) struct ReplayState<'s> {
     pub(crate) tally: Tally<'s>,
-    /// The index of that record, or of the first one after a carry that doesn't fit the setup. The tally goes over none
-    /// from it on.
+    /// The index of that record, or of the first one after a carry that doesn't fit the setup. The
+    /// tally goes over none from it on.
     pub(crate) bad: Option<u32>,
 }
 

@@ -9,8 +9,8 @@ use crate::desk::JobDesk;
 use cct_model::{DEVICES, Record};
 
 impl JobDesk {
-    /// How many records are held for this place: those that its job may still put, and one for an open order that no
-    /// job is running to close.
+    /// How many records are held for this place: those that its job may still put, and one for an
+    /// open order that no job is running to close.
     pub(crate) fn held(&self) -> u32
         ensures value { result ≡ held_at self.now }
         ensures few { result ≤ 3 }

@@ -1,5 +1,6 @@
 //! A host starts again after a power cut, over what its disk then keeps.
-ghost use Rattle.std.specs.Prelude.{◌≡◌, ◌≤◌, ◌<◌, ◌+◌, List, Err, IfErr, IfOk, IfSome, OnOk, Option, Some, false, length, reverse, true};
+ghost use Rattle.std.specs.Prelude.{◌≡◌, ◌≤◌, ◌<◌, ◌+◌, List, Err, IfErr, IfOk, IfSome, OnOk};
+ghost use Rattle.std.specs.Prelude.{Option, Some, false, length, reverse, true};
 ghost use Rattle.cct_model.specs.lines.entry.Entry.{Entry};
 ghost use Rattle.cct_model.specs.terms.device.Setup.{Setup};
 ghost use Rattle.cct_model.specs.lines.record.Record.{Record};
@@ -40,8 +41,9 @@ pub struct Crashed {
     pub kept: Option<Record>,
 }
 
-/// The parts of a host have a power cut, in a put of the job at an address or in none, and start again over what the disk
-/// then keeps. The record of that put is the one that is due at its address, if one is.
+/// The parts of a host have a power cut, in a put of the job at an address or in none, and start
+/// again over what the disk then keeps. The record of that put is the one that is due at its
+/// address, if one is.
 pub(crate) fn restart<'s, D: Disk>(
     desks: &mut Desks<'s>,
     ledger: &mut Ledger<'s>,
@@ -154,8 +156,9 @@ fn calls_in(at: Option<CrashAt>) -> u8
     }
 }
 
-/// A journal has a power cut in a put of the record that is due, after those of this carry, or in none, and is opened on what
-/// is left, whose records are replayed. It tells which record was kept beside those that were put.
+/// A journal has a power cut in a put of the record that is due, after those of this carry, or in
+/// none, and is opened on what is left, whose records are replayed. It says which record was kept
+/// beside those that were put.
 fn lose<D: Disk, R: Replay>(
     journal: &mut Journal<D>,
     due: Option<Record>,
@@ -170,7 +173,8 @@ fn lose<D: Disk, R: Replay>(
     requires encodable { IfSome due Encodable }
     requires rightly { IfSome due (λ _. IsRightly (journals.used_of journal.old) so_far.now) }
 
-    ensures restarts { IfOk result (JournalRestarts calls due so_far.now choice journal.old journal.new) }
+    ensures restarts { IfOk result (JournalRestarts calls due so_far.now choice journal.old
+        journal.new) }
     ensures replayed { OnOk result (ReplaysAll D.seen R.replayed (journals.disk_of journal.new)
         (journals.place_of journal.new) replay.old replay.new) }
     ensures fails { IfErr result (λ why. (setup : Setup)

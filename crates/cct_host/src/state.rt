@@ -1,4 +1,5 @@
-//! How a host stands: the job of each address, what is recorded of each device, and how many records its journal has and still takes.
+//! How a host stands: the job of each address, what is recorded of each device, and how many
+//! records its journal has and still takes.
 ghost use Rattle.std.specs.Prelude.{◌≡◌, ℕ, List, is_some, length, true};
 ghost use Rattle.cct_model.specs.lines.entry.Entry.{Entry};
 ghost use Rattle.cct_model.specs.Exchange.{device_at};
@@ -18,8 +19,8 @@ use cct_jobs::Owed;
 use cct_model::{BROADCAST, Command, EpochState, HOST, OpenOrder, Setup};
 
 impl Desks<'_> {
-    /// The command whose job is at an address, if one is. A halt is none: the job stays that of the payment or the
-    /// settlement.
+    /// The command whose job is at an address, if one is. A halt is none: the job stays that of the
+    /// payment or the settlement.
     pub fn begun_at(&self, addr: u8) -> Option<Command>
         ensures { (past : List Entry) → StandsFor self.now past
             → result ≡ command_at (all_desks.setup_of self.now) past addr }
@@ -56,7 +57,8 @@ impl Desks<'_> {
         }
     }
 
-    /// The open order of the hopper at an address, by its records. At any other address none is open.
+    /// The open order of the hopper at an address, by its records. At any other address none is
+    /// open.
     pub fn order_at(&self, addr: u8) -> Option<OpenOrder>
         ensures stands { (past : List Entry) → StandsFor self.now past
             → result ≡ order_at (all_desks.setup_of self.now) past addr }
@@ -88,20 +90,22 @@ impl<'s, D: Disk> Host<'s, D> {
         self.desks.setup()
     }
 
-    /// The command whose job is at an address, if one is: a scan is at address 0, and a sale at address 1. A halt is none:
-    /// the job stays that of the payment or the settlement.
+    /// The command whose job is at an address, if one is: a scan is at address 0, and a sale at
+    /// address 1. A halt is none: the job stays that of the payment or the settlement.
     pub fn command_at(&self, addr: u8) -> Option<Command>
         // Also after a put that failed.
-        ensures { (past : List Entry) → Keeps self.now past → result ≡ command_at (setup_of self.now) past addr }
+        ensures { (past : List Entry) → Keeps self.now past → result
+            ≡ command_at (setup_of self.now) past addr }
     {
         self.desks.begun_at(addr)
     }
 
-    /// The epoch that is recorded of the acceptor at an address, with its inhibit mask and what was counted at its last
-    /// record. At any other address none runs.
+    /// The epoch that is recorded of the acceptor at an address, with its inhibit mask and what was
+    /// counted at its last record. At any other address none runs.
     pub fn epoch_at(&self, addr: u8) -> EpochState
         // Also after a put that failed.
-        ensures stands { (past : List Entry) → Keeps self.now past → result ≡ epoch_at (setup_of self.now) past addr }
+        ensures stands { (past : List Entry) → Keeps self.now past → result
+            ≡ epoch_at (setup_of self.now) past addr }
         // At the address of a device, where no job has begun since the start.
         ensures begins { (k : Known) (last : ℕ) → BeginsAs self.now k last
             → is_some (device_at (setup_of self.now).devices addr) ≡ true → result ≡ k.epoch_at addr }
@@ -112,7 +116,8 @@ impl<'s, D: Disk> Host<'s, D> {
     /// The order that is open at the hopper at an address. At any other address none is open.
     pub fn order_at(&self, addr: u8) -> Option<OpenOrder>
         // Also after a put that failed.
-        ensures stands { (past : List Entry) → Keeps self.now past → result ≡ order_at (setup_of self.now) past addr }
+        ensures stands { (past : List Entry) → Keeps self.now past → result
+            ≡ order_at (setup_of self.now) past addr }
         // At the address of a device, where no job has begun since the start.
         ensures begins { (k : Known) (last : ℕ) → BeginsAs self.now k last
             → is_some (device_at (setup_of self.now).devices addr) ≡ true → result ≡ k.order_at addr }
@@ -120,11 +125,12 @@ impl<'s, D: Disk> Host<'s, D> {
         self.desks.order_at(addr)
     }
 
-    /// The greatest id that was used: of the payments and sales in the records, and of those that are running; 0 where there
-    /// is none. A new id has to be above it (`docs/SCRIPT.md`).
+    /// The greatest id that was used: of the payments and sales in the records, and of those that
+    /// are running; 0 where there is none. A new id has to be above it (`docs/SCRIPT.md`).
     pub fn last_id(&self) -> u32
         // Also after a put that failed.
-        ensures { (past : List Entry) → Keeps self.now past → result ≡ last_id (setup_of self.now) past }
+        ensures { (past : List Entry) → Keeps self.now past → result
+            ≡ last_id (setup_of self.now) past }
     {
         self.desks.last_id()
     }
@@ -133,13 +139,14 @@ impl<'s, D: Disk> Host<'s, D> {
     pub fn records(&self) -> u32
         ensures value { result ≡ journals.used_of (journal_of self.now) }
         // Also after a put that failed.
-        ensures stands { (past : List Entry) → Keeps self.now past → result ≡ length (records past) }
+        ensures stands { (past : List Entry) → Keeps self.now past → result
+            ≡ length (records past) }
     {
         self.journal.used()
     }
 
-    /// How many records the journal takes beside those that were put and those that are held for running jobs and open
-    /// orders, 0 at least.
+    /// How many records the journal takes beside those that were put and those that are held for
+    /// running jobs and open orders, 0 at least.
     pub fn room(&self) -> u32
         // Also after a put that failed.
         ensures { (past : List Entry) → Keeps self.now past

@@ -1,5 +1,6 @@
 //! A journal of an older version is brought forward.
-ghost use Rattle.std.specs.Prelude.{◌≡◌, ◌≢◌, ◌≤◌, ◌+◌, ℕ, List, Err, IfErr, IfNone, IfOk, IfSome, MatchResult, Some, false, length};
+ghost use Rattle.std.specs.Prelude.{◌≡◌, ◌≢◌, ◌≤◌, ◌+◌, ℕ, List, Err, IfErr, IfNone, IfOk, IfSome};
+ghost use Rattle.std.specs.Prelude.{MatchResult, Some, false, length};
 ghost use Rattle.cct_edge.specs.Faults.{Caused};
 ghost use Rattle.cct_model.specs.lines.carry.Carry.{Carry};
 ghost use Rattle.cct_model.specs.lines.record.Record.{Record};
@@ -16,7 +17,8 @@ ghost use Rattle.cct_journal.specs.OldStands.{IsTurned, OldCounts, OldReadsFrom}
 ghost use Rattle.cct_journal_carry.specs.Tally as tallies;
 ghost use Rattle.cct_host.specs.OldTally.{CountsAll, OnlyReadOld, RefusesOpened, TurnsBy};
 ghost use Rattle.cct_host.specs.OnDisk.{KeepsRecords};
-ghost use Rattle.cct_host.specs.Upgrading.{CanTurn, CanUpgrade, Counts, IsBrought, IsLeastRunning, NoneRuns, OldFirstFollow};
+ghost use Rattle.cct_host.specs.Upgrading.{CanTurn, CanUpgrade, Counts, IsBrought, IsLeastRunning};
+ghost use Rattle.cct_host.specs.Upgrading.{NoneRuns, OldFirstFollow};
 ghost use Rattle.cct_host.specs.Upgrading.{RefusesUpgrade, StandsBrought, disk_after};
 
 use crate::old_replay::tally_old;
@@ -27,16 +29,16 @@ use cct_journal::{Journal, OldJournal};
 use cct_journal_carry::Tally;
 use cct_model::{Carry, Setup};
 
-/// Brings the journal of an older version on a disk forward: the other half gets the carry of all its records, by one turn,
-/// and no old record is written again. It gives the journal, and how many records it has.
+/// Brings the journal of an older version on a disk forward: the other half gets the carry of all
+/// its records, by one turn, and no old record is written again. It gives the journal, and how many
+/// records it has.
 ///
 /// The refusals come in the order of [`UpgradeNo`]; the disk is then only read.
 pub fn upgrade<D: Disk>(setup: &Setup, disk: D) -> Result<(Journal<D>, u32), (D, UpgradeNo)>
     requires sound { IsSoundSetup setup.now }
 
-    // each image that a power cut may leave:
-    // At each moment, whether calls fail or not, the old journal with the same carry and records, or one of today with the
-    // carry of all of them.
+    // each image that a power cut may leave: At each moment, whether calls fail or not, the old
+    // journal with the same carry and records, or one of today with the carry of all of them.
     ensures moments { (image : List ℕ) (base : ℕ) (carry : Carry) (rest : List Record)
         → Holds D.honest D.seen D.may_leave disk image → HasOldFrom image base carry rest
         → LeavesOnly D.moment D.left_since disk (disk_after result) (IsBrought setup.now base carry rest) }
@@ -129,7 +131,8 @@ fn bring_forward<D: Disk>(
         D.moment D.left_since D.cuts (olds.disk_of journal) e.0) }
 
     // the disk
-    ensures goes_on { GoesOn D.size D.honest D.seen D.cuts (olds.disk_of journal) (disk_after result) }
+    ensures goes_on { GoesOn D.size D.honest D.seen D.cuts (olds.disk_of journal)
+        (disk_after result) }
     ensures cause { MatchResult result (λ brought. D.faults (olds.disk_of journal) ≤ D.faults (journals.disk_of brought.0))
         (λ e. Caused (D.faults (olds.disk_of journal)) (D.faults e.0) (e.1 ≡ UpgradeNo.Disk)) }
 {
@@ -189,7 +192,7 @@ fn turn<D: Disk>(
 ) -> Result<(Journal<D>, u32), (D, UpgradeNo)>
     requires counted { tallies.many_of tally.now ≡ olds.used_of journal }
 
-    // each image that a power cut may leave, and what stands at Ok
+    // each image that a power cut may leave, and what is at Ok
     ensures moments { (rest : List Record) → OldJournalStands journal rest
         → LeavesOnly D.moment D.left_since (olds.disk_of journal) (disk_after result)
         (IsTurning (olds.place_of journal) (tallies.carry_in tally.now) rest) }
@@ -204,7 +207,8 @@ fn turn<D: Disk>(
 
     // why it isn't, and the disk
     ensures why { IfErr result (λ e. e.1 ≡ UpgradeNo.Disk) }
-    ensures goes_on { GoesOn D.size D.honest D.seen D.cuts (olds.disk_of journal) (disk_after result) }
+    ensures goes_on { GoesOn D.size D.honest D.seen D.cuts (olds.disk_of journal)
+        (disk_after result) }
     ensures cause { MatchResult result (λ brought. D.faults (olds.disk_of journal) ≤ D.faults (journals.disk_of brought.0))
         (λ e. Caused (D.faults (olds.disk_of journal)) (D.faults e.0) (e.1 ≡ UpgradeNo.Disk)) }
 {

@@ -112,7 +112,7 @@ none_put d [] none = trays-cons d [] ∙ ap (λ ts. ts ++ []) none
 none_put d (e ∷ es) none =
     none_by (nat_le d.addr e.addr) d e es (trays-cons d (e ∷ es) ∙ ap (λ ts. ts ++ trays_of (e ∷ es)) none) (none_put d es none)
 
--- a tray stands before those of devices whose addresses aren't below its own
+-- a tray is before those of devices whose addresses aren't below its own
 put_by_first : (below : Bool) (t u : Tray) (us : List Tray) → below ≡ true → cond below (t ∷ u ∷ us) (u ∷ put_tray t us) ≡ t ∷ u ∷ us
 put_by_first true t u us is = refl
 put_by_first false t u us is = absurd cc

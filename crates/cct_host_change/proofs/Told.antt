@@ -27,7 +27,7 @@ any_reversed p (x ∷ xs) =
     ∙ ap (λ b. b || list_any p (x ∷ [])) (any_reversed p xs) ∙ or_comm (list_any p xs) (list_any p (x ∷ []))
     ∙ sym (list_any-append p (x ∷ []) xs)
 
--- the records that open the order are told by entries that do
+-- the records that open the order are reported by entries that do
 any_opens : (p : Payment) (es : List Entry) → list_any (is_opening p) (records es) ≡ list_any (opens p) es
 any_opens p [] = refl
 any_opens p (entry.Put r ∷ es) =

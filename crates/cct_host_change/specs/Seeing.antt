@@ -9,7 +9,7 @@ use Rattle.cct_model.specs.declared.change.Phase.{Phase}
 use Rattle.cct_model.specs.declared.change.Phase.TheVariants.{Closed, Odd}
 use Rattle.cct_model.specs.Change.{is_opening}
 
--- An entry tells a record that opens the order of a payment.
+-- An entry shows a record that opens the order of a payment.
 abbrev pub opens : Payment → Entry → Bool
 opens p (entry.Put r) = is_opening p r
 opens p (entry.Kept r) = is_opening p r
@@ -17,7 +17,8 @@ opens p e = false
 
 -- What a record tells of an open order, or what was known before.
 abbrev pub closed_by : ℕ → Record → Phase → Phase
-closed_by id (record_of.Closed closed paid unpaid) before = if closed == id then Closed paid unpaid else before
+closed_by id (record_of.Closed closed paid unpaid) before =
+    if closed == id then Closed paid unpaid else before
 closed_by id (record_of.Odd closed opened now) before = if closed == id then Odd else before
 closed_by id r before = before
 

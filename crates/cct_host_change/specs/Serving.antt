@@ -11,9 +11,11 @@ use Rattle.cct_model.specs.declared.change.Session.{Session}
 use Rattle.cct_model.specs.Change.{Desk, GoesOn, PaysNext, Serves, gone_on, pay_entries, served}
 use Rattle.cct_model.specs.Refusal.{refusal}
 use Rattle.cct_host_change.specs.declared.desk.Serving.{Serving}
-use Rattle.cct_host_change.specs.declared.desk.Serving.TheVariants.{Idle, Wait, Odd, Served, Short, Pay}
+use Rattle.cct_host_change.specs.declared.desk.Serving.TheVariants.{Idle, Wait, Odd, Served, Short}
+use Rattle.cct_host_change.specs.declared.desk.Serving.TheVariants.{Pay}
 
--- The rest of a session is part of its amount, which a table of plans takes, and its ids begin with 1 or more.
+-- The rest of a session is part of its amount, which a table of plans takes, and its ids begin with
+-- 1 or more.
 pub record IsInBounds (s : Session) : Type 0 where
   pub ids : 1 ≤ s.next
   pub rest : s.rest ≤ s.amount
@@ -24,17 +26,21 @@ abbrev pub change_told : ℕ → ℕ → Bool → Entry
 change_told first amount true = entry.ChangeOk first amount
 change_told first amount false = entry.ChangeNo
 
--- The entries of a `serve` that asks the host for a payment, newest first, after all that came before.
+-- The entries of a `serve` that asks the host for a payment, newest first, after all that came
+-- before.
 abbrev pub entries_by : ℕ → Setup → List Entry → Session → Payment → List Entry
 entries_by capacity setup past s p =
     pay_entries s p (refusal capacity setup past (command.Pay p.addr p.id p.count))
 
--- A session whose payments are settled ends with this entry, whatever came before, and leaves this desk.
+-- A session whose payments are settled ends with this entry, whatever came before, and leaves this
+-- desk.
 pub record EndsBy (trays : List Tray) (s : Session) (new : Desk) (e : Entry) : Type 0 where
-  pub entries : (capacity : ℕ) (setup : Setup) (past : List Entry) → GoesOn capacity setup past trays s (e ∷ [])
+  pub entries : (capacity : ℕ) (setup : Setup) (past : List Entry) →
+      GoesOn capacity setup past trays s (e ∷ [])
   pub desk : new ≡ gone_on (e ∷ []) trays s
 
--- A session whose payments are settled asks for this payment, and waits at this desk for the host's answer.
+-- A session whose payments are settled asks for this payment, and waits at this desk for the host's
+-- answer.
 pub record AsksFor (trays : List Tray) (s : Session) (new : Desk) (p : Payment) : Type 0 where
   pub entries : (capacity : ℕ) (setup : Setup) (past : List Entry)
       → GoesOn capacity setup past trays s (entries_by capacity setup past s p)
@@ -46,7 +52,8 @@ pub record AsksFor (trays : List Tray) (s : Session) (new : Desk) (p : Payment) 
 -- So a session goes on whose payments are settled.
 abbrev pub GoesOnBy : Serving → List Tray → Session → Desk → Type 0
 GoesOnBy (Served amount) trays s new = EndsBy trays s new (entry.Served amount)
-GoesOnBy (Short shortfall) trays s new = EndsBy trays s new (entry.Short shortfall.paid shortfall.rest)
+GoesOnBy (Short shortfall) trays s new =
+    EndsBy trays s new (entry.Short shortfall.paid shortfall.rest)
 GoesOnBy (Pay p) trays s new = AsksFor trays s new p
 GoesOnBy serving trays s new = ⊥
 
@@ -56,8 +63,8 @@ pub record Ends (old new : Desk) (e : Entry) : Type 0 where
       → Serves capacity setup past old.trays old.session (e ∷ [])
   pub desk : new ≡ served (e ∷ []) old.trays old.session
 
--- A `serve` asks for this payment. Its entries and the desk after it are by the host's answer to the session that is then
--- at the desk.
+-- A `serve` asks for this payment. Its entries and the desk after it are by the host's answer to
+-- the session that is then at the desk.
 pub record Asks (old new : Desk) (p : Payment) : Type 0 where
   pub session : Session
   pub runs : new.session ≡ Some session
@@ -66,7 +73,8 @@ pub record Asks (old new : Desk) (p : Payment) : Type 0 where
   pub next : PaysNext new.trays session p
   pub entries : (capacity : ℕ) (setup : Setup) (past : List Entry)
       → Serves capacity setup past old.trays old.session (entries_by capacity setup past session p)
-  pub desk : (news : List Entry) → served news old.trays old.session ≡ gone_on news new.trays session
+  pub desk : (news : List Entry) → served news old.trays old.session
+      ≡ gone_on news new.trays session
 
 -- What a `serve` comes to.
 abbrev pub ServesBy : Serving → Desk → Desk → Type 0

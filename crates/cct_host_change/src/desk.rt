@@ -1,5 +1,6 @@
 //! The desk of the operator.
-ghost use Rattle.std.specs.Prelude.{◌≡◌, ◌≤◌, ◌∷◌, [], IfOk, List, Some, None, IsTrue, false, is_none, is_some, reverse};
+ghost use Rattle.std.specs.Prelude.{◌≡◌, ◌≤◌, ◌∷◌, [], IfOk, List, Some, None, IsTrue, false};
+ghost use Rattle.std.specs.Prelude.{is_none, is_some, reverse};
 ghost use Rattle.std.specs.Option.{option_map};
 ghost use Rattle.cct_model.specs.lines.command.Command.TheVariants as command;
 ghost use Rattle.cct_model.specs.lines.command.Step.TheVariants as step;
@@ -7,7 +8,8 @@ ghost use Rattle.cct_model.specs.lines.command.TheConstants.{GREATEST_AMOUNT};
 ghost use Rattle.cct_model.specs.lines.entry.Entry.{Entry};
 ghost use Rattle.cct_model.specs.lines.entry.Entry.TheVariants as entry;
 ghost use Rattle.cct_model.specs.declared.change.Session.{Session};
-ghost use Rattle.cct_model.specs.Change.{change_entry, clear_desk, desk_after, gone_on, session_after, settled, settled_trays, short_entry};
+ghost use Rattle.cct_model.specs.Change.{change_entry, clear_desk, desk_after, gone_on};
+ghost use Rattle.cct_model.specs.Change.{session_after, settled, settled_trays, short_entry};
 ghost use Rattle.cct_host_change.specs.Serving.{GoesOnBy, IsInBounds, ServesBy, change_told};
 
 use crate::paying::{next_payment, settle};
@@ -41,12 +43,14 @@ pub enum Serving {
     Served { amount: u32 },
     /// The session ended, as no payment of the rest is possible.
     Short(Shortfall),
-    /// The host is to be given this payment. Whether it takes it is told by [`Desk::taken`] or [`Desk::refused`].
+    /// The host is to be given this payment. Whether it takes it is reported by [`Desk::taken`] or
+    /// [`Desk::refused`].
     Pay(Payment),
 }
 
-/// The desk of the operator: the session of change that runs, if one does, and the coins in each hopper as the operator
-/// counted them. It outlives a power cut of the host. All stocks are 0 at first.
+/// The desk of the operator: the session of change that runs, if one does, and the coins in each
+/// hopper as the operator counted them. It outlives a power cut of the host. All stocks are 0 at
+/// first.
 ///
 /// A contract sees what is known at the desk.
 #[derive(Drop)]
@@ -71,7 +75,8 @@ impl Model for Desk {
 }
 
 impl Desk {
-    /// A desk at which nothing was done, with a tray for each hopper of a setup. This takes all memory that it ever has.
+    /// A desk at which nothing was done, with a tray for each hopper of a setup. This takes all
+    /// memory that it ever has.
     ///
     /// Fails only where there is no memory for its table of plans.
     pub fn new(alloc: Global, setup: &Setup) -> Result<Desk, AllocError>
@@ -88,17 +93,21 @@ impl Desk {
 
     /// The operator counted the coins of a hopper.
     pub fn stock(&mut self, addr: u8, count: u32)
-        ensures { (news : List Entry) → self.new ≡ desk_after (step.Stock addr count) news self.old }
+        ensures { (news : List Entry) → self.new
+            ≡ desk_after (step.Stock addr count) news self.old }
     {
         restock(self.trays.as_mut_slice(), addr, NewStock::Counted(count));
     }
 
-    /// The operator wants an amount, 1 to 10,000, to be paid out; the first payment has the id `first`. None begins where a
-    /// session runs, nor where `first` is 0, which is no payment's id; the answer is then `false`.
+    /// The operator wants an amount, 1 to 10,000, to be paid out; the first payment has the id
+    /// `first`. None begins where a session runs, nor where `first` is 0, which is no payment's id;
+    /// the answer is then `false`.
     pub fn change(&mut self, first: u32, amount: u32) -> bool
         requires amount { amount ≤ GREATEST_AMOUNT }
-        ensures told { 1 ≤ first → change_entry first amount self.old.session ≡ change_told first amount result }
-        ensures desk { 1 ≤ first → (news : List Entry) → self.new ≡ desk_after (step.Change first amount) news self.old }
+        ensures told { 1 ≤ first → change_entry first amount self.old.session
+            ≡ change_told first amount result }
+        ensures desk { 1 ≤ first → (news : List Entry) → self.new
+            ≡ desk_after (step.Change first amount) news self.old }
         ensures none { first ≡ 0 → (result ≡ false) × (self.new ≡ self.old) }
     {
         if first == 0 {
@@ -118,8 +127,8 @@ impl Desk {
         }
     }
 
-    /// The session goes on, as far as it can. Where it is to pay, the host is asked next, and its answer is told by
-    /// [`Desk::taken`] or [`Desk::refused`].
+    /// The session goes on, as far as it can. Where it is to pay, the host is asked next, and its
+    /// answer is reported by [`Desk::taken`] or [`Desk::refused`].
     pub fn serve(&mut self) -> Serving
         ensures { ServesBy result self.old self.new }
     {
@@ -158,13 +167,15 @@ impl Desk {
     /// The session settles its payment, and goes on.
     fn settle_and_go_on(&mut self, session: Session, due: Due) -> Serving
         requires bounds { IsInBounds session }
-        ensures { GoesOnBy result (settled_trays due self.old.trays) (settled self.old.trays due session) self.new }
+        ensures { GoesOnBy result (settled_trays due self.old.trays)
+            (settled self.old.trays due session) self.new }
     {
         let session = settle(self.trays.as_mut_slice(), &session, due);
         self.go_on(session)
     }
 
-    /// A session whose payments are settled is over where nothing is left, and else it pays on, if it can.
+    /// A session whose payments are settled is over where nothing is left, and else it pays on, if
+    /// it can.
     fn go_on(&mut self, session: Session) -> Serving
         requires bounds { IsInBounds session }
         ensures { GoesOnBy result self.old.trays session self.new }
@@ -212,7 +223,8 @@ impl Desk {
     /// The host refused the payment that [`Desk::serve`] asked for, so the session is over.
     pub fn refused(&mut self) -> Shortfall
         requires { IsTrue (is_some self.old.session) }
-        ensures told { (s : Session) → self.old.session ≡ Some s → entry.Short result.paid result.rest ≡ short_entry s }
+        ensures told { (s : Session) → self.old.session ≡ Some s →
+            entry.Short result.paid result.rest ≡ short_entry s }
         ensures desk { self.new ≡ record { session = None; trays = self.old.trays } }
     {
         match self.session {

@@ -2,7 +2,8 @@
 ghost use Rattle.std.specs.Prelude.{◌≡◌, ◌≤◌, ◌≢◌, MatchOption, Some, None, length};
 ghost use Rattle.std.specs.Option.{IfSome, option_map};
 ghost use Rattle.cct_model.specs.lines.command.TheConstants.{GREATEST_AMOUNT};
-ghost use Rattle.cct_model.specs.Change.{IsStuck, PaysNext, first_pay, paid_in_phase, settled, settled_trays};
+ghost use Rattle.cct_model.specs.Change.{IsStuck, PaysNext, first_pay, paid_in_phase, settled};
+ghost use Rattle.cct_model.specs.Change.{settled_trays};
 ghost use Rattle.cct_host_change.specs.Serving.{IsInBounds};
 
 use crate::trays::{NewStock, restock, value_in};
@@ -10,8 +11,8 @@ use arrayvec::ArrayVec;
 use cct_model::{Due, Payment, Phase, Session, Tray};
 use cct_plan::{TRAYS, Table};
 
-/// Settles the last payment of a session: the value of its paid coins is taken from the rest, and the coins from the stock
-/// of its hopper.
+/// Settles the last payment of a session: the value of its paid coins is taken from the rest, and
+/// the coins from the stock of its hopper.
 pub(crate) fn settle(trays: &mut [Tray], session: &Session, due: Due) -> Session
     requires { IsInBounds session.now }
     ensures session { result ≡ settled trays.old due session.now }
@@ -28,7 +29,7 @@ pub(crate) fn settle(trays: &mut [Tray], session: &Session, due: Due) -> Session
     }
 }
 
-/// The coins that were paid, as the record tells that closed the order.
+/// The coins that were paid, as the record says that closed the order.
 fn paid_in(phase: Phase) -> u8
     ensures { result ≡ paid_in_phase phase }
 {
@@ -41,12 +42,14 @@ fn paid_in(phase: Phase) -> u8
     }
 }
 
-/// The payment that a session makes next, by the chosen plan for its rest; none where there is no plan, or no id is left.
+/// The payment that a session makes next, by the chosen plan for its rest; none where there is no
+/// plan, or no id is left.
 pub(crate) fn next_payment(table: &mut Table, trays: &[Tray], session: &Session) -> Option<Payment>
     requires few { length trays.now ≤ TRAYS }
     requires rest { session.now.rest ≢ 0 }
     requires within { session.now.rest ≤ GREATEST_AMOUNT }
-    ensures { MatchOption result (IsStuck trays.now session.now) (λ p. PaysNext trays.now session.now p) }
+    ensures { MatchOption result (IsStuck trays.now session.now)
+        (λ p. PaysNext trays.now session.now p) }
 {
     match u32::try_from(session.next) {
         Ok(id) => planned_payment(table, trays, session, id),
@@ -60,7 +63,8 @@ fn planned_payment(table: &mut Table, trays: &[Tray], session: &Session, id: u32
     requires rest { session.now.rest ≢ 0 }
     requires within { session.now.rest ≤ GREATEST_AMOUNT }
     requires next { session.now.next ≡ id }
-    ensures { MatchOption result (IsStuck trays.now session.now) (λ p. PaysNext trays.now session.now p) }
+    ensures { MatchOption result (IsStuck trays.now session.now)
+        (λ p. PaysNext trays.now session.now p) }
 {
     let mut counts = ArrayVec::new();
     if table.plan(trays, session.rest, &mut counts) {

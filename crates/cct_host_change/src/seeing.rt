@@ -33,7 +33,7 @@ fn begun_after(payment: Payment, report: &[Entry]) -> Phase
     Phase::Begun
 }
 
-/// Whether one of these entries tells a record that opens the order of a payment.
+/// Whether one of these entries shows a record that opens the order of a payment.
 fn is_opened(payment: Payment, report: &[Entry]) -> bool
     ensures { result ≡ list_any (opens payment) report.now }
 {
@@ -58,7 +58,7 @@ fn opened_after(id: u32, report: &[Entry]) -> Phase
     phase
 }
 
-/// Whether an entry tells a record that opens the order of a payment.
+/// Whether an entry shows a record that opens the order of a payment.
 fn opens(payment: Payment, entry: &Entry) -> bool
     ensures { result ≡ opens payment entry.now }
 {
@@ -84,7 +84,7 @@ fn is_opening(payment: Payment, record: &Record) -> bool
     }
 }
 
-/// Whether an entry ends the job at an address: it tells so, or it tells a power cut.
+/// Whether an entry ends the job at an address: it shows so, or it shows a power cut.
 fn is_end_at(addr: u8, entry: &Entry) -> bool
     ensures { result ≡ is_end_at addr entry.now }
 {

@@ -1,5 +1,6 @@
 //! The trays of a setup, and their stocks.
-ghost use Rattle.std.specs.Prelude.{◌≡◌, ◌≤◌, ◌<◌, ◌+◌, ◌∷◌, [], MatchOption, length, nat_le, unwrap_or};
+ghost use Rattle.std.specs.Prelude.{◌≡◌, ◌≤◌, ◌<◌, ◌+◌, ◌∷◌, [], MatchOption, length, nat_le};
+ghost use Rattle.std.specs.Prelude.{unwrap_or};
 ghost use Rattle.std.specs.Option.{IfSome};
 ghost use Rattle.std.specs.List.{position};
 ghost use Rattle.cct_model.specs.Change.{restocked, stock_left, tray_of, trays_of, value_in};
@@ -66,7 +67,8 @@ fn put(trays: &mut ArrayVec<Tray, TRAYS>, tray: Tray)
 
 /// How many trays stand before the first whose address isn't below this one.
 fn rank_of(trays: &[Tray], addr: u8) -> usize
-    ensures rank { result ≡ unwrap_or (position (λ tray. nat_le addr tray.addr) trays.now) (length trays.now) }
+    ensures rank { result ≡ unwrap_or (position (λ tray. nat_le addr tray.addr) trays.now)
+        (length trays.now) }
     ensures within { result ≤ length trays.now }
 {
     place_not_below(trays, addr).unwrap_or(trays.len())
@@ -106,7 +108,8 @@ fn stock_after(stock: NewStock, before: u32) -> u32
     }
 }
 
-/// The stock after a payment that ended so: the paid coins are gone, and nothing is left where some weren't paid.
+/// The stock after a payment that ended so: the paid coins are gone, and nothing is left where some
+/// weren't paid.
 fn stock_left(phase: Phase, before: u32) -> u32
     ensures { result ≡ stock_left phase before }
 {

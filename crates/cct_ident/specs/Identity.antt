@@ -3,7 +3,8 @@ use Rattle.std.specs.Prelude.{ℕ, List}
 use Rattle.cct_model_wire.specs.declared.device.DeviceSetup.{DeviceSetup}
 use Rattle.cct_model_wire.specs.Device.{category_of}
 use Rattle.cct_ident.specs.declared.identity.IdentText.{IdentText}
-use Rattle.cct_ident.specs.declared.identity.IdentText.TheVariants.{Maker, Category, Product, Software, Build}
+use Rattle.cct_ident.specs.declared.identity.IdentText.TheVariants.{Maker, Category, Product}
+use Rattle.cct_ident.specs.declared.identity.IdentText.TheVariants.{Software, Build}
 use Rattle.cct_ident.specs.declared.identity.Identity.{Identity}
 
 -- The setup whose identity it is.

@@ -1,5 +1,5 @@
-//! What a device tells of itself (ccTalk Generic Specification 4, part 2): headers 246, 245, 244, 241 and 192 read its
-//! texts, and 242 its serial number.
+//! What a device tells of itself (ccTalk Generic Specification 4, part 2): headers 246, 245, 244,
+//! 241 and 192 read its texts, and 242 its serial number.
 ghost use Rattle.std.specs.Prelude.{◌≡◌, ◌≤◌, codes, length};
 ghost use Rattle.cct_model_wire.specs.Device.{category_of};
 ghost use Rattle.cct_ident.specs.Identity.{setup_of, text_of};

@@ -46,7 +46,7 @@ payout_fits (Dispenses serial own halted) device suits = λ number count e.
     subst (λ n. n < 2 ^ 24) (sym suits.1 ∙ is) suits.0
 payout_fits row device suits = again_fits (payout_request row) refl
 
--- a failed try tells nothing
+-- a failed try shows nothing
 pub payout_knows : (row : Payout) (since : List Line) (owed : Option OpenOrder) → KnowsPayout row since owed
     → KnowsPayout row (exchange (Some (payout_request row)) None ∷ since) owed
 payout_knows (Waits closing own) since owed knows = (knows.0, knows.1, refl)

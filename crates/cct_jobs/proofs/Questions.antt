@@ -15,7 +15,7 @@ use Rattle.cct_jobs.specs.Ahead.{body_of, place_of}
 use Rattle.cct_jobs.specs.Jobs.{question_after}
 use Rattle.cct_model.proofs.Requests.{IsAgain, is_asked_again}
 
--- what stands after each element
+-- what is after each element
 abbrev behind_each : List Request → List (Option Request)
 behind_each [] = []
 behind_each (q ∷ rest) = slice_get rest 0 ∷ behind_each rest

@@ -1,4 +1,5 @@
--- Where in the table of jobs a job stands: the rows that it has ahead, the one at which it stands first.
+-- Where in the table of jobs a job stands: the rows that it has ahead, the one at which it stands
+-- first.
 use Rattle.std.specs.Prelude.{ℕ, suc, ◌==◌, Bool, false, List, [], ◌∷◌, if◌then◌else◌, Some}
 use Rattle.cct_model.specs.terms.device.DeviceBody.{DeviceBody}
 use Rattle.cct_model.specs.terms.device.DeviceBody.TheVariants.{Acceptor, Bill, Hopper}
@@ -13,16 +14,22 @@ use Rattle.cct_model.specs.lines.entry.End.TheVariants.{Posted}
 use Rattle.cct_model.specs.Request.{header_of}
 use Rattle.cct_model.specs.Job.{ident_requests}
 use Rattle.cct_model.specs.Reply.{Reply}
-use Rattle.cct_model.specs.Rows.{TableRow, puts_due, new_order, sale, reading, if_posted, settling, rows_of, rows_of_sale, after, ends_first}
+use Rattle.cct_model.specs.Rows.{TableRow, puts_due, new_order, sale, reading, if_posted, settling}
+use Rattle.cct_model.specs.Rows.{rows_of, rows_of_sale, after, ends_first}
 use Rattle.cct_jobs.specs.declared.target.Target.{Target}
 use Rattle.cct_jobs.specs.declared.payout.Payout.{Payout}
-use Rattle.cct_jobs.specs.declared.payout.Payout.TheVariants.{Enables, Counts, Dispenses, Waits, Stops, Recounts}
+use Rattle.cct_jobs.specs.declared.payout.Payout.TheVariants.{Enables, Counts, Dispenses, Waits}
+use Rattle.cct_jobs.specs.declared.payout.Payout.TheVariants.{Stops, Recounts}
 use Rattle.cct_jobs.specs.declared.stage.ReadBy.{ReadBy}
 use Rattle.cct_jobs.specs.declared.stage.ReadBy.TheVariants.{Round, Stop}
 use Rattle.cct_jobs.specs.declared.stage.Stage.{Stage}
-use Rattle.cct_jobs.specs.declared.stage.Stage.TheVariants.{StartResets, StartReads, StartCounts, StartSets, StopInhibits, CountsBefore, Reads, Looks, CountsAfter, IdentAsks, PathSets, PathReads, Routes, Pays}
+use Rattle.cct_jobs.specs.declared.stage.Stage.TheVariants.{StartResets, StartReads, StartCounts}
+use Rattle.cct_jobs.specs.declared.stage.Stage.TheVariants.{StartSets, StopInhibits, CountsBefore}
+use Rattle.cct_jobs.specs.declared.stage.Stage.TheVariants.{Reads, Looks, CountsAfter, IdentAsks}
+use Rattle.cct_jobs.specs.declared.stage.Stage.TheVariants.{PathSets, PathReads, Routes, Pays}
 use Rattle.cct_jobs.specs.declared.job.Job.{Job}
-use Rattle.cct_jobs.specs.declared.job.Job.TheVariants.{Asks, StartPuts, RoundPuts, StopPuts, StopEnds, OrderOpens, OrderCloses, SalePuts}
+use Rattle.cct_jobs.specs.declared.job.Job.TheVariants.{Asks, StartPuts, RoundPuts, StopPuts}
+use Rattle.cct_jobs.specs.declared.job.Job.TheVariants.{StopEnds, OrderOpens, OrderCloses, SalePuts}
 
 -- A device of a family of which nothing else is set up.
 abbrev pub body_of : Family → DeviceBody
@@ -49,7 +56,8 @@ table_of device c = rows_of (known device) c
 abbrev pub questions_of : Target → List Request
 questions_of device = ident_requests (body_of device.family)
 
--- Two questions of an identification are the same: those for coins by their place, and others by their header.
+-- Two questions of an identification are the same: those for coins by their place, and others by
+-- their header.
 abbrev pub same_question : Request → Request → Bool
 same_question (CoinId place) (CoinId other) = place == other
 same_question question other = header_of question == header_of other
@@ -57,7 +65,8 @@ same_question question other = header_of question == header_of other
 -- The place of a question among these, counted from 0.
 abbrev pub place_of : Request → List Request → ℕ
 place_of question [] = 0
-place_of question (other ∷ more) = if same_question question other then 0 else suc (place_of question more)
+place_of question (other ∷ more) =
+    if same_question question other then 0 else suc (place_of question more)
 
 -- The rows that a round or a stop has ahead that reads an acceptor.
 abbrev pub reading_ahead : Target → ReadBy → List TableRow
@@ -67,7 +76,8 @@ reading_ahead device Stop = after (table_of device (command.Stop device.addr)) 1
 -- The rows that a payment or a settlement has ahead.
 abbrev pub payout_ahead : Target → Payout → List TableRow
 payout_ahead device (Enables id count halted) = table_of device (command.Pay device.addr id count)
-payout_ahead device (Counts id count halted) = after (table_of device (command.Pay device.addr id count)) 1
+payout_ahead device (Counts id count halted) =
+    after (table_of device (command.Pay device.addr id count)) 1
 payout_ahead device (Dispenses serial own halted) =
     after (table_of device (command.Pay device.addr own.order.id own.order.count)) 3
 payout_ahead device (Waits closing own) = settling
@@ -84,11 +94,13 @@ stage_ahead device (StopInhibits recorded) = table_of device (command.Stop devic
 stage_ahead device (CountsBefore read_by recorded) = reading_ahead device read_by
 stage_ahead device (Reads read_by recorded before) = after (reading_ahead device read_by) 1
 stage_ahead device (Looks read_by recorded before read) = after (reading_ahead device read_by) 2
-stage_ahead device (CountsAfter read_by recorded before read seen) = after (reading_ahead device read_by) 3
+stage_ahead device (CountsAfter read_by recorded before read seen) =
+    after (reading_ahead device read_by) 3
 stage_ahead device (IdentAsks question) =
     after (table_of device (command.Ident device.addr)) (place_of question (questions_of device))
 stage_ahead device (PathSets place path) = table_of device (command.Path device.addr place path)
-stage_ahead device (PathReads place path) = after (table_of device (command.Path device.addr place path)) 1
+stage_ahead device (PathReads place path) =
+    after (table_of device (command.Path device.addr place path)) 1
 stage_ahead device (Routes way) = table_of device (command.Route device.addr way)
 stage_ahead device (Pays row) = payout_ahead device row
 
@@ -105,7 +117,7 @@ ahead (OrderCloses entry end) = after settling 2
 ahead (SalePuts id price) = rows_of_sale (command.Vend id price)
 ahead job = []
 
--- A reply tells that nothing is left to pay: a wait for coins is over.
+-- A reply says that nothing is left to pay: a wait for coins is over.
 abbrev pub nothing_left : Reply → Bool
 nothing_left y = ends_first settling (Some y)
 

@@ -1,5 +1,7 @@
 -- What a job sends or puts, and the lines of a device that it represents, newest first.
-use Rattle.std.specs.Prelude.{◌≡◌, ◌<◌, ◌==◌, ◌^◌, nat_lt, ℕ, suc, ⊤, Bool, true, false, List, [], ◌∷◌, if◌then◌else◌, Option, Some, None, is_some, IsTrue, option_and_then, slice_get}
+use Rattle.std.specs.Prelude.{◌≡◌, ◌<◌, ◌==◌, ◌^◌, nat_lt, ℕ, suc, ⊤, Bool, true, false, List, []}
+use Rattle.std.specs.Prelude.{◌∷◌, if◌then◌else◌, Option, Some, None, is_some, IsTrue}
+use Rattle.std.specs.Prelude.{option_and_then, slice_get}
 use Rattle.std.specs.Option.{option_map}
 use Rattle.cct_model.specs.terms.wire.CheckKind.{CheckKind}
 use Rattle.cct_model.specs.terms.wire.CheckKind.TheVariants.{Simple, Crc}
@@ -11,7 +13,14 @@ use Rattle.cct_model.specs.terms.request.ReplyForm.{ReplyForm}
 use Rattle.cct_model.specs.terms.family.Family.{Family}
 use Rattle.cct_model.specs.terms.family.Family.TheVariants as family
 use Rattle.cct_model.specs.terms.request.Request.{Request}
-use Rattle.cct_model.specs.terms.request.Request.TheVariants.{MakerId, Category, ProductCode, SerialNumber, SoftwareRevision, BuildCode, CommsRevision, ResetDevice, SetMask, GetMask, SetMaster, GetMaster, GetDefault, CoinId, AcceptCount, RouteBill, TestHopper, Enable, Dispense, GetStatus, GetLife, StopNow}
+use Rattle.cct_model.specs.terms.request.Request.TheVariants.{MakerId, Category, ProductCode}
+use Rattle.cct_model.specs.terms.request.Request.TheVariants.{SerialNumber, SoftwareRevision}
+use Rattle.cct_model.specs.terms.request.Request.TheVariants.{BuildCode, CommsRevision, ResetDevice}
+use Rattle.cct_model.specs.terms.request.Request.TheVariants.{SetMask, GetMask, SetMaster}
+use Rattle.cct_model.specs.terms.request.Request.TheVariants.{GetMaster, GetDefault, CoinId}
+use Rattle.cct_model.specs.terms.request.Request.TheVariants.{AcceptCount, RouteBill, TestHopper}
+use Rattle.cct_model.specs.terms.request.Request.TheVariants.{Enable, Dispense, GetStatus, GetLife}
+use Rattle.cct_model.specs.terms.request.Request.TheVariants.{StopNow}
 use Rattle.cct_model.specs.lines.record.Record.{Record}
 use Rattle.cct_model.specs.lines.record.Record.TheVariants as record_of
 use Rattle.cct_model.specs.declared.judging.Judged.{Judged}
@@ -21,19 +30,25 @@ use Rattle.cct_model.specs.declared.judging.EpochState.{EpochState}
 use Rattle.cct_model.specs.declared.judging.EpochState.TheVariants.{Idle, Running}
 use Rattle.cct_model.specs.declared.judging.OpenOrder.{OpenOrder}
 use Rattle.cct_model.specs.declared.tests.Test.{Test}
-use Rattle.cct_model.specs.declared.tests.Test.TheVariants.{AtADevice, AtATaker, AtAnAcceptor, AtABillAcceptor, AtAHopper, WithAnEpoch, WithAnOrder}
+use Rattle.cct_model.specs.declared.tests.Test.TheVariants.{AtADevice, AtATaker, AtAnAcceptor}
+use Rattle.cct_model.specs.declared.tests.Test.TheVariants.{AtABillAcceptor, AtAHopper, WithAnEpoch}
+use Rattle.cct_model.specs.declared.tests.Test.TheVariants.{WithAnOrder}
 use Rattle.cct_model.specs.lines.command.Command.{Command}
 use Rattle.cct_model.specs.lines.command.Command.TheVariants as command
 use Rattle.cct_model.specs.lines.entry.End.{End}
 use Rattle.cct_model.specs.lines.entry.Entry.{Entry}
-use Rattle.cct_model.specs.lines.entry.End.TheVariants.{Broke, Clean, Moved, Posted, Stopped, Closed, OddLife, Sold}
+use Rattle.cct_model.specs.lines.entry.End.TheVariants.{Broke, Clean, Moved, Posted, Stopped}
+use Rattle.cct_model.specs.lines.entry.End.TheVariants.{Closed, OddLife, Sold}
 use Rattle.cct_model.specs.Request.{header_of, form_of}
 use Rattle.cct_model.specs.Reply.{Reply}
 use Rattle.cct_model.specs.Reply as reply
-use Rattle.cct_model.specs.Exchange.{asked, device_at, got, acceptor_there, bill_there, hopper_there, taker_there}
+use Rattle.cct_model.specs.Exchange.{asked, device_at, got, acceptor_there, bill_there}
+use Rattle.cct_model.specs.Exchange.{hopper_there, taker_there}
 use Rattle.cct_model.specs.Family.{family_of}
 use Rattle.cct_model.specs.Line.{Line, exchange}
-use Rattle.cct_model.specs.Job.{address_of, sends, puts, accepts_before, accepts_read, credits_read, credits_request, mask_read, settled_events, tries, path_set, path_read}
+use Rattle.cct_model.specs.Job.{address_of, sends, puts, accepts_before, accepts_read, credits_read}
+use Rattle.cct_model.specs.Job.{credits_request, mask_read, settled_events, tries, path_set}
+use Rattle.cct_model.specs.Job.{path_read}
 use Rattle.cct_model.specs.Rows.{end_kept, end_of, left, rest, row}
 use Rattle.cct_model.specs.Order.{close, is_marked, life_read}
 use Rattle.cct_model.specs.Refusal.{state_tests}
@@ -44,16 +59,23 @@ use Rattle.cct_jobs.specs.declared.target.Target.{Target}
 use Rattle.cct_jobs.specs.declared.owed.Owed.{Owed}
 use Rattle.cct_jobs.specs.declared.payout.Closing.{Closing}
 use Rattle.cct_jobs.specs.declared.payout.Payout.{Payout}
-use Rattle.cct_jobs.specs.declared.payout.Payout.TheVariants.{Enables, Counts, Dispenses, Waits, Stops, Recounts}
+use Rattle.cct_jobs.specs.declared.payout.Payout.TheVariants.{Enables, Counts, Dispenses, Waits}
+use Rattle.cct_jobs.specs.declared.payout.Payout.TheVariants.{Stops, Recounts}
 use Rattle.cct_jobs.specs.declared.stage.Recorded.{Recorded}
 use Rattle.cct_jobs.specs.declared.stage.Stage.{Stage}
-use Rattle.cct_jobs.specs.declared.stage.Stage.TheVariants.{StartResets, StartReads, StartCounts, StartSets, StopInhibits, CountsBefore, Reads, Looks, CountsAfter, IdentAsks, PathSets, PathReads, Routes, Pays}
+use Rattle.cct_jobs.specs.declared.stage.Stage.TheVariants.{StartResets, StartReads, StartCounts}
+use Rattle.cct_jobs.specs.declared.stage.Stage.TheVariants.{StartSets, StopInhibits, CountsBefore}
+use Rattle.cct_jobs.specs.declared.stage.Stage.TheVariants.{Reads, Looks, CountsAfter, IdentAsks}
+use Rattle.cct_jobs.specs.declared.stage.Stage.TheVariants.{PathSets, PathReads, Routes, Pays}
 use Rattle.cct_jobs.specs.declared.job.Sending.{Sending}
 use Rattle.cct_jobs.specs.declared.job.Need.{Need}
 use Rattle.cct_jobs.specs.declared.job.Need.TheVariants as need
 use Rattle.cct_jobs.specs.declared.job.Job.{Job}
 use Rattle.cct_jobs.specs.Ahead.{ahead, body_of, place_of, questions_of, stage_ahead}
-use Rattle.cct_jobs.specs.declared.job.Job.TheVariants.{Asks, StartPuts, RoundPuts, StopPuts, StopEnds, OrderOpens, OrderCloses, SalePuts, ScanCallsSimple, ScanCallsCrc, ScanPollsSimple, ScanPollsCrc, Done}
+use Rattle.cct_jobs.specs.declared.job.Job.TheVariants.{Asks, StartPuts, RoundPuts, StopPuts}
+use Rattle.cct_jobs.specs.declared.job.Job.TheVariants.{StopEnds, OrderOpens, OrderCloses, SalePuts}
+use Rattle.cct_jobs.specs.declared.job.Job.TheVariants.{ScanCallsSimple, ScanCallsCrc}
+use Rattle.cct_jobs.specs.declared.job.Job.TheVariants.{ScanPollsSimple, ScanPollsCrc, Done}
 
 -- What a job knows of a device.
 abbrev pub target_of : DeviceSetup → Target
@@ -153,7 +175,8 @@ opened_by o = record_of.Opened o.id o.addr o.count o.life
 
 -- What a job needs next: it puts a record, or is done, or else it sends a request.
 abbrev pub need_of : Job → Need
-need_of (StartPuts device mask counted) = need.Put (record_of.Epoch device.addr mask counted.accepts)
+need_of (StartPuts device mask counted) =
+    need.Put (record_of.Epoch device.addr mask counted.accepts)
 need_of (RoundPuts entry end) = need.Put entry
 need_of (StopPuts device entry end) = need.Put entry
 need_of (StopEnds device) = need.Put (record_of.EpochEnd device.addr)
@@ -211,12 +234,13 @@ abbrev pub closing_end : Record → End
 closing_end (record_of.Closed id paid unpaid) = Closed
 closing_end r = OddLife
 
--- The row at which a payout is settled: a halted one is stopped before its hopper is asked how it goes.
+-- The row at which a payout is settled: a halted one is stopped before its hopper is asked how it
+-- goes.
 abbrev pub settling : Closing → Owed → Bool → Payout
 settling closing own halted = if halted then Stops closing own else Waits closing own
 
--- The job after its record was put: a stop that put no end yet puts its epoch's, a payment that opened its order lets
--- the hopper dispense, and a sale is done.
+-- The job after its record was put: a stop that put no end yet puts its epoch's, a payment that
+-- opened its order lets the hopper dispense, and a sale is done.
 abbrev pub after_put : Job → Job
 after_put (StartPuts device mask counted) = Asks device (StartSets mask) 0
 after_put (RoundPuts entry end) = Done end
@@ -232,8 +256,8 @@ after_put job = job
 abbrev pub order_of : Option Owed → Option OpenOrder
 order_of owed = option_map (λ own. own.order) owed
 
--- The order that is owed after a job's record was put: that which a payment opened, none where it was closed, and that of
--- before where the record is another.
+-- The order that is owed after a job's record was put: that which a payment opened, none where it
+-- was closed, and that of before where the record is another.
 abbrev pub owed_after : Job → Option Owed → Option Owed
 owed_after (OrderOpens device own halted) before = Some own
 owed_after (OrderCloses entry end) before = None
@@ -267,8 +291,8 @@ abbrev pub accepts_of : EpochState → ℕ
 accepts_of Idle = 0
 accepts_of (Running mask counter accepts) = accepts
 
--- The row of a payment or a settlement after a halt: the hopper is to be stopped before it is asked how the payout
--- goes.
+-- The row of a payment or a settlement after a halt: the hopper is to be stopped before it is asked
+-- how the payout goes.
 abbrev pub halted_row : Payout → Payout
 halted_row (Enables id count halted) = Enables id count true
 halted_row (Counts id count halted) = Counts id count true
@@ -276,7 +300,8 @@ halted_row (Dispenses serial own halted) = Dispenses serial own true
 halted_row (Waits closing own) = Stops closing own
 halted_row row = row
 
--- How many tries of the row after a halt failed in succession: those of a stop are counted by themselves.
+-- How many tries of the row after a halt failed in succession: those of a stop are counted by
+-- themselves.
 abbrev pub halted_tries : Payout → ℕ → ℕ
 halted_tries (Waits closing own) failed = 0
 halted_tries row failed = failed
@@ -303,8 +328,8 @@ abbrev pub is_halt : Command → Bool
 is_halt (command.Halt addr) = true
 is_halt c = false
 
--- A test of a command is met, as far as the job that it begins looks at it: its device is of a kind that the command is for,
--- an epoch runs, or an order is open.
+-- A test of a command is met, as far as the job that it begins looks at it: its device is of a kind
+-- that the command is for, an epoch runs, or an order is open.
 abbrev pub IsMet : Option DeviceSetup → EpochState → Option OpenOrder → Test → Type 0
 IsMet found state owed AtADevice = IsTrue (is_some found)
 IsMet found state owed AtATaker = IsTrue (taker_there found)
@@ -325,11 +350,14 @@ abbrev pub MayBegin : Command → List DeviceSetup → EpochState → Option Ope
 MayBegin c devices state owed =
     (is_halt c ≡ false) × AreMet (device_at devices (address_of c)) state owed (state_tests c)
 
--- The reply of an address under a check in the form that is wanted, if any, in what was heard after a piece was sent.
+-- The reply of an address under a check in the form that is wanted, if any, in what was heard after
+-- a piece was sent.
 abbrev pub reply_wanted : CheckKind → ℕ → Option ReplyForm → List ℕ → List ℕ → Option Reply
-reply_wanted kind addr wanted sent heard = option_and_then (λ form. got kind addr form sent heard) wanted
+reply_wanted kind addr wanted sent heard =
+    option_and_then (λ form. got kind addr form sent heard) wanted
 
--- The wanted reply to a request to an address under a check, in what was heard after a piece was sent, or none.
+-- The wanted reply to a request to an address under a check, in what was heard after a piece was
+-- sent, or none.
 abbrev pub replied : CheckKind → ℕ → Request → List ℕ → List ℕ → Option Reply
 replied kind addr q sent heard = reply_wanted kind addr (form_of q) sent heard
 
@@ -355,15 +383,18 @@ first_own_question family.Acceptor = GetMaster
 first_own_question family.Hopper = TestHopper
 first_own_question family.Bill = GetMaster
 
--- The question to an acceptor that follows one which other families aren't asked, or none after the last.
+-- The question to an acceptor that follows one which other families aren't asked, or none after the
+-- last.
 abbrev pub acceptor_question_after : Request → Option Request
 acceptor_question_after GetMaster = Some GetDefault
 acceptor_question_after GetDefault = Some AcceptCount
 acceptor_question_after AcceptCount = Some (CoinId 1)
-acceptor_question_after (CoinId place) = if nat_lt place COIN_PLACES then Some (CoinId (suc place)) else None
+acceptor_question_after (CoinId place) =
+    if nat_lt place COIN_PLACES then Some (CoinId (suc place)) else None
 acceptor_question_after q = None
 
--- The question to a bill acceptor that follows one which other families aren't asked, or none after the last.
+-- The question to a bill acceptor that follows one which other families aren't asked, or none after
+-- the last.
 abbrev pub bill_question_after : Request → Option Request
 bill_question_after GetMaster = Some AcceptCount
 bill_question_after q = None
@@ -374,7 +405,8 @@ own_question_after family.Acceptor q = acceptor_question_after q
 own_question_after family.Hopper q = None
 own_question_after family.Bill q = bill_question_after q
 
--- The question that follows one of an identification of a device of a family, or none after the last.
+-- The question that follows one of an identification of a device of a family, or none after the
+-- last.
 abbrev pub question_after : Family → Request → Option Request
 question_after family MakerId = Some Category
 question_after family Category = Some ProductCode
@@ -395,28 +427,32 @@ pub record Trying (q : Request) (failed : ℕ) (since : List Line) : Type 0 wher
   pub counted : failed ≡ tries (header_of q) since
   pub few : failed < 3
 
--- What a row of a payment or a settlement knows of the lines before: whether the payout is to be stopped, which order
--- is open, and where the hopper isn't to be stopped yet, that no try to stop it failed.
+-- What a row of a payment or a settlement knows of the lines before: whether the payout is to be
+-- stopped, which order is open, and where the hopper isn't to be stopped yet, that no try to stop
+-- it failed.
 abbrev pub KnowsPayout : Payout → List Line → Option OpenOrder → Type 0
 KnowsPayout (Enables id count halted) since owed = is_marked since ≡ halted
 KnowsPayout (Counts id count halted) since owed = is_marked since ≡ halted
-KnowsPayout (Dispenses serial own halted) since owed = (is_marked since ≡ halted) × (owed ≡ Some own.order)
+KnowsPayout (Dispenses serial own halted) since owed =
+    (is_marked since ≡ halted) × (owed ≡ Some own.order)
 KnowsPayout (Waits closing own) since owed =
     (is_marked since ≡ false) × (owed ≡ Some own.order) × (tries (header_of StopNow) since ≡ 0)
 KnowsPayout (Stops closing own) since owed = (is_marked since ≡ true) × (owed ≡ Some own.order)
 KnowsPayout (Recounts closing own) since owed = owed ≡ Some own.order
 
--- What a stage knows of the lines before: what is recorded of the epoch, which accept counter, credits and mask were read,
--- and what a payment or a settlement knows of its payout.
+-- What a stage knows of the lines before: what is recorded of the epoch, which accept counter,
+-- credits and mask were read, and what a payment or a settlement knows of its payout.
 abbrev pub Knows : Stage → List Line → EpochState → Option OpenOrder → Type 0
 Knows (StopInhibits recorded) since state owed = state ≡ runs recorded
 Knows (CountsBefore read_by recorded) since state owed = state ≡ runs recorded
 Knows (Reads read_by recorded before) since state owed =
     (state ≡ runs recorded) × (accepts_read since ≡ Some before.accepts)
 Knows (Looks read_by recorded before read) since state owed =
-    (state ≡ runs recorded) × (credits_read since ≡ Some read) × (accepts_before since ≡ Some before.accepts)
+    (state ≡ runs recorded) × (credits_read since ≡ Some read)
+    × (accepts_before since ≡ Some before.accepts)
 Knows (CountsAfter read_by recorded before read seen) since state owed =
-    (state ≡ runs recorded) × (credits_read since ≡ Some read) × (accepts_before since ≡ Some before.accepts)
+    (state ≡ runs recorded) × (credits_read since ≡ Some read)
+    × (accepts_before since ≡ Some before.accepts)
     × (mask_read since ≡ Some seen)
 Knows (Pays row) since state owed = KnowsPayout row since owed
 Knows stage since state owed = ⊤
@@ -425,19 +461,22 @@ Knows stage since state owed = ⊤
 abbrev pub SuitsPayout : Payout → Target → Type 0
 SuitsPayout (Enables id count halted) device = device.serial < 2 ^ 24
 SuitsPayout (Counts id count halted) device = device.serial < 2 ^ 24
-SuitsPayout (Dispenses serial own halted) device = (device.serial < 2 ^ 24) × (serial ≡ device.serial)
+SuitsPayout (Dispenses serial own halted) device =
+    (device.serial < 2 ^ 24) × (serial ≡ device.serial)
 SuitsPayout row device = ⊤
 
--- A stage of a job has what only its device can tell it: of a payment that serial number, and of an identification one of
--- the questions that the device is asked.
+-- A stage of a job has what only its device can tell it: of a payment that serial number, and of an
+-- identification one of the questions that the device is asked.
 abbrev pub Suits : Stage → Target → Type 0
 Suits (IdentAsks question) device =
     slice_get (questions_of device) (place_of question (questions_of device)) ≡ Some question
 Suits (Pays row) device = SuitsPayout row device
 Suits stage device = ⊤
 
--- A job at a stage: the rows of its command that are left are those that it has ahead, and its newest line didn't end it.
-pub record Asking (d : DeviceSetup) (device : Target) (stage : Stage) (failed : ℕ) (c : Command) (since : List Line)
+-- A job at a stage: the rows of its command that are left are those that it has ahead, and its
+-- newest line didn't end it.
+pub record Asking (d : DeviceSetup) (device : Target) (stage : Stage) (failed : ℕ) (c : Command)
+    (since : List Line)
     (state : EpochState) (owed : Option OpenOrder) : Type 0 where
   pub device_is : device ≡ target_of d
   pub is_here : address_of c ≡ d.addr
@@ -447,7 +486,8 @@ pub record Asking (d : DeviceSetup) (device : Target) (stage : Stage) (failed : 
   pub trying : Trying (request_of device.family stage) failed since
   pub goes_on : newest_end d c since state ≡ None
 
--- A job puts a record, which ends it so, or doesn't: the rows that are left beside its epoch are those that it has ahead.
+-- A job puts a record, which ends it so, or doesn't: the rows that are left beside its epoch are
+-- those that it has ahead.
 pub record Putting (d : DeviceSetup) (job : Job) (entry : Record) (end : Option End) (c : Command)
     (since : List Line) (state : EpochState) (owed : Option OpenOrder) : Type 0 where
   pub is_here : address_of c ≡ d.addr
@@ -457,7 +497,8 @@ pub record Putting (d : DeviceSetup) (job : Job) (entry : Record) (end : Option 
   pub goes_on : newest_end d c since state ≡ None
 
 -- A payment puts that its order is opened at the device, with the life count that it read.
-pub record Opening (d : DeviceSetup) (device : Target) (own : Owed) (halted : Bool) (c : Command) (since : List Line)
+pub record Opening (d : DeviceSetup) (device : Target) (own : Owed) (halted : Bool) (c : Command)
+    (since : List Line)
     (state : EpochState) (owed : Option OpenOrder) : Type 0 where
   pub device_is : device ≡ target_of d
   pub serial : device.serial < 2 ^ 24
@@ -467,7 +508,8 @@ pub record Opening (d : DeviceSetup) (device : Target) (own : Owed) (halted : Bo
   pub is_here : own.order.addr ≡ d.addr
   pub at : Putting d (OrderOpens device own halted) (opened_by own.order) None c since state owed
 
--- A payment or a settlement puts the record that closes the open order with the life count that it read, and ends so.
+-- A payment or a settlement puts the record that closes the open order with the life count that it
+-- read, and ends so.
 pub record Settling (d : DeviceSetup) (entry : Record) (end : End) (c : Command) (since : List Line)
     (state : EpochState) (owed : Option OpenOrder) : Type 0 where
   pub order : OpenOrder
@@ -475,13 +517,16 @@ pub record Settling (d : DeviceSetup) (entry : Record) (end : End) (c : Command)
   pub closes : entry ≡ close order life
   pub at : Putting d (OrderCloses entry end) entry (Some end) c since state owed
 
--- A job represents the lines of a device since its command was taken, beside the epoch and the open order: each variant
--- is at its row. A job that puts something and then goes on has just its own rows to come.
+-- A job represents the lines of a device since its command was taken, beside the epoch and the open
+-- order: each variant is at its row. A job that puts something and then goes on has just its own
+-- rows to come.
 abbrev pub Stands : DeviceSetup → Job → Command → List Line → EpochState → Option OpenOrder → Type 0
-Stands d (Asks device stage failed) c since state owed = Asking d device stage failed c since state owed
+Stands d (Asks device stage failed) c since state owed =
+    Asking d device stage failed c since state owed
 Stands d (StartPuts device mask counted) c since state owed =
     (device ≡ target_of d) × (rest d c since ≡ ahead (StartPuts device mask counted))
-    × Putting d (StartPuts device mask counted) (record_of.Epoch d.addr mask counted.accepts) None c since state owed
+    × Putting d (StartPuts device mask counted) (record_of.Epoch d.addr mask counted.accepts) None c
+    since state owed
 Stands d (RoundPuts entry end) c since state owed =
     Putting d (RoundPuts entry end) entry (Some end) c since state owed
 Stands d (StopPuts device entry end) c since state owed =
@@ -490,7 +535,8 @@ Stands d (StopPuts device entry end) c since state owed =
 Stands d (StopEnds device) c since state owed =
     (device ≡ target_of d)
     × Putting d (StopEnds device) (record_of.EpochEnd d.addr) (Some Stopped) c since state owed
-Stands d (OrderOpens device own halted) c since state owed = Opening d device own halted c since state owed
+Stands d (OrderOpens device own halted) c since state owed =
+    Opening d device own halted c since state owed
 Stands d (OrderCloses entry end) c since state owed = Settling d entry end c since state owed
 Stands d (Done end) c since state owed = newest_end d c since state ≡ Some end
 Stands d job c since state owed = ⊥
@@ -501,22 +547,24 @@ pub record SendsNext (d : DeviceSetup) (c : Command) (since : List Line) (state 
   pub request : Request
   pub row_is : row d c since state owed ≡ sends request
 
--- A record that closes an order closes one that was opened last at this address; of any other record nothing is asked.
+-- A record that closes an order closes one that was opened last at this address; of any other
+-- record nothing is asked.
 abbrev pub ClosesItsOwn : List Entry → ℕ → Record → Type 0
 ClosesItsOwn past addr (record_of.Closed id paid unpaid) = opened_at id past ≡ addr
 ClosesItsOwn past addr (record_of.Odd id life_before life_after) = opened_at id past ≡ addr
 ClosesItsOwn past addr r = ⊤
 
--- A job at a device puts this record next, which is one of the device's address, after any past in which the order that
--- it closes, if it closes one, was opened there.
-pub record PutsNext (entry : Record) (d : DeviceSetup) (c : Command) (since : List Line) (state : EpochState)
+-- A job at a device puts this record next, which is one of the device's address, after any past in
+-- which the order that it closes, if it closes one, was opened there.
+pub record PutsNext (entry : Record) (d : DeviceSetup) (c : Command) (since : List Line)
+    (state : EpochState)
     (owed : Option OpenOrder) : Type 0 where
   pub is_here : address_of c ≡ d.addr
   pub row_is : row d c since state owed ≡ puts entry
   pub owned : (past : List Entry) → ClosesItsOwn past d.addr entry → owner past entry ≡ d.addr
 
--- What a job at a device needs, by its lines: its row sends a request or puts this record, or its newest line ended it
--- so.
+-- What a job at a device needs, by its lines: its row sends a request or puts this record, or its
+-- newest line ended it so.
 abbrev pub Needs : Need → DeviceSetup → Command → List Line → EpochState → Option OpenOrder → Type 0
 Needs need.Exchange d c since state owed = SendsNext d c since state owed
 Needs (need.Put entry) d c since state owed = PutsNext entry d c since state owed

@@ -7,11 +7,13 @@ use Rattle.cct_model.specs.lines.device_set.DeviceSet.{DeviceSet}
 use Rattle.cct_model.specs.lines.entry.Listed.{Listed}
 use Rattle.cct_model.specs.DeviceSet.{has}
 use Rattle.cct_model.specs.Line.{Line}
-use Rattle.cct_model.specs.Scan.{echoes, end_of_scan, found, is_due, noted, poll_after, polls, scan_row, scan_tries}
+use Rattle.cct_model.specs.Scan.{echoes, end_of_scan, found, is_due, noted, poll_after, polls}
+use Rattle.cct_model.specs.Scan.{scan_row, scan_tries}
 use Rattle.cct_jobs.specs.declared.job.Need.{Need}
 use Rattle.cct_jobs.specs.declared.job.Need.TheVariants as need
 use Rattle.cct_jobs.specs.declared.job.Job.{Job}
-use Rattle.cct_jobs.specs.declared.job.Job.TheVariants.{ScanCallsSimple, ScanCallsCrc, ScanPollsSimple, ScanPollsCrc, Done}
+use Rattle.cct_jobs.specs.declared.job.Job.TheVariants.{ScanCallsSimple, ScanCallsCrc}
+use Rattle.cct_jobs.specs.declared.job.Job.TheVariants.{ScanPollsSimple, ScanPollsCrc, Done}
 
 -- No device was polled.
 pub record Unpolled (since : List Line) : Type 0 where
@@ -42,7 +44,8 @@ pub record CallsCrc (failed : ℕ) (due : DeviceSet) (since : List Line) : Type 
   pub counted : failed ≡ scan_tries Crc since
   pub few : failed < 3
 
--- A scan that called all devices under both checks: which addresses are due, and which devices were found.
+-- A scan that called all devices under both checks: which addresses are due, and which devices were
+-- found.
 pub record Lists (due : DeviceSet) (listed : Listed) (since : List Line) : Type 0 where
   pub simple : list_any (echoes Simple 0) since ≡ true
   pub crc : list_any (echoes Crc 0) since ≡ true
@@ -55,7 +58,8 @@ pub record Lists (due : DeviceSet) (listed : Listed) (since : List Line) : Type 
   pub quiet_crc : scan_tries Crc since ≡ 0
 
 -- A scan that polls an address under a check.
-pub record Polls (check : CheckKind) (addr : ℕ) (due : DeviceSet) (listed : Listed) (since : List Line) : Type 0 where
+pub record Polls (check : CheckKind) (addr : ℕ) (due : DeviceSet) (listed : Listed)
+    (since : List Line) : Type 0 where
   pub lists : Lists due listed since
   pub next : poll_after since ≡ Some (check, addr)
   pub device : nat_le 2 addr ≡ true

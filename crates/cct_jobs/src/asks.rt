@@ -57,16 +57,18 @@ pub(crate) fn heard(job: &mut Job, sent: &[u8], heard: &[u8])
     }
 }
 
-/// A stage that another question follows got the wanted reply, and the job comes to that one where it stands. The answer is
-/// whether the stage is one of these.
+/// A stage that another question follows got the wanted reply, and the job comes to that one where
+/// it stands. The answer is whether the stage is one of these.
 fn asks_on(device: &Target, stage: &mut Stage, reply: &Reply<'_>) -> bool
-    requires wanted { form_shown (reply_shown reply.now) ≡ form_of (request_of device.now.family stage.old) }
+    requires wanted { form_shown (reply_shown reply.now)
+        ≡ form_of (request_of device.now.family stage.old) }
     requires accepts { FitsAccepts (reply_shown reply.now) }
     ensures which { result ≡ asks_on stage.old }
     ensures stays { result ≡ false → stage.new ≡ stage.old }
     ensures device { result ≡ true → (failed : ℕ)
         → LeadsTo device.now stage.old failed (Some (reply_shown reply.now)) (Job.Asks device.now stage.new 0) }
-    ensures keeps { result ≡ true → KeepsTo (stage_ahead device.now stage.old) (Job.Asks device.now stage.new 0) }
+    ensures keeps { result ≡ true → KeepsTo (stage_ahead device.now stage.old)
+        (Job.Asks device.now stage.new 0) }
 {
     match stage {
         Stage::Pays { row } => payment::pays_on(row, reply),
@@ -74,8 +76,8 @@ fn asks_on(device: &Target, stage: &mut Stage, reply: &Reply<'_>) -> bool
     }
 }
 
-/// The job after a failed try of its stage, which is tried three times in succession at most. The mask of a start,
-/// the way of a held bill and a dispense are never sent again.
+/// The job after a failed try of its stage, which is tried three times in succession at most. The
+/// mask of a start, the way of a held bill and a dispense are never sent again.
 fn unanswered(device: Target, stage: Stage, failed: u8) -> Job
     ensures device { LeadsTo device stage failed None result }
     ensures keeps { KeepsTo (stage_ahead device stage) result }
@@ -88,7 +90,8 @@ fn unanswered(device: Target, stage: Stage, failed: u8) -> Job
     }
 }
 
-/// The payment or the settlement after a failed try of its row. A payment whose dispense was sent goes on after it.
+/// The payment or the settlement after a failed try of its row. A payment whose dispense was sent
+/// goes on after it.
 fn payout_unanswered(device: Target, row: Payout, failed: u8) -> Job
     ensures device { LeadsTo device (Pays row) failed None result }
     ensures keeps { KeepsTo (payout_ahead device row) result }
@@ -99,7 +102,8 @@ fn payout_unanswered(device: Target, row: Payout, failed: u8) -> Job
     }
 }
 
-/// The job after a failed try of a stage that is tried again: after the third in succession it ends.
+/// The job after a failed try of a stage that is tried again: after the third in succession it
+/// ends.
 fn tried_again(device: Target, stage: Stage, failed: u8) -> Job
     requires { sent_once (stage_ahead device stage) ≡ false }
     ensures device { LeadsTo device stage failed None result }
@@ -115,14 +119,17 @@ fn tried_again(device: Target, stage: Stage, failed: u8) -> Job
     }
 }
 
-/// The stage of the job got the wanted reply, and the job goes on: each kind of job has its own way.
+/// The stage of the job got the wanted reply, and the job goes on: each kind of job has its own
+/// way.
 #[tactic(auto, using(crate::proofs::Keeping::none_keep))]
 fn answered(job: &mut Job, device: Target, stage: Stage, reply: &Reply<'_>)
     requires other { asks_on stage ≡ false }
-    requires wanted { form_shown (reply_shown reply.now) ≡ form_of (request_of device.family stage) }
+    requires wanted { form_shown (reply_shown reply.now)
+        ≡ form_of (request_of device.family stage) }
     requires life { FitsLife (reply_shown reply.now) }
     requires accepts { FitsAccepts (reply_shown reply.now) }
-    ensures device { (failed : ℕ) → LeadsTo device stage failed (Some (reply_shown reply.now)) job.new }
+    ensures device { (failed : ℕ) → LeadsTo device stage failed (Some (reply_shown reply.now))
+        job.new }
     ensures keeps { KeepsTo (stage_ahead device stage) job.new }
 {
     match stage {

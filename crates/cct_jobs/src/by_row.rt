@@ -1,8 +1,10 @@
-//! What each row of a job gives: the answer to a question that is put to the job, and the row after it.
+//! What each row of a job gives: the answer to a question that is put to the job, and the row after
+//! it.
 ghost use Rattle.std.specs.Prelude.{◌≡◌, Option, Some, true};
 ghost use Rattle.cct_model.specs.Rows.{has_closes, has_waits, puts_in};
 ghost use Rattle.cct_jobs.specs.Ahead.{ahead, coins_in};
-ghost use Rattle.cct_jobs.specs.Jobs.{IsPut, after_halt, after_put, end_of_job, need_of, opened_by, owed_after, put_in, sending_of};
+ghost use Rattle.cct_jobs.specs.Jobs.{IsPut, after_halt, after_put, end_of_job, need_of, opened_by};
+ghost use Rattle.cct_jobs.specs.Jobs.{owed_after, put_in, sending_of};
 
 use crate::asks::first_try;
 use crate::job::{Job, Need, Sending};
@@ -54,7 +56,7 @@ impl Job {
         }
     }
 
-    /// The end that a job tells which is done.
+    /// The end that a job says which is done.
     pub(crate) fn told_end(&self) -> Option<End>
         ensures { result ≡ end_of_job self.now }
     {

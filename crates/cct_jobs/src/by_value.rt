@@ -4,7 +4,8 @@ ghost use Rattle.cct_model.specs.Rows.{puts_in};
 ghost use Rattle.cct_jobs.specs.declared.job.Need.TheVariants as need;
 ghost use Rattle.cct_jobs.specs.Ahead.{ahead};
 ghost use Rattle.cct_jobs.specs.Jobs.{IsPut, PutsFit, after_put, need_of, sending_of};
-ghost use Rattle.cct_jobs.specs.Onward.{GoesOnAfterPut, GoesOnAfterSale, HearsDevice, HearsPolled, KeepsTo, SendsPoll, SendsToDevice};
+ghost use Rattle.cct_jobs.specs.Onward.{GoesOnAfterPut, GoesOnAfterSale, HearsDevice, HearsPolled};
+ghost use Rattle.cct_jobs.specs.Onward.{KeepsTo, SendsPoll, SendsToDevice};
 
 use crate::job::{Job, Sending};
 

@@ -1,7 +1,8 @@
 //! What an acceptor counted.
 ghost use Rattle.std.specs.Prelude.{◌<◌, ◌^◌};
 
-/// How many coins or bills an acceptor tells that it accepted, in the three bytes of its accept counter.
+/// How many coins or bills an acceptor says that it accepted, in the three bytes of its accept
+/// counter.
 #[derive(Clone, Copy, Debug, PartialEq, Eq)]
 pub struct Counted {
     pub accepts: u32,

@@ -1,5 +1,5 @@
-//! The credits of an acceptor: how a device of each family is asked for them, and how they are judged (ccTalk Generic
-//! Specification 4, parts 2 and 3, headers 229 and 159).
+//! The credits of an acceptor: how a device of each family is asked for them, and how they are
+//! judged (ccTalk Generic Specification 4, parts 2 and 3, headers 229 and 159).
 ghost use Rattle.std.specs.Prelude.{◌≡◌, Some};
 ghost use Rattle.cct_model.specs.terms.request.ReplyForm.TheVariants as form;
 ghost use Rattle.cct_model.specs.Job.{credits_request, settled, settled_events};
@@ -53,8 +53,8 @@ pub(crate) fn noted(family: Family, credits: Credits) -> Credits
     }
 }
 
-/// An event of a bill acceptor as it is judged: a bill that is held isn't accepted yet, so it counts as one that was given
-/// back.
+/// An event of a bill acceptor as it is judged: a bill that is held isn't accepted yet, so it
+/// counts as one that was given back.
 fn settled(pair: Pair) -> Pair
     ensures { result ≡ settled pair }
 {

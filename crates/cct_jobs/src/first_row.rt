@@ -1,5 +1,6 @@
 //! The job that a command begins.
-ghost use Rattle.std.specs.Prelude.{◌≡◌, ◌<◌, ◌^◌, ℕ, List, [], Some, None, IsTrue, is_some, true, false};
+ghost use Rattle.std.specs.Prelude.{◌≡◌, ◌<◌, ◌^◌, ℕ, List, [], Some, None, IsTrue, is_some, true};
+ghost use Rattle.std.specs.Prelude.{false};
 ghost use Rattle.std.specs.Option.{option_map};
 ghost use Rattle.cct_model.specs.lines.command.Command.{Command};
 ghost use Rattle.cct_model.specs.terms.device.DeviceSetup.{DeviceSetup};
@@ -9,7 +10,9 @@ ghost use Rattle.cct_model.specs.Job.{address_of};
 ghost use Rattle.cct_model.specs.Rows.{rows_of, rows_of_sale};
 ghost use Rattle.cct_jobs.specs.declared.target.Target.{Target};
 ghost use Rattle.cct_jobs.specs.Ahead.{ahead, stage_ahead, table_of};
-ghost use Rattle.cct_jobs.specs.Jobs.{IsRunning, Knows, MayBegin, PutsFit, Stands, Suits, accepts_of, end_of_job, first_need, is_of_device, need_of, runs};
+ghost use Rattle.cct_jobs.specs.Jobs.{IsRunning, Knows, MayBegin, PutsFit, Stands, Suits};
+ghost use Rattle.cct_jobs.specs.Jobs.{accepts_of, end_of_job, first_need, is_of_device, need_of};
+ghost use Rattle.cct_jobs.specs.Jobs.{runs};
 ghost use Rattle.cct_jobs.specs.Sales.{StandsSale};
 ghost use Rattle.cct_jobs.specs.Scans.{StandsScan};
 
@@ -24,28 +27,30 @@ use cct_epoch::EpochState;
 use cct_model::{Command, OpenOrder, Request, Setup};
 
 impl Job {
-    /// The job that a command begins at its address, beside the epoch of the acceptor and the open order of the hopper
-    /// there. Only a round and a stop look at the epoch, which has to run for them, and only a settlement at the order,
-    /// which it closes.
+    /// The job that a command begins at its address, beside the epoch of the acceptor and the open
+    /// order of the hopper there. Only a round and a stop look at the epoch, which has to run for
+    /// them, and only a settlement at the order, which it closes.
     pub fn begin(
         command: &Command,
         setup: &Setup,
         epoch: &EpochState,
         order: Option<&OpenOrder>,
     ) -> Job
-        requires may_begin { MayBegin command.now setup.now.devices epoch.now (option_map (λ o. o.now) order) }
+        requires may_begin { MayBegin command.now setup.now.devices epoch.now
+            (option_map (λ o. o.now) order) }
         requires life { (o : OpenOrder) → option_map (λ o. o.now) order ≡ Some o → o.life < 2 ^ 24 }
         requires counts { accepts_of epoch.now < 2 ^ 24 }
 
-        // the lines that it represents, none yet:
-        // A round and a stop begin with what is recorded of the epoch, and a settlement with the open order, which it
-        // never lets a hopper dispense again.
+        // the lines that it represents, none yet: A round and a stop begin with what is recorded of
+        // the epoch, and a settlement with the open order, which it never lets a hopper dispense
+        // again.
         ensures device { (d : DeviceSetup) → device_at setup.now.devices (address_of command.now) ≡ Some d
             → d.serial < 2 ^ 24 → is_of_device command.now ≡ true
             → Stands d result command.now [] epoch.now (option_map (λ o. o.now) order.entry) }
         ensures scan { command.now ≡ Command.Scan → StandsScan result [] }
         // A sale asks nothing: it puts its record, under its own id and price, and is done then.
-        ensures sale { (id price : ℕ) → command.now ≡ Command.Vend id price → StandsSale result command.now [] }
+        ensures sale { (id price : ℕ) → command.now ≡ Command.Vend id price →
+            StandsSale result command.now [] }
 
         // what it needs first
         ensures needs { need_of result ≡ first_need command.now }
@@ -55,7 +60,8 @@ impl Job {
         // the rows that it has ahead
         ensures rows { (d : DeviceSetup) → device_at setup.now.devices (address_of command.now) ≡ Some d
             → is_of_device command.now ≡ true → ahead result ≡ rows_of d command.now }
-        ensures other_rows { is_of_device command.now ≡ false → ahead result ≡ rows_of_sale command.now }
+        ensures other_rows { is_of_device command.now ≡ false → ahead result
+            ≡ rows_of_sale command.now }
     {
         match *command {
             Command::Scan => Job::ScanCallsSimple { failed: 0 },

@@ -1,9 +1,10 @@
-//! The identification: a device is asked for all that it tells of itself, one thing after the other (ccTalk Generic
-//! Specification 4, parts 2 and 3).
+//! The identification: a device is asked for all that it tells of itself, one thing after the other
+//! (ccTalk Generic Specification 4, parts 2 and 3).
 ghost use Rattle.std.specs.Prelude.{[], Option, ◌≡◌, ℕ, Some};
 ghost use Rattle.cct_model.specs.Reply.{Reply};
 ghost use Rattle.cct_jobs.specs.declared.stage.Stage.TheVariants.{IdentAsks};
-ghost use Rattle.cct_jobs.specs.Jobs.{acceptor_question_after, first_own_question, own_question_after, question_after};
+ghost use Rattle.cct_jobs.specs.Jobs.{acceptor_question_after, first_own_question};
+ghost use Rattle.cct_jobs.specs.Jobs.{own_question_after, question_after};
 ghost use Rattle.cct_jobs.specs.Onward.{KeepsTo, LeadsTo};
 
 use crate::asks::first_try;
@@ -14,7 +15,8 @@ use cct_model::{COIN_PLACES, End, Family, Request};
 
 /// This question of the identification was answered, and the identification goes on.
 pub(crate) fn told(job: &mut Job, device: Target, question: Request)
-    ensures device { (failed : ℕ) (y : Reply) → LeadsTo device (IdentAsks question) failed (Some y) job.new }
+    ensures device { (failed : ℕ) (y : Reply) →
+        LeadsTo device (IdentAsks question) failed (Some y) job.new }
     ensures keeps { KeepsTo [] job.new }
 {
     match question_after(question, device.family) {
@@ -23,8 +25,8 @@ pub(crate) fn told(job: &mut Job, device: Target, question: Request)
     }
 }
 
-/// What is asked after a question: of every device its texts, its serial number and the release of the standard, and
-/// then what other families don't tell.
+/// What is asked after a question: of every device its texts, its serial number and the release of
+/// the standard, and then what other families don't tell.
 fn question_after(question: Request, family: Family) -> Option<Request>
     ensures { result ≡ question_after family question }
 {
@@ -40,9 +42,9 @@ fn question_after(question: Request, family: Family) -> Option<Request>
     }
 }
 
-/// What is asked after a question that only some families are asked: of an acceptor its master inhibit, its default sorter
-/// path, its accept count and the identification of each coin, of a hopper its test register, and of a bill acceptor its
-/// master inhibit and its accept count.
+/// What is asked after a question that only some families are asked: of an acceptor its master
+/// inhibit, its default sorter path, its accept count and the identification of each coin, of a
+/// hopper its test register, and of a bill acceptor its master inhibit and its accept count.
 fn own_question_after(question: Request, family: Family) -> Option<Request>
     ensures { result ≡ own_question_after family question }
 {

@@ -1,5 +1,6 @@
 //! What holds of the failed tries of every row of a job.
-ghost use Rattle.std.specs.Prelude.{◌≡◌, ◌≢◌, ◌↔◌, List, ℕ, suc, Option, ◌∷◌, Bool, false, Some, None};
+ghost use Rattle.std.specs.Prelude.{◌≡◌, ◌≢◌, ◌↔◌, List, ℕ, suc, Option, ◌∷◌, Bool, false, Some};
+ghost use Rattle.std.specs.Prelude.{None};
 ghost use Rattle.cct_model.specs.lines.command.Command.{Command};
 ghost use Rattle.cct_model.specs.terms.device.DeviceSetup.{DeviceSetup};
 ghost use Rattle.cct_model.specs.lines.entry.End.TheVariants.{NoAnswer, StartUnsure};
@@ -15,9 +16,10 @@ ghost use Rattle.cct_model.specs.Request.{header_of};
 
 use cct_model::Request;
 
-/// A job at a device ends with [`End::NoAnswer`](cct_model::End) at the third failed try in succession of one row, and at
-/// no other exchange: each failed try of a row counts, and a wanted reply or an exchange of another row begins the count
-/// anew. A row that is sent once alone is apart: a mask that isn't acknowledged ends its start unsure.
+/// A job at a device ends with [`End::NoAnswer`](cct_model::End) at the third failed try in
+/// succession of one row, and at no other exchange: each failed try of a row counts, and a wanted
+/// reply or an exchange of another row begins the count anew. A row that is sent once alone is
+/// apart: a mask that isn't acknowledged ends its start unsure.
 #[tactic(auto, using(crate::proofs::Tries::third_ends, crate::proofs::Tries::answer_goes_on, crate::proofs::Tries::other_clears, cct_model::proofs::Tries::tried))]
 pub fn no_answer_comes_at_the_third_failed_try()
     // at which failed try a job ends

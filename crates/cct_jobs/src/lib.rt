@@ -1,6 +1,7 @@
-//! The jobs of the host: the start, the round and the stop of an acceptor's epoch, the payment and the settlement of an
-//! order at a hopper, the routing of a held bill, the identification of a device, the setting of a sorter path, and the
-//! scan. A job stands at one row: it sends one request, or puts one record, or is done.
+//! The jobs of the host: the start, the round and the stop of an acceptor's epoch, the payment and
+//! the settlement of an order at a hopper, the routing of a held bill, the identification of a
+//! device, the setting of a sorter path, and the scan. A job is at one row: it sends one request,
+//! or puts one record, or is done.
 #![tactic(auto)]
 
 mod asks;

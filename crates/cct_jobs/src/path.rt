@@ -1,5 +1,5 @@
-//! The setting of a sorter path: it is set, and then read back (ccTalk Generic Specification 4, part 2, headers 210, 209,
-//! 189 and 188).
+//! The setting of a sorter path: it is set, and then read back (ccTalk Generic Specification 4,
+//! part 2, headers 210, 209, 189 and 188).
 ghost use Rattle.std.specs.Prelude.{◌≡◌, ℕ, Some};
 ghost use Rattle.cct_model.specs.Request.{form_of};
 ghost use Rattle.cct_jobs.specs.Ahead.{stage_ahead};
@@ -23,8 +23,10 @@ const DEFAULT: u8 = 0;
 /// The stage of the setting of a path got the wanted reply, and the setting goes on.
 pub(crate) fn answered(job: &mut Job, device: Target, stage: Stage, reply: &Reply<'_>)
     requires row { IsOfPath stage }
-    requires wanted { form_shown (reply_shown reply.now) ≡ form_of (request_of device.family stage) }
-    ensures device { (failed : ℕ) → LeadsTo device stage failed (Some (reply_shown reply.now)) job.new }
+    requires wanted { form_shown (reply_shown reply.now)
+        ≡ form_of (request_of device.family stage) }
+    ensures device { (failed : ℕ) → LeadsTo device stage failed (Some (reply_shown reply.now))
+        job.new }
     ensures keeps { KeepsTo (stage_ahead device stage) job.new }
 {
     match stage {

@@ -1,6 +1,7 @@
-//! The payment of an order, and the settlement of one that stayed open: the hopper is enabled, its life count read, the
-//! order opened and its coins dispensed once; when nothing is left to pay, the life count tells how many coins fell
-//! (ccTalk Generic Specification 4, part 3, headers 164, 166, 167, 168 and 172).
+//! The payment of an order, and the settlement of one that stayed open: the hopper is enabled, its
+//! life count read, the order opened and its coins dispensed once; when nothing is left to pay, the
+//! life count says how many coins fell (ccTalk Generic Specification 4, part 3, headers 164, 166,
+//! 167, 168 and 172).
 ghost use Rattle.std.specs.Prelude.{◌≡◌, ◌<◌, ◌^◌, ℕ, Option, Some, false, true};
 ghost use Rattle.cct_model.specs.declared.judging.OpenOrder.{OpenOrder};
 ghost use Rattle.cct_model.specs.terms.request.ReplyForm.TheVariants as form;
@@ -9,9 +10,11 @@ ghost use Rattle.cct_model.specs.Reply.{reply_shown};
 ghost use Rattle.cct_model.specs.Request.{form_of};
 ghost use Rattle.cct_msg.specs.Forms.{form_shown};
 ghost use Rattle.cct_jobs.specs.declared.stage.Stage.TheVariants.{Pays};
-ghost use Rattle.cct_jobs.specs.declared.payout.Payout.TheVariants.{Counts, Dispenses, Recounts, Waits};
+ghost use Rattle.cct_jobs.specs.declared.payout.Payout.TheVariants.{Counts, Dispenses, Recounts};
+ghost use Rattle.cct_jobs.specs.declared.payout.Payout.TheVariants.{Waits};
 ghost use Rattle.cct_jobs.specs.Ahead.{nothing_left, payout_ahead};
-ghost use Rattle.cct_jobs.specs.Jobs.{FitsLife, closing_end, halted_row, halted_tries, pays_on, payout_request, settling};
+ghost use Rattle.cct_jobs.specs.Jobs.{FitsLife, closing_end, halted_row, halted_tries, pays_on};
+ghost use Rattle.cct_jobs.specs.Jobs.{payout_request, settling};
 ghost use Rattle.cct_jobs.specs.declared.payout.Closing.{Closing};
 ghost use Rattle.cct_jobs.specs.declared.target.Target.{Target};
 ghost use Rattle.cct_model.specs.Rows as rows;
@@ -26,8 +29,8 @@ use crate::target::Target;
 use cct_model::{End, OpenOrder, Record, Reply};
 use cct_order::close;
 
-/// The payment or the settlement got the wanted reply to a row that another question follows, and comes to that one where it
-/// stands. The answer is whether its row is one of these.
+/// The payment or the settlement got the wanted reply to a row that another question follows, and
+/// comes to that one where it stands. The answer is whether its row is one of these.
 pub(crate) fn pays_on(row: &mut Payout, reply: &Reply<'_>) -> bool
     requires wanted { form_shown (reply_shown reply.now) ≡ form_of (payout_request row.old) }
     ensures which { result ≡ pays_on row.old }
@@ -57,12 +60,14 @@ pub(crate) fn pays_on(row: &mut Payout, reply: &Reply<'_>) -> bool
     }
 }
 
-/// The row of the payment or the settlement got the wanted reply, and the job goes on to a row that is none of these.
+/// The row of the payment or the settlement got the wanted reply, and the job goes on to a row that
+/// is none of these.
 pub(crate) fn answered(job: &mut Job, device: Target, row: Payout, reply: &Reply<'_>)
     requires last { pays_on row ≡ false }
     requires wanted { form_shown (reply_shown reply.now) ≡ form_of (payout_request row) }
     requires life { FitsLife (reply_shown reply.now) }
-    ensures device { (failed : ℕ) → LeadsTo device (Pays row) failed (Some (reply_shown reply.now)) job.new }
+    ensures device { (failed : ℕ) → LeadsTo device (Pays row) failed (Some (reply_shown reply.now))
+        job.new }
     ensures keeps { KeepsClosing (payout_ahead device row) job.new }
 {
     match row {
@@ -75,7 +80,8 @@ pub(crate) fn answered(job: &mut Job, device: Target, row: Payout, reply: &Reply
     }
 }
 
-/// The payment or the settlement at the row that waits for the last coin, or that stops the hopper before.
+/// The payment or the settlement at the row that waits for the last coin, or that stops the hopper
+/// before.
 fn settles(device: Target, closing: Closing, owed: Owed, halted: bool) -> Job
     ensures { result ≡ Job.Asks device (Pays (settling closing owed halted)) 0 }
 {
@@ -104,7 +110,7 @@ pub(crate) fn dispensed(device: Target, owed: Owed, halted: bool) -> Job
     settles(device, Closing::Payment, owed, halted)
 }
 
-/// The row of the payment or the settlement after it was told whether nothing is left to pay.
+/// The row of the payment or the settlement after it was reported whether nothing is left to pay.
 #[tactic(auto, using(crate::proofs::Payments::status_paid, crate::proofs::Payments::status_goes_on))]
 fn waited(closing: Closing, owed: Owed, is_paid_out: bool) -> Payout
     ensures device { (device : Target) (failed : ℕ) (y : shown.Reply) → is_paid_out ≡ nothing_left y
@@ -122,7 +128,8 @@ fn waited(closing: Closing, owed: Owed, is_paid_out: bool) -> Payout
 #[tactic(auto, using(crate::proofs::Payments::count_opens))]
 fn opens(device: Target, id: u32, count: u8, halted: bool, life: u32) -> Job
     requires { life < 2 ^ 24 }
-    ensures device { (failed : ℕ) → LeadsTo device (Pays (Counts id count halted)) failed (Some (shown.life life)) result }
+    ensures device { (failed : ℕ) → LeadsTo device (Pays (Counts id count halted)) failed
+        (Some (shown.life life)) result }
     ensures keeps { KeepsClosing (payout_ahead device (Counts id count halted)) result }
 {
     let owed = Owed {
@@ -140,7 +147,8 @@ fn opens(device: Target, id: u32, count: u8, halted: bool, life: u32) -> Job
     }
 }
 
-/// The payment or the settlement after it read the life count of its hopper again: its order is to be closed.
+/// The payment or the settlement after it read the life count of its hopper again: its order is to
+/// be closed.
 #[tactic(auto, using(crate::proofs::Payments::recount_closes, crate::proofs::Fits::closed_fits))]
 fn closes(owed: Owed, life: u32) -> Job
     requires { life < 2 ^ 24 }
@@ -176,7 +184,7 @@ fn life_in(reply: &Reply<'_>) -> u32
     }
 }
 
-/// Whether the reply to the question how a payout goes tells that nothing is left to pay.
+/// Whether the reply to the question how a payout goes says that nothing is left to pay.
 fn is_paid_out(reply: &Reply<'_>) -> bool
     requires { form_shown (reply_shown reply.now) ≡ Some form.Status }
     ensures { result ≡ nothing_left (reply_shown reply.now) }
@@ -187,7 +195,8 @@ fn is_paid_out(reply: &Reply<'_>) -> bool
     }
 }
 
-/// The payment or the settlement after a halt, where it can be halted: what is halted already stays as it is.
+/// The payment or the settlement after a halt, where it can be halted: what is halted already stays
+/// as it is.
 pub(crate) fn halted(device: Target, row: Payout, failed: u8) -> Job
     ensures { result ≡ Job.Asks device (Pays (halted_row row)) (halted_tries row failed) }
 {

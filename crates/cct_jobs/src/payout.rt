@@ -1,5 +1,5 @@
-//! The rows of a payment and of a settlement at which a hopper is asked (ccTalk Generic Specification 4, part 3,
-//! headers 164, 166, 167, 168 and 172).
+//! The rows of a payment and of a settlement at which a hopper is asked (ccTalk Generic
+//! Specification 4, part 3, headers 164, 166, 167, 168 and 172).
 ghost use Rattle.std.specs.Prelude.{◌≡◌, Some};
 ghost use Rattle.cct_model.specs.Request.{form_of};
 ghost use Rattle.cct_model.specs.Rows.{has_waits, puts_in};

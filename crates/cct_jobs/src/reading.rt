@@ -1,7 +1,7 @@
-//! The round, and the stop of an epoch: an acceptor's accept counter is read, then its credits, its inhibit mask, and its
-//! accept counter again; what they mean is put, unless a coin or a bill was accepted in between. A stop inhibits all before,
-//! and puts the epoch's end after (ccTalk Generic Specification 4, parts 2 and 3, headers 225, 228, 229 and 230, and 159 at
-//! a bill acceptor).
+//! The round, and the stop of an epoch: an acceptor's accept counter is read, then its credits, its
+//! inhibit mask, and its accept counter again; what they mean is put, unless a coin or a bill was
+//! accepted in between. A stop inhibits all before, and puts the epoch's end after (ccTalk Generic
+//! Specification 4, parts 2 and 3, headers 225, 228, 229 and 230, and 159 at a bill acceptor).
 ghost use Rattle.std.specs.Prelude.{◌≡◌, ℕ, Some, false, true};
 ghost use Rattle.cct_model.specs.terms.request.ReplyForm.TheVariants as form;
 ghost use Rattle.cct_model.specs.Reply as shown;
@@ -10,7 +10,8 @@ ghost use Rattle.cct_model.specs.Request.{form_of};
 ghost use Rattle.cct_msg.specs.Forms.{form_shown};
 ghost use Rattle.cct_jobs.specs.declared.stage.Stage.TheVariants.{CountsAfter, CountsBefore};
 ghost use Rattle.cct_jobs.specs.Ahead.{stage_ahead, reading_ahead};
-ghost use Rattle.cct_jobs.specs.Jobs.{FitsAccepts, IsOfReading, reads_on, request_of, round_after, stop_after};
+ghost use Rattle.cct_jobs.specs.Jobs.{FitsAccepts, IsOfReading, reads_on, request_of, round_after};
+ghost use Rattle.cct_jobs.specs.Jobs.{stop_after};
 ghost use Rattle.cct_jobs.specs.Onward.{KeepsTo, LeadsTo};
 
 use crate::asks::first_try;
@@ -22,16 +23,18 @@ use crate::target::Target;
 use cct_epoch::{Judged, judge};
 use cct_model::{Credits, End, Reply};
 
-/// The round or the stop got the wanted reply to a row that another question follows, and comes to that one where it stands.
-/// The answer is whether its row is one of these.
+/// The round or the stop got the wanted reply to a row that another question follows, and comes to
+/// that one where it stands. The answer is whether its row is one of these.
 pub(crate) fn reads_on(device: &Target, stage: &mut Stage, reply: &Reply<'_>) -> bool
-    requires wanted { form_shown (reply_shown reply.now) ≡ form_of (request_of device.now.family stage.old) }
+    requires wanted { form_shown (reply_shown reply.now)
+        ≡ form_of (request_of device.now.family stage.old) }
     requires accepts { FitsAccepts (reply_shown reply.now) }
     ensures which { result ≡ reads_on stage.old }
     ensures stays { result ≡ false → stage.new ≡ stage.old }
     ensures device { result ≡ true → (failed : ℕ)
         → LeadsTo device.now stage.old failed (Some (reply_shown reply.now)) (Job.Asks device.now stage.new 0) }
-    ensures keeps { result ≡ true → KeepsTo (stage_ahead device.now stage.old) (Job.Asks device.now stage.new 0) }
+    ensures keeps { result ≡ true → KeepsTo (stage_ahead device.now stage.old)
+        (Job.Asks device.now stage.new 0) }
 {
     match stage {
         Stage::CountsBefore { read_by, recorded } => {
@@ -80,13 +83,16 @@ pub(crate) fn reads_on(device: &Target, stage: &mut Stage, reply: &Reply<'_>) ->
     }
 }
 
-/// The stage of the round or the stop got the wanted reply, and the job goes on to a row that is none of these.
+/// The stage of the round or the stop got the wanted reply, and the job goes on to a row that is
+/// none of these.
 pub(crate) fn answered(job: &mut Job, device: Target, stage: Stage, reply: &Reply<'_>)
     requires row { IsOfReading stage }
     requires last { reads_on stage ≡ false }
-    requires wanted { form_shown (reply_shown reply.now) ≡ form_of (request_of device.family stage) }
+    requires wanted { form_shown (reply_shown reply.now)
+        ≡ form_of (request_of device.family stage) }
     requires accepts { FitsAccepts (reply_shown reply.now) }
-    ensures device { (failed : ℕ) → LeadsTo device stage failed (Some (reply_shown reply.now)) job.new }
+    ensures device { (failed : ℕ) → LeadsTo device stage failed (Some (reply_shown reply.now))
+        job.new }
     ensures keeps { KeepsTo (stage_ahead device stage) job.new }
 {
     match stage {
@@ -137,7 +143,8 @@ pub(crate) fn count_in(reply: &Reply<'_>) -> Counted
     }
 }
 
-/// The round or the stop read these credits and this mask between these accept counters, and goes on.
+/// The round or the stop read these credits and this mask between these accept counters, and goes
+/// on.
 fn judged(
     job: &mut Job,
     device: Target,
@@ -205,7 +212,8 @@ fn stop_judged(job: &mut Job, device: Target, meaning: Judged)
     }
 }
 
-/// The round or the stop after a coin was accepted while it read its acceptor: the reading has to be made again.
+/// The round or the stop after a coin was accepted while it read its acceptor: the reading has to
+/// be made again.
 fn moved() -> Job
     ensures { result ≡ Job.Done End.Moved }
 {

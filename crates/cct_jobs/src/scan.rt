@@ -1,5 +1,5 @@
-//! The scan: all devices are called under each check, and then each address that was noted is polled (ccTalk Generic
-//! Specification 4, part 3, headers 253 and 254).
+//! The scan: all devices are called under each check, and then each address that was noted is
+//! polled (ccTalk Generic Specification 4, part 3, headers 253 and 254).
 ghost use Rattle.std.specs.Prelude.{[], ◌≡◌, ◌==◌, ◌&&◌, ◌||◌, nat_le, List, ℕ, ◌∷◌, Some};
 ghost use Rattle.std.specs.List.{list_any};
 ghost use Rattle.cct_model.specs.terms.wire.CheckKind.TheVariants.{Simple, Crc};
@@ -36,7 +36,8 @@ pub(crate) fn poll(kind: CheckKind, addr: u8) -> Sending
     }
 }
 
-/// The scan after it heard what followed its call under the simple check. What follows a good echo is noted.
+/// The scan after it heard what followed its call under the simple check. What follows a good echo
+/// is noted.
 pub(crate) fn simple_call_heard(failed: u8, sent: &[u8], heard: &[u8]) -> Job
     ensures scan { (since : List Line) → CallsSimple failed since → sent.now ≡ ask Simple 0 (poll_of 0)
         → StandsScan result (scan_line sent.now heard.now ∷ since) }
@@ -77,8 +78,8 @@ pub(crate) fn crc_call_heard(failed: u8, mut due: DeviceSet, sent: &[u8], heard:
     }
 }
 
-/// The scan after it heard what followed a poll under the simple check: a device that didn't acknowledge it is polled
-/// under the CRC.
+/// The scan after it heard what followed a poll under the simple check: a device that didn't
+/// acknowledge it is polled under the CRC.
 pub(crate) fn simple_poll_heard(
     addr: u8,
     mut due: DeviceSet,

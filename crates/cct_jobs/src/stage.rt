@@ -16,8 +16,8 @@ use cct_msg::form_of;
 /// The request that inhibits every coin or bill.
 const INHIBIT: Request = Request::SetMaster { value: 0 };
 
-/// What is recorded of an epoch that runs: its inhibit mask, the event counter of its last recorded reading, or 0, and what
-/// its acceptor counted at its last record.
+/// What is recorded of an epoch that runs: its inhibit mask, the event counter of its last recorded
+/// reading, or 0, and what its acceptor counted at its last record.
 #[derive(Clone, Copy, Debug, PartialEq, Eq)]
 pub struct Recorded {
     pub mask: u16,
@@ -57,7 +57,8 @@ pub enum Stage {
     StopInhibits {
         recorded: Recorded,
     },
-    /// A round or a stop reads the accept counter before its reading, beside what is recorded of the epoch.
+    /// A round or a stop reads the accept counter before its reading, beside what is recorded of
+    /// the epoch.
     CountsBefore {
         read_by: ReadBy,
         recorded: Recorded,

@@ -1,6 +1,6 @@
-//! The start of an epoch: the acceptor is reset, its credits and then its accept counter are read, the epoch is put, and the
-//! inhibit mask is set once (ccTalk Generic Specification 4, parts 2 and 3, headers 1, 225, 229 and 231, and 159
-//! at a bill acceptor).
+//! The start of an epoch: the acceptor is reset, its credits and then its accept counter are read,
+//! the epoch is put, and the inhibit mask is set once (ccTalk Generic Specification 4, parts 2 and
+//! 3, headers 1, 225, 229 and 231, and 159 at a bill acceptor).
 ghost use Rattle.std.specs.Prelude.{◌≡◌, ℕ, Some};
 ghost use Rattle.cct_model.specs.Reply as shown;
 ghost use Rattle.cct_model.specs.Reply.{reply_shown};
@@ -23,9 +23,11 @@ use cct_model::{Credits, End, Reply};
 /// The stage of the start got the wanted reply, and the start goes on.
 pub(crate) fn answered(job: &mut Job, device: Target, stage: Stage, reply: &Reply<'_>)
     requires row { IsOfStart stage }
-    requires wanted { form_shown (reply_shown reply.now) ≡ form_of (request_of device.family stage) }
+    requires wanted { form_shown (reply_shown reply.now)
+        ≡ form_of (request_of device.family stage) }
     requires accepts { FitsAccepts (reply_shown reply.now) }
-    ensures device { (failed : ℕ) → LeadsTo device stage failed (Some (reply_shown reply.now)) job.new }
+    ensures device { (failed : ℕ) → LeadsTo device stage failed (Some (reply_shown reply.now))
+        job.new }
     ensures keeps { KeepsTo (stage_ahead device stage) job.new }
 {
     match stage {
@@ -37,10 +39,12 @@ pub(crate) fn answered(job: &mut Job, device: Target, stage: Stage, reply: &Repl
     }
 }
 
-/// The start after it read these credits: the event counter of an acceptor that was just reset is 0.
+/// The start after it read these credits: the event counter of an acceptor that was just reset is
+/// 0.
 #[tactic(auto, using(crate::proofs::Epochs::start_counts, crate::proofs::Epochs::start_unquiet))]
 fn after_reset(device: Target, mask: u16, credits: &Credits) -> Job
-    ensures device { (failed : ℕ) → LeadsTo device (StartReads mask) failed (Some (shown.credits credits.now)) result }
+    ensures device { (failed : ℕ) → LeadsTo device (StartReads mask) failed
+        (Some (shown.credits credits.now)) result }
     ensures keeps { KeepsTo (stage_ahead device (StartReads mask)) result }
 {
     if credits.counter == 0 {
@@ -54,7 +58,8 @@ fn after_reset(device: Target, mask: u16, credits: &Credits) -> Job
 
 /// The start after it read the accept counter: its epoch is to be put.
 fn begins(device: Target, mask: u16, counted: Counted) -> Job
-    ensures device { (failed : ℕ) → LeadsTo device (StartCounts mask) failed (Some (shown.accepts counted.accepts)) result }
+    ensures device { (failed : ℕ) → LeadsTo device (StartCounts mask) failed
+        (Some (shown.accepts counted.accepts)) result }
     ensures keeps { KeepsTo (stage_ahead device (StartCounts mask)) result }
 {
     Job::StartPuts {

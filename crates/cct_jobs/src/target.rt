@@ -29,7 +29,8 @@ impl Target {
         sent: &[u8],
         heard: &'h [u8],
     ) -> Option<Reply<'h>>
-        ensures { option_map reply_shown result ≡ reply_wanted self.now.kind self.now.addr wanted sent.now heard.now }
+        ensures { option_map reply_shown result
+            ≡ reply_wanted self.now.kind self.now.addr wanted sent.now heard.now }
     {
         match wanted {
             Some(form) => wanted_reply(self.kind, self.addr, form, sent, heard),

@@ -107,7 +107,7 @@ module _ (image : List ℕ) (blank : IsBlank image) (long : least_size ≤ lengt
       half_byte image image second (start_at (length image) second) 0 (omega arith) refl (omega (arith, long))
       ∙ blank (start_at (length image) second) (omega arith) (omega (arith, long, start_fits (length image) second))
 
-  -- Whatever stands after the gate of the first half is no journal.
+  -- Whatever is after the gate of the first half is no journal.
   torn_alien : (c : List ℕ) → SameOutside (0 + 1) (length (behind_start 0 0 empty_carry)) image c → IsAlien c
   torn_alien c torn = alien_by c (gates c torn)
     where
@@ -180,7 +180,7 @@ module _ (image : List ℕ) (blank : IsBlank image) (long : least_size ≤ lengt
   laid_other = ne_eqb (slice_index (half laid true) 0) open_gate
       (λ is. absurd (omega (arith, is, second_shut laid laid_gated)))
 
--- what is told is told of some image
+-- what is reported is told of some image
 pub told_image : (seen : Option (List ℕ)) → is_some seen ≡ true → (image : List ℕ) × (seen ≡ Some image)
 told_image None told = absurd cc
 told_image (Some image) told = (image, refl)
@@ -193,7 +193,7 @@ begun_created_by image blank long carry is whole c begun =
     begun_created image blank long (subst (λ k. length (start_of 0 0 k) ≡ START) is whole) c
     (subst (λ k. IsBegun 0 (behind_start 0 0 k) image c) is begun)
 
--- A journal without records stands on what is laid.
+-- A journal without records is on what is laid.
 pub created_stands : {D : Type 0} (honest : D → Bool) (seen : D → Option (List ℕ)) (may_leave : D → List ℕ → Type 0)
     (disk : D) (image : List ℕ) → IsBlank image → least_size ≤ length image → (carry : Carry) → carry ≡ empty_carry
     → length (start_of 0 0 carry) ≡ START

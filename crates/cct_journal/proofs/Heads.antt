@@ -1,4 +1,4 @@
--- The bytes that a half begins with: how long they are, and that they tell what a half begins with.
+-- The bytes that a half begins with: how long they are, and that they say what a half begins with.
 use Rattle.std.proofs.Common.{◌≡◌, ℕ, zero, suc, ◌+◌, ◌-◌, ◌*◌, ◌^◌, ◌<◌, ◌≤◌, Bool, List, [], ◌∷◌, ◌++◌, length, map, take, drop, replicate, slice_index, get_or, refl, sym, ◌∙◌, ap, subst, arith}
 use Rattle.std.proofs.Common.{append_assoc, get_or-take, length-append, lit≤}
 use Rattle.std.specs.Prelude.{flat_map}
@@ -183,7 +183,7 @@ module _ (version generation base : ℕ) (bodies : List (List ℕ)) (bytes : Lis
       ap (from_le_bytes w32) (same_window 16 bytes (start_with version generation base bodies) (lit≤ tt) begins)
       ∙ generation_back version generation base bodies fits
 
--- The body of a slot stands at its place after other slots.
+-- The body of a slot is at its place after other slots.
 slot_there : (bodies : List (List ℕ)) (rest : List ℕ) (n : ℕ) → AreBodies bodies → n < length bodies
     → window (32 * n + 1) 31 (flat_map carry_slot bodies ++ rest) ≡ get_or bodies n []
 slot_there [] rest n are here = absurd (omega arith)
@@ -264,7 +264,7 @@ pub begun_whole : (second : Bool) (generation base : ℕ) (c : Carry) (bytes : L
 begun_whole second generation base c bytes long begins =
     sym begins.starts ∙ take_all START bytes (omega arith)
 
--- What a half begins with stands in its bytes.
+-- What a half begins with is in its bytes.
 begun_told : (second : Bool) (generation base : ℕ) (c : Carry) (bytes : List ℕ) → length bytes ≡ START
     → Begins second generation base c bytes → TellsStart generation base c bytes
 begun_told second generation base c bytes long begins =

@@ -18,7 +18,7 @@ use Rattle.cct_journal.specs.declared.place.Place.{Place}
 use Rattle.cct_journal.specs.declared.refusal.ReadNo.TheVariants.{BadRecord}
 use Rattle.cct_journal.proofs.Rooms.{closed, opened}
 
--- Where a body stands in the first slot, its gate is open.
+-- Where a body is in the first slot, its gate is open.
 first_open : (n gate : ℕ) (rest body : List ℕ) (others : List (List ℕ)) → bodies (suc n) (gate ∷ rest) ≡ body ∷ others
     → (take 31 rest ≡ body) × (bodies n (drop 31 rest) ≡ others)
 first_open n gate rest body others are = elim (cases_eq gate open_gate) [

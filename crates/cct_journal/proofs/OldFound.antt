@@ -28,7 +28,7 @@ use Rattle.cct_journal.proofs.Heads.{begun_version}
 use Rattle.cct_journal.proofs.OldBodies.{spelt_many}
 use Rattle.cct_journal.proofs.OldHeads.{half_second, old_not_today, old_version, one_old_head, over_old_head, second_in_half}
 
--- What is told is one image.
+-- What is reported is one image.
 some_is : {x y : List ℕ} → Some x ≡ Some y → x ≡ y
 some_is {x} {y} same = cc
 
@@ -234,7 +234,7 @@ found_stands honest seen may_leave disk old image rest held gate reads =
       other_gate = gate;
     }
 
--- A disk that is only read tells the same of the records up to an index.
+-- A disk that is only read shows the same of the records up to an index.
 pub up_same : {D : Type 0} {seen : D → Option (List ℕ)} {before disk : D} (old : OldPlace) (index : ℕ)
     (records : List Record) → seen disk ≡ seen before → OldReadsUpTo seen before old index records
     → OldReadsUpTo seen disk old index records

@@ -199,7 +199,7 @@ empty_turned place begins = record {
   has = record { second = place.second; generation = place.generation; current = begins.has };
 }
 
--- and a journal stands there for all records of which that is the carry.
+-- and a journal is there for all records of which that is the carry.
 empty_stands : {D : Type 0} {honest : D → Bool} {seen : D → Option (List ℕ)} {may_leave : D → List ℕ → Type 0}
     {disk : D} (place : Place) → BeginsEmpty honest seen may_leave disk place → place.used ≡ place.base
     → (carry_of : List Record → Carry) (records : List Record) → place.base ≡ length records

@@ -63,7 +63,7 @@ none_refused (b ∷ bs) (r ∷ rs) body later same fits refused =
     let others : map body_of bs ++ body ∷ later ≡ map body_of rs = cc in
     none_refused bs rs body later others (All-tail InRange r rs fits) refused
 
--- The first one that spells none stands after one number of records.
+-- The first one that spells none is after one number of records.
 first_refused : (before others : List Record) (body other : List ℕ) (later rest : List (List ℕ))
     → map body_of before ++ body ∷ later ≡ map body_of others ++ other ∷ rest → All InRange before
     → All InRange others → IsRefused body → IsRefused other → length before ≡ length others

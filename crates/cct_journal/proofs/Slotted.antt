@@ -20,7 +20,7 @@ module _ (half : List ℕ) (n : ℕ) (old : List (List ℕ)) (are : bodies n (dr
   the_room : Room n (drop START half) old
   the_room = room n (drop START half) old are few (omega (arith, length-drop START half))
 
-  -- Whatever stands after the shut gate, the records are the same.
+  -- Whatever is after the shut gate, the records are the same.
   pub behind_torn : (c : List ℕ) (m : ℕ) → SameOutside (gate_place (length old) + 1) m half c
       → bodies n (drop START c) ≡ old
   behind_torn c m same =

@@ -86,7 +86,7 @@ module _ (second : Bool) (generation : ℕ) (P : List ℕ → Type 0) (kept : Is
       (open_gate_first (half c (not second)) is_open
       ∙ sym (eqb-true (slice_index (half image (not second)) 0) open_gate was_open)))
 
-  -- Whatever stands after the other half's shut gate, it has.
+  -- Whatever is after the other half's shut gate, it has.
   behind_shut : (c : List ℕ) (n : ℕ) → has_open_gate (half image (not second)) ≡ false
       → SameOutside (start_at (length image) (not second) + 1) n image c → 1 + n ≤ 32 * slots_in (length image) → P c
   behind_shut c n was_shut same within =

@@ -1,5 +1,6 @@
 -- What an image is to a journal that is created on it.
-use Rattle.std.specs.Prelude.{◌≡◌, ◌⊎◌, ℕ, ◌<◌, ◌≤◌, Bool, true, false, Option, Some, is_some, List, [], ⊤}
+use Rattle.std.specs.Prelude.{◌≡◌, ◌⊎◌, ℕ, ◌<◌, ◌≤◌, Bool, true, false, Option, Some, is_some, List}
+use Rattle.std.specs.Prelude.{[], ⊤}
 use Rattle.cct_model_lines.specs.Carried.{empty_carry}
 use Rattle.cct_model_lines.specs.declared.carry.Carry.{Carry}
 use Rattle.cct_model_lines.specs.declared.record.Record.{Record}
@@ -26,7 +27,8 @@ RefusesCreate size seen (NotBlank at) = (least_size ≤ size)
 abbrev pub IsEmpty : List ℕ → Type 0
 IsEmpty image = HasHalf image false 0 0 empty_carry []
 
--- What may stand on a disk while a journal is created on it: what stood there, no journal, or an empty one.
+-- What may stand on a disk while a journal is created on it: what stood there, no journal, or an
+-- empty one.
 abbrev pub IsCreated : List ℕ → List ℕ → Type 0
 IsCreated old image = (image ≡ old) ⊎ (IsAlien image ⊎ IsEmpty image)
 
@@ -34,7 +36,8 @@ IsCreated old image = (image ≡ old) ⊎ (IsAlien image ⊎ IsEmpty image)
 pub record Creates {D : Type 0} (size : D → ℕ) (honest : D → Bool) (seen : D → Option (List ℕ))
     (may_leave : D → List ℕ → Type 0) (old new : D) (place : Place) : Type 0 where
   pub stands : honest old ≡ true → is_some (seen old) ≡ true
-      → (carry_of : List Record → Carry) → carry_of [] ≡ empty_carry → Stands carry_of honest seen may_leave new place []
+      → (carry_of : List Record → Carry) → carry_of [] ≡ empty_carry →
+      Stands carry_of honest seen may_leave new place []
   pub none : place.used ≡ 0
   pub blank : (image : List ℕ) → seen old ≡ Some image → IsBlank image
   pub long : least_size ≤ size old

@@ -11,7 +11,8 @@ behind_gate at bytes image = put_at image (at + 1) bytes
 abbrev pub behind_open_gate : ℕ → List ℕ → List ℕ → List ℕ
 behind_open_gate at bytes image = put_at (behind_gate at bytes image) at (open_gate ∷ [])
 
--- What may stand on the disk at a moment of the two writes: any bytes after the gate, or those that are written there
--- and any gate.
+-- What may stand on the disk at a moment of the two writes: any bytes after the gate, or those that
+-- are written there and any gate.
 abbrev pub IsBegun : ℕ → List ℕ → List ℕ → List ℕ → Type 0
-IsBegun at bytes old new = SameOutside (at + 1) (length bytes) old new ⊎ SameOutside at 1 (behind_gate at bytes old) new
+IsBegun at bytes old new =
+    SameOutside (at + 1) (length bytes) old new ⊎ SameOutside at 1 (behind_gate at bytes old) new

@@ -1,5 +1,6 @@
 -- The two halves of a disk, and which of them counts.
-use Rattle.std.specs.Prelude.{◌≡◌, ◌⊎◌, ℕ, ◌*◌, ◌/◌, ◌<◌, ◌≤◌, ◌==◌, Bool, true, false, not, if◌then◌else◌, List, [], ◌∷◌}
+use Rattle.std.specs.Prelude.{◌≡◌, ◌⊎◌, ℕ, ◌*◌, ◌/◌, ◌<◌, ◌≤◌, ◌==◌, Bool, true, false, not}
+use Rattle.std.specs.Prelude.{if◌then◌else◌, List, [], ◌∷◌}
 use Rattle.std.specs.Prelude.{◌++◌, length}
 use Rattle.std.specs.Prelude.{take, drop, codes, slice_index}
 use Rattle.std.specs.Int.{w32, from_le_bytes}
@@ -44,11 +45,13 @@ has_open_gate bytes = slice_index bytes 0 == open_gate
 abbrev pub version_in : List ℕ → ℕ
 version_in bytes = slice_index bytes 15
 
--- The versions that a half may have. A journal of version 1 had no halves: its header stands where the first one begins.
+-- The versions that a half may have. A journal of version 1 had no halves: its header is where the
+-- first one begins.
 abbrev pub IsVersionOf : Bool → ℕ → Type 0
 IsVersionOf second version = ((version ≡ 1) × (second ≡ false)) ⊎ ((version ≡ 2) ⊎ (version ≡ 3))
 
--- The first or the second half is open: it begins with an open gate and the title, and has a version that it may have.
+-- The first or the second half is open: it begins with an open gate and the title, and has a
+-- version that it may have.
 pub record IsOpen (second : Bool) (bytes : List ℕ) : Type 0 where
   pub titled : take 15 bytes ≡ title
   pub version_is : IsVersionOf second (version_in bytes)
@@ -57,12 +60,12 @@ pub record IsOpen (second : Bool) (bytes : List ℕ) : Type 0 where
 abbrev pub turns_in : List ℕ → ℕ
 turns_in bytes = from_le_bytes w32 (window 16 4 bytes)
 
--- The generation of a half, which is 0 in version 1, whatever stands there.
+-- The generation of a half, which is 0 in version 1, whatever is there.
 abbrev pub generation_in : List ℕ → ℕ
 generation_in bytes = if version_in bytes == 1 then 0 else turns_in bytes
 
--- A half counts beside the other one, if both are open: its generation is greater, or it is the first half, and its
--- generation isn't less.
+-- A half counts beside the other one, if both are open: its generation is greater, or it is the
+-- first half, and its generation isn't less.
 abbrev pub Wins : Bool → List ℕ → List ℕ → Type 0
 Wins false mine other = IsOpen true other → generation_in other ≤ generation_in mine
 Wins true mine other = IsOpen false other → generation_in other < generation_in mine

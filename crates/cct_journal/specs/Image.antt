@@ -1,5 +1,6 @@
 -- What the bytes of a disk represent as a journal.
-use Rattle.std.specs.Prelude.{◌≡◌, ◌≢◌, ◌⊎◌, ℕ, suc, ◌+◌, ◌-◌, ◌*◌, ◌<◌, ◌≤◌, ◌==◌, min, Bool, if◌then◌else◌, List, []}
+use Rattle.std.specs.Prelude.{◌≡◌, ◌≢◌, ◌⊎◌, ℕ, suc, ◌+◌, ◌-◌, ◌*◌, ◌<◌, ◌≤◌, ◌==◌, min, Bool}
+use Rattle.std.specs.Prelude.{if◌then◌else◌, List, []}
 use Rattle.std.specs.Prelude.{◌∷◌, ◌++◌, length, take, drop, map, All, slice_index}
 use Rattle.cct_model_lines.specs.declared.carry.Carry.{Carry}
 use Rattle.cct_model_lines.specs.declared.record.Record.{Record}
@@ -18,7 +19,8 @@ room_of size base = min (slots_in size - FIRST_SLOT) (MOST_RECORDS - base)
 
 -- The bodies of the slots that these bytes are, up to the first shut gate, and so many at most.
 abbrev pub bodies : ℕ → List ℕ → List (List ℕ)
-bodies (suc most) (gate ∷ rest) = if gate == open_gate then take 31 rest ∷ bodies most (drop 31 rest) else []
+bodies (suc most) (gate ∷ rest) =
+    if gate == open_gate then take 31 rest ∷ bodies most (drop 31 rest) else []
 bodies most bytes = []
 
 -- The bodies of the records of a half, after so many before it.
@@ -26,13 +28,15 @@ abbrev pub bodies_in : List ℕ → Bool → ℕ → List (List ℕ)
 bodies_in image second base = bodies (room_of (length image) base) (drop START (half image second))
 
 -- The current half of an image begins with this generation, this base and this carry.
-pub record IsHeaded (image : List ℕ) (second : Bool) (generation base : ℕ) (carry : Carry) : Type 0 where
-  pub long : least_size ≤ length image
-  pub current : IsCurrent second image
-  pub begins : Begins second generation base carry (half image second)
+pub record IsHeaded (image : List ℕ) (second : Bool) (generation base : ℕ) (carry : Carry) : Type 0
+  where
+    pub long : least_size ≤ length image
+    pub current : IsCurrent second image
+    pub begins : Begins second generation base carry (half image second)
 
 -- The current half of an image begins so, and has just the bodies of these records.
-pub record HasHalf (image : List ℕ) (second : Bool) (generation base : ℕ) (carry : Carry) (rest : List Record)
+pub record HasHalf (image : List ℕ) (second : Bool) (generation base : ℕ) (carry : Carry)
+    (rest : List Record)
     : Type 0 where
   pub headed : IsHeaded image second generation base carry
   pub records_are : bodies_in image second base ≡ map body_of rest
@@ -45,15 +49,17 @@ pub record HasFrom (image : List ℕ) (base : ℕ) (carry : Carry) (rest : List 
   pub current : HasHalf image second generation base carry rest
 
 -- This is the carry of the first ones of these records, so many, and the rest of them.
-pub record Continues (carry_of : List Record → Carry) (base : ℕ) (carry : Carry) (rest records : List Record) : Type 0 where
+pub record Continues (carry_of : List Record → Carry) (base : ℕ) (carry : Carry)
+    (rest records : List Record) : Type 0 where
   pub first : List Record
   pub all : records ≡ first ++ rest
   pub many : base ≡ length first
   pub carry_is : carry ≡ carry_of first
 
--- An image represents records, where the carry of records is this one: it has the carry of the first ones, and just the
--- others after it.
-pub record StandsFor (carry_of : List Record → Carry) (image : List ℕ) (records : List Record) : Type 0 where
+-- An image represents records, where the carry of records is this one: it has the carry of the
+-- first ones, and just the others after it.
+pub record StandsFor (carry_of : List Record → Carry) (image : List ℕ) (records : List Record)
+    : Type 0 where
   pub base : ℕ
   pub carry : Carry
   pub rest : List Record
@@ -73,10 +79,11 @@ pub record HasMany (image : List ℕ) (many : ℕ) : Type 0 where
   pub has : HasFrom image base carry rest
   pub count : many ≡ base + length rest
 
--- An image is that of no journal: no half of it is open, or the current one begins with no header and carry, or it is too
--- short for two halves.
+-- An image is that of no journal: no half of it is open, or the current one begins with no header
+-- and carry, or it is too short for two halves.
 abbrev pub IsAlien : List ℕ → Type 0
-IsAlien image = (second : Bool) (generation base : ℕ) (carry : Carry) → IsHeaded image second generation base carry → ⊥
+IsAlien image = (second : Bool) (generation base : ℕ) (carry : Carry) →
+    IsHeaded image second generation base carry → ⊥
 
 -- After so many records of a half stands a body that spells none.
 pub record IsRefusedIn (image : List ℕ) (second : Bool) (base index : ℕ) : Type 0 where
@@ -88,7 +95,8 @@ pub record IsRefusedIn (image : List ℕ) (second : Bool) (base index : ℕ) : T
   pub count : index ≡ base + length before
   pub refused : IsRefused body
 
--- An image has a current half, and after so many records, with those before it, a body that spells none.
+-- An image has a current half, and after so many records, with those before it, a body that spells
+-- none.
 pub record IsBadAt (image : List ℕ) (index : ℕ) : Type 0 where
   pub second : Bool
   pub generation : ℕ

@@ -11,7 +11,7 @@ use Rattle.cct_journal.specs.declared.place.Place.{Place}
 abbrev pub disk_of : {D : Type 0} {ghosts : Ghosts D} → Journal D ghosts → D
 disk_of journal = journal.disk
 
--- Where a journal stands on its disk.
+-- Where a journal is on its disk.
 abbrev pub place_of : {D : Type 0} {ghosts : Ghosts D} → Journal D ghosts → Place
 place_of journal = journal.place
 
@@ -32,28 +32,37 @@ abbrev pub has_failed : {D : Type 0} {ghosts : Ghosts D} → Journal D ghosts �
 has_failed journal = journal.failed
 
 -- A journal represents records, where the carry of records is this one.
-abbrev pub JournalStands : {D : Type 0} {ghosts : Ghosts D} → (List Record → Carry) → Journal D ghosts → List Record → Type 0
+abbrev pub JournalStands : {D : Type 0} {ghosts : Ghosts D} → (List Record → Carry) →
+    Journal D ghosts → List Record → Type 0
 JournalStands {D} {ghosts} carry_of journal =
     Stands carry_of ghosts.honest ghosts.seen ghosts.may_leave (disk_of journal) (place_of journal)
 
 -- A journal represents records, and this is their carry.
-abbrev pub JournalStandsWith : {D : Type 0} {ghosts : Ghosts D} → (List Record → Carry) → Journal D ghosts → Carry
+abbrev pub JournalStandsWith : {D : Type 0} {ghosts : Ghosts D} → (List Record → Carry) →
+    Journal D ghosts → Carry
     → List Record → Type 0
 JournalStandsWith {D} {ghosts} carry_of journal =
-    StandsWith carry_of ghosts.honest ghosts.seen ghosts.may_leave (disk_of journal) (place_of journal)
+    StandsWith carry_of ghosts.honest ghosts.seen ghosts.may_leave (disk_of journal)
+    (place_of journal)
 
 -- A journal represents records, and where a record is to be put after them, this is their carry.
-abbrev pub JournalStandsBefore : {D : Type 0} {ghosts : Ghosts D} → (List Record → Carry) → Journal D ghosts → Carry
+abbrev pub JournalStandsBefore : {D : Type 0} {ghosts : Ghosts D} → (List Record → Carry) →
+    Journal D ghosts → Carry
     → Option Record → List Record → Type 0
 JournalStandsBefore {D} {ghosts} carry_of journal =
-    StandsBefore carry_of ghosts.honest ghosts.seen ghosts.may_leave (disk_of journal) (place_of journal)
+    StandsBefore carry_of ghosts.honest ghosts.seen ghosts.may_leave (disk_of journal)
+    (place_of journal)
 
 -- What a read gives of its disk represents records, whatever a power cut may leave.
-abbrev pub JournalReads : {D : Type 0} {ghosts : Ghosts D} → (List Record → Carry) → Journal D ghosts → List Record → Type 0
-JournalReads {D} {ghosts} carry_of journal = Reads carry_of ghosts.seen (disk_of journal) (place_of journal)
+abbrev pub JournalReads : {D : Type 0} {ghosts : Ghosts D} → (List Record → Carry) →
+    Journal D ghosts → List Record → Type 0
+JournalReads {D} {ghosts} carry_of journal =
+    Reads carry_of ghosts.seen (disk_of journal) (place_of journal)
 
--- What a read gives of its disk has just these records after those of the carry, whatever a power cut may leave.
-abbrev pub JournalReadsFrom : {D : Type 0} {ghosts : Ghosts D} → Journal D ghosts → List Record → Type 0
+-- What a read gives of its disk has just these records after those of the carry, whatever a power
+-- cut may leave.
+abbrev pub JournalReadsFrom : {D : Type 0} {ghosts : Ghosts D} → Journal D ghosts → List Record →
+    Type 0
 JournalReadsFrom {D} {ghosts} journal = ReadsFrom ghosts.seen (disk_of journal) (place_of journal)
 
 -- The disk that a call gives back, whatever it answers.

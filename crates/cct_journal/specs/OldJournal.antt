@@ -11,7 +11,7 @@ use Rattle.cct_journal.specs.declared.old_place.OldPlace.{OldPlace}
 abbrev pub disk_of : {D : Type 0} {ghosts : Ghosts D} → OldJournal D ghosts → D
 disk_of journal = journal.disk
 
--- Where it stands on its disk.
+-- Where it is on its disk.
 abbrev pub place_of : {D : Type 0} {ghosts : Ghosts D} → OldJournal D ghosts → OldPlace
 place_of journal = journal.at
 
@@ -28,7 +28,8 @@ abbrev pub used_of : {D : Type 0} {ghosts : Ghosts D} → OldJournal D ghosts �
 used_of journal = journal.at.place.used
 
 -- It represents these records after those of its carry.
-abbrev pub OldJournalStands : {D : Type 0} {ghosts : Ghosts D} → OldJournal D ghosts → List Record → Type 0
+abbrev pub OldJournalStands : {D : Type 0} {ghosts : Ghosts D} → OldJournal D ghosts → List Record →
+    Type 0
 OldJournalStands {D} {ghosts} journal =
     OldStands ghosts.honest ghosts.seen ghosts.may_leave (disk_of journal) (place_of journal)
 
@@ -37,9 +38,13 @@ abbrev pub OldJournalCounts : {D : Type 0} {ghosts : Ghosts D} → OldJournal D 
 OldJournalCounts {D} {ghosts} journal = OldCounts ghosts.seen (disk_of journal) (place_of journal)
 
 -- What a read gives of its disk has, from the base up to an index, these records.
-abbrev pub OldJournalReadsUpTo : {D : Type 0} {ghosts : Ghosts D} → OldJournal D ghosts → ℕ → List Record → Type 0
-OldJournalReadsUpTo {D} {ghosts} journal = OldReadsUpTo ghosts.seen (disk_of journal) (place_of journal)
+abbrev pub OldJournalReadsUpTo : {D : Type 0} {ghosts : Ghosts D} → OldJournal D ghosts → ℕ →
+    List Record → Type 0
+OldJournalReadsUpTo {D} {ghosts} journal =
+    OldReadsUpTo ghosts.seen (disk_of journal) (place_of journal)
 
 -- What a read gives of its disk has just these records after those of the carry.
-abbrev pub OldJournalReadsFrom : {D : Type 0} {ghosts : Ghosts D} → OldJournal D ghosts → List Record → Type 0
-OldJournalReadsFrom {D} {ghosts} journal = OldReadsFrom ghosts.seen (disk_of journal) (place_of journal)
+abbrev pub OldJournalReadsFrom : {D : Type 0} {ghosts : Ghosts D} → OldJournal D ghosts →
+    List Record → Type 0
+OldJournalReadsFrom {D} {ghosts} journal =
+    OldReadsFrom ghosts.seen (disk_of journal) (place_of journal)

@@ -31,6 +31,7 @@ abbrev pub turned_or : Place → Option Place → Place
 turned_or place None = place
 turned_or place (Some turned) = turned
 
--- What is written after the gate of a half that begins: the rest of its start, and a shut gate in its first slot.
+-- What is written after the gate of a half that begins: the rest of its start, and a shut gate in
+-- its first slot.
 abbrev pub behind_start : ℕ → ℕ → Carry → List ℕ
 behind_start generation base carry = drop 1 (start_of generation base carry) ++ 0 ∷ []

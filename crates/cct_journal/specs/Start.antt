@@ -1,5 +1,6 @@
 -- What a half begins with: its header and its carry.
-use Rattle.std.specs.Prelude.{◌≡◌, ℕ, ◌+◌, ◌-◌, ◌*◌, ◌%◌, ◌^◌, ◌<◌, ◌≤◌, Bool, true, false, List, ◌∷◌, ◌++◌, length, take}
+use Rattle.std.specs.Prelude.{◌≡◌, ℕ, ◌+◌, ◌-◌, ◌*◌, ◌%◌, ◌^◌, ◌<◌, ◌≤◌, Bool, true, false, List}
+use Rattle.std.specs.Prelude.{◌∷◌, ◌++◌, length, take}
 use Rattle.std.specs.Prelude.{flat_map, replicate}
 use Rattle.std.specs.Int.{w32, to_le_bytes}
 use Rattle.std.proofs.Props.{props}
@@ -14,8 +15,8 @@ abbrev pub HasParity : Bool → ℕ → Type 0
 HasParity false generation = generation % 2 ≡ 0
 HasParity true generation = generation % 2 ≡ 1
 
--- The header of a half: the gate, the title and the version; then the generation, the base and how many bodies its carry
--- has, and 7 bytes 0.
+-- The header of a half: the gate, the title and the version; then the generation, the base and how
+-- many bodies its carry has, and 7 bytes 0.
 abbrev pub header_with : ℕ → ℕ → ℕ → ℕ → List ℕ
 header_with version generation base many =
     title_of version ++ to_le_bytes w32 generation ++ to_le_bytes w32 base ++ many ∷ replicate 7 0
@@ -37,11 +38,12 @@ start_with version generation base bodies =
 abbrev pub start_of : ℕ → ℕ → Carry → List ℕ
 start_of generation base carry = start_with version_now generation base (bodies_of carry)
 
--- A half may begin with this generation, with this base, which is how many records stood before it, and with this carry.
+-- A half may begin with this generation, with this base, which is how many records stood before it,
+-- and with this carry.
 pub record MayBegin (second : Bool) (generation base : ℕ) (carry : Carry) : Type 0 where
   pub parity : HasParity second generation
-  -- A journal of an older version may be brought forward before it has a record, which is one turn more than there are
-  -- records.
+  -- A journal of an older version may be brought forward before it has a record, which is one turn
+  -- more than there are records.
   pub turned : generation ≤ base + 1
   pub generation_fits : generation < 2 ^ 32
   pub base_fits : base ≤ MOST_RECORDS
@@ -53,10 +55,12 @@ pub HasParity-prop : (second : Bool) (generation : ℕ) → IsProp (HasParity se
 HasParity-prop false generation = hlevel props
 HasParity-prop true generation = hlevel props
 
-pub MayBegin-prop : (second : Bool) (generation base : ℕ) (carry : Carry) → IsProp (MayBegin second generation base carry)
+pub MayBegin-prop : (second : Bool) (generation base : ℕ) (carry : Carry) →
+    IsProp (MayBegin second generation base carry)
 MayBegin-prop second generation base carry = hlevel (props, HasParity-prop, IsRightly-prop)
 
 -- A half begins with them.
-pub record Begins (second : Bool) (generation base : ℕ) (carry : Carry) (bytes : List ℕ) : Type 0 where
-  pub may : MayBegin second generation base carry
-  pub starts : take START bytes ≡ start_of generation base carry
+pub record Begins (second : Bool) (generation base : ℕ) (carry : Carry) (bytes : List ℕ) : Type 0
+  where
+    pub may : MayBegin second generation base carry
+    pub starts : take START bytes ≡ start_of generation base carry

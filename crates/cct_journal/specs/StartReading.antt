@@ -1,4 +1,5 @@
--- What stands at the places of the fields of a header and of its carry, whether or not a half begins so.
+-- What is at the places of the fields of a header and of its carry, whether or not a half begins
+-- so.
 use Rattle.std.specs.Prelude.{◌≡◌, ℕ, zero, suc, ◌+◌, ◌*◌, List, [], ◌∷◌, ◌++◌, slice_index}
 use Rattle.std.specs.Int.{w32, from_le_bytes}
 use Rattle.cct_model_lines.specs.declared.carry.Carry.{Carry}

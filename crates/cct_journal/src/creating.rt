@@ -34,25 +34,28 @@ fn is_blank(bytes: &[u8]) -> bool
     bytes.iter().fold(0, |bits, byte| bits | byte) == 0
 }
 
-/// Reads as many bytes as the room has, and tells where among them the first stands that isn't 0.
+/// Reads as many bytes as the room has, and says where among them the first stands that isn't 0.
 fn read_block<D: Disk>(disk: &mut D, at: u64, room: &mut [u8]) -> Result<Option<usize>, Failed>
     requires { at + length room.old ≤ D.size disk.old }
     ensures within { IfOk result (λ found. IfSome found (λ index. index < length room.old)) }
     ensures found { IfOk result (λ found. (image : List ℕ) → D.seen disk.old ≡ Some image
         → MatchOption found (IsBlankBetween at (at + length room.old) image)
         (λ index. IsFirstByteFrom at image (at + index))) }
-    ensures reads { OnlyReads D.size D.honest D.seen D.may_leave D.moment D.left_since D.cuts disk.old disk.new }
+    ensures reads { OnlyReads D.size D.honest D.seen D.may_leave D.moment D.left_since D.cuts
+        disk.old disk.new }
     ensures cause { HasCause (D.faults disk.old) (D.faults disk.new) result }
 {
     disk.read(at, room)?;
     Ok(first_byte(room))
 }
 
-/// Whether every byte of the disk is 0, which is read in blocks. Where one isn't, the answer tells the first.
+/// Whether every byte of the disk is 0, which is read in blocks. Where one isn't, the answer shows
+/// the first.
 fn check_blank<D: Disk>(disk: &mut D) -> Result<(), CreateNo>
     ensures blank { OnOk result ((image : List ℕ) → D.seen disk.old ≡ Some image → IsBlank image) }
     ensures refused { IfErr result (λ why. IsNotBlank (D.seen disk.old) why) }
-    ensures reads { OnlyReads D.size D.honest D.seen D.may_leave D.moment D.left_since D.cuts disk.old disk.new }
+    ensures reads { OnlyReads D.size D.honest D.seen D.may_leave D.moment D.left_since D.cuts
+        disk.old disk.new }
     ensures cause { Caused (D.faults disk.old) (D.faults disk.new) (result ≡ Err CreateNo.Disk) }
 {
     let len = disk.len();
@@ -70,10 +73,12 @@ fn check_blank<D: Disk>(disk: &mut D) -> Result<(), CreateNo>
     Ok(())
 }
 
-/// Begins the first half of a blank disk with no record and no carry, and gives the place of its first record.
+/// Begins the first half of a blank disk with no record and no carry, and gives the place of its
+/// first record.
 pub(crate) fn lay_header<D: Disk>(disk: &mut D) -> Result<Place, CreateNo>
     ensures placed { IfOk result (IsPlaced (D.size disk.old)) }
-    ensures created { IfOk result (λ place. Creates D.size D.honest D.seen D.may_leave disk.old disk.new place) }
+    ensures created { IfOk result (λ place. Creates D.size D.honest D.seen D.may_leave disk.old
+        disk.new place) }
     ensures refused { IfErr result (RefusesCreate (D.size disk.old) (D.seen disk.old)) }
     ensures unchanged { IfErr result (λ why. why ≢ CreateNo.Disk → OnlyReads D.size D.honest D.seen D.may_leave
         D.moment D.left_since D.cuts disk.old disk.new) }

@@ -17,7 +17,8 @@ use cct_disk::Disk;
 use cct_edge::Failed;
 use cct_model_lines::{Carry, Record};
 
-/// Makes the first `calls` of the four disk calls of a put, where there is one, and before them a turn that is due.
+/// Makes the first `calls` of the four disk calls of a put, where there is one, and before them a
+/// turn that is due.
 fn begin_put<D: Disk>(
     disk: &mut D,
     place: &Place,
@@ -69,7 +70,8 @@ pub(crate) fn cut_power<D: Disk>(
         → StandsBefore carry_of D.honest D.seen D.may_leave disk.old place.now carry.now put.now records
         → (left : List Record) × LeftBy calls put.now records left
         × Settled carry_of D.honest D.seen D.may_leave disk.new left) }
-    ensures cut { OnOk result (CutOnce D.size D.honest D.seen D.cuts D.cut_to choice disk.old disk.new) }
+    ensures cut { OnOk result (CutOnce D.size D.honest D.seen D.cuts D.cut_to choice disk.old
+        disk.new) }
     ensures outlasts { Outlasts D.size D.honest D.seen D.cuts disk.old disk.new }
     ensures cause { HasCause (D.faults disk.old) (D.faults disk.new) result }
 {

@@ -1,18 +1,23 @@
 //! The journal.
-ghost use Rattle.std.specs.Prelude.{◌≡◌, ◌≢◌, ◌⊎◌, ◌↔◌, ◌<◌, ◌≤◌, ◌+◌, ℕ, true, false, Err, Some, List, []};
-ghost use Rattle.std.specs.Prelude.{◌∷◌, ◌++◌, IfErr, IfOk, IfSome, IsErrAnd, MatchResult, OnErr, OnOk};
+ghost use Rattle.std.specs.Prelude.{◌≡◌, ◌≢◌, ◌⊎◌, ◌↔◌, ◌<◌, ◌≤◌, ◌+◌, ℕ, true, false, Err, Some};
+ghost use Rattle.std.specs.Prelude.{List, []};
+ghost use Rattle.std.specs.Prelude.{◌∷◌, ◌++◌, IfErr, IfOk, IfSome, IsErrAnd, MatchResult, OnErr};
+ghost use Rattle.std.specs.Prelude.{OnOk};
 ghost use Rattle.cct_edge.specs.Faults.{Caused, HasCause};
 ghost use Rattle.cct_model_lines.specs.Carried.{IsRightly};
 ghost use Rattle.cct_model_lines.specs.declared.carry.Carry.{Carry};
 ghost use Rattle.cct_model_lines.specs.declared.record.Record.{Record};
 ghost use Rattle.cct_record.specs.Body.{Encodable};
 ghost use Rattle.cct_disk.specs.Settle.{Settles};
-ghost use Rattle.cct_disk.specs.Disk.{CountsCut, GoesOn, Holds, IsCutBy, IsWithin, LeavesOnly, OnlyReads, Outlasts};
+ghost use Rattle.cct_disk.specs.Disk.{CountsCut, GoesOn, Holds, IsCutBy, IsWithin, LeavesOnly};
+ghost use Rattle.cct_disk.specs.Disk.{OnlyReads, Outlasts};
 ghost use Rattle.cct_journal.specs.Image.{StandsFor, StandsForOneOf, least_size};
 ghost use Rattle.cct_journal.specs.Creating.{Creates, IsCreated, RefusesCreate};
 ghost use Rattle.cct_journal.specs.PowerCuts.{LeavesWith, LeftBy, StandsForWith};
-ghost use Rattle.cct_journal.specs.Opening.{Finds, GivesRecord, RefusesOpen, RefusesRecord, ReplaysAll};
-ghost use Rattle.cct_journal.specs.Stands.{CutOnce, IsPlaced, IsPlaced-prop, Leaves, LeavesOneOf, Puts, Settled};
+ghost use Rattle.cct_journal.specs.Opening.{Finds, GivesRecord, RefusesOpen, RefusesRecord};
+ghost use Rattle.cct_journal.specs.Opening.{ReplaysAll};
+ghost use Rattle.cct_journal.specs.Stands.{CutOnce, IsPlaced, IsPlaced-prop, Leaves, LeavesOneOf};
+ghost use Rattle.cct_journal.specs.Stands.{Puts, Settled};
 
 use crate::creating::lay_header;
 use crate::cutting::cut_power;
@@ -30,8 +35,8 @@ use cct_model_lines::{Carry, Record};
 
 /// A journal of records on a disk (`docs/JOURNAL.md`).
 ///
-/// Whenever the power is cut, what was put stands on the disk, and what is being put stands there or doesn't. This
-/// rests on an honest disk alone, of which bytes that were synced stay.
+/// Whenever the power is cut, what was put is on the disk, and what is being put is there or
+/// doesn't. This rests on an honest disk alone, of which bytes that were synced stay.
 #[derive(Drop)]
 pub struct Journal<D: Disk> {
     disk: D,
@@ -42,14 +47,17 @@ pub struct Journal<D: Disk> {
 }
 
 impl<D: Disk> Journal<D> {
-    ghost use Rattle.cct_journal.specs.Journal.{JournalReadsFrom, JournalStands, JournalStandsBefore, JournalStandsWith};
-    ghost use Rattle.cct_journal.specs.Journal.{base_of, carry_before, disk_back, disk_of, has_failed, place_of, used_of};
+    ghost use Rattle.cct_journal.specs.Journal.{JournalReadsFrom, JournalStands};
+    ghost use Rattle.cct_journal.specs.Journal.{JournalStandsBefore, JournalStandsWith};
+    ghost use Rattle.cct_journal.specs.Journal.{base_of, carry_before, disk_back, disk_of};
+    ghost use Rattle.cct_journal.specs.Journal.{has_failed, place_of, used_of};
 
     /// Creates a journal without records on a blank disk.
     ///
-    /// The refusals come in the order of [`CreateNo`]. [`CreateNo::Small`] comes where the disk has fewer than
-    /// 2,368 bytes and [`CreateNo::NotBlank`] where a byte isn't 0; then nothing is written. After [`CreateNo::Disk`] the disk is
-    /// as it was, or has no journal, or one without records.
+    /// The refusals come in the order of [`CreateNo`]. [`CreateNo::Small`] comes where the disk has
+    /// fewer than 2,368 bytes and [`CreateNo::NotBlank`] where a byte isn't 0; then nothing is
+    /// written. After [`CreateNo::Disk`] the disk is as it was, or has no journal, or one without
+    /// records.
     pub fn create(disk: D) -> Result<Journal<D>, (D, CreateNo)>
         ensures created { IfOk result (λ journal. Creates D.size D.honest D.seen D.may_leave disk (disk_of journal)
             (place_of journal)) }
@@ -60,8 +68,8 @@ impl<D: Disk> Journal<D> {
         ensures unchanged { IfErr result (λ e. e.1 ≢ CreateNo.Disk → OnlyReads D.size D.honest D.seen D.may_leave
             D.moment D.left_since D.cuts disk e.0) }
 
-        // the disk at each moment, and after the call:
-        // At each moment the disk is as it was, has no header of a journal, or has a journal without records.
+        // the disk at each moment, and after the call: At each moment the disk is as it was, has no
+        // header of a journal, or has a journal without records.
         ensures moments { (image : List ℕ) → Holds D.honest D.seen D.may_leave disk image → MatchResult result
             (λ journal. LeavesOnly D.moment D.left_since disk (disk_of journal) (IsCreated image))
             (λ e. LeavesOnly D.moment D.left_since disk e.0 (IsCreated image)) }
@@ -96,13 +104,16 @@ impl<D: Disk> Journal<D> {
         }
     }
 
-    /// Opens the journal that stands on a disk, and tells how many records it has. The disk is only read.
+    /// Opens the journal that is on a disk, and says how many records it has. The disk is only
+    /// read.
     ///
-    /// [`OpenNo::Alien`] comes where the disk has fewer than 2,368 bytes, no half of it is open, or the current one has an
-    /// older version or begins with no header and carry, and [`OpenNo::BadRecord`] at the first body after an open gate of it that spells no
-    /// record, where no shut gate stands before it.
+    /// [`OpenNo::Alien`] comes where the disk has fewer than 2,368 bytes, no half of it is open, or
+    /// the current one has an older version or begins with no header and carry, and
+    /// [`OpenNo::BadRecord`] at the first body after an open gate of it that spells no record,
+    /// where no shut gate is before it.
     pub fn reopen(disk: D) -> Result<(Journal<D>, u32), (D, OpenNo)>
-        ensures finds { IfOk result (λ opened. Finds D.seen disk (disk_of opened.0) (place_of opened.0)) }
+        ensures finds { IfOk result (λ opened. Finds D.seen disk (disk_of opened.0)
+            (place_of opened.0)) }
         // If the disk keeps exactly one image, the journal represents it.
         ensures stands { IfOk result (λ opened. (carry_of : List Record → Carry) (records : List Record)
             → Settled carry_of D.honest D.seen D.may_leave disk records → JournalStands carry_of opened.0 records) }
@@ -110,7 +121,8 @@ impl<D: Disk> Journal<D> {
         ensures unbroken { IfOk result (λ opened. has_failed opened.0 ≡ false) }
 
         // why it is refused
-        ensures refused { IfErr result (λ e. (image : List ℕ) → D.seen disk ≡ Some image → RefusesOpen e.1 image) }
+        ensures refused { IfErr result (λ e. (image : List ℕ) → D.seen disk ≡ Some image →
+            RefusesOpen e.1 image) }
         // A disk that represents records is refused only if it failed.
         ensures never { IfErr result (λ e. (carry_of : List Record → Carry) (image : List ℕ) (records : List Record)
             → D.seen disk ≡ Some image → StandsFor carry_of image records → e.1 ≡ OpenNo.Disk) }
@@ -155,8 +167,8 @@ impl<D: Disk> Journal<D> {
         MOST_RECORDS as u32
     }
 
-    /// How many records stood before the current half. They can't be read any more; [`Journal::carry`] is what is kept of
-    /// them.
+    /// How many records stood before the current half. They can't be read any more;
+    /// [`Journal::carry`] is what is kept of them.
     pub fn base(&self) -> u32
         ensures value { result ≡ base_of self.now }
         ensures fits { result ≤ MOST_RECORDS }
@@ -194,19 +206,22 @@ impl<D: Disk> Journal<D> {
 
     /// Reads the record of an index, the first at 0. The disk is only read.
     ///
-    /// It has to be one of the current half, from [`Journal::base`] on. [`ReadNo::BadRecord`] comes where the body of that
-    /// record spells none, which never happens on a disk whose reads
-    /// give what the journal was opened on.
+    /// It has to be one of the current half, from [`Journal::base`] on. [`ReadNo::BadRecord`] comes
+    /// where the body of that record spells none, which never happens on a disk whose reads give
+    /// what the journal was opened on.
     pub fn read_at(&mut self, index: u32) -> Result<Record, ReadNo>
         requires from { base_of self.old ≤ index }
         requires within { index < used_of self.old }
-        ensures gives { IfOk result (GivesRecord D.seen (disk_of self.old) (place_of self.old) index) }
-        ensures refused { IfErr result (RefusesRecord D.seen (disk_of self.old) (place_of self.old) index) }
+        ensures gives { IfOk result (GivesRecord D.seen (disk_of self.old) (place_of self.old)
+            index) }
+        ensures refused { IfErr result (RefusesRecord D.seen (disk_of self.old) (place_of self.old)
+            index) }
 
         // the journal stays as it is
         ensures stands { (carry_of : List Record → Carry) (records : List Record)
             → JournalStands carry_of self.old records → JournalStands carry_of self.new records }
-        ensures told { (rest : List Record) → JournalReadsFrom self.old rest → JournalReadsFrom self.new rest }
+        ensures told { (rest : List Record) → JournalReadsFrom self.old rest →
+            JournalReadsFrom self.new rest }
         ensures place { place_of self.new ≡ place_of self.old }
         ensures unbroken { has_failed self.new ≡ has_failed self.old }
         ensures reads { OnlyReads D.size D.honest D.seen D.may_leave D.moment D.left_since D.cuts (disk_of self.old)
@@ -217,19 +232,21 @@ impl<D: Disk> Journal<D> {
         read_record(&mut self.disk, &self.place, index)
     }
 
-    /// Puts a record after the others, by four disk calls. At `Ok` every power cut leaves it. Where the current half is
-    /// full, the other one is begun first, by six calls, with the carry of all records so far (`docs/JOURNAL.md`, "A turn").
+    /// Puts a record after the others, by four disk calls. At `Ok` every power cut leaves it. Where
+    /// the current half is full, the other one is begun first, by six calls, with the carry of all
+    /// records so far (`docs/JOURNAL.md`, "A turn").
     ///
-    /// `carry` is that of the records before. No earlier put on this value may have failed. [`JournalNo::Full`] comes where the journal has as many records as
-    /// it takes, and changes nothing. After [`JournalNo::Disk`] it is open whether the record stands, and the disk has
-    /// to be opened again.
+    /// `carry` is that of the records before. No earlier put on this value may have failed.
+    /// [`JournalNo::Full`] comes where the journal has as many records as it takes, and changes
+    /// nothing. After [`JournalNo::Disk`] it is open whether the record stands, and the disk has to
+    /// be opened again.
     pub fn put(&mut self, entry: &Record, carry: &Carry) -> Result<(), JournalNo>
         requires whole { has_failed self.old ≡ false }
         requires encodable { Encodable entry.now }
         requires rightly { IsRightly (used_of self.old) carry.now }
 
-        // each image that a power cut at a moment of the call may leave:
-        // Within a call of the disk or between two, of the turn too, whether calls fail or not, each image that a power cut
+        // each image that a power cut at a moment of the call may leave: Within a call of the disk
+        // or between two, of the turn too, whether calls fail or not, each image that a power cut
         // may leave stands for the records before, or for these and the new one.
         ensures moments { (carry_of : List Record → Carry) (records : List Record)
             → JournalStandsWith carry_of self.old carry.now records
@@ -248,13 +265,14 @@ impl<D: Disk> Journal<D> {
         ensures counted { OnOk result (used_of self.new ≡ used_of self.old + 1) }
         ensures still { OnErr result (place_of self.new ≡ place_of self.old) }
         ensures unbroken { OnOk result (has_failed self.new ≡ false) }
-        // Nothing more may be put on that value: what stands in the slot is open.
+        // Nothing more may be put on that value: what is in the slot is open.
         ensures broken { result ≡ Err JournalNo.Disk → has_failed self.new ≡ true }
 
         // why it is refused
         ensures full { (result ≡ Err (JournalNo.Full (used_of self.old)))
             ↔ (used_of self.old ≡ MOST_RECORDS) }
-        ensures why { IfErr result (λ why. (why ≡ JournalNo.Disk) ⊎ (why ≡ JournalNo.Full (used_of self.old))) }
+        ensures why { IfErr result (λ why. (why ≡ JournalNo.Disk)
+            ⊎ (why ≡ JournalNo.Full (used_of self.old))) }
         ensures unchanged { result ≡ Err (JournalNo.Full (used_of self.old)) → self.new ≡ self.old }
 
         // the disk
@@ -275,8 +293,8 @@ impl<D: Disk> Journal<D> {
         }
     }
 
-    /// Makes the first `calls` of the four disk calls of a put and gives the disk back, for a crash within a
-    /// put. A turn that is due is made whole before them, also where `calls` is 0.
+    /// Makes the first `calls` of the four disk calls of a put and gives the disk back, for a crash
+    /// within a put. A turn that is due is made whole before them, also where `calls` is 0.
     pub fn put_calls(self, entry: &Record, carry: &Carry, calls: u8) -> Result<D, (D, Failed)>
         requires few { calls ≤ 4 }
         requires room { used_of self < MOST_RECORDS }
@@ -314,8 +332,8 @@ impl<D: Disk> Journal<D> {
         }
     }
 
-    /// Cuts the power and gives the disk back, which then keeps one of the images that this might leave, which one by
-    /// `choice`.
+    /// Cuts the power and gives the disk back, which then keeps one of the images that this might
+    /// leave, which one by `choice`.
     pub fn power_cut(self, choice: u64) -> Result<D, (D, Failed)>
         ensures stands { OnOk result ((carry_of : List Record → Carry) (records : List Record)
             → Leaves carry_of D.honest D.seen D.may_leave (disk_of self) records
@@ -351,13 +369,15 @@ impl<D: Disk> Journal<D> {
         }
     }
 
-    /// Cuts the power within a put or in none, opens what is left in place, and tells how many records it
-    /// has. Each is replayed as it is found, so each slot is read once.
+    /// Cuts the power within a put or in none, opens what is left in place, and says how many
+    /// records it has. Each is replayed as it is found, so each slot is read once.
     ///
-    /// `put` is the record of the put that is interrupted, after the first `calls` of its four disk calls, 0 to 4, where a
-    /// turn that is due is made whole before them; `carry` is that of the records before, and `choice` is that of [`Disk::power_cut`]. No earlier put on this value may have failed. [`OpenNo::Disk`] comes
-    /// where a disk call fails, and the others as from [`Journal::reopen`]. After any of them nothing more may be put,
-    /// and some of the records may have been replayed.
+    /// `put` is the record of the put that is interrupted, after the first `calls` of its four disk
+    /// calls, 0 to 4, where a turn that is due is made whole before them; `carry` is that of the
+    /// records before, and `choice` is that of [`Disk::power_cut`]. No earlier put on this value
+    /// may have failed. [`OpenNo::Disk`] comes where a disk call fails, and the others as from
+    /// [`Journal::reopen`]. After any of them nothing more may be put, and some of the records may
+    /// have been replayed.
     pub fn restart<R: Replay>(
         &mut self,
         put: &Option<Record>,
@@ -378,17 +398,18 @@ impl<D: Disk> Journal<D> {
             → LeavesOnly D.moment D.left_since (disk_of self.old) (disk_of self.new)
             (StandsForWith carry_of put.now records) }
 
-        // what is opened:
-        // The records before, or these and the one of the put that was cut short: up to two calls the records alone,
-        // after four the new one too.
+        // what is opened: The records before, or these and the one of the put that was cut short:
+        // up to two calls the records alone, after four the new one too.
         ensures stands { OnOk result ((carry_of : List Record → Carry) (records : List Record)
             → JournalStandsBefore carry_of self.old carry.now put.now records
             → (left : List Record) × LeftBy calls put.now records left
             × JournalStands carry_of self.new left) }
-        ensures finds { OnOk result (Finds D.seen (disk_of self.new) (disk_of self.new) (place_of self.new)) }
+        ensures finds { OnOk result (Finds D.seen (disk_of self.new) (disk_of self.new)
+            (place_of self.new)) }
         ensures counted { IfOk result (λ used. used ≡ used_of self.new) }
         ensures unbroken { OnOk result (has_failed self.new ≡ false) }
-        // What goes over the records was handed as many as the journal has, one by one, oldest first.
+        // What goes over the records was handed as many as the journal has, one by one, oldest
+        // first.
         ensures replayed { OnOk result (ReplaysAll D.seen R.replayed (disk_of self.new) (place_of self.new) replay.old
             replay.new) }
 
@@ -407,8 +428,10 @@ impl<D: Disk> Journal<D> {
         // Exactly one cut, by the choice given, and the disk was only read after it.
         ensures cut { result ≢ Err OpenNo.Disk
             → CutOnce D.size D.honest D.seen D.cuts D.cut_to choice (disk_of self.old) (disk_of self.new) }
-        ensures outlasts { Outlasts D.size D.honest D.seen D.cuts (disk_of self.old) (disk_of self.new) }
-        ensures cause { Caused (D.faults (disk_of self.old)) (D.faults (disk_of self.new)) (result ≡ Err OpenNo.Disk) }
+        ensures outlasts { Outlasts D.size D.honest D.seen D.cuts (disk_of self.old)
+            (disk_of self.new) }
+        ensures cause { Caused (D.faults (disk_of self.old)) (D.faults (disk_of self.new))
+            (result ≡ Err OpenNo.Disk) }
     {
         self.failed = true;
         let Ok(()) = cut_power(&mut self.disk, &self.place, carry, put, calls, choice) else {
@@ -432,7 +455,8 @@ impl<D: Settle> Journal<D> {
     /// The caller who makes the calls of the disk made all of them, and none failed.
     pub fn settle(&mut self)
         ensures none { D.noted (disk_of self.new) ≡ 0 }
-        ensures disk { Settles D.size D.honest D.seen D.may_leave D.cuts D.faults (disk_of self.old) (disk_of self.new) }
+        ensures disk { Settles D.size D.honest D.seen D.may_leave D.cuts D.faults (disk_of self.old)
+            (disk_of self.new) }
         ensures place { place_of self.new ≡ place_of self.old }
         ensures unbroken { has_failed self.new ≡ has_failed self.old }
     {

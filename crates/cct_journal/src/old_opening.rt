@@ -1,5 +1,6 @@
-//! The journal of an older version that stands on a disk is found.
-ghost use Rattle.std.specs.Prelude.{◌≡◌, ℕ, ◌+◌, ◌<◌, ◌≤◌, ◌↔◌, true, false, Err, Some, List, length, IfErr, IfNone, IfOk};
+//! The journal of an older version that is on a disk is found.
+ghost use Rattle.std.specs.Prelude.{◌≡◌, ℕ, ◌+◌, ◌<◌, ◌≤◌, ◌↔◌, true, false, Err, Some, List};
+ghost use Rattle.std.specs.Prelude.{length, IfErr, IfNone, IfOk};
 ghost use Rattle.std.specs.Prelude.{IfSome, IsTrue, MatchOption, take};
 ghost use Rattle.cct_edge.specs.Faults.{Caused, HasCause};
 ghost use Rattle.cct_model_lines.specs.declared.carry.Carry.{Carry};
@@ -8,7 +9,8 @@ ghost use Rattle.cct_journal.specs.Half.{half, has_open_gate};
 ghost use Rattle.cct_journal.specs.Fronts.{IsCurrentHalf};
 ghost use Rattle.cct_journal.specs.Image.{least_size};
 ghost use Rattle.cct_journal.specs.OldImage.{BeginsSecond, IsOldAt, first_header};
-ghost use Rattle.cct_journal.specs.OldStands.{HasFreeHalf, IsOldPlaced, MayBeCounted, OldBeginsAt, OldFinds, RefusesOld, first_at, with_used};
+ghost use Rattle.cct_journal.specs.OldStands.{HasFreeHalf, IsOldPlaced, MayBeCounted, OldBeginsAt};
+ghost use Rattle.cct_journal.specs.OldStands.{OldFinds, RefusesOld, first_at, with_used};
 ghost use Rattle.cct_journal.specs.OldStands.{OldBeginsWhere, RefusesWhere};
 
 use crate::OldNo;
@@ -26,7 +28,8 @@ use cct_model_lines::Carry;
 /// The bytes of the header of version 1.
 const FIRST_HEADER: usize = 32;
 
-/// Whether these are the bytes that a journal of version 1 begins with: the title and the version, and 16 bytes 0.
+/// Whether these are the bytes that a journal of version 1 begins with: the title and the version,
+/// and 16 bytes 0.
 fn is_first_header(bytes: &[u8; FIRST_HEADER]) -> bool
     ensures { IsTrue result ↔ (bytes.now ≡ first_header) }
 {
@@ -36,8 +39,8 @@ fn is_first_header(bytes: &[u8; FIRST_HEADER]) -> bool
     header == *bytes
 }
 
-/// The place of a journal of version 1 before its first record: in the first half, with generation 0, base 0 and the empty
-/// carry.
+/// The place of a journal of version 1 before its first record: in the first half, with generation
+/// 0, base 0 and the empty carry.
 fn first_place(other_open: bool) -> OldPlace
     ensures { result ≡ first_at other_open }
 {
@@ -54,7 +57,7 @@ fn first_place(other_open: bool) -> OldPlace
     }
 }
 
-/// Reads what a journal of version 1 begins with, and tells its place before its first record.
+/// Reads what a journal of version 1 begins with, and shows its place before its first record.
 fn find_first<D: Disk>(disk: &mut D, current: Current) -> Result<OldPlace, OldNo>
     requires { least_size ≤ D.size disk.old }
     ensures counted { IfOk result (MayBeCounted (D.size disk.old)) }
@@ -62,7 +65,8 @@ fn find_first<D: Disk>(disk: &mut D, current: Current) -> Result<OldPlace, OldNo
         → OldBeginsWhere FIRST_VERSION current image old) }
     ensures refused { IfErr result (λ why. (image : List ℕ) → D.seen disk.old ≡ Some image
         → RefusesWhere FIRST_VERSION current why image) }
-    ensures reads { OnlyReads D.size D.honest D.seen D.may_leave D.moment D.left_since D.cuts disk.old disk.new }
+    ensures reads { OnlyReads D.size D.honest D.seen D.may_leave D.moment D.left_since D.cuts
+        disk.old disk.new }
     ensures cause { Caused (D.faults disk.old) (D.faults disk.new) (result ≡ Err OldNo.Disk) }
 {
     let mut bytes = [0; FIRST_HEADER];
@@ -74,7 +78,7 @@ fn find_first<D: Disk>(disk: &mut D, current: Current) -> Result<OldPlace, OldNo
     }
 }
 
-/// Reads what a half of version 2 begins with, and tells its place before its first record.
+/// Reads what a half of version 2 begins with, and shows its place before its first record.
 fn find_second<D: Disk>(disk: &mut D, current: Current) -> Result<OldPlace, OldNo>
     requires { least_size ≤ D.size disk.old }
     ensures counted { IfOk result (MayBeCounted (D.size disk.old)) }
@@ -82,7 +86,8 @@ fn find_second<D: Disk>(disk: &mut D, current: Current) -> Result<OldPlace, OldN
         → OldBeginsWhere SECOND_VERSION current image old) }
     ensures refused { IfErr result (λ why. (image : List ℕ) → D.seen disk.old ≡ Some image
         → RefusesWhere SECOND_VERSION current why image) }
-    ensures reads { OnlyReads D.size D.honest D.seen D.may_leave D.moment D.left_since D.cuts disk.old disk.new }
+    ensures reads { OnlyReads D.size D.honest D.seen D.may_leave D.moment D.left_since D.cuts
+        disk.old disk.new }
     ensures cause { Caused (D.faults disk.old) (D.faults disk.new) (result ≡ Err OldNo.Disk) }
 {
     let mut bytes = [0; START];
@@ -96,12 +101,14 @@ fn find_second<D: Disk>(disk: &mut D, current: Current) -> Result<OldPlace, OldN
     })
 }
 
-/// Why no older version is found where the current half has today's: that version itself, a start that is none, or a
-/// failure.
+/// Why no older version is found where the current half has today's: that version itself, a start
+/// that is none, or a failure.
 fn refuse_today<D: Disk>(disk: &mut D, current: Current) -> OldNo
     requires { least_size ≤ D.size disk.old }
-    ensures refused { (image : List ℕ) → D.seen disk.old ≡ Some image → RefusesWhere VERSION current result image }
-    ensures reads { OnlyReads D.size D.honest D.seen D.may_leave D.moment D.left_since D.cuts disk.old disk.new }
+    ensures refused { (image : List ℕ) → D.seen disk.old ≡ Some image →
+        RefusesWhere VERSION current result image }
+    ensures reads { OnlyReads D.size D.honest D.seen D.may_leave D.moment D.left_since D.cuts
+        disk.old disk.new }
     ensures cause { Caused (D.faults disk.old) (D.faults disk.new) (result ≡ OldNo.Disk) }
 {
     match find_start(disk, current.second) {
@@ -111,13 +118,17 @@ fn refuse_today<D: Disk>(disk: &mut D, current: Current) -> OldNo
     }
 }
 
-/// The place of the journal of an older version on a disk, before the first record of its current half.
+/// The place of the journal of an older version on a disk, before the first record of its current
+/// half.
 fn find_old_half<D: Disk>(disk: &mut D) -> Result<OldPlace, OldNo>
     requires { least_size ≤ D.size disk.old }
     ensures counted { IfOk result (MayBeCounted (D.size disk.old)) }
-    ensures begins { IfOk result (λ old. (image : List ℕ) → D.seen disk.old ≡ Some image → OldBeginsAt image old) }
-    ensures refused { IfErr result (λ why. (image : List ℕ) → D.seen disk.old ≡ Some image → RefusesOld why image) }
-    ensures reads { OnlyReads D.size D.honest D.seen D.may_leave D.moment D.left_since D.cuts disk.old disk.new }
+    ensures begins { IfOk result (λ old. (image : List ℕ) → D.seen disk.old ≡ Some image →
+        OldBeginsAt image old) }
+    ensures refused { IfErr result (λ why. (image : List ℕ) → D.seen disk.old ≡ Some image →
+        RefusesOld why image) }
+    ensures reads { OnlyReads D.size D.honest D.seen D.may_leave D.moment D.left_since D.cuts
+        disk.old disk.new }
     ensures cause { Caused (D.faults disk.old) (D.faults disk.new) (result ≡ Err OldNo.Disk) }
 {
     let Some(current) = find_current(disk)? else {
@@ -132,7 +143,8 @@ fn find_old_half<D: Disk>(disk: &mut D) -> Result<OldPlace, OldNo>
     }
 }
 
-/// Whether the half that a turn begins is free of the records of a journal of an older version, of which there are so many.
+/// Whether the half that a turn begins is free of the records of a journal of an older version, of
+/// which there are so many.
 fn has_free_half(len: u64, version: OldVersion, used: u32) -> bool
     ensures { IsTrue result ↔ HasFreeHalf version len used }
 {
@@ -148,11 +160,13 @@ pub(crate) fn find_old<D: Disk>(disk: &mut D) -> Result<OldPlace, OldNo>
     ensures finds { IfOk result (OldFinds D.seen disk.old) }
 
     // why none is found
-    ensures refused { IfErr result (λ why. (image : List ℕ) → D.seen disk.old ≡ Some image → RefusesOld why image) }
+    ensures refused { IfErr result (λ why. (image : List ℕ) → D.seen disk.old ≡ Some image →
+        RefusesOld why image) }
     ensures short { D.size disk.old < least_size → result ≡ Err OldNo.Alien }
 
     // the disk
-    ensures reads { OnlyReads D.size D.honest D.seen D.may_leave D.moment D.left_since D.cuts disk.old disk.new }
+    ensures reads { OnlyReads D.size D.honest D.seen D.may_leave D.moment D.left_since D.cuts
+        disk.old disk.new }
     ensures cause { Caused (D.faults disk.old) (D.faults disk.new) (result ≡ Err OldNo.Disk) }
 {
     let len = disk.len();

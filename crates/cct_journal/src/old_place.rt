@@ -1,4 +1,4 @@
-//! Where a journal of an older version stands on its disk.
+//! Where a journal of an older version is on its disk.
 ghost use Rattle.std.specs.Prelude.{◌≡◌};
 ghost use Rattle.cct_journal.specs.OldImage.{number_of};
 
@@ -14,11 +14,12 @@ pub(crate) enum OldVersion {
     Two,
 }
 
-/// Where a journal of an older version stands on its disk.
+/// Where a journal of an older version is on its disk.
 #[derive(Drop)]
 pub(crate) struct OldPlace {
     pub(crate) version: OldVersion,
-    /// The half that it counts as: of version 1 that is the first one, with generation 0, base 0 and the empty carry.
+    /// The half that it counts as: of version 1 that is the first one, with generation 0, base 0
+    /// and the empty carry.
     pub(crate) place: Place,
 }
 

@@ -22,7 +22,8 @@ fn may_begin_old(start: &Start, second: bool) -> bool
 /// Whether these are the bytes that a half of version 2 begins with whose carry has these bodies.
 fn is_old_spelt(start: &Start, bodies: &[[u8; BODY]], bytes: &[u8; START]) -> bool
     requires { length bodies.now ≤ CARRY_BODIES }
-    ensures { IsTrue result ↔ (start_with 2 start.now.generation start.now.base bodies.now ≡ bytes.now) }
+    ensures { IsTrue result ↔ (start_with 2 start.now.generation start.now.base bodies.now
+        ≡ bytes.now) }
 {
     spell_with(SECOND_VERSION, start.generation, start.base, bodies) == *bytes
 }
@@ -37,7 +38,8 @@ fn begins_old(start: &Start, bodies: &[[u8; BODY]], bytes: &[u8; START], second:
     may_begin_old(start, second) && is_old_spelt(start, bodies, bytes)
 }
 
-/// What a half of version 2 begins with that has these first bytes, or none where no such half begins so.
+/// What a half of version 2 begins with that has these first bytes, or none where no such half
+/// begins so.
 pub(crate) fn read_old_start(bytes: &[u8; START], second: bool) -> Option<Start>
     ensures begins { IfSome result (λ s. BeginsSecond second s.generation s.base s.carry bytes.now) }
     // Only bytes with which no such half begins.

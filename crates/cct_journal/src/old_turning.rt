@@ -17,8 +17,8 @@ use cct_disk::Disk;
 use cct_edge::Failed;
 use cct_model_lines::Carry;
 
-/// Begins the other half of a journal of an older version as one of today, with the carry of all its records, by six disk
-/// calls.
+/// Begins the other half of a journal of an older version as one of today, with the carry of all
+/// its records, by six disk calls.
 pub(crate) fn turn_old<D: Disk>(
     disk: &mut D,
     old: &OldPlace,

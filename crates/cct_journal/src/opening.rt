@@ -1,5 +1,6 @@
-//! The journal that stands on a disk is found.
-ghost use Rattle.std.specs.Prelude.{◌≡◌, ◌↔◌, ℕ, ◌<◌, ◌≤◌, ◌==◌, true, false, Bool, Err, Some, List, IsTrue, if◌then◌else◌};
+//! The journal that is on a disk is found.
+ghost use Rattle.std.specs.Prelude.{◌≡◌, ◌↔◌, ℕ, ◌<◌, ◌≤◌, ◌==◌, true, false, Bool, Err, Some};
+ghost use Rattle.std.specs.Prelude.{List, IsTrue, if◌then◌else◌};
 ghost use Rattle.std.specs.Prelude.{IfErr, IfOk, IfSome, MatchOption};
 ghost use Rattle.cct_edge.specs.Faults.{Caused, HasCause};
 ghost use Rattle.cct_model_lines.specs.declared.carry.Carry.{Carry};
@@ -20,10 +21,11 @@ use crate::{OpenNo, Replay};
 use cct_disk::Disk;
 use cct_edge::Failed;
 
-/// The bytes at the front of a half that say whether it counts: its gate, the title, the version and its generation.
+/// The bytes at the front of a half that say whether it counts: its gate, the title, the version
+/// and its generation.
 const FRONT: usize = 20;
 
-/// What stands at the front of a half.
+/// What is at the front of a half.
 #[derive(Clone, Copy)]
 pub(crate) struct Front {
     /// Whether the gate is open.
@@ -61,7 +63,7 @@ fn is_open(bytes: &[u8; FRONT], second: bool) -> bool
     bytes[..15] == TITLE[..] && may_have(second, bytes[15])
 }
 
-/// The generation of a half of a version, by the number that stands in its header.
+/// The generation of a half of a version, by the number that is in its header.
 fn generation_of(version: u8, turns: u32) -> u32
     ensures { result ≡ (if version == 1 then 0 else turns) }
 {
@@ -87,7 +89,8 @@ fn look_at<D: Disk>(disk: &mut D, second: bool) -> Result<Front, Failed>
     requires { least_size ≤ D.size disk.old }
     ensures front { IfOk result (λ front. (image : List ℕ) → D.seen disk.old ≡ Some image
         → IsFront second front (half image second)) }
-    ensures reads { OnlyReads D.size D.honest D.seen D.may_leave D.moment D.left_since D.cuts disk.old disk.new }
+    ensures reads { OnlyReads D.size D.honest D.seen D.may_leave D.moment D.left_since D.cuts
+        disk.old disk.new }
     ensures cause { HasCause (D.faults disk.old) (D.faults disk.new) result }
 {
     let mut bytes = [0; FRONT];
@@ -122,7 +125,8 @@ pub(crate) fn find_current<D: Disk>(disk: &mut D) -> Result<Option<Current>, Fai
     requires { least_size ≤ D.size disk.old }
     ensures found { IfOk result (λ found. (image : List ℕ) → D.seen disk.old ≡ Some image
         → MatchOption found ((second : Bool) → IsCurrent second image → ⊥) (IsCurrentHalf image)) }
-    ensures reads { OnlyReads D.size D.honest D.seen D.may_leave D.moment D.left_since D.cuts disk.old disk.new }
+    ensures reads { OnlyReads D.size D.honest D.seen D.may_leave D.moment D.left_since D.cuts
+        disk.old disk.new }
     ensures cause { HasCause (D.faults disk.old) (D.faults disk.new) result }
 {
     let first = look_at(disk, false)?;
@@ -147,11 +151,13 @@ pub(crate) fn place_at(current: Current, start: Start) -> Place
 /// Reads what a half begins with before its records, if it is the one spelling of a start.
 pub(crate) fn find_start<D: Disk>(disk: &mut D, second: bool) -> Result<Option<Start>, Failed>
     requires { least_size ≤ D.size disk.old }
-    ensures may { IfOk result (λ found. IfSome found (λ s. MayBegin second s.generation s.base s.carry)) }
+    ensures may { IfOk result (λ found. IfSome found
+        (λ s. MayBegin second s.generation s.base s.carry)) }
     ensures found { IfOk result (λ found. (image : List ℕ) → D.seen disk.old ≡ Some image → MatchOption found
         ((generation base : ℕ) (carry : Carry) → Begins second generation base carry (half image second) → ⊥)
         (λ s. Begins second s.generation s.base s.carry (half image second))) }
-    ensures reads { OnlyReads D.size D.honest D.seen D.may_leave D.moment D.left_since D.cuts disk.old disk.new }
+    ensures reads { OnlyReads D.size D.honest D.seen D.may_leave D.moment D.left_since D.cuts
+        disk.old disk.new }
     ensures cause { HasCause (D.faults disk.old) (D.faults disk.new) result }
 {
     let mut bytes = [0; START];
@@ -163,9 +169,12 @@ pub(crate) fn find_start<D: Disk>(disk: &mut D, second: bool) -> Result<Option<S
 fn find_half<D: Disk>(disk: &mut D) -> Result<Place, OpenNo>
     requires { least_size ≤ D.size disk.old }
     ensures placed { IfOk result (λ place. IsPlaced (D.size disk.old) place) }
-    ensures begins { IfOk result (λ place. (image : List ℕ) → D.seen disk.old ≡ Some image → BeginsAt image place) }
-    ensures refused { IfErr result (λ why. (image : List ℕ) → D.seen disk.old ≡ Some image → RefusesOpen why image) }
-    ensures reads { OnlyReads D.size D.honest D.seen D.may_leave D.moment D.left_since D.cuts disk.old disk.new }
+    ensures begins { IfOk result (λ place. (image : List ℕ) → D.seen disk.old ≡ Some image →
+        BeginsAt image place) }
+    ensures refused { IfErr result (λ why. (image : List ℕ) → D.seen disk.old ≡ Some image →
+        RefusesOpen why image) }
+    ensures reads { OnlyReads D.size D.honest D.seen D.may_leave D.moment D.left_since D.cuts
+        disk.old disk.new }
     ensures cause { Caused (D.faults disk.old) (D.faults disk.new) (result ≡ Err OpenNo.Disk) }
 {
     let Some(current) = find_current(disk)? else {
@@ -177,22 +186,26 @@ fn find_half<D: Disk>(disk: &mut D) -> Result<Place, OpenNo>
     Ok(place_at(current, start))
 }
 
-/// The place of the journal on a disk, which is only read. Its carry is replayed, and each of its records after it.
+/// The place of the journal on a disk, which is only read. Its carry is replayed, and each of its
+/// records after it.
 pub(crate) fn find_place<D: Disk, R: Replay>(disk: &mut D, replay: &mut R) -> Result<Place, OpenNo>
     ensures placed { IfOk result (λ place. IsPlaced (D.size disk.old) place) }
     ensures finds { IfOk result (λ place. Finds D.seen disk.old disk.new place) }
-    ensures replayed { IfOk result (λ place. ReplaysAll D.seen R.replayed disk.new place replay.old replay.new) }
+    ensures replayed { IfOk result (λ place. ReplaysAll D.seen R.replayed disk.new place replay.old
+        replay.new) }
     // If the disk keeps exactly one image, a journal at that place represents it.
     ensures stands { IfOk result (λ place. (carry_of : List Record → Carry) (records : List Record)
         → Settled carry_of D.honest D.seen D.may_leave disk.old records
         → Stands carry_of D.honest D.seen D.may_leave disk.new place records) }
 
     // why none is found
-    ensures refused { IfErr result (λ why. (image : List ℕ) → D.seen disk.old ≡ Some image → RefusesOpen why image) }
+    ensures refused { IfErr result (λ why. (image : List ℕ) → D.seen disk.old ≡ Some image →
+        RefusesOpen why image) }
     ensures short { D.size disk.old < least_size → result ≡ Err OpenNo.Alien }
 
     // the disk
-    ensures reads { OnlyReads D.size D.honest D.seen D.may_leave D.moment D.left_since D.cuts disk.old disk.new }
+    ensures reads { OnlyReads D.size D.honest D.seen D.may_leave D.moment D.left_since D.cuts
+        disk.old disk.new }
     ensures cause { Caused (D.faults disk.old) (D.faults disk.new) (result ≡ Err OpenNo.Disk) }
 {
     if disk.len() < LEAST {

@@ -1,7 +1,7 @@
-//! Where a journal stands on its disk.
+//! Where a journal is on its disk.
 use cct_model_lines::Carry;
 
-/// Where a journal stands on its disk: in which half, and what that half begins with.
+/// Where a journal is on its disk: in which half, and what that half begins with.
 #[derive(Clone, Debug, Drop)]
 pub(crate) struct Place {
     /// How many records there are, with those before the half.

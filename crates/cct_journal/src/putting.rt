@@ -40,8 +40,9 @@ fn go_on(place: &mut Place, turned: Option<Place>)
     place.used += 1;
 }
 
-/// Makes the first `calls` of the four disk calls that put a record after the others, where there has to be room for it.
-/// Before them it makes a turn whole, if the current half is full, and then tells the new place, of the records before.
+/// Makes the first `calls` of the four disk calls that put a record after the others, where there
+/// has to be room for it. Before them it makes a turn whole, if the current half is full, and then
+/// shows the new place, of the records before.
 pub(crate) fn put_record<D: Disk>(
     disk: &mut D,
     place: &Place,
@@ -60,7 +61,8 @@ pub(crate) fn put_record<D: Disk>(
         → StandsWith carry_of D.honest D.seen D.may_leave disk.old place.now carry.now records
         → Stands carry_of D.honest D.seen D.may_leave disk.new (after_put (turned_or place.now turned))
         (records ++ entry.now ∷ [])) }
-    ensures placed { IfOk result (λ turned. IsPlaced (D.size disk.old) (after_put (turned_or place.now turned))) }
+    ensures placed { IfOk result (λ turned. IsPlaced (D.size disk.old)
+        (after_put (turned_or place.now turned))) }
     ensures used { IfOk result (λ turned. (turned_or place.now turned).used ≡ place.now.used) }
     ensures goes_on { GoesOn D.size D.honest D.seen D.cuts disk.old disk.new }
     ensures cause { HasCause (D.faults disk.old) (D.faults disk.new) result }
@@ -70,8 +72,8 @@ pub(crate) fn put_record<D: Disk>(
     Ok(turned)
 }
 
-/// Puts a record after the others, by four disk calls, and goes on to the place after it. Where the current half is full, a
-/// turn is made before.
+/// Puts a record after the others, by four disk calls, and goes on to the place after it. Where the
+/// current half is full, a turn is made before.
 pub(crate) fn put_next<D: Disk>(
     disk: &mut D,
     place: &mut Place,
@@ -102,7 +104,8 @@ pub(crate) fn put_next<D: Disk>(
     Ok(())
 }
 
-/// The same with the test for a turn. A place is wide: in a function of its own none is made where no turn is due.
+/// The same with the test for a turn. A place is wide: in a function of its own none is made where
+/// no turn is due.
 #[inline(never)]
 fn put_turned<D: Disk>(
     disk: &mut D,

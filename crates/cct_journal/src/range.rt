@@ -1,5 +1,7 @@
-//! One write and one sync, and two of them with a gate: the units of all that is written to the disk.
-ghost use Rattle.std.specs.Prelude.{◌≡◌, ℕ, ◌+◌, ◌^◌, ◌<◌, ◌≤◌, true, Some, List, [], ◌∷◌, length, OnOk};
+//! One write and one sync, and two of them with a gate: the units of all that is written to the
+//! disk.
+ghost use Rattle.std.specs.Prelude.{◌≡◌, ℕ, ◌+◌, ◌^◌, ◌<◌, ◌≤◌, true, Some, List, [], ◌∷◌, length};
+ghost use Rattle.std.specs.Prelude.{OnOk};
 ghost use Rattle.cct_edge.specs.Faults.{HasCause};
 ghost use Rattle.cct_disk.specs.Disk.{GoesOn, Holds, LeavesOnly, SameOutside, put_at};
 ghost use Rattle.cct_journal.specs.Gated.{IsBegun, behind_open_gate};
@@ -34,8 +36,8 @@ pub(crate) fn write_range<D: Disk>(
 /// The calls by which bytes are written after a gate that is opened.
 pub(crate) const GATED_CALLS: u8 = 4;
 
-/// Makes the first `calls` of four calls: it writes bytes after a gate, syncs, writes the gate open, and syncs. So the
-/// gate is never open over bytes that the disk might lose.
+/// Makes the first `calls` of four calls: it writes bytes after a gate, syncs, writes the gate
+/// open, and syncs. So the gate is never open over bytes that the disk might lose.
 pub(crate) fn write_gated<D: Disk>(
     disk: &mut D,
     at: u64,

@@ -1,12 +1,14 @@
-//! What stands on the disk is read: bytes of a half, single slots of it, and its records.
-ghost use Rattle.std.specs.Prelude.{◌≡◌, ℕ, ◌+◌, ◌*◌, ◌<◌, ◌≤◌, Err, Some, List, length, IfErr, IfOk, OnOk, drop, slice_index, take};
+//! What is on the disk is read: bytes of a half, single slots of it, and its records.
+ghost use Rattle.std.specs.Prelude.{◌≡◌, ℕ, ◌+◌, ◌*◌, ◌<◌, ◌≤◌, Err, Some, List, length, IfErr};
+ghost use Rattle.std.specs.Prelude.{IfOk, OnOk, drop, slice_index, take};
 ghost use Rattle.cct_edge.specs.Faults.{Caused, HasCause};
 ghost use Rattle.cct_model_lines.specs.declared.record.Record.{Record};
 ghost use Rattle.cct_disk.specs.Disk.{OnlyReads};
 ghost use Rattle.cct_journal.specs.Half.{half, slots_in, start_at, window};
 ghost use Rattle.cct_journal.specs.Image.{body_at, gate_at, least_size, room_of};
 ghost use Rattle.cct_journal.specs.Stands.{IsPlaced};
-ghost use Rattle.cct_journal.specs.Opening.{CountsIn, GivesRecord, RefusesRecord, Replayed, StopsCount};
+ghost use Rattle.cct_journal.specs.Opening.{CountsIn, GivesRecord, RefusesRecord, Replayed};
+ghost use Rattle.cct_journal.specs.Opening.{StopsCount};
 
 use crate::format::{FIRST_SLOT, MOST_RECORDS, OPEN, SLOT};
 use crate::place::Place;
@@ -16,14 +18,14 @@ use cct_edge::Failed;
 use cct_model_lines::Record;
 use cct_record::read;
 
-/// What stands in a slot.
+/// What is in a slot.
 #[derive(Clone, Copy, Debug)]
 pub(crate) struct Slot {
     pub(crate) gate: u8,
     pub(crate) body: [u8; 31],
 }
 
-/// What stands in a slot of these bytes.
+/// What is in a slot of these bytes.
 pub(crate) fn slot_of(bytes: &[u8; 32]) -> Slot
     ensures gate { result.gate ≡ slice_index bytes.now 0 }
     ensures body { result.body ≡ take 31 (drop 1 bytes.now) }
@@ -70,7 +72,8 @@ pub(crate) fn read_in<D: Disk>(
     ensures gives { OnOk result ((image : List ℕ) → D.seen disk.old ≡ Some image
         → room.new ≡ window at (length room.old) (half image second)) }
     ensures room { length room.new ≡ length room.old }
-    ensures reads { OnlyReads D.size D.honest D.seen D.may_leave D.moment D.left_since D.cuts disk.old disk.new }
+    ensures reads { OnlyReads D.size D.honest D.seen D.may_leave D.moment D.left_since D.cuts
+        disk.old disk.new }
     ensures cause { HasCause (D.faults disk.old) (D.faults disk.new) result }
 {
     let start = start_on(disk.len(), second);
@@ -84,7 +87,8 @@ pub(crate) fn read_slot<D: Disk>(disk: &mut D, second: bool, many: u32) -> Resul
         → found.gate ≡ gate_at (half image second) (FIRST_SLOT + many)) }
     ensures body { IfOk result (λ found. (image : List ℕ) → D.seen disk.old ≡ Some image
         → found.body ≡ body_at (half image second) (FIRST_SLOT + many)) }
-    ensures reads { OnlyReads D.size D.honest D.seen D.may_leave D.moment D.left_since D.cuts disk.old disk.new }
+    ensures reads { OnlyReads D.size D.honest D.seen D.may_leave D.moment D.left_since D.cuts
+        disk.old disk.new }
     ensures cause { HasCause (D.faults disk.old) (D.faults disk.new) result }
 {
     let mut bytes = [0; 32];
@@ -97,9 +101,9 @@ pub(crate) fn read_slot<D: Disk>(disk: &mut D, second: bool, many: u32) -> Resul
     Ok(slot_of(&bytes))
 }
 
-/// Replays the carry of a place and then the records after it, each as it is found, and tells how many records there are:
-/// those of the carry, and those of the slots up to the first shut gate, the end of the half or the most records of a
-/// journal.
+/// Replays the carry of a place and then the records after it, each as it is found, and says how
+/// many records there are: those of the carry, and those of the slots up to the first shut gate,
+/// the end of the half or the most records of a journal.
 pub(crate) fn replay_records<D: Disk, R: Replay>(
     disk: &mut D,
     place: &Place,
@@ -107,13 +111,15 @@ pub(crate) fn replay_records<D: Disk, R: Replay>(
 ) -> Result<u32, OpenNo>
     requires { IsPlaced (D.size disk.old) place.now }
     ensures later { IfOk result (λ used. place.now.base ≤ used) }
-    ensures fits { IfOk result (λ used. used ≤ place.now.base + room_of (D.size disk.old) place.now.base) }
+    ensures fits { IfOk result (λ used. used ≤ place.now.base
+        + room_of (D.size disk.old) place.now.base) }
     ensures replayed { IfOk result (λ used. Replayed R.replayed place.now.base place.now.carry replay.old replay.new used
         (λ records. (image : List ℕ) → D.seen disk.old ≡ Some image
         → CountsIn image place.now.second place.now.base records)) }
     ensures stopped { IfErr result (λ why. (image : List ℕ) → D.seen disk.old ≡ Some image
         → StopsCount why image place.now.second place.now.base) }
-    ensures reads { OnlyReads D.size D.honest D.seen D.may_leave D.moment D.left_since D.cuts disk.old disk.new }
+    ensures reads { OnlyReads D.size D.honest D.seen D.may_leave D.moment D.left_since D.cuts
+        disk.old disk.new }
     ensures cause { Caused (D.faults disk.old) (D.faults disk.new) (result ≡ Err OpenNo.Disk) }
 {
     let base = place.base;
@@ -144,7 +150,8 @@ pub(crate) fn read_record<D: Disk>(
     requires within { index < place.now.used }
     ensures gives { IfOk result (GivesRecord D.seen disk.old place.now index) }
     ensures refused { IfErr result (RefusesRecord D.seen disk.old place.now index) }
-    ensures reads { OnlyReads D.size D.honest D.seen D.may_leave D.moment D.left_since D.cuts disk.old disk.new }
+    ensures reads { OnlyReads D.size D.honest D.seen D.may_leave D.moment D.left_since D.cuts
+        disk.old disk.new }
     ensures cause { Caused (D.faults disk.old) (D.faults disk.new) (result ≡ Err ReadNo.Disk) }
 {
     let slot = read_slot(disk, place.second, index - place.base)?;

@@ -37,7 +37,8 @@ pub enum OpenNo {
     /// The disk has no half that counts, or it begins with no header and carry of this version.
     #[error("the disk has no journal")]
     Alien,
-    /// The body after so many records, with those before the half, spells none, though its gate is open.
+    /// The body after so many records, with those before the half, spells none, though its gate is
+    /// open.
     #[error("record {index} of the journal is spelt wrongly")]
     BadRecord { index: u32 },
 }
@@ -58,8 +59,8 @@ pub enum ReadNo {
     /// A call of the disk failed.
     #[error("the disk failed")]
     Disk,
-    /// The record of this index, the first at 0, is bad: its body spells none, or, as a host starts, it doesn't follow those
-    /// before it.
+    /// The record of this index, the first at 0, is bad: its body spells none, or, as a host
+    /// starts, it doesn't follow those before it.
     #[error("record {index} of the journal is bad")]
     BadRecord { index: u32 },
 }
@@ -97,7 +98,8 @@ pub enum OldNo {
     /// The journal has today's version.
     #[error("the journal has today's version")]
     Current,
-    /// A journal of version 1 has `used` records: so many that they reach into the second half, which a turn needs.
+    /// A journal of version 1 has `used` records: so many that they reach into the second half,
+    /// which a turn needs.
     #[error("{used} records leave no room for a turn")]
     NoRoom { used: u32 },
 }

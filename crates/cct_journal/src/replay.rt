@@ -8,11 +8,11 @@ ghost use Rattle.cct_record.specs.Body.{Encodable};
 use crate::format::MOST_RECORDS;
 use cct_model_lines::{Carry, Record};
 
-/// Whatever goes over the records of a journal as they are found: first the carry of those before the current half, then
-/// each of its records, oldest first, so that each slot is read once.
+/// Whatever goes over the records of a journal as they are found: first the carry of those before
+/// the current half, then each of its records, oldest first, so that each slot is read once.
 pub trait Replay {
-    /// What goes over the carry of so many records, and over these after it, newest first, is the first value before them
-    /// and the second after them.
+    /// What goes over the carry of so many records, and over these after it, newest first, is the
+    /// first value before them and the second after them.
     ghost replayed: { Self → ℕ → Carry → List Record → Self → Type 0 };
 
     /// Goes over the carry of `base` records, before any record.

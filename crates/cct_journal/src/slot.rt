@@ -29,7 +29,8 @@ fn spell_slot(entry: &Record) -> [u8; 32]
     bytes
 }
 
-/// How many bytes a put writes after the gate of a slot: the body, and the gate of the next slot, if the half has one.
+/// How many bytes a put writes after the gate of a slot: the body, and the gate of the next slot,
+/// if the half has one.
 fn bytes_behind(slot: u64, slots: u64) -> usize
     requires { slot < slots }
     ensures { ((result ≡ 32) × (slot + 1 < slots)) ⊎ ((result ≡ 31) × (slots ≤ slot + 1)) }
@@ -37,7 +38,8 @@ fn bytes_behind(slot: u64, slots: u64) -> usize
     if slot + 1 < slots { 32 } else { 31 }
 }
 
-/// Makes the first `calls` of the four disk calls that put a record at a place, where the half has to have room for it.
+/// Makes the first `calls` of the four disk calls that put a record at a place, where the half has
+/// to have room for it.
 pub(crate) fn put_slot<D: Disk>(
     disk: &mut D,
     place: &Place,

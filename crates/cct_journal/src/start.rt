@@ -1,11 +1,13 @@
 //! What a half begins with, as bytes: its header and its carry.
-ghost use Rattle.std.specs.Prelude.{◌≡◌, ℕ, ◌+◌, ◌-◌, ◌*◌, ◌<◌, ◌≤◌, ◌↔◌, ◌++◌, IfNone, IfSome, IsTrue, flat_map, length, replicate};
+ghost use Rattle.std.specs.Prelude.{◌≡◌, ℕ, ◌+◌, ◌-◌, ◌*◌, ◌<◌, ◌≤◌, ◌↔◌, ◌++◌, IfNone, IfSome};
+ghost use Rattle.std.specs.Prelude.{IsTrue, flat_map, length, replicate};
 ghost use Rattle.std.specs.Int.{from_le_bytes, w32};
 ghost use Rattle.cct_model_lines.specs.Carried.{IsRightly};
 ghost use Rattle.cct_model_lines.specs.declared.carry.Carry.{Carry};
 ghost use Rattle.cct_record.specs.CarryBody.{SpellsNone};
 ghost use Rattle.cct_journal.specs.Half.{window};
-ghost use Rattle.cct_journal.specs.Start.{Begins, HasParity, MayBegin, carry_slot, header_with, start_of, start_with};
+ghost use Rattle.cct_journal.specs.Start.{Begins, HasParity, MayBegin, carry_slot, header_with};
+ghost use Rattle.cct_journal.specs.Start.{start_of, start_with};
 ghost use Rattle.cct_journal.specs.StartReading.{TellsStart, base_in, bodies_in, count_in};
 
 use crate::format::{CARRY_BODIES, START, TITLE, VERSION};
@@ -54,7 +56,8 @@ pub(crate) fn spell_with(
     start
 }
 
-/// The header of a half: the title and the version, the numbers, how many bodies its carry has, and bytes 0.
+/// The header of a half: the title and the version, the numbers, how many bodies its carry has, and
+/// bytes 0.
 fn spell_header(version: u8, generation: u32, base: u32, bodies: u8) -> [u8; HEADER]
     ensures { result ≡ header_with version generation base bodies }
 {
@@ -71,7 +74,8 @@ fn spell_header(version: u8, generation: u32, base: u32, bodies: u8) -> [u8; HEA
 fn fill_slots(area: &mut [u8], bodies: &[[u8; BODY]])
     requires empty { area.old ≡ replicate 1120 0 }
     requires few { length bodies.now ≤ CARRY_BODIES }
-    ensures { area.new ≡ flat_map carry_slot bodies.now ++ replicate (1120 - 32 * length bodies.now) 0 }
+    ensures { area.new ≡ flat_map carry_slot bodies.now
+        ++ replicate (1120 - 32 * length bodies.now) 0 }
 {
     let mut at = 1;
     for body in bodies {
@@ -98,7 +102,8 @@ pub(crate) fn read_start(bytes: &[u8; START], second: bool) -> Option<Start>
 /// Whether a half begins so, where the carry may be that of so many records.
 fn begins(start: &Start, bytes: &[u8; START], second: bool) -> bool
     requires { IsRightly start.now.base start.now.carry }
-    ensures { IsTrue result ↔ Begins second start.now.generation start.now.base start.now.carry bytes.now }
+    ensures { IsTrue result ↔ Begins second start.now.generation start.now.base start.now.carry
+        bytes.now }
 {
     may_begin(start, second) && is_spelt_by(start, bytes)
 }
@@ -125,12 +130,14 @@ pub(crate) fn has_parity(generation: u32, second: bool) -> bool
 /// Whether these are the bytes that a half begins with.
 fn is_spelt_by(start: &Start, bytes: &[u8; START]) -> bool
     requires { IsRightly start.now.base start.now.carry }
-    ensures { IsTrue result ↔ (start_of start.now.generation start.now.base start.now.carry ≡ bytes.now) }
+    ensures { IsTrue result ↔ (start_of start.now.generation start.now.base start.now.carry
+        ≡ bytes.now) }
 {
     spell_start(start.generation, start.base, &start.carry) == *bytes
 }
 
-/// The numbers and the carry that stand in the first bytes of a half, or none where no carry stands there.
+/// The numbers and the carry that stand in the first bytes of a half, or none where no carry is
+/// there.
 fn start_in(bytes: &[u8; START]) -> Option<Start>
     ensures stands { IfSome result (λ s. TellsStart s.generation s.base s.carry bytes.now) }
     ensures none { IfNone result (count_in bytes.now ≤ CARRY_BODIES
@@ -146,9 +153,11 @@ fn start_in(bytes: &[u8; START]) -> Option<Start>
     })
 }
 
-/// The bodies of a carry in the first bytes of a half, or none where there are more than a carry has.
+/// The bodies of a carry in the first bytes of a half, or none where there are more than a carry
+/// has.
 pub(crate) fn bodies_at(bytes: &[u8; START]) -> Option<ArrayVec<[u8; BODY], CARRY_BODIES>>
-    ensures found { IfSome result (λ bodies. bodies.items ≡ bodies_in (count_in bytes.now) bytes.now) }
+    ensures found { IfSome result (λ bodies. bodies.items
+        ≡ bodies_in (count_in bytes.now) bytes.now) }
     ensures few { IfSome result (λ bodies. length bodies.items ≤ CARRY_BODIES) }
     ensures none { IfNone result (CARRY_BODIES < count_in bytes.now) }
 {
@@ -181,7 +190,7 @@ fn bodies_in(bytes: &[u8; START], count: usize) -> ArrayVec<[u8; BODY], CARRY_BO
     bodies
 }
 
-/// The body that stands at a place.
+/// The body that is at a place.
 fn body_at(bytes: &[u8; START], at: usize) -> [u8; BODY]
     requires { at + BODY ≤ START }
     ensures { result ≡ window at BODY bytes.now }

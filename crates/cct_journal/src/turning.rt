@@ -1,5 +1,6 @@
 //! The other half is begun where the current one is full.
-ghost use Rattle.std.specs.Prelude.{◌≡◌, ℕ, ◌+◌, ◌^◌, ◌<◌, ◌≤◌, true, false, Some, List, IfOk, OnOk, length};
+ghost use Rattle.std.specs.Prelude.{◌≡◌, ℕ, ◌+◌, ◌^◌, ◌<◌, ◌≤◌, true, false, Some, List, IfOk};
+ghost use Rattle.std.specs.Prelude.{OnOk, length};
 ghost use Rattle.cct_edge.specs.Faults.{HasCause};
 ghost use Rattle.cct_model_lines.specs.Carried.{IsRightly};
 ghost use Rattle.cct_model_lines.specs.declared.carry.Carry.{Carry};
@@ -8,7 +9,8 @@ ghost use Rattle.cct_disk.specs.Disk.{GoesOn, Holds, LeavesOnly};
 ghost use Rattle.cct_journal.specs.Gated.{IsBegun, behind_open_gate};
 ghost use Rattle.cct_journal.specs.Image.{StandsFor, least_size, room_of};
 ghost use Rattle.cct_journal.specs.Places.{after_turn, behind_start, turned_or};
-ghost use Rattle.cct_journal.specs.Turning.{IsBeginning, IsClosing, IsTurnedBy, begun_by, closed_by, turned_by};
+ghost use Rattle.cct_journal.specs.Turning.{IsBeginning, IsClosing, IsTurnedBy, begun_by};
+ghost use Rattle.cct_journal.specs.Turning.{closed_by, turned_by};
 ghost use Rattle.cct_journal.specs.Stands.{IsPlaced, Stands, StandsWith};
 ghost use Rattle.cct_journal.specs.Start.{start_of};
 
@@ -21,8 +23,8 @@ use cct_disk::Disk;
 use cct_edge::Failed;
 use cct_model_lines::Carry;
 
-/// Where the first write of a turn goes: to the gate of the other half, if that is open, and else to the place after it,
-/// since a write that fails may leave any byte.
+/// Where the first write of a turn goes: to the gate of the other half, if that is open, and else
+/// to the place after it, since a write that fails may leave any byte.
 fn closing_place(start: u64, is_open: bool) -> u64
     requires { start + 1 < 2 ^ 64 }
     ensures opened { is_open ≡ true → result ≡ start }
@@ -45,7 +47,8 @@ fn close_other<D: Disk>(disk: &mut D, place: &Place) -> Result<(), Failed>
     write_range(disk, closing_place(start, place.other_open), &[0], true)
 }
 
-/// What is written after the gate of a half that begins: the rest of its start, and a shut gate in its first slot.
+/// What is written after the gate of a half that begins: the rest of its start, and a shut gate in
+/// its first slot.
 fn spell_behind(generation: u32, base: u32, carry: &Carry) -> [u8; START]
     requires { IsRightly base carry.now }
     ensures spelt { result ≡ behind_start generation base carry.now }
@@ -108,7 +111,8 @@ fn begin_other<D: Disk>(disk: &mut D, place: &Place, carry: &Carry) -> Result<Pl
     })
 }
 
-/// Begins the other half with the carry of all records so far, by six disk calls, and then tells its place.
+/// Begins the other half with the carry of all records so far, by six disk calls, and then shows
+/// its place.
 pub(crate) fn turn_half<D: Disk>(
     disk: &mut D,
     place: &Place,
@@ -129,7 +133,7 @@ pub(crate) fn turn_half<D: Disk>(
     begin_other(disk, place, carry)
 }
 
-/// Begins the other half, if the current one is full, by six disk calls, and then tells its place.
+/// Begins the other half, if the current one is full, by six disk calls, and then shows its place.
 pub(crate) fn turn_if_full<D: Disk>(
     disk: &mut D,
     place: &Place,

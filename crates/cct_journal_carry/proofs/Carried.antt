@@ -75,7 +75,7 @@ unowed_beside setup before addr belongs none =
     none_owed (order_in addr before) (hopper_there (device_at setup.devices addr))
     (λ o is. (belongs.owned addr o is).hopper) none
 
--- what a carry has of an epoch and of an order tells them
+-- what a carry has of an epoch and of an order shows them
 
 pub epoch_back : (addr : ℕ) (state : EpochState) → epoch_from (epoch_entry addr state) ≡ state
 epoch_back addr Idle = refl
@@ -85,7 +85,7 @@ pub order_back : (owed : Option OpenOrder) → option_map order_from (option_map
 order_back None = refl
 order_back (Some o) = refl
 
--- what stands at a device has its address
+-- what is at a device has its address
 
 entry_addr : (addr : ℕ) (state : EpochState) (x : CarryEpoch) → epoch_entry addr state ≡ Some x → x.addr ≡ addr
 entry_addr addr Idle x is = absurd cc
@@ -126,7 +126,7 @@ order_keys setup before belongs d x is =
     let entry = entry_of before d x is in
     ap (λ (y : CarryOrder). y.addr) (sym entry.entry) ∙ (belongs.owned d.addr entry.order_is entry.owed).here
 
--- what stands at the device at an address is what the records tell of it
+-- what is at the device at an address is what the records tell of it
 
 pub epoch_there : (setup : Setup) (before : List Record) (addr : ℕ) → all_follow setup before ≡ true →
     option_and_then (epoch_at before) (device_at setup.devices addr) ≡ epoch_entry addr (epoch_in addr before)
@@ -220,7 +220,7 @@ module _ (setup : Setup) (before : List Record) (sound : IsSoundSetup setup)
           (named_id id before o named) one
           (found_by_address setup.devices d.addr ∙ ap (device_at setup.devices) own ∙ is)
 
-  -- so it is the one that the records name, where they tell that it is open, and there is none elsewhere
+  -- so it is the one that the records name, where they say that it is open, and there is none elsewhere
 
   pub named_carried : (id : ℕ) → is_open id before ≡ true → order_with id (carry setup before) ≡ order_named id before
   named_carried id open_is =

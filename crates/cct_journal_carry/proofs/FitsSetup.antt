@@ -67,7 +67,7 @@ module _ (setup : Setup) (before : List Record) (belongs : Belongs setup before)
         later,
       )
 
--- an epoch stands at a device that takes money
+-- an epoch is at a device that takes money
 takes_at : (before : List Record) (d : DeviceSetup) (x : CarryEpoch) → epoch_at before d ≡ Some x
     → is_taker d.body ≡ true
 takes_at before d x is = by_kind (is_taker d.body) refl is

@@ -1,4 +1,4 @@
--- What stands at each of some devices, in rising order of address: what is found by its address or by another key, and what
+-- What is at each of some devices, in rising order of address: what is found by its address or by another key, and what
 -- changes where one device changes.
 use Rattle.std.proofs.Common.{◌≡◌, ◌≢◌, ℕ, suc, ◌≤◌, ◌<◌, ◌==◌, nat_lt, Bool, true, false, cond, List, [], ◌∷◌, length, Option, Some, None, All, refl, ap, ap₂, sym, ◌∙◌, arith, eqb-true, eq-eqb, option_and_then}
 use Rattle.std.proofs.lemmas.Bool.Decides.{nat_tests}
@@ -13,7 +13,7 @@ use Rattle.cct_laws.proofs.setups.DeviceAt.{same_some}
 use Rattle.cct_laws.proofs.money.Sums.{all_found}
 use Rattle.cct_journal_carry.proofs.Devices.{none_below}
 
--- what stands at each device
+-- what is at each device
 module _ {X : Type 0} where
   -- it has the device's address as its key
   abbrev pub HasAddress : (X → ℕ) → (DeviceSetup → Option X) → Type 0
@@ -106,7 +106,7 @@ module _ {X : Type 0} where
   gathered_none f (d ∷ ds) none =
       ap (λ found. with_some found (gathered f ds)) (none d) ∙ gathered_none f ds none
 
-  -- below all devices a new one stands in front
+  -- below all devices a new one is in front
   set_below : (key : X → ℕ) (f : DeviceSetup → Option X) → HasAddress key f → (addr : ℕ) (new : Option X)
       (ds : List DeviceSetup) → All (λ e. addr < e.addr) ds →
       set_with key addr new (gathered f ds) ≡ with_some new (gathered f ds)
@@ -207,7 +207,7 @@ module _ {X : Type 0} where
           ∙ set_below key f keys addr None (d ∷ ds) all
           ∙ ap₂ (λ found xs. with_some found xs) (same d (beside own)) (rest (above (omega (arith, least))))
 
-  -- each that stands somewhere stands at a device, which is the one at its address
+  -- each that stands somewhere is at a device, which is the one at its address
   pub gathered_each : (P : X → Type 0) (f : DeviceSetup → Option X) (ds : List DeviceSetup) → AreDistinct ds →
       ((d : DeviceSetup) (x : X) → device_at ds d.addr ≡ Some d → f d ≡ Some x → P x) → All P (gathered f ds)
   gathered_each P f ds distinct each =
@@ -223,7 +223,7 @@ module _ {X : Type 0} where
           by_found (Some x) is later =
               All-cons P x (gathered f es) (All-head (λ d. (y : X) → f d ≡ Some y → P y) e es all x is) later
 
-  -- at most one stands at each device
+  -- at most one is at each device
   pub gathered_few : (f : DeviceSetup → Option X) (ds : List DeviceSetup) → length (gathered f ds) ≤ length ds
   gathered_few f [] = omega arith
   gathered_few f (d ∷ ds) = by_found (f d) (gathered_few f ds)

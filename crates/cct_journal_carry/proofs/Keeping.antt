@@ -523,7 +523,7 @@ one_changes setup many c (record_of.Odd id life_before life_after) safe =
     inl (same_epochs (hopper_of (order_with id c)) c safe.rightly.epochs_rise)
 one_changes setup many c r safe = inr (same_orders (owner_by c r) c safe.rightly.orders_rise)
 
--- so one entry more stands there at most
+-- so one entry more is there at most
 each_next : (setup : Setup) (many : ℕ) (c : Carry) (r : Record) → IsSafe setup many c
     → length (epochs_after (owner_by c r) r c) + length (orders_after (owner_by c r) r c) ≤ many + 1
 each_next setup many c r safe =

@@ -91,7 +91,7 @@ module _ (setup : Setup) (sound : IsSoundSetup setup) where
   carry_followed before later follow ok =
       carry_after later before (sym (follow_after later before follow) ∙ ok)
 
-  -- so whether one more follows them is told by either
+  -- so whether one more follows them is reported by either
   pub follows_after : (before first : List Record) (r : Record) → all_follow setup before ≡ true →
       all_follow_carry setup (carry setup before) first ≡ true →
       follows_carry setup (carry_over setup (carry setup before) first) r ≡ follows setup (reverse first ++ before) r

@@ -95,7 +95,7 @@ module _ {X : Type 0} (key : X → ℕ) where
       (λ same. subst Each (sym (set_here wanted new x xs same)) (all_some P new xs holds (All-tail P x xs all)))
       (λ more. subst Each (sym (set_before wanted new x xs more)) (all_some P new (x ∷ xs) holds all))
 
-  -- at most one more stands there
+  -- at most one more is there
   some_length : (new : Option X) (xs : List X) → length (with_some new xs) ≤ length xs + 1
   some_length None xs = omega arith
   some_length (Some x) xs = omega arith

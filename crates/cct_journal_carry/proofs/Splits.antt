@@ -45,7 +45,7 @@ named_found id c orders found owed is by_find same =
     is ∙ ap (option_map order_from) (by_find ∙ found_first id_of_order id orders)
     ∙ ap (λ os. option_map order_from (first_with id_of_order id os)) same
 
--- what is put in after a front stands after it
+-- what is put in after a front is after it
 insert_after : {X : Type 0} (front later : List X) (x : X) → insert (front ++ later) (length front) x ≡ front ++ x ∷ later
 insert_after [] later x = refl
 insert_after (y ∷ front) later x = ap (λ rest. y ∷ rest) (insert_after front later x)
@@ -63,7 +63,7 @@ module _ {X : Type 0} (key : X → ℕ) (wanted : ℕ) where
   place_here : (x : X) (xs : List X) → wanted ≤ key x → place_in (x ∷ xs) ≡ 0
   place_here x xs above = cond-false (ltb (key x) wanted) (1 + place_in xs) 0 (le-ltb (key x) wanted above)
 
-  -- setting, by what stands at an index
+  -- setting, by what is at an index
   record SplitsAt (new : Option X) (xs : List X) (n : ℕ) : Type 0 where
     pub there : has_key key wanted (slice_get xs n) ≡ true
         → set_with key wanted new xs ≡ take n xs ++ with_some new (drop (suc n) xs)
@@ -89,7 +89,7 @@ module _ {X : Type 0} (key : X → ℕ) (wanted : ℕ) where
         none = λ is. set_before key wanted new x xs more;
       }))
 
-  -- what stands there is taken out
+  -- what is there is taken out
   pub takes_out : (xs : List X) (n : ℕ) → n ≡ place_in xs → has_key key wanted (slice_get xs n) ≡ true
       → TakesOut key wanted xs n (remove xs n)
   takes_out xs n is there =

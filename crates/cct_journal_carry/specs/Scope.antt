@@ -8,4 +8,5 @@ use Rattle.cct_model.specs.Setup.{IsSoundSetup}
 -- A fact of all records, newest first, that follow one another in a sound setup.
 abbrev pub EachFollowing : (Setup → List Record → Type 0) → Type 0
 EachFollowing P =
-    (setup : Setup) (before : List Record) → IsSoundSetup setup → all_follow setup before ≡ true → P setup before
+    (setup : Setup) (before : List Record) → IsSoundSetup setup → all_follow setup before ≡ true →
+    P setup before

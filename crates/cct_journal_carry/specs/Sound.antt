@@ -1,5 +1,5 @@
--- Facts that have one proof at most, so that a value can keep them: that a setup is sound, that a carry fits it, and that a
--- carry is safe.
+-- Facts that have one proof at most, so that a value can keep them: that a setup is sound, that a
+-- carry fits it, and that a carry is safe.
 use Rattle.std.specs.Prelude.{ℕ, List, [], ◌∷◌}
 use Rattle.std.proofs.Props.{props}
 use Rattle.cct_model.specs.terms.device.DeviceBody.{DeviceBody}

@@ -9,8 +9,9 @@ ghost use Rattle.cct_journal_carry.specs.Tests as tests;
 use crate::following::{hopper_there, owed, taker_there};
 use cct_model::{Carry, CarryEpoch, CarryOrder, Setup};
 
-/// Whether a carry fits a setup: its epochs are of devices that take money and its orders of hoppers, no id is above the last
-/// one and none stands twice, and the value posted covers what was paid and sold and what is reserved.
+/// Whether a carry fits a setup: its epochs are of devices that take money and its orders of
+/// hoppers, no id is above the last one and none stands twice, and the value posted covers what was
+/// paid and sold and what is reserved.
 pub(crate) fn fits(setup: &Setup, carry: &Carry) -> bool
     requires sound { IsSoundSetup setup.now }
     requires orders { All OrderFits carry.now.orders }

@@ -1,6 +1,8 @@
 //! Whether a record follows those of a carry.
-ghost use Rattle.std.specs.Prelude.{◌≡◌, ℕ, ◌+◌, ◌≤◌, ◌<◌, ◌^◌, ◌==◌, ◌&&◌, nat_le, not, is_none, is_some};
-ghost use Rattle.cct_model.specs.Carry.{available_held, epoch_held, follows_carry, order_held, order_with, owed_by};
+ghost use Rattle.std.specs.Prelude.{◌≡◌, ℕ, ◌+◌, ◌≤◌, ◌<◌, ◌^◌, ◌==◌, ◌&&◌, nat_le, not, is_none};
+ghost use Rattle.std.specs.Prelude.{is_some};
+ghost use Rattle.cct_model.specs.Carry.{available_held, epoch_held, follows_carry, order_held};
+ghost use Rattle.cct_model.specs.Carry.{order_with, owed_by};
 ghost use Rattle.cct_model.specs.Exchange.{device_at, hopper_there, taker_there};
 ghost use Rattle.cct_model.specs.Following.{count_of, has_values, is_running};
 ghost use Rattle.cct_model.specs.Money.{coins_of};
@@ -33,8 +35,8 @@ pub(crate) fn follows(setup: &Setup, carry: &Carry, entry: &Record) -> bool
     }
 }
 
-/// Whether an epoch with a mask may begin: at a device that takes money, with no running epoch, and each place of the mask,
-/// which isn't 0, has a value.
+/// Whether an epoch with a mask may begin: at a device that takes money, with no running epoch, and
+/// each place of the mask, which isn't 0, has a value.
 fn may_begin(setup: &Setup, carry: &Carry, addr: u8, mask: u16) -> bool
     ensures { result
         ≡ (taker_there (device_at setup.now.devices addr) && not (is_running (epoch_held addr carry.now))
@@ -56,8 +58,8 @@ fn epoch_runs(carry: &Carry, addr: u8) -> bool
     }
 }
 
-/// Whether an order may be opened: at a hopper with no open order, with an id that isn't 0 and with which none is open; and
-/// its coins, at least one, are available.
+/// Whether an order may be opened: at a hopper with no open order, with an id that isn't 0 and with
+/// which none is open; and its coins, at least one, are available.
 fn may_open(setup: &Setup, carry: &Carry, id: u32, addr: u8, count: u8) -> bool
     requires { IsCovered setup.now carry.now }
     ensures { result

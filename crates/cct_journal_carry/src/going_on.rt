@@ -3,7 +3,8 @@ ghost use Rattle.std.specs.Prelude.{◌≡◌, ◌+◌, ◌<◌, ◌≤◌, ◌^
 ghost use Rattle.cct_model.specs.terms.coin.TheConstants.{EVENTS};
 ghost use Rattle.cct_model.specs.terms.device.TheConstants.{DEVICES};
 ghost use Rattle.cct_model.specs.Carried.{addr_of_epoch, addr_of_order, set_with};
-ghost use Rattle.cct_model.specs.Carry.{carry_with, epoch_entry, epoch_held, order_entry, order_with};
+ghost use Rattle.cct_model.specs.Carry.{carry_with, epoch_entry, epoch_held, order_entry};
+ghost use Rattle.cct_model.specs.Carry.{order_with};
 ghost use Rattle.cct_model.specs.declared.judging.EpochState.TheVariants.{Running};
 ghost use Rattle.cct_model.specs.Exchange.{device_at};
 ghost use Rattle.cct_model.specs.Job.{counted};
@@ -72,7 +73,8 @@ pub(crate) fn go_on(setup: &Setup, carry: &mut Carry, entry: &Record)
 
 /// An epoch begins at an address, with an accept counter.
 fn begin(carry: &mut Carry, addr: u8, mask: u16, accepts: u32)
-    requires { length (set_with addr_of_epoch addr (epoch_entry addr (Running mask 0 accepts)) carry.old.epochs) ≤ DEVICES }
+    requires { length (set_with addr_of_epoch addr (epoch_entry addr (Running mask 0 accepts))
+        carry.old.epochs) ≤ DEVICES }
     ensures { carry.new
         ≡ record carry.old {
           epochs = set_with addr_of_epoch addr (epoch_entry addr (Running mask 0 accepts)) carry.old.epochs;
@@ -90,7 +92,8 @@ fn begin(carry: &mut Carry, addr: u8, mask: u16, accepts: u32)
 /// Coins are posted that the device at an address took, and so many others told to be lost.
 fn post(setup: &Setup, carry: &mut Carry, addr: u8, coins: &[Coin], lost: u32)
     requires few { length coins.now ≤ EVENTS }
-    requires value { carry.old.value + money.coins_value (device_at setup.now.devices addr) coins.now < 2 ^ 64 }
+    requires value { carry.old.value + money.coins_value (device_at setup.now.devices addr)
+        coins.now < 2 ^ 64 }
     requires posted { carry.old.posted + length coins.now < 2 ^ 64 }
     requires lost { carry.old.lost + lost < 2 ^ 64 }
     ensures { carry.new
@@ -137,14 +140,16 @@ fn counted(carry: &Carry, addr: u8, counter: u8, accepts: u32) -> Option<CarryEp
 /// The epoch at an address ends.
 fn end(carry: &mut Carry, addr: u8)
     requires { length (set_with addr_of_epoch addr None carry.old.epochs) ≤ DEVICES }
-    ensures { carry.new ≡ record carry.old { epochs = set_with addr_of_epoch addr None carry.old.epochs } }
+    ensures { carry.new ≡ record carry.old
+        { epochs = set_with addr_of_epoch addr None carry.old.epochs } }
 {
     set_epoch(&mut carry.epochs, addr, None);
 }
 
 /// An order is opened.
 fn open(carry: &mut Carry, order: OpenOrder)
-    requires { length (set_with addr_of_order order.addr (Some (order_entry order)) carry.old.orders) ≤ DEVICES }
+    requires { length (set_with addr_of_order order.addr (Some (order_entry order))
+        carry.old.orders) ≤ DEVICES }
     ensures { carry.new
         ≡ record carry.old {
           last_id = max order.id carry.old.last_id;
@@ -187,7 +192,8 @@ fn close(setup: &Setup, carry: &mut Carry, id: u32, paid: u8, unpaid: u8)
 
 /// The order with an id is closed with life counts that don't fit, and its amount is set aside.
 fn set_aside(setup: &Setup, carry: &mut Carry, id: u32)
-    requires odd_value { carry.old.odd_value + money.amount setup.now (order_with id carry.old) < 2 ^ 64 }
+    requires odd_value { carry.old.odd_value + money.amount setup.now (order_with id carry.old)
+        < 2 ^ 64 }
     requires room { length (set_with addr_of_order (records.hopper_of (order_with id carry.old)) None carry.old.orders)
         ≤ DEVICES }
     ensures { carry.new
@@ -204,7 +210,8 @@ fn set_aside(setup: &Setup, carry: &mut Carry, id: u32)
 /// Something is sold.
 fn sell(carry: &mut Carry, id: u32, price: u32)
     requires { carry.old.sold + price < 2 ^ 64 }
-    ensures { carry.new ≡ record carry.old { last_id = max id carry.old.last_id; sold = carry.old.sold + price } }
+    ensures { carry.new ≡ record carry.old
+        { last_id = max id carry.old.last_id; sold = carry.old.sold + price } }
 {
     carry.last_id = id.max(carry.last_id);
     carry.sold += u64::from(price);

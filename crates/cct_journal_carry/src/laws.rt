@@ -1,6 +1,8 @@
-//! How the carry of records stands to the list of them. Where records follow one another, either tells the same of one
-//! record more, so a host that starts from a carry knows what one knows that starts from the whole list.
-ghost use Rattle.std.specs.Prelude.{◌≡◌, ℕ, ◌+◌, ◌≤◌, ◌==◌, ◌++◌, true, false, is_some, All, List, [], ◌∷◌, length, map, reverse, Option, Some, slice_get};
+//! How the carry of records stands to the list of them. Where records follow one another, either
+//! shows the same of one record more, so a host that starts from a carry knows what one knows that
+//! starts from the whole list.
+ghost use Rattle.std.specs.Prelude.{◌≡◌, ℕ, ◌+◌, ◌≤◌, ◌==◌, ◌++◌, true, false, is_some, All, List};
+ghost use Rattle.std.specs.Prelude.{[], ◌∷◌, length, map, reverse, Option, Some, slice_get};
 ghost use Rattle.std.specs.List.{list_any};
 ghost use Rattle.std.specs.Option.{option_map_or};
 ghost use Rattle.cct_model.specs.terms.device.Setup.{Setup};
@@ -9,7 +11,9 @@ ghost use Rattle.cct_model.specs.lines.record.Record.{Record};
 ghost use Rattle.cct_model.specs.declared.judging.OpenOrder.{OpenOrder};
 ghost use Rattle.cct_model.specs.lines.carry.Carry.{Carry};
 ghost use Rattle.cct_model.specs.Carried.{IsRightly, empty_carry};
-ghost use Rattle.cct_model.specs.Carry.{IsSafe, all_follow_carry, available_held, carry, carry_of, carry_over, carry_with, epoch_held, follows_carry, order_held, order_with, reserved_held};
+ghost use Rattle.cct_model.specs.Carry.{IsSafe, all_follow_carry, available_held, carry, carry_of};
+ghost use Rattle.cct_model.specs.Carry.{carry_over, carry_with, epoch_held, follows_carry};
+ghost use Rattle.cct_model.specs.Carry.{order_held, order_with, reserved_held};
 ghost use Rattle.cct_model.specs.Following.{all_follow, follows};
 ghost use Rattle.cct_model.specs.Money.{available_beside, reserved_in};
 ghost use Rattle.cct_model.specs.Records.{epoch_in, is_open, order_in, order_named};
@@ -24,8 +28,9 @@ pub fn the_carry_of_no_record_is_empty()
     ensures oldest_first { (setup : Setup) → carry_of setup [] ≡ empty_carry }
 {}
 
-/// Where records follow one another, their carry tells what they tell: the epoch and the open order at any address, which
-/// orders are open by their ids and what each of these is, what is reserved, and what is available beside anything.
+/// Where records follow one another, their carry says what they tell: the epoch and the open order
+/// at any address, which orders are open by their ids and what each of these is, what is reserved,
+/// and what is available beside anything.
 pub fn a_carry_tells_what_its_records_tell()
     ensures epochs { EachFollowing (λ setup before. (addr : ℕ)
         → epoch_held addr (carry setup before) ≡ epoch_in addr before) }
@@ -53,10 +58,10 @@ pub fn a_carry_goes_on_by_one_record()
         → carry_with setup r (carry setup before) ≡ carry setup (r ∷ before)) }
 {}
 
-/// A start from the carry of records that follow one another, and one from the whole list of them, agree on more records,
-/// which stand here oldest first: all of them follow by both, or by neither. Where they do, the carry is then that of the
-/// whole list, and one record more follows by both, or by neither. So both name the same record as the first that doesn't
-/// follow.
+/// A start from the carry of records that follow one another, and one from the whole list of them,
+/// agree on more records, which stand here oldest first: all of them follow by both, or by neither.
+/// Where they do, the carry is then that of the whole list, and one record more follows by both, or
+/// by neither. So both name the same record as the first that doesn't follow.
 pub fn a_start_from_a_carry_is_one_from_its_records()
     ensures follow { EachFollowing (λ setup before. (later : List Record)
         → all_follow_carry setup (carry setup before) later ≡ all_follow setup (reverse later ++ before)) }
@@ -79,9 +84,9 @@ pub fn a_carry_goes_on_by_more_records()
         → carry_over setup (carry_of setup records) later ≡ carry_of setup (records ++ later) }
 {}
 
-/// Where records follow one another, the orders that their carry has at the addresses of the devices, in the setup's own
-/// order, are the open orders of these devices. An order is open by its id where one of them has it, and each of them is
-/// the one that was opened last with its id.
+/// Where records follow one another, the orders that their carry has at the addresses of the
+/// devices, in the setup's own order, are the open orders of these devices. An order is open by its
+/// id where one of them has it, and each of them is the one that was opened last with its id.
 pub fn the_orders_of_a_carry_are_those_of_the_devices()
     ensures at_devices { EachFollowing (λ setup before.
         map (λ d. order_held d.addr (carry setup before)) setup.devices
@@ -95,8 +100,8 @@ pub fn the_orders_of_a_carry_are_those_of_the_devices()
         → order_named o.id before ≡ Some o) }
 {}
 
-/// The carry of records that follow one another and can be spelt, in a setup with no more devices than a script can say, may
-/// be that of so many records, and fits the setup.
+/// The carry of records that follow one another and can be spelt, in a setup with no more devices
+/// than a script can say, may be that of so many records, and fits the setup.
 pub fn the_carry_of_records_is_safe()
     ensures { EachFollowing (λ setup before. length setup.devices ≤ DEVICES → All InRange before
         → IsSafe setup (length before) (carry setup before)) }
@@ -107,10 +112,12 @@ pub fn a_carry_of_no_record_is_empty()
     ensures { (c : Carry) → IsRightly 0 c → c ≡ empty_carry }
 {}
 
-/// A safe carry is safe for one record more with a record that follows, which can be spelt, and also as it is.
+/// A safe carry is safe for one record more with a record that follows, which can be spelt, and
+/// also as it is.
 pub fn a_safe_carry_goes_on_safely()
     ensures next { (setup : Setup) (many : ℕ) (c : Carry) (r : Record) → IsSoundSetup setup
         → length setup.devices ≤ DEVICES → IsSafe setup many c → follows_carry setup c r ≡ true → InRange r
         → IsSafe setup (many + 1) (carry_with setup r c) }
-    ensures more { (setup : Setup) (many : ℕ) (c : Carry) → IsSafe setup many c → IsSafe setup (many + 1) c }
+    ensures more { (setup : Setup) (many : ℕ) (c : Carry) → IsSafe setup many c →
+        IsSafe setup (many + 1) c }
 {}

@@ -52,7 +52,8 @@ impl<'s> Tally<'s> {
         }
     }
 
-    /// The tally of the records of a carry, of which there are `many`; none where the carry doesn't fit the setup.
+    /// The tally of the records of a carry, of which there are `many`; none where the carry doesn't
+    /// fit the setup.
     pub fn resume(setup: &'s Setup, many: u32, carry: &Carry) -> Option<Tally<'s>>
         requires sound { IsSoundSetup setup.now }
         requires rightly { IsRightly many carry.now }
@@ -71,18 +72,19 @@ impl<'s> Tally<'s> {
         }
     }
 
-    /// Goes over one more record, after fewer than 2^32 - 1 of them, and tells whether it follows them. One that doesn't
-    /// is counted alone.
+    /// Goes over one more record, after fewer than 2^32 - 1 of them, and says whether it follows
+    /// them. One that doesn't is counted alone.
     pub fn add(&mut self, entry: &Record) -> bool
         requires few { many_of self.old < 2 ^ 32 - 1 }
         requires encodable { Encodable entry.now }
         ensures setup { setup_of self.new ≡ setup_of self.old }
         ensures counted { many_of self.new ≡ many_of self.old + 1 }
         ensures follows { result ≡ follows_carry (setup_of self.old) (carry_in self.old) entry.now }
-        ensures next { result ≡ true → carry_in self.new ≡ carry_with (setup_of self.old) entry.now (carry_in self.old) }
+        ensures next { result ≡ true → carry_in self.new
+            ≡ carry_with (setup_of self.old) entry.now (carry_in self.old) }
         ensures kept { result ≡ false → carry_in self.new ≡ carry_in self.old }
     {
-        // There is room for one more epoch or order: at most one stands at each device.
+        // There is room for one more epoch or order: at most one is at each device.
         prove!(self.setup.devices.as_slice().len() <= DEVICES);
         let follows = follows(self.setup, &self.carry, entry);
         if follows {

@@ -16,8 +16,8 @@ pub fn id_of(entry: &Record) -> u32
     }
 }
 
-/// The epoch after a record: it begins with event counter 0 and the accept counter that it records, a reading moves both,
-/// and a break or its end ends it.
+/// The epoch after a record: it begins with event counter 0 and the accept counter that it records,
+/// a reading moves both, and a break or its end ends it.
 pub fn epoch_by(entry: &Record, before: EpochState) -> EpochState
     ensures { result ≡ epoch_by entry.now before }
 {

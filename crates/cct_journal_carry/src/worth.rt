@@ -28,7 +28,8 @@ fn value_of(device: &DeviceSetup, coins: &[Coin]) -> u64
         .sum()
 }
 
-/// The value of a coin or a bill of a place, 0 where the device has no such place or the place has no value.
+/// The value of a coin or a bill of a place, 0 where the device has no such place or the place has
+/// no value.
 fn place_value(device: &DeviceSetup, place: u8) -> u32
     ensures { result ≡ place_value (Some device.now) place }
 {

@@ -1,12 +1,15 @@
--- Jobs at a device: which commands begin one there, and what becomes of what it asks over an honest wire.
-use Rattle.std.specs.Prelude.{◌≡◌, ◌&&◌, ◌||◌, not, is_some, Bool, true, false, List, ◌∷◌, Option, Some, None, ⊤}
+-- Jobs at a device: which commands begin one there, and what becomes of what it asks over an honest
+-- wire.
+use Rattle.std.specs.Prelude.{◌≡◌, ◌&&◌, ◌||◌, not, is_some, Bool, true, false, List, ◌∷◌, Option}
+use Rattle.std.specs.Prelude.{Some, None, ⊤}
 use Rattle.std.specs.List.{list_any}
 use Rattle.cct_model.specs.terms.device.DeviceBody.{DeviceBody}
 use Rattle.cct_model.specs.terms.device.DeviceSetup.{DeviceSetup}
 use Rattle.cct_model.specs.terms.family.Family.{Family}
 use Rattle.cct_model.specs.terms.family.Family.TheVariants as family
 use Rattle.cct_model.specs.terms.request.Request.{Request}
-use Rattle.cct_model.specs.terms.request.Request.TheVariants.{AddressPoll, SimplePoll, RouteBill, Dispense}
+use Rattle.cct_model.specs.terms.request.Request.TheVariants.{AddressPoll, SimplePoll, RouteBill}
+use Rattle.cct_model.specs.terms.request.Request.TheVariants.{Dispense}
 use Rattle.cct_model.specs.declared.judging.EpochState.{EpochState}
 use Rattle.cct_model.specs.lines.command.Command.{Command}
 use Rattle.cct_model.specs.lines.command.Command.TheVariants as command
@@ -20,27 +23,31 @@ use Rattle.cct_model.specs.Device.{IsBill, IsHopper, reply_of}
 use Rattle.cct_model.specs.Line.{Line, ended}
 use Rattle.cct_model.specs.Job.{works, job, address_of}
 use Rattle.cct_model.specs.declared.tests.Test.{Test}
-use Rattle.cct_model.specs.declared.tests.Test.TheVariants.{AtADevice, AtATaker, AtAnAcceptor, AtABillAcceptor, AtAHopper, WithNoJob}
+use Rattle.cct_model.specs.declared.tests.Test.TheVariants.{AtADevice, AtATaker, AtAnAcceptor}
+use Rattle.cct_model.specs.declared.tests.Test.TheVariants.{AtABillAcceptor, AtAHopper, WithNoJob}
 use Rattle.cct_model.specs.Refusal.{tests_of, start_refusal, running_refusal}
 use Rattle.cct_model.specs.Script.{IsCommand}
 
--- What becomes of a request to a device over an honest wire, as what the device heard and what the host got. The devices
--- heard damaged bytes; or the host heard such, or nothing, or that the device refuses; or the host got the device's reply.
-pub data Fate (d : DeviceSetup) (past : List Met) (q : Request) : Option Request → Option Reply → Type 0 where
+-- What becomes of a request to a device over an honest wire, as what the device heard and what the
+-- host got. The devices heard damaged bytes; or the host heard such, or nothing, or that the device
+-- refuses; or the host got the device's reply.
+pub data Fate (d : DeviceSetup) (past : List Met) (q : Request) : Option Request → Option Reply →
+    Type 0 where
   unheard : Fate d past q None None
   silenced : Fate d past q (Some q) None
   answered : (y : Reply) → reply_of d past q ≡ Some y → Fate d past q (Some q) (Some y)
 
--- A device that met all this refuses a request: a hopper one to dispense coins, which it doesn't take; a bill acceptor one
--- to route a bill, where it holds none or the way is none.
+-- A device that met all this refuses a request: a hopper one to dispense coins, which it doesn't
+-- take; a bill acceptor one to route a bill, where it holds none or the way is none.
 abbrev pub IsRefused : DeviceSetup → List Met → Request → Type 0
 IsRefused d past (Dispense serial count) =
     IsHopper d.body × (taken_of d.serial past (Some (Dispense serial count)) ≡ None)
-IsRefused d past (RouteBill way) = IsBill d.body × ((is_some (bill_held past) && is_way way) ≡ false)
+IsRefused d past (RouteBill way) =
+    IsBill d.body × ((is_some (bill_held past) && is_way way) ≡ false)
 IsRefused d past q = ⊥
 
--- What no job at a device sends it asks nothing of it, or is a poll of a scan, which asks all devices or this
--- one.
+-- What no job at a device sends it asks nothing of it, or is a poll of a scan, which asks all
+-- devices or this one.
 abbrev pub IsForOthers : Option Request → Type 0
 IsForOthers None = ⊤
 IsForOthers (Some AddressPoll) = ⊤
@@ -73,8 +80,8 @@ wants_other family.Bill AtAHopper = true
 wants_other family.Bill AtAnAcceptor = true
 wants_other which test = false
 
--- A command begins a job at a device of a family: among its tests are that a device is there and that no job is, and
--- none that wants another family.
+-- A command begins a job at a device of a family: among its tests are that a device is there and
+-- that no job is, and none that wants another family.
 abbrev pub is_for : Family → Command → Bool
 is_for which c =
     list_any wants_device (tests_of c) && list_any wants_no_job (tests_of c)
@@ -109,8 +116,9 @@ IsTaken d (command.Route addr way) state = running_refusal state ≡ None
 IsTaken d c state = ⊤
 
 -- The job at a device is one of a command for it and for its kind, in its range.
-pub record WorksAt (d : DeviceSetup) (lines : List Line) (c : Command) (since : List Line) : Type 0 where
-  pub job_is : job lines ≡ works c since
-  pub is_here : address_of c ≡ d.addr
-  pub in_range : IsCommand c
-  pub suited : suits d.body c ≡ true
+pub record WorksAt (d : DeviceSetup) (lines : List Line) (c : Command) (since : List Line) : Type 0
+  where
+    pub job_is : job lines ≡ works c since
+    pub is_here : address_of c ≡ d.addr
+    pub in_range : IsCommand c
+    pub suited : suits d.body c ≡ true

@@ -16,11 +16,12 @@ IsNoMessage piece = (message Simple piece ≡ None) × (message Crc piece ≡ No
 abbrev pub IsAddressPoll : List ℕ → Type 0
 IsAddressPoll sent = (kind : CheckKind) × (sent ≡ ask kind 0 AddressPoll)
 
--- The bytes that the devices hear are no message. Where no address poll is sent, the bytes that the host hears are none,
--- nor are those after the host's own echo.
+-- The bytes that the devices hear are no message. Where no address poll is sent, the bytes that the
+-- host hears are none, nor are those after the host's own echo.
 abbrev pub DamagesHonestly : WireFault → List ℕ → Type 0
 DamagesHonestly fault.Clear sent = ⊤
 DamagesHonestly (fault.DevicesHear piece) sent = IsNoMessage piece
 DamagesHonestly (fault.HostHears piece) sent = (IsAddressPoll sent → ⊥) → IsNoMessage piece
 DamagesHonestly (fault.WholeHeard piece) sent =
-    (IsAddressPoll sent → ⊥) → IsNoMessage piece × ((rest : List ℕ) → piece ≡ sent ++ rest → IsNoMessage rest)
+    (IsAddressPoll sent → ⊥) → IsNoMessage piece
+    × ((rest : List ℕ) → piece ≡ sent ++ rest → IsNoMessage rest)

@@ -27,13 +27,15 @@ waiting_at past d = waiting (rows_of d) (job (lines_of d past))
 abbrev pub waiting_sale : List Entry → Option ℕ
 waiting_sale past = waiting rows_of_sale (job (sale_lines past))
 
--- An id that a job is yet to record is in no record, and no other job waits with it; and each open order is the one that
--- was opened last with its id, at its own hopper.
+-- An id that a job is yet to record is in no record, and no other job waits with it; and each open
+-- order is the one that was opened last with its id, at its own hopper.
 pub record Ids (setup : Setup) (past : List Entry) : Type 0 where
   pub waits : (e : DeviceSetup) (id : ℕ) → IsOf setup e → waiting_at past e ≡ Some id →
       list_any (uses id) (records past) ≡ false
-  pub sale_waits : (id : ℕ) → waiting_sale past ≡ Some id → list_any (uses id) (records past) ≡ false
-  pub apart : (d e : DeviceSetup) (id : ℕ) → IsOf setup d → IsOf setup e → waiting_at past d ≡ Some id →
+  pub sale_waits : (id : ℕ) → waiting_sale past ≡ Some id → list_any (uses id) (records past)
+      ≡ false
+  pub apart : (d e : DeviceSetup) (id : ℕ) → IsOf setup d → IsOf setup e → waiting_at past d
+      ≡ Some id →
       waiting_at past e ≡ Some id → d.addr ≡ e.addr
   pub sale_apart : (e : DeviceSetup) (id : ℕ) → IsOf setup e → waiting_at past e ≡ Some id →
       waiting_sale past ≡ Some id → ⊥

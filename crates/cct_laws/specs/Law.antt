@@ -1,4 +1,5 @@
--- Words of the laws: a device of a setup and its lines, a fact of each entry, an answered exchange, steps that say bytes.
+-- Words of the laws: a device of a setup and its lines, a fact of each entry, an answered exchange,
+-- steps that say bytes.
 use Rattle.std.specs.Prelude.{◌≡◌, ◌<◌, true, List, [], ◌∷◌, ◌++◌, Some, None, ⊤}
 use Rattle.std.specs.List.{All}
 use Rattle.cct_model.specs.terms.device.DeviceSetup.{DeviceSetup}
@@ -32,8 +33,8 @@ abbrev pub EachEntry : (List Entry → Entry → Type 0) → List Entry → Type
 EachEntry P [] = ⊤
 EachEntry P (e ∷ past) = P past e × EachEntry P past
 
--- An exchange in which a device is asked something is answered: the device replies, and the host gets that reply in the
--- form that the request wants.
+-- An exchange in which a device is asked something is answered: the device replies, and the host
+-- gets that reply in the form that the request wants.
 abbrev pub IsAnswered : Setup → DeviceSetup → List Entry → Request → Type 0
 IsAnswered setup d past q =
     (y : Reply) × (reply_of d (met d past) q ≡ Some y) ×
@@ -41,15 +42,17 @@ IsAnswered setup d past q =
 
 -- In an exchange in which a device is asked something the host gets no reply.
 abbrev pub IsUnanswered : Setup → DeviceSetup → List Entry → Request → Type 0
-IsUnanswered setup d past q = got_by d (ask d.kind d.addr q) (heard_after setup past (ask d.kind d.addr q)) ≡ None
+IsUnanswered setup d past q =
+    got_by d (ask d.kind d.addr q) (heard_after setup past (ask d.kind d.addr q)) ≡ None
 
--- The address of a command is a byte, and the mask of a start has 16 bits. Ids, counts and prices are any numbers.
+-- The address of a command is a byte, and the mask of a start has 16 bits. Ids, counts and prices
+-- are any numbers.
 abbrev pub IsCommandOfBytes : Command → Type 0
 IsCommandOfBytes (command.Start addr mask) = (addr < 256) × (mask < 65536)
 IsCommandOfBytes c = address_of c < 256
 
--- What a step sends or shows in bytes is such: the address of a `next`, the address and the mask of a command, and the
--- bytes of a fault.
+-- What a step sends or shows in bytes is such: the address of a `next`, the address and the mask of
+-- a command, and the bytes of a fault.
 abbrev pub HasBytes : Step → Type 0
 HasBytes (step.Next addr) = addr < 256
 HasBytes (step.Command c) = IsCommandOfBytes c

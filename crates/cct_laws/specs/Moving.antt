@@ -1,5 +1,5 @@
--- That a reading has to be made again tells of a coin: one was accepted between its two accept counters. And it is none of
--- a stop.
+-- That a reading has to be made again tells of a coin: one was accepted between its two accept
+-- counters. And it is none of a stop.
 use Rattle.std.specs.Prelude.{◌<◌, List, [], ◌∷◌, length, ⊤}
 use Rattle.cct_model.specs.lines.command.Command.TheVariants as command
 use Rattle.cct_model.specs.lines.entry.End.TheVariants.{Moved}
@@ -7,15 +7,17 @@ use Rattle.cct_model.specs.Line.{Line, ended}
 use Rattle.cct_model.specs.Job.{Job, free, works, job, accepts_line}
 use Rattle.cct_model.specs.Claims.{AllPast, behind, coins, reading}
 
--- All that came before the last reading of the accept counter, which is the last answered header 225.
+-- All that came before the last reading of the accept counter, which is the last answered header
+-- 225.
 abbrev pub counting : List Line → List Line
 counting [] = []
 counting (line ∷ past) = behind (accepts_line line) past (counting past)
 
--- An end by which a reading has to be made again: fewer coins were accepted before the accept counter was read that stands
--- before the credits than before the last one.
+-- An end by which a reading has to be made again: fewer coins were accepted before the accept
+-- counter was read that stands before the credits than before the last one.
 abbrev pub MovedAt : List Line → Line → Type 0
-MovedAt past (ended Moved) = length (coins (counting (reading past))) < length (coins (counting past))
+MovedAt past (ended Moved) =
+    length (coins (counting (reading past))) < length (coins (counting past))
 MovedAt past line = ⊤
 
 -- The same of each end of these lines.

@@ -13,7 +13,7 @@ abbrev pub shows_none : Option Request → Option Reply → Bool
 shows_none (Some GetStatus) (Some (reply.status events left_to_pay paid unpaid)) = left_to_pay == 0
 shows_none asked got = false
 
--- What was shown stands after a record, but for one that opens an order.
+-- What was shown is after a record, but for one that opens an order.
 abbrev pub paid_out_by : Record → Bool → Bool
 paid_out_by (record_of.Opened id addr count life) before = false
 paid_out_by r before = before

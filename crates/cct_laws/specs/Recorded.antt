@@ -1,5 +1,5 @@
--- What records alone tell: those among the lines of an address, what the operator has, and how many are held where no job
--- runs.
+-- What records alone tell: those among the lines of an address, what the operator has, and how many
+-- are held where no job runs.
 use Rattle.std.specs.Prelude.{◌≡◌, ℕ, List, [], ◌∷◌, Option, Some, None, ⊤}
 use Rattle.cct_model.specs.terms.device.DeviceSetup.{DeviceSetup}
 use Rattle.cct_model.specs.terms.device.Setup.{Setup}

@@ -12,16 +12,20 @@ use Rattle.cct_model.specs.Transcript.{onto}
 use Rattle.cct_laws.specs.Law.{IsOf, lines_in}
 use Rattle.cct_laws.specs.Tallying.{AlwaysTallies}
 
--- The money of a transcript is right. No two records use one id, for an order that is opened or for a sale. Where the
--- wire was honest, the posts of each device are its accepted coins in order, none twice. At each device that kept the
--- pace, none is lost in silence, and after each line the coins up to the mark are as many as its records post and tell to be
--- lost. At each hopper, each order is paid at most once, and closed with exactly the coins that fell. And the transcript tells by itself whether the wire was honest: exactly if no entry tells of a forged exchange.
+-- The money of a transcript is right. No two records use one id, for an order that is opened or for
+-- a sale. Where the wire was honest, the posts of each device are its accepted coins in order, none
+-- twice. At each device that kept the pace, none is lost in silence, and after each line the coins
+-- up to the mark are as many as its records post and tell to be lost. At each hopper, each order is
+-- paid at most once, and closed with exactly the coins that fell. And the transcript tells by
+-- itself whether the wire was honest: exactly if no entry tells of a forged exchange.
 pub record IsRight (setup : Setup) (transcript : List Entry) : Type 0 where
   pub fresh : AreFresh (records (onto [] transcript))
-  pub in_order : (d : DeviceSetup) → IsOf setup d → Honest transcript → InOrder (lines_in d transcript)
+  pub in_order : (d : DeviceSetup) → IsOf setup d → Honest transcript →
+      InOrder (lines_in d transcript)
   pub covers : (d : DeviceSetup) → IsOf setup d → Honest transcript → Pace (lines_in d transcript)
       → Covers (lines_in d transcript)
   pub tallies : (d : DeviceSetup) → IsOf setup d → Honest transcript → Pace (lines_in d transcript)
       → AlwaysTallies (lines_in d transcript)
-  pub paid : (d : DeviceSetup) → IsOf setup d → IsHopper d.body → Honest transcript → Paid (lines_in d transcript)
+  pub paid : (d : DeviceSetup) → IsOf setup d → IsHopper d.body → Honest transcript →
+      Paid (lines_in d transcript)
   pub as_told : Honest transcript ↔ IsAllUnforged transcript

@@ -1,4 +1,5 @@
--- The scope of a law: each legal transcript, each device of a kind over an honest wire, each command for a device.
+-- The scope of a law: each legal transcript, each device of a kind over an honest wire, each
+-- command for a device.
 use Rattle.std.specs.Prelude.{◌≡◌, ℕ, true, List}
 use Rattle.std.specs.List.{All}
 use Rattle.cct_model.specs.terms.device.DeviceSetup.{DeviceSetup}
@@ -14,17 +15,21 @@ use Rattle.cct_model.specs.Setup.{IsSoundSetup}
 use Rattle.cct_laws.specs.DeviceJobs.{suits}
 use Rattle.cct_laws.specs.Law.{IsOf}
 
--- A fact of each legal transcript of a sound setup, over a journal that takes so many records. The steps are in range.
+-- A fact of each legal transcript of a sound setup, over a journal that takes so many records. The
+-- steps are in range.
 abbrev pub EachTranscript : (ℕ → Setup → List Entry → Type 0) → Type 0
 EachTranscript P =
-    (capacity : ℕ) (setup : Setup) (steps : List Step) (transcript : List Entry) → IsSoundSetup setup →
+    (capacity : ℕ) (setup : Setup) (steps : List Step) (transcript : List Entry) →
+    IsSoundSetup setup →
     All IsInRange steps → Legal capacity setup steps transcript → P capacity setup transcript
 
 -- A fact of each device of one kind, in each such transcript over an honest wire.
 abbrev pub EachDevice : (DeviceSetup → Type 0) → (DeviceSetup → List Entry → Type 0) → Type 0
 EachDevice IsOfKind P =
-    (capacity : ℕ) (setup : Setup) (steps : List Step) (transcript : List Entry) (d : DeviceSetup) → IsSoundSetup setup →
-    IsOf setup d → IsOfKind d → All IsInRange steps → Legal capacity setup steps transcript → Honest transcript →
+    (capacity : ℕ) (setup : Setup) (steps : List Step) (transcript : List Entry) (d : DeviceSetup) →
+    IsSoundSetup setup →
+    IsOf setup d → IsOfKind d → All IsInRange steps → Legal capacity setup steps transcript →
+    Honest transcript →
     P d transcript
 
 -- A fact of each device that takes money, in each such transcript over an honest wire.

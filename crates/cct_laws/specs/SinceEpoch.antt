@@ -1,5 +1,7 @@
--- What a device that takes money met since its epoch began, and a fact of that which every step over an honest wire keeps.
-use Rattle.std.specs.Prelude.{◌≡◌, ◌≢◌, ◌≤◌, ◌⊎◌, ℕ, ◌==◌, Bool, true, false, List, [], ◌∷◌, ◌++◌, if◌then◌else◌, Option, Some, None, ⊤}
+-- What a device that takes money met since its epoch began, and a fact of that which every step
+-- over an honest wire keeps.
+use Rattle.std.specs.Prelude.{◌≡◌, ◌≢◌, ◌≤◌, ◌⊎◌, ℕ, ◌==◌, Bool, true, false, List, [], ◌∷◌, ◌++◌}
+use Rattle.std.specs.Prelude.{if◌then◌else◌, Option, Some, None, ⊤}
 use Rattle.cct_model.specs.terms.coin.TheConstants.{COIN_PLACES}
 use Rattle.cct_model.specs.terms.device.DeviceSetup.{DeviceSetup}
 use Rattle.cct_model.specs.terms.request.Request.{Request}
@@ -32,8 +34,8 @@ abbrev pub since_record : DeviceSetup → Record → List Met → List Met
 since_record d (record_of.Epoch addr mask accepts) before = if addr == d.addr then [] else before
 since_record d r before = before
 
--- What a device met since the newest record that begins an epoch at its address, newest first; all that it met, where
--- there is none.
+-- What a device met since the newest record that begins an epoch at its address, newest first; all
+-- that it met, where there is none.
 abbrev pub since_epoch : DeviceSetup → List Entry → List Met
 since_epoch d [] = []
 since_epoch d (entry.Put r ∷ past) = since_record d r (since_epoch d past)
@@ -44,12 +46,13 @@ since_epoch d (e ∷ past) = meets d past e ++ since_epoch d past
 abbrev pub since_epoch_in : DeviceSetup → List Entry → List Met
 since_epoch_in d transcript = since_epoch d (onto [] transcript)
 
--- The inhibit mask that stands after bytes were heard: the one that they set, and none after a reset.
+-- The inhibit mask that is after bytes were heard: the one that they set, and none after a reset.
 abbrev pub mask_set_by : Option Request → Option ℕ → Option ℕ
 mask_set_by (Some (SetMask mask)) before = Some mask
 mask_set_by asked before = unless_reset asked None before
 
--- The inhibit mask that was last set, of what a device met; none where it was reset after that, or none was set.
+-- The inhibit mask that was last set, of what a device met; none where it was reset after that, or
+-- none was set.
 abbrev pub mask_set_in : List Met → Option ℕ
 mask_set_in [] = None
 mask_set_in (coin place ∷ past) = mask_set_in past
@@ -59,11 +62,12 @@ mask_set_in (jam ∷ past) = mask_set_in past
 mask_set_in (reset ∷ past) = None
 mask_set_in (heard asked ∷ past) = mask_set_by asked (mask_set_in past)
 
--- A device whose epoch runs with a mask has this inhibit mask, which was then set in the epoch, and no reset came
--- after that; or it has the mask 0, and none stands that was set in the epoch.
+-- A device whose epoch runs with a mask has this inhibit mask, which was then set in the epoch, and
+-- no reset came after that; or it has the mask 0, and none stands that was set in the epoch.
 abbrev pub IsMaskedBy : ℕ → List Met → List Met → Type 0
 IsMaskedBy mask since past =
-    ((mask_set_in since ≡ Some mask) × (mask_of past ≡ mask)) ⊎ ((mask_set_in since ≡ None) × (mask_of past ≡ 0))
+    ((mask_set_in since ≡ Some mask) × (mask_of past ≡ mask))
+    ⊎ ((mask_set_in since ≡ None) × (mask_of past ≡ 0))
 
 -- Whether a device was reset, by itself or by what it heard.
 abbrev pub was_reset : List Met → Bool
@@ -90,13 +94,15 @@ was_masked (jam ∷ past) = was_masked past
 was_masked (reset ∷ past) = was_masked past
 was_masked (heard asked ∷ past) = masked_by asked (was_masked past)
 
--- The epoch of a device that met this since it began may break: it was reset, or heard no inhibit mask.
+-- The epoch of a device that met this since it began may break: it was reset, or heard no inhibit
+-- mask.
 abbrev pub MayBreak : List Met → Type 0
 MayBreak since = (was_reset since ≡ true) ⊎ (was_masked since ≡ false)
 
 -- A record is no break of a device, or its epoch might break.
 abbrev pub HasCause : DeviceSetup → List Entry → Record → Type 0
-HasCause d past (record_of.Broken addr seen counter lost accepts posted) = addr ≡ d.addr → MayBreak (since_epoch d past)
+HasCause d past (record_of.Broken addr seen counter lost accepts posted) =
+    addr ≡ d.addr → MayBreak (since_epoch d past)
 HasCause d past r = ⊤
 
 -- An entry is no break of a device that is put, or its epoch might break.
@@ -118,44 +124,59 @@ InEpochAt past line = ⊤
 abbrev pub AcceptsInEpochs : List Line → Type 0
 AcceptsInEpochs lines = AllPast InEpochAt lines
 
--- A fact of what a device that takes money met since its epoch began, of all that it met, and of its lines, each newest
--- first. It holds before anything came, and is kept by each thing that can come over an honest wire.
-pub record IsKeptSince (d : DeviceSetup) (P : List Met → List Met → List Line → Type 0) : Type 0 where
-  pub starts : P [] [] []
-  pub accepts : (since past : List Met) (lines : List Line) (place : ℕ) → IsAcceptor d.body → 1 ≤ place →
-      place ≤ COIN_PLACES → acceptor.accepts past place ≡ true →
-      P since past lines → P (coin place ∷ since) (coin place ∷ past)
-      (accepted (record { place = place; path = path_of past place }) ∷ lines)
-  pub inhibits : (since past : List Met) (lines : List Line) (place : ℕ) → IsAcceptor d.body →
-      acceptor.accepts past place ≡ false → P since past lines →
-      P (coin place ∷ since) (coin place ∷ past) (inhibited place ∷ lines)
-  pub aliens : (since past : List Met) (lines : List Line) → IsAcceptor d.body → P since past lines →
-      P (alien ∷ since) (alien ∷ past) (line.alien ∷ lines)
-  pub holds : (since past : List Met) (lines : List Line) (place : ℕ) → IsBill d.body → 1 ≤ place → place ≤ COIN_PLACES →
-      bill.holds past place ≡ true → P since past lines → P (coin place ∷ since) (coin place ∷ past) lines
-  pub rejects : (since past : List Met) (lines : List Line) (place : ℕ) → IsBill d.body →
-      bill.holds past place ≡ false → P since past lines →
-      P (coin place ∷ since) (coin place ∷ past) (inhibited place ∷ lines)
-  pub resets : (since past : List Met) (lines : List Line) → P since past lines →
-      P (reset ∷ since) (reset ∷ past) (line.reset ∷ lines)
-  pub elsewhere : (since past : List Met) (lines : List Line) (asked : Option Request) → IsForOthers asked →
-      P since past lines → P (heard asked ∷ since) (heard asked ∷ past) lines
-  pub takes : (since past : List Met) (lines : List Line) (c : Command) → job lines ≡ free → address_of c ≡ d.addr →
-      IsCommand c → is_for_taker c ≡ true → IsTaken d c (epoch lines) → P since past lines → P since past (taken c ∷ lines)
-  pub asks : (since past : List Met) (lines : List Line) (c : Command) (work : List Line) (q : Request)
-      (asked : Option Request) (got : Option Reply) →
-      WorksAt d lines c work → row d c work (epoch lines) (order lines) ≡ sends q → Fate d past q asked got →
-      P since past lines → P (heard asked ∷ since) (heard asked ∷ past)
-      (with_ended (end_of d c (exchange (Some q) got) work (epoch lines))
-      (exchange (Some q) got ∷ doses d.body d.serial past asked ++ lines))
-  pub restarts : (since past : List Met) (lines : List Line) → P since past lines → P since past (restarted ∷ lines)
-  pub keeps : (since past : List Met) (lines : List Line) (c : Command) (work : List Line) (r : Record) →
-      WorksAt d lines c work → row d c work (epoch lines) (order lines) ≡ puts r →
-      P since past lines → P (since_record d r since) past (put r ∷ restarted ∷ lines)
-  pub puts : (since past : List Met) (lines : List Line) (c : Command) (work : List Line) (r : Record) →
-      WorksAt d lines c work → row d c work (epoch lines) (order lines) ≡ puts r →
-      P since past lines → P (since_record d r since) past (with_ended (end_of d c (put r) work (epoch lines))
-      (put r ∷ lines))
+-- A fact of what a device that takes money met since its epoch began, of all that it met, and of
+-- its lines, each newest first. It holds before anything came, and is kept by each thing that can
+-- come over an honest wire.
+pub record IsKeptSince (d : DeviceSetup) (P : List Met → List Met → List Line → Type 0) : Type 0
+  where
+    pub starts : P [] [] []
+    pub accepts : (since past : List Met) (lines : List Line) (place : ℕ) → IsAcceptor d.body → 1
+        ≤ place →
+        place ≤ COIN_PLACES → acceptor.accepts past place ≡ true →
+        P since past lines → P (coin place ∷ since) (coin place ∷ past)
+        (accepted (record { place = place; path = path_of past place }) ∷ lines)
+    pub inhibits : (since past : List Met) (lines : List Line) (place : ℕ) → IsAcceptor d.body →
+        acceptor.accepts past place ≡ false → P since past lines →
+        P (coin place ∷ since) (coin place ∷ past) (inhibited place ∷ lines)
+    pub aliens : (since past : List Met) (lines : List Line) → IsAcceptor d.body →
+        P since past lines →
+        P (alien ∷ since) (alien ∷ past) (line.alien ∷ lines)
+    pub holds : (since past : List Met) (lines : List Line) (place : ℕ) → IsBill d.body → 1 ≤ place →
+        place ≤ COIN_PLACES →
+        bill.holds past place ≡ true → P since past lines →
+        P (coin place ∷ since) (coin place ∷ past) lines
+    pub rejects : (since past : List Met) (lines : List Line) (place : ℕ) → IsBill d.body →
+        bill.holds past place ≡ false → P since past lines →
+        P (coin place ∷ since) (coin place ∷ past) (inhibited place ∷ lines)
+    pub resets : (since past : List Met) (lines : List Line) → P since past lines →
+        P (reset ∷ since) (reset ∷ past) (line.reset ∷ lines)
+    pub elsewhere : (since past : List Met) (lines : List Line) (asked : Option Request) →
+        IsForOthers asked →
+        P since past lines → P (heard asked ∷ since) (heard asked ∷ past) lines
+    pub takes : (since past : List Met) (lines : List Line) (c : Command) → job lines ≡ free →
+        address_of c ≡ d.addr →
+        IsCommand c → is_for_taker c ≡ true → IsTaken d c (epoch lines) → P since past lines →
+        P since past (taken c ∷ lines)
+    pub asks : (since past : List Met) (lines : List Line) (c : Command) (work : List Line)
+        (q : Request)
+        (asked : Option Request) (got : Option Reply) →
+        WorksAt d lines c work → row d c work (epoch lines) (order lines) ≡ sends q →
+        Fate d past q asked got →
+        P since past lines → P (heard asked ∷ since) (heard asked ∷ past)
+        (with_ended (end_of d c (exchange (Some q) got) work (epoch lines))
+        (exchange (Some q) got ∷ doses d.body d.serial past asked ++ lines))
+    pub restarts : (since past : List Met) (lines : List Line) → P since past lines →
+        P since past (restarted ∷ lines)
+    pub keeps : (since past : List Met) (lines : List Line) (c : Command) (work : List Line)
+        (r : Record) →
+        WorksAt d lines c work → row d c work (epoch lines) (order lines) ≡ puts r →
+        P since past lines → P (since_record d r since) past (put r ∷ restarted ∷ lines)
+    pub puts : (since past : List Met) (lines : List Line) (c : Command) (work : List Line)
+        (r : Record) →
+        WorksAt d lines c work → row d c work (epoch lines) (order lines) ≡ puts r →
+        P since past lines → P (since_record d r since) past
+        (with_ended (end_of d c (put r) work (epoch lines))
+        (put r ∷ lines))
 
 -- The same of a fact without regard to the epoch.
 abbrev pub IsKept : DeviceSetup → (List Met → List Line → Type 0) → Type 0

@@ -1,5 +1,5 @@
--- The events of a device that takes money, as it tells them and as its readings are judged; what it accepted, and what it
--- holds.
+-- The events of a device that takes money, as it shows them and as its readings are judged; what it
+-- accepted, and what it holds.
 use Rattle.std.specs.Prelude.{ℕ, List, [], map, Option, None}
 use Rattle.cct_model.specs.terms.coin.Pair.{Pair}
 use Rattle.cct_model.specs.terms.device.DeviceBody.{DeviceBody}
@@ -9,13 +9,14 @@ use Rattle.cct_model.specs.Bill.{bill_events, bill_held, stacked_bills}
 use Rattle.cct_model.specs.History.{Met}
 use Rattle.cct_model.specs.Job.{settled}
 
--- The events since the last reset, newest first: of a bill acceptor a bill that is held counts as one that is given back.
+-- The events since the last reset, newest first: of a bill acceptor a bill that is held counts as
+-- one that is given back.
 abbrev pub events_of : DeviceBody → List Met → List Pair
 events_of (Acceptor accepts values ids) past = events past
 events_of (Hopper life value) past = []
 events_of (Bill accepts values ids) past = map settled (bill_events past)
 
--- The events since the last reset, newest first, as the device tells them.
+-- The events since the last reset, newest first, as the device shows them.
 abbrev pub told_events : DeviceBody → List Met → List Pair
 told_events (Acceptor accepts values ids) past = events past
 told_events (Hopper life value) past = []

@@ -9,13 +9,14 @@ use Rattle.cct_model.specs.Line.{Line, exchange, put, ended}
 use Rattle.cct_model.specs.Job.{Job, free, works, job, tries}
 use Rattle.cct_model.specs.Scan.{scan_tries}
 
--- An exchange without the wanted reply is one failed try more of the header that it asked; an answered one ends what is
--- counted.
+-- An exchange without the wanted reply is one failed try more of the header that it asked; an
+-- answered one ends what is counted.
 abbrev pub failed_by : Option Request → Option Reply → List Line → ℕ
 failed_by (Some q) None since = suc (tries (header_of q) since)
 failed_by asked got since = 0
 
--- How many tries in succession, of the same row, a job's newest exchange ends without the wanted reply.
+-- How many tries in succession, of the same row, a job's newest exchange ends without the wanted
+-- reply.
 abbrev pub failed_tries : List Line → ℕ
 failed_tries [] = 0
 failed_tries (exchange asked got ∷ since) = failed_by asked got since
@@ -27,8 +28,8 @@ abbrev pub failed_in : Job → ℕ
 failed_in free = 0
 failed_in (works command since) = failed_tries since
 
--- A job ends for want of an answer exactly after its third failed try in succession: that end stands after three, and
--- any other line after fewer.
+-- A job ends for want of an answer exactly after its third failed try in succession: that end is
+-- after three, and any other line after fewer.
 abbrev pub TriesAt : List Line → Line → Type 0
 TriesAt past (ended NoAnswer) = failed_in (job past) ≡ 3
 TriesAt past line = failed_in (job past) < 3
@@ -43,7 +44,8 @@ abbrev pub HasThreeTries : Job → Type 0
 HasThreeTries free = ⊥
 HasThreeTries (works command since) = (scan_tries Simple since ≡ 3) ⊎ (scan_tries Crc since ≡ 3)
 
--- A scan ends for want of an answer exactly after the third failed try in succession of an address poll.
+-- A scan ends for want of an answer exactly after the third failed try in succession of an address
+-- poll.
 abbrev pub ScanTriesAt : List Line → Line → Type 0
 ScanTriesAt past (ended NoAnswer) = HasThreeTries (job past)
 ScanTriesAt past line = HasFewTries (job past)

@@ -1,4 +1,4 @@
--- No coin stands in two spans: each span begins no earlier than an older one ends.
+-- No coin is in two spans: each span begins no earlier than an older one ends.
 use Rattle.std.proofs.Common.{◌≡◌, ℕ, suc, ◌≤◌, ◌==◌, Bool, true, false, cond, List, [], ◌∷◌, ◌++◌, map, length, refl, sym, ap, subst, arith, Option, Some, None, All}
 use Rattle.std.specs.Prelude.{⊤}
 use Rattle.std.proofs.lemmas.Bool.Decides.{nat_tests}
@@ -141,7 +141,7 @@ chain (Masked mask ∷ past) = chain_on (Masked mask) (last_reading past) (lengt
 chain (Set ∷ past) = chain_on Set (last_reading past) (length past) (spans past) (chain past)
 chain (Nothing ∷ past) = chain_on Nothing (last_reading past) (length past) (spans past) (chain past)
 
--- so no coin stands in two
+-- so no coin is in two
 two_apart : (d : DeviceSetup) (past : List Entry) (x y : Span) → y.last.number ≤ x.first.number →
     x.first.number ≤ length (taps past) → (i : ℕ) → StandsIn d past i x → StandsIn d past i y → ⊥
 two_apart d past x y order most i in_x in_y =

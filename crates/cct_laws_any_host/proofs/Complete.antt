@@ -173,7 +173,7 @@ sure_where_plain_all setup steps past d sound own accepting goes honest =
           (record { unset = plain.unset; few = plain.few; masked = plain.masked }),
     )
 
--- so such a span is told whole
+-- so such a span is reported whole
 whole_told : (d : DeviceSetup) (past : List Entry) (told : List Said) (x : Span) →
     SpanIn (λ n. world_of d (before_tap n past)) (world_of d past) x → IsMasked (λ n. world_of d (before_tap n past)) x →
     (is_confirmed x ≡ true → Contains told (surely d.addr x)) → IsPlain d past x → IsToldWhole d past told x

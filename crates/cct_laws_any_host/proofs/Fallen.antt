@@ -61,7 +61,7 @@ last_in at start (None ∷ past) now runs =
     if_later at start (at (suc (length past))) now (last_life past) runs.1
     (last_in at start past (at (suc (length past))) runs.2)
 
--- the counts of two moments tell how many fell between them
+-- the counts of two moments say how many fell between them
 pub since_exact : (start first last before now : ℕ) → before ≡ (start + first) % 2 ^ 24 →
     now ≡ (start + last) % 2 ^ 24 → first ≤ last → last < first + 2 ^ 24 → last ≡ life_between before now + first
 unfolding life_between

@@ -51,7 +51,7 @@ use Rattle.cct_laws_any_host.proofs.QuietRuns.{no_hopper, taker_is}
 use Rattle.cct_laws_any_host.proofs.Run.{AllWild, Seen, Wild, comes, comes_to, elsewhere, faults, here, no_tap, sends, takes, wild_all}
 use Rattle.cct_laws_any_host.proofs.Wire.{acked, asked_or_none, bills_request, coins_request, events_told, masks_told, reset_replied, set_replied}
 
--- after a reset, before a mask is asked for: nothing is let in, no credit is told, and no bill is held
+-- after a reset, before a mask is asked for: nothing is let in, no credit is reported, and no bill is held
 record Fresh (body : DeviceBody) (ms : List Met) : Type 0 where
   shut : mask_of ms ≡ 0
   none : list_any is_credit (told_events body ms) ≡ false

@@ -1,4 +1,4 @@
--- A span of an acceptor that is watched for resets alone is told whole where no reset came and few pieces did.
+-- A span of an acceptor that is watched for resets alone is reported whole where no reset came and few pieces did.
 use Rattle.std.proofs.Common.{◌≡◌, ℕ, ◌≤◌, not, true, cond, List, [], ◌++◌, map, length, sym, ap, ◌∙◌, subst, subst₂, arith, All, Contains}
 use Rattle.std.specs.List.{list_any}
 use Rattle.std.proofs.lemmas.List.Elements.{All-weaker}

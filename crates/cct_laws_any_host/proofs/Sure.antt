@@ -22,7 +22,7 @@ use Rattle.cct_monitor.specs.Once.{all_said}
 use Rattle.cct_monitor.specs.Spans.{Reading, Span, after_it, are_near, coins_of, doubted, goes_on, is_set, is_whole, last_reading, leaves_open, new_reading, refused, said_at, spans, spans_by, surely, turned, waits, with_after}
 use Rattle.cct_laws_any_host.proofs.Moments.{World, Behind, Quiet, Runs, Shows, quiet_then}
 
--- a reading tells the credits of its moment; and where no setting was shown since, it is quiet since
+-- a reading shows the credits of its moment; and where no setting was shown since, it is quiet since
 pub record ReadIn (at : ℕ → World) (now : World) (r : Reading) : Type 0 where
   pub credits_are : r.credits ≡ credits_in (at r.number).events
   pub quiet : list_any is_set r.after ≡ false → Quiet (at r.number) now

@@ -1,4 +1,4 @@
--- A step that tells the end of a payment that was closed puts just the record that closes its order.
+-- A step that shows the end of a payment that was closed puts just the record that closes its order.
 use Rattle.std.proofs.Common.{◌≡◌, ◌⊎◌, inl, inr, ℕ, ◌≤◌, List, [], ◌∷◌, refl, ◌∙◌, Option, Some, None, arith, rules}
 use Rattle.std.specs.Prelude.{⊤}
 use Rattle.cct_model.specs.terms.device.DeviceSetup.{DeviceSetup}
@@ -114,7 +114,7 @@ shows_none c addr (entry.Ended other end ∷ news) none (inl here) = none.0 here
 shows_none c addr (entry.Ended other end ∷ news) none (inr later) = shows_none c addr news none.1 later
 shows_none c addr (e ∷ news) none shows = shows_none c addr news none shows
 
--- the record that a step puts where it tells the end of a payment at an address
+-- the record that a step puts where it shows the end of a payment at an address
 pub record Closes (past : List Entry) (addr : ℕ) (news : List Entry) : Type 0 where
   pub closing : Record
   pub only : records news ≡ closing ∷ []

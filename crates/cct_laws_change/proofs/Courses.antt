@@ -111,7 +111,7 @@ plain_free setup past news trays bound made None f apart few is = tt
 plain_free setup past news trays bound made (Some s) f apart few is =
     free_on setup past news trays bound made s f apart few is
 
--- a stock that is told
+-- a stock that is reported
 same_room : (setup : Setup) (past : List Entry) (e : Entry) (c : Course) (session : Option Session) (tally : Tally) →
     Facts setup past (e ∷ []) → commands_in (e ∷ []) ≡ [] → tally.made ≡ c.tally.made → RoomIn setup past c session →
     RoomIn setup (e ∷ past) (record {

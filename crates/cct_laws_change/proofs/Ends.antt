@@ -1,4 +1,4 @@
--- A session ends: each block of a `serve` and steps that let its payment's job end makes one payment more, or tells its end.
+-- A session ends: each block of a `serve` and steps that let its payment's job end makes one payment more, or shows its end.
 use Rattle.std.proofs.Common.{◌≡◌, ◌⊎◌, inl, inr, ℕ, ◌+◌, ◌<◌, ◌≤◌, ◌==◌, Bool, true, false, cond, List, [], ◌∷◌, ◌++◌, length, refl, ap, sym, ◌∙◌, subst, Option, Some, None, All, arith, append_assoc, eq-eqb}
 use Rattle.std.specs.Prelude.{MatchBool}
 use Rattle.std.specs.List.{list_any}
@@ -136,7 +136,7 @@ between_range : (s : Step) → IsBetween s → IsInRange s
 between_range step.Serve between = absurd between
 between_range s between = between
 
--- where the end of a payment that was closed is told, it isn't waited for
+-- where the end of a payment that was closed is reported, it isn't waited for
 
 no_opening : (p : Payment) (r : Record) → IsClosing r → list_any (is_opening p) (r ∷ []) ≡ false
 no_opening p (record_of.Closed id paid unpaid) closes = refl
@@ -279,7 +279,7 @@ ends_along capacity setup past desk tally p (s ∷ steps) end last found more so
           (after.0, after.1 ∙ same))
     ]
 
--- a `serve` of a session that is ready tells its end, or makes a payment
+-- a `serve` of a session that is ready shows its end, or makes a payment
 
 pub record Pays (news : List Entry) (session : Option Session) : Type 0 where
   pub payment : Payment

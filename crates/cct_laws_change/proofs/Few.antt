@@ -128,7 +128,7 @@ session_on setup news past trays bound made None goes is = is
 session_on setup news past trays bound made (Some s) goes is =
     due_on setup news past trays bound made s.rest s.due goes is
 
--- a stock that is told
+-- a stock that is reported
 
 due_stocked : (rs : List Record) (trays : List Tray) (addr count bound made rest : ℕ) (due : Option Due) →
     AreSingle trays → FewBy rs trays bound made rest due →

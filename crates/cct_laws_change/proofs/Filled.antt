@@ -105,7 +105,7 @@ emptied addr becomes (t ∷ ts) none = by_test (t.addr == addr) (emptied addr be
     by_test true later = let is = ap one_filled (none t.stock) in omega (arith, is, later)
     by_test false later = omega (arith, later)
 
--- a stock that is told fills at most the trays that stand there
+-- a stock that is reported fills at most the trays that stand there
 abbrev pub told_stock : ℕ → ℕ → ℕ
 told_stock count before = count
 

@@ -91,7 +91,7 @@ opened_over d (e ∷ news) past p sure is =
     (opened_stays (own d (news ++ past) e) (lines_of d (news ++ past)) p.id p.count
     (fresh_lines d (e ∷ news ++ past) sure.fresh) before.opened) before
 
--- what stands at a device's own address
+-- what is at a device's own address
 at_own : {A : Type 0} (addr : ℕ) (d : DeviceSetup) (x : A) → addr ≡ d.addr → at addr d x ≡ x ∷ []
 at_own addr d x here = cond-true (addr == d.addr) (x ∷ []) [] (eq-eqb addr d.addr here)
 

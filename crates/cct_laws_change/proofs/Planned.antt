@@ -41,7 +41,7 @@ use Rattle.cct_laws_change.proofs.Trays.{AreTrays}
 abbrev pub less : ℕ → ℕ → ℕ
 less count before = before - count
 
--- where no tray stands at an address, another stock there changes nothing
+-- where no tray is at an address, another stock there changes nothing
 none_restocked : (addr : ℕ) (becomes : ℕ → ℕ) (trays : List Tray) → trays_at addr trays ≡ 0 →
     restocked addr becomes trays ≡ trays
 none_restocked addr becomes [] none = refl
@@ -67,7 +67,7 @@ restocked_same addr becomes other (t ∷ ts) same = by_test (t.addr == addr) (re
         ∙ ap (λ xs. record { addr = t.addr; value = t.value; stock = other t.stock } ∷ xs) later
     by_test false later = ap (λ xs. t ∷ xs) later
 
--- what a plan pays first is of a tray that stands there
+-- what a plan pays first is of a tray that is there
 first_there : (trays : List Tray) (counts : List ℕ) (addr count : ℕ) → first_pay trays counts ≡ Some (addr, count) →
     1 ≤ trays_at addr trays
 first_there [] counts addr count is = absurd cc

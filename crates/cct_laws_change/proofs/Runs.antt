@@ -25,7 +25,7 @@ use Rattle.cct_laws_change.proofs.Sessions.{AreSure, Holds, holds_over, holds_st
 use Rattle.cct_laws_change.proofs.Told.{TellsNothing, plain_told, same_told_paid}
 use Rattle.cct_laws_change.proofs.Trays.{AreTrays}
 
--- what tells nothing of a session's end tells it right
+-- what tells nothing of a session's end shows it right
 told_nothing : (setup : Setup) (past : List Entry) (orders : List Payment) (session : Option Session) (e : Entry) →
     TellsNothing e → IsToldRight setup past orders session e
 told_nothing setup past orders session (entry.Served amount) none = absurd none
@@ -88,7 +88,7 @@ reached capacity setup steps past desk orders sound range comes honest =
       holds = at.1 honest;
     }
 
--- at each moment no more fell than the amount, or what the last end told; and each step tells it right
+-- at each moment no more fell than the amount, or what the last end told; and each step shows it right
 pub moment_within : EachMoment (λ capacity setup past desk orders. IsWithin setup past orders desk.session)
 moment_within capacity setup steps past desk orders sound range comes honest =
     let at = reached capacity setup steps past desk orders sound range comes honest in
@@ -146,7 +146,7 @@ pub moment_found : (capacity : ℕ) (setup : Setup) (played rest : List Step) (t
 moment_found capacity setup played rest transcript last told =
     moment_from orders_after capacity setup [] (clear_desk setup) [] played rest (onto [] transcript) last told
 
--- the step that comes next there tells the session right
+-- the step that comes next there shows the session right
 next_right : (capacity : ℕ) (setup : Setup) (past : List Entry) (desk : Desk) (orders : List Payment) (steps : List Step)
     (end : List Entry) (last : Desk) → ((s : Step) (news : List Entry) → EntriesAtDesk capacity setup past desk s news →
     All (IsToldRight setup past orders desk.session) news) → AtDeskFrom capacity setup past desk steps end last →

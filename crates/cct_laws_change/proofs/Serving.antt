@@ -243,7 +243,7 @@ changes_right setup past news orders trays first amount (Some s) before is gives
       holds = λ sure. holds_stays setup trays (entry.ChangeNo ∷ []) past orders (Some s) refl before sure is;
     })
 
--- a stock that is told changes no session
+-- a stock that is reported changes no session
 pub stocks_right : (setup : Setup) (past news : List Entry) (orders : List Payment) (trays : List Tray)
     (addr count : ℕ) (session : Option Session) → AreSure setup past → Holds setup trays past orders session →
     news ≡ entry.Stock addr count ∷ [] →

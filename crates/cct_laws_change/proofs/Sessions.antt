@@ -146,7 +146,7 @@ abbrev pub HasPaid : Setup → List Entry → List Payment → Option ℕ → Ty
 HasPaid setup past orders None = ⊤
 HasPaid setup past orders (Some paid) = Settled setup past orders paid 0
 
--- while a session runs, no end was told since it began
+-- while a session runs, no end was reported since it began
 abbrev pub Holds : Setup → List Tray → List Entry → List Payment → Option Session → Type 0
 Holds setup trays past orders None = HasPaid setup past orders (told_paid past)
 Holds setup trays past orders (Some s) =

@@ -33,7 +33,7 @@ use Rattle.cct_laws_change.proofs.Few.{FewBy, FewIn}
 use Rattle.cct_laws_change.proofs.Filled.{AreSingle}
 use Rattle.cct_laws_change.proofs.Planned.{AreValued, PlanIn, PlanRuns, Settled, due_settled, made_in, more_made, not_stuck, with_due}
 
--- a `serve` tells that the session was served, or makes a payment
+-- a `serve` says that the session was served, or makes a payment
 ServesPlan : List Entry → Option Session → Type 0
 ServesPlan news session = (list_any is_service news ≡ true) ⊎ Pays news session
 

@@ -1,4 +1,4 @@
--- Only a `change` and a `serve` tell how a session begins and ends.
+-- Only a `change` and a `serve` say how a session begins and ends.
 use Rattle.std.proofs.Common.{◌≡◌, ℕ, List, [], ◌∷◌, ◌++◌, refl, ◌∙◌, Option, Some, None, All}
 use Rattle.std.specs.Prelude.{⊤}
 use Rattle.std.proofs.lemmas.List.Elements.{All-cons, All-head, All-nil, All-tail}
@@ -106,7 +106,7 @@ plain_told capacity setup past news s none entries =
     (λ es addr before. All-cons TellsNothing (entry.Forged addr) es tt before) told
     (brought_nothing capacity setup past told.told s none told.brings)
 
--- so such entries leave what was told last as paid
+-- so such entries leave what was reported last as paid
 one_told_paid : (e : Entry) (past : List Entry) → TellsNothing e → told_paid (e ∷ past) ≡ told_paid past
 one_told_paid (entry.Served amount) past none = absurd none
 one_told_paid (entry.Short paid rest) past none = absurd none

@@ -68,13 +68,13 @@ operators_order = refl
 other_order : orders_after (step.Next 3) (entry.Put (record_of.Opened 60 3 1 0) ∷ []) (at_desk Begun) [] ≡ []
 other_order = refl
 
--- the end of a session tells what was paid, until another begins; whatever else is told leaves that
+-- the end of a session says what was paid, until another begins; whatever else is reported leaves that
 told_last : (told_paid (entry.ServeIdle ∷ entry.Crash 0 ∷ entry.Served 70 ∷ []) ≡ Some 70)
     × (told_paid (entry.ChangeNo ∷ entry.Short 20 50 ∷ entry.ChangeOk 60 70 ∷ entry.Served 40 ∷ []) ≡ Some 20)
     × (told_paid (entry.ChangeOk 61 30 ∷ entry.Short 20 50 ∷ []) ≡ None)
 told_last = (refl, refl, refl)
 
--- where no session began, none was served: only that no session runs is told
+-- where no session began, none was served: only that no session runs is reported
 serves_nothing : (capacity : ℕ) (setup : Setup) (past news : List Entry) (desk : Desk) (orders : List Payment)
     (last : Desk) → past ≡ [] → desk ≡ clear_desk setup →
     EntriesAtDesk capacity setup past desk step.Serve news → entry.Served 70 ∷ [] ≡ news ++ past → ⊥
@@ -147,7 +147,7 @@ too_many (c ∷ []) plan =
     omega (arith, few, whole)
 too_many (c ∷ d ∷ counts) plan = absurd plan.within.1
 
--- a payment that was closed with coins left unpaid, or never opened, isn't whole; and a session that waits tells no end
+-- a payment that was closed with coins left unpaid, or never opened, isn't whole; and a session that waits shows no end
 whole_or_not : (is_whole (Closed 2 0) ≡ true) × (is_whole (Closed 1 1) ≡ false) × (is_whole Lost ≡ false)
 whole_or_not = (refl, refl, refl)
 

@@ -1,4 +1,5 @@
--- The law of change: the coins that fell for the orders of a session are worth what the session tells.
+-- The law of change: the coins that fell for the orders of a session are worth what the session
+-- tells.
 use Rattle.std.specs.Prelude.{◌≡◌, ℕ, ◌+◌, ◌≤◌, List, [], ◌∷◌, ◌++◌, Option, Some, None, ⊤}
 use Rattle.std.specs.List.{All}
 use Rattle.std.specs.Option.{IfSome}
@@ -44,20 +45,26 @@ abbrev pub IsWithin : Setup → List Entry → List Payment → Option Session �
 IsWithin setup past orders None = ⊤
 IsWithin setup past orders (Some s) = worth_of setup past orders ≤ s.amount
 
--- A session runs whose amount is that of these two together, and what fell for its orders is worth the first.
+-- A session runs whose amount is that of these two together, and what fell for its orders is worth
+-- the first.
 abbrev pub IsPaid : Setup → List Entry → List Payment → Option Session → ℕ → ℕ → Type 0
 IsPaid setup past orders None paid rest = ⊥
-IsPaid setup past orders (Some s) paid rest = (paid + rest ≡ s.amount) × (worth_of setup past orders ≡ paid)
+IsPaid setup past orders (Some s) paid rest =
+    (paid + rest ≡ s.amount) × (worth_of setup past orders ≡ paid)
 
--- What an entry tells of the session that ran before its step: that it was served, all of its amount was paid; that it fell
--- short, as much of it as is told, and the rest wasn't. That the life counts don't fit its order is never told.
+-- What an entry tells of the session that ran before its step: that it was served, all of its
+-- amount was paid; that it fell short, as much of it as is reported, and the rest wasn't. That the
+-- life counts don't fit its order is never reported.
 abbrev pub IsToldRight : Setup → List Entry → List Payment → Option Session → Entry → Type 0
-IsToldRight setup past orders session (entry.Served amount) = IsPaid setup past orders session amount 0
-IsToldRight setup past orders session (entry.Short paid rest) = IsPaid setup past orders session paid rest
+IsToldRight setup past orders session (entry.Served amount) =
+    IsPaid setup past orders session amount 0
+IsToldRight setup past orders session (entry.Short paid rest) =
+    IsPaid setup past orders session paid rest
 IsToldRight setup past orders session (entry.ServeOdd id) = ⊥
 IsToldRight setup past orders session e = ⊤
 
--- What the end of a session told last as paid, where no session began since: a past tells it, newest entry first.
+-- What the end of a session told last as paid, where no session began since: a past shows it,
+-- newest entry first.
 abbrev pub told_paid : List Entry → Option ℕ
 told_paid [] = None
 told_paid (entry.Served amount ∷ past) = Some amount
@@ -65,22 +72,26 @@ told_paid (entry.Short paid rest ∷ past) = Some paid
 told_paid (entry.ChangeOk first amount ∷ past) = None
 told_paid (e ∷ past) = told_paid past
 
--- From the end of a session until the next one begins, what fell for its orders stays worth what the end told.
+-- From the end of a session until the next one begins, what fell for its orders stays worth what
+-- the end told.
 abbrev pub IsStillPaid : Setup → List Entry → List Payment → Type 0
 IsStillPaid setup past orders = IfSome (told_paid past) (λ paid. worth_of setup past orders ≡ paid)
 
--- A run goes on from a moment by these steps, and ends as these; and all entries of the step that comes next tell the
--- session right.
-abbrev pub GoesOnRight : ℕ → Setup → List Entry → Desk → List Payment → List Step → List Entry → Desk → Type 0
+-- A run goes on from a moment by these steps, and ends as these; and all entries of the step that
+-- comes next tell the session right.
+abbrev pub GoesOnRight : ℕ → Setup → List Entry → Desk → List Payment → List Step → List Entry →
+    Desk → Type 0
 GoesOnRight capacity setup past desk orders [] end last = (end ≡ past) × (last ≡ desk)
 GoesOnRight capacity setup past desk orders (s ∷ steps) end last =
     (news : List Entry) × EntriesAtDesk capacity setup past desk s news
     × AtDeskFrom capacity setup (news ++ past) (desk_after s news desk) steps end last
     × All (IsToldRight setup past orders desk.session) news
 
--- The moment of a run after these steps and before those: while a session runs, what fell for its orders is worth at most
--- its amount; after it has ended, what its end told; and the next step tells it right.
-pub record MomentIsRight (capacity : ℕ) (setup : Setup) (played steps : List Step) (end : List Entry) (last : Desk) :
+-- The moment of a run after these steps and before those: while a session runs, what fell for its
+-- orders is worth at most its amount; after it has ended, what its end told; and the next step
+-- shows it right.
+pub record MomentIsRight (capacity : ℕ) (setup : Setup) (played steps : List Step)
+    (end : List Entry) (last : Desk) :
     Type 0 where
   pub past : List Entry
   pub desk : Desk
@@ -90,17 +101,20 @@ pub record MomentIsRight (capacity : ℕ) (setup : Setup) (played steps : List S
   pub stays : IsStillPaid setup past orders
   pub goes_on : GoesOnRight capacity setup past desk orders steps end last
 
--- The law of change of a whole run, whose transcript is oldest entry first: it leaves a desk, and each moment of it, which is
--- after some of its steps, is right.
-pub record ChangeIsPaid (capacity : ℕ) (setup : Setup) (steps : List Step) (transcript : List Entry) : Type 0 where
+-- The law of change of a whole run, whose transcript is oldest entry first: it leaves a desk, and
+-- each moment of it, which is after some of its steps, is right.
+pub record ChangeIsPaid (capacity : ℕ) (setup : Setup) (steps : List Step) (transcript : List Entry)
+    : Type 0 where
   pub last : Desk
   pub each : (played rest : List Step) → steps ≡ played ++ rest →
       MomentIsRight capacity setup played rest (onto [] transcript) last
 
--- A fact of each moment of each run at the desk of a sound setup, over an honest wire: of its past, newest entry first, of
--- the desk, and of the orders of its session. The steps are in range.
+-- A fact of each moment of each run at the desk of a sound setup, over an honest wire: of its past,
+-- newest entry first, of the desk, and of the orders of its session. The steps are in range.
 abbrev pub EachMoment : (ℕ → Setup → List Entry → Desk → List Payment → Type 0) → Type 0
 EachMoment P =
-    (capacity : ℕ) (setup : Setup) (steps : List Step) (past : List Entry) (desk : Desk) (orders : List Payment) →
-    IsSoundSetup setup → All IsInRange steps → ComesTo capacity setup steps past desk orders → HonestPast past →
+    (capacity : ℕ) (setup : Setup) (steps : List Step) (past : List Entry) (desk : Desk)
+    (orders : List Payment) →
+    IsSoundSetup setup → All IsInRange steps → ComesTo capacity setup steps past desk orders →
+    HonestPast past →
     P capacity setup past desk orders

@@ -1,5 +1,6 @@
 -- What fell for an order, by its id: the lines of a hopper tell it, newest first.
-use Rattle.std.specs.Prelude.{◌≡◌, ◌≢◌, ℕ, suc, ◌≤◌, ◌==◌, Bool, false, List, [], ◌∷◌, if◌then◌else◌, Option, Some, None, ⊤}
+use Rattle.std.specs.Prelude.{◌≡◌, ◌≢◌, ℕ, suc, ◌≤◌, ◌==◌, Bool, false, List, [], ◌∷◌}
+use Rattle.std.specs.Prelude.{if◌then◌else◌, Option, Some, None, ⊤}
 use Rattle.cct_model.specs.lines.record.Record.{Record}
 use Rattle.cct_model.specs.lines.record.Record.TheVariants as record_of
 use Rattle.cct_model.specs.declared.judging.OpenOrder.{OpenOrder}
@@ -16,12 +17,14 @@ is_named id (Some o) = o.id == id
 -- How many coins fell while the order with this id was open.
 abbrev pub fallen_for : ℕ → List Line → ℕ
 fallen_for id [] = 0
-fallen_for id (fell ∷ past) = if is_named id (order past) then suc (fallen_for id past) else fallen_for id past
+fallen_for id (fell ∷ past) =
+    if is_named id (order past) then suc (fallen_for id past) else fallen_for id past
 fallen_for id (line ∷ past) = fallen_for id past
 
 -- How many coins the order with this id was opened for, or none where it wasn't opened.
 abbrev pub count_by : ℕ → Record → Option ℕ → Option ℕ
-count_by id (record_of.Opened opened addr count life) before = if opened == id then Some count else before
+count_by id (record_of.Opened opened addr count life) before =
+    if opened == id then Some count else before
 count_by id r before = before
 
 -- How many coins the order with this id was opened for last, or none where it was not.
@@ -61,8 +64,9 @@ IsFreshLine past line = ⊤
 abbrev pub AreFreshLines : List Line → Type 0
 AreFreshLines lines = AllPast IsFreshLine lines
 
--- What is counted of each order: of the open one the coins that fell since it was opened; of one that wasn't opened none;
--- never more than its count; and of a closed one the coins that its record says were paid.
+-- What is counted of each order: of the open one the coins that fell since it was opened; of one
+-- that wasn't opened none; never more than its count; and of a closed one the coins that its record
+-- says were paid.
 pub record Counted (lines : List Line) : Type 0 where
   pub open_is : (o : OpenOrder) → order lines ≡ Some o →
       (fallen_for o.id lines ≡ fallen lines) × (opened_as o.id lines ≡ Some o.count)
@@ -70,6 +74,8 @@ pub record Counted (lines : List Line) : Type 0 where
   pub within : (id n : ℕ) → opened_as id lines ≡ Some n → fallen_for id lines ≤ n
   pub closed_is : (id : ℕ) (c : Close) → closed_as id lines ≡ Some c →
       (fallen_for id lines ≡ c.paid) × (opened_as id lines ≢ None)
-  pub closed_apart : (id : ℕ) (c : Close) (o : OpenOrder) → closed_as id lines ≡ Some c → order lines ≡ Some o →
+  pub closed_apart : (id : ℕ) (c : Close) (o : OpenOrder) → closed_as id lines ≡ Some c →
+      order lines ≡ Some o →
       o.id ≢ id
-  pub ended : (id n : ℕ) → opened_as id lines ≡ Some n → is_named id (order lines) ≡ false → closed_as id lines ≢ None
+  pub ended : (id n : ℕ) → opened_as id lines ≡ Some n → is_named id (order lines) ≡ false →
+      closed_as id lines ≢ None

@@ -1,5 +1,5 @@
--- The orders of a session of change: its payments that were opened. They are read off the steps and their entries, beside
--- what the desk knows.
+-- The orders of a session of change: its payments that were opened. They are read off the steps and
+-- their entries, beside what the desk knows.
 use Rattle.std.specs.Prelude.{ℕ, List, [], ◌∷◌, ◌++◌, if◌then◌else◌, Option, Some, None}
 use Rattle.std.specs.List.{list_any}
 use Rattle.cct_model.specs.terms.device.Setup.{Setup}
@@ -15,7 +15,8 @@ use Rattle.cct_model.specs.Change.{Desk, clear_desk, is_opening}
 use Rattle.cct_model.specs.Records.{records}
 use Rattle.cct_laws_change.specs.Along.{AlongFrom}
 
--- The payment whose order is opened among the entries of a step, or none: only one whose job was running before it.
+-- The payment whose order is opened among the entries of a step, or none: only one whose job was
+-- running before it.
 abbrev pub opened_by : Payment → List Entry → Phase → List Payment
 opened_by p news Begun = if list_any (is_opening p) (records news) then p ∷ [] else []
 opened_by p news phase = []
@@ -42,7 +43,8 @@ orders_after (step.Change first amount) news desk orders = begun_anew desk.sessi
 orders_after step.Serve news desk orders = orders
 orders_after s news desk orders = opened_of news desk.session ++ orders
 
--- A run of these steps at the desk comes to this past, newest entry first, to this desk, and to these orders of its session.
+-- A run of these steps at the desk comes to this past, newest entry first, to this desk, and to
+-- these orders of its session.
 abbrev pub ComesTo : ℕ → Setup → List Step → List Entry → Desk → List Payment → Type 0
 ComesTo capacity setup steps past desk orders =
     AlongFrom orders_after capacity setup [] (clear_desk setup) [] steps past desk orders

@@ -1,6 +1,7 @@
--- How many payments a session made, and what bounds them. They are read off the steps and their entries, beside what the desk
--- knows.
-use Rattle.std.specs.Prelude.{◌≡◌, ℕ, zero, suc, ◌+◌, ◌≤◌, ◌==◌, ◌&&◌, Bool, true, false, List, [], ◌∷◌, Option, Some, None}
+-- How many payments a session made, and what bounds them. They are read off the steps and their
+-- entries, beside what the desk knows.
+use Rattle.std.specs.Prelude.{◌≡◌, ℕ, zero, suc, ◌+◌, ◌≤◌, ◌==◌, ◌&&◌, Bool, true, false, List, []}
+use Rattle.std.specs.Prelude.{◌∷◌, Option, Some, None}
 use Rattle.std.specs.List.{All}
 use Rattle.std.specs.Option.{IfSome}
 use Rattle.cct_model.specs.terms.device.Setup.{Setup}
@@ -19,9 +20,9 @@ use Rattle.cct_model.specs.Script.{IsInRange}
 use Rattle.cct_model.specs.Setup.{IsSoundSetup}
 use Rattle.cct_laws_change.specs.Along.{AlongFrom}
 
--- Of the session that began last: its first id, its amount, and the trays as it began; how many later steps told a stock
--- above 0, and how many payments it made. It goes smoothly as long as no stock is told, and each payment that is settled was
--- closed with all its coins paid.
+-- Of the session that began last: its first id, its amount, and the trays as it began; how many
+-- later steps told a stock above 0, and how many payments it made. It goes smoothly as long as no
+-- stock is reported, and each payment that is settled was closed with all its coins paid.
 pub record Tally : Type 0 where
   pub first : ℕ
   pub amount : ℕ
@@ -44,7 +45,7 @@ abbrev pub filled_in : List Tray → ℕ
 filled_in [] = 0
 filled_in (t ∷ ts) = one_filled t.stock + filled_in ts
 
--- How many of these entries tell that a command was taken.
+-- How many of these entries say that a command was taken.
 abbrev pub taken_in : List Entry → ℕ
 taken_in [] = 0
 taken_in (entry.Taken c ∷ news) = suc (taken_in news)
@@ -73,7 +74,8 @@ tally_begun first amount trays None t =
     record { first = first; amount = amount; trays = trays; refills = 0; made = 0; smooth = true }
 tally_begun first amount trays (Some s) t = t
 
--- The tally after a step and its entries, newest first. A payment that a `serve` makes is a command that it gives.
+-- The tally after a step and its entries, newest first. A payment that a `serve` makes is a command
+-- that it gives.
 abbrev pub tally_after : Step → List Entry → Desk → Tally → Tally
 tally_after (step.Stock addr count) news desk t = record {
   first = t.first;
@@ -83,7 +85,8 @@ tally_after (step.Stock addr count) news desk t = record {
   made = t.made;
   smooth = false;
 }
-tally_after (step.Change first amount) news desk t = tally_begun first amount desk.trays desk.session t
+tally_after (step.Change first amount) news desk t =
+    tally_begun first amount desk.trays desk.session t
 tally_after step.Serve news desk t = record {
   first = t.first;
   amount = t.amount;
@@ -94,7 +97,8 @@ tally_after step.Serve news desk t = record {
 }
 tally_after s news desk t = t
 
--- A run of these steps at the desk comes to this past, newest entry first, to this desk, and to this tally.
+-- A run of these steps at the desk comes to this past, newest entry first, to this desk, and to
+-- this tally.
 abbrev pub TalliesTo : ℕ → Setup → List Step → List Entry → Desk → Tally → Type 0
 TalliesTo capacity setup steps past desk tally =
     AlongFrom tally_after capacity setup [] (clear_desk setup) no_tally steps past desk tally
@@ -104,13 +108,14 @@ abbrev pub unsettled : Option Due → ℕ
 unsettled None = 0
 unsettled (Some due) = 1
 
--- The most payments that a session makes: as many as its amount has units, one for each tray that wasn't empty as it began,
--- and one for each later step that told a stock above 0.
+-- The most payments that a session makes: as many as its amount has units, one for each tray that
+-- wasn't empty as it began, and one for each later step that told a stock above 0.
 abbrev pub most_made : Tally → ℕ
 most_made t = t.amount + filled_in t.trays + t.refills
 
--- A session makes few payments. While it runs, those that it made, what is left of its amount, and the trays that aren't
--- empty are together at most as many, with one more while a payment isn't settled.
+-- A session makes few payments. While it runs, those that it made, what is left of its amount, and
+-- the trays that aren't empty are together at most as many, with one more while a payment isn't
+-- settled.
 pub record MakesFew (desk : Desk) (tally : Tally) : Type 0 where
   pub all : tally.made ≤ most_made tally
   pub running : IfSome desk.session (λ s.
@@ -124,10 +129,11 @@ HasPlan trays amount = (counts : List ℕ) × IsPlan trays amount counts
 abbrev pub IsSmooth : Desk → Tally → Type 0
 IsSmooth desk t = (t.smooth && is_whole_in desk.session) ≡ true
 
--- A fact of each moment of each run at the desk of a sound setup, over any wire: of its past, of the desk, and of its tally.
--- The steps are in range.
+-- A fact of each moment of each run at the desk of a sound setup, over any wire: of its past, of
+-- the desk, and of its tally. The steps are in range.
 abbrev pub EachTally : (ℕ → Setup → List Entry → Desk → Tally → Type 0) → Type 0
 EachTally P =
-    (capacity : ℕ) (setup : Setup) (steps : List Step) (past : List Entry) (desk : Desk) (tally : Tally) →
+    (capacity : ℕ) (setup : Setup) (steps : List Step) (past : List Entry) (desk : Desk)
+    (tally : Tally) →
     IsSoundSetup setup → All IsInRange steps → TalliesTo capacity setup steps past desk tally →
     P capacity setup past desk tally

@@ -1,4 +1,4 @@
--- What a `next` heard stands in its entry; where it made no exchange, it heard nothing.
+-- What a `next` heard is in its entry; where it made no exchange, it heard nothing.
 use Rattle.std.proofs.Common.{◌≡◌, ◌⊎◌, inl, inr, ℕ, ◌==◌, Bool, true, false, List, [], ◌∷◌, refl, sym, ap, ◌∙◌, subst, Option, Some, None}
 use Rattle.std.specs.Prelude.{MatchBool}
 use Rattle.cct_model.specs.terms.wire.CheckKind.{CheckKind}
@@ -28,7 +28,7 @@ piece_with_end : (addr : ℕ) (e : Entry) (end : Option End) → piece_in (with_
 piece_with_end addr e None = refl
 piece_with_end addr e (Some end) = refl
 
--- entries tell what was heard, by the fact that they are
+-- entries say what was heard, by the fact that they are
 pub record Rehears (heard : List ℕ) (Of : (List ℕ → List ℕ) → Type 0) (news : List Entry) : Type 0 where
   pub told : Of (λ sent. piece_in news)
   pub piece : (piece_in news ≡ heard) ⊎ (piece_in news ≡ [])

@@ -66,7 +66,7 @@ lives_join capacity setup past news at steps end restarted is =
     live_over capacity setup steps (started (records (news ++ past))) (news ++ past) end
     (alike_started (news ++ past) (entries_free setup past at news restarted)) is
 
--- live hosts go on, so all that was told is told by live ones
+-- live hosts go on, so all that was reported is reported by live ones
 pub live_on : (capacity : ℕ) (setup : Setup) (lived steps : List LiveStep) (past middle end : List Entry) →
     LiveFrom capacity setup past lived middle → LiveFrom capacity setup middle steps end →
     LiveFrom capacity setup past (lived ++ steps) end

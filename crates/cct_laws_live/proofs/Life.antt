@@ -53,7 +53,7 @@ module _ (capacity : ℕ) (setup : Setup) (found : List Record) (steps : List Li
       IsLife capacity setup found (steps ++ live.balance ∷ []) (entry.Balance (totals setup past) ∷ past)
   life_balance life = life_goes live.balance (entry.Balance (totals setup past) ∷ []) life tt refl
 
--- its steps can be told
+-- its steps can be reported
 tells : (s : LiveStep) → IsLifeStep s → IsTellable s
 tells (live.command c) is = is
 tells (live.next addr) is = tt

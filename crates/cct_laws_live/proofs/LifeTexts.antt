@@ -1,4 +1,4 @@
--- The text of what one life tells, in bytes, tells that.
+-- The text of what one life tells, in bytes, says that.
 use Rattle.std.proofs.Common.{◌≡◌, ℕ, List, [], ◌∷◌, map, ap, sym, ◌∙◌, subst, All}
 use Rattle.std.proofs.lemmas.List.Elements.{All-head, All-tail, All-weaker}
 use Rattle.cct_model.specs.terms.device.Setup.{Setup}
@@ -27,7 +27,7 @@ use Rattle.cct_laws_live.proofs.Life.{all_tell, start_shown}
 use Rattle.cct_laws_live.proofs.LifeBooks.{free_ids}
 use Rattle.cct_laws_live.proofs.Texts.{all_of}
 
--- what is found hears nothing, and is told
+-- what is found hears nothing, and is reported
 puts_hear : (found : List Record) → EachEntry (λ older e. HearsBytes e) (map (λ r. entry.Put r) found)
 puts_hear [] = tt
 puts_hear (r ∷ found) = (tt, puts_hear found)

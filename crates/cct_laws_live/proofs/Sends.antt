@@ -84,7 +84,7 @@ abbrev DosesOnly : DeviceSetup → ℕ → Request → Type 0
 DosesOnly d count (Dispense serial many) = (serial ≡ d.serial) × (many ≡ count)
 DosesOnly d count q = ⊤
 
--- a dispense stands only right after the row that opens an order of just its coins
+-- a dispense is only right after the row that opens an order of just its coins
 abbrev Leads : DeviceSetup → TableRow → List TableRow → Type 0
 Leads d (puts_due (new_order id count) behind) rows = IfFirst (DosesOnly d count) rows
 Leads d r rows = IfFirst DosesNone rows

@@ -1,4 +1,4 @@
--- The text of a live transcript in bytes tells it.
+-- The text of a live transcript in bytes shows it.
 use Rattle.std.proofs.Common.{◌≡◌, ℕ, List, [], ◌∷◌, reverse, sym, subst, All}
 use Rattle.std.proofs.lemmas.List.Elements.{All-nil, All-cons}
 use Rattle.cct_model.specs.terms.device.Setup.{Setup}

@@ -169,7 +169,7 @@ begun = record_of.Epoch 2 65535 0 ∷ []
 abbrev pub coin : Coin
 coin = record { place = 1; path = 1 }
 
--- the event counter tells one event, and the accept counter no coin
+-- the event counter shows one event, and the accept counter no coin
 abbrev heard_round : List Row
 heard_round =
     one (live.command (command.Round 2)) (entry.Taken (command.Round 2))
@@ -234,7 +234,7 @@ no_event_twice : IsTallied (told_in 2 (record_of.Reading 2 1 0 2 (coin ∷ coin 
 unfolding distance accepted_between
 no_event_twice tallied = let posts : 2 ≤ 1 = tallied.posts in omega (arith, posts)
 
--- no coin is told as lost that the accept counter doesn't tell, and none that it tells is left out
+-- no coin is reported as lost that the accept counter doesn't tell, and none that it tells is left out
 no_more_lost : IsTallied (told_in 2 (record_of.Reading 2 1 1 0 [] ∷ begun)) → ⊥
 unfolding distance accepted_between
 no_more_lost tallied = let loses : 1 ≤ 0 = tallied.loses in omega (arith, loses)

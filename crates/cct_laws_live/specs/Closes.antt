@@ -1,6 +1,7 @@
--- What closes an order, whatever the wire does: two life counts of its hopper that were heard in their turn, and between them
--- a state with no coin left to pay.
-use Rattle.std.specs.Prelude.{◌≡◌, ◌||◌, ℕ, ◌+◌, ◌<◌, Bool, true, false, List, [], ◌∷◌, if◌then◌else◌, Some, ⊤}
+-- What closes an order, whatever the wire does: two life counts of its hopper that were heard in
+-- their turn, and between them a state with no coin left to pay.
+use Rattle.std.specs.Prelude.{◌≡◌, ◌||◌, ℕ, ◌+◌, ◌<◌, Bool, true, false, List, [], ◌∷◌}
+use Rattle.std.specs.Prelude.{if◌then◌else◌, Some, ⊤}
 use Rattle.cct_model.specs.terms.device.DeviceSetup.{DeviceSetup}
 use Rattle.cct_model.specs.terms.request.Request.TheVariants.{Dispense, GetStatus, GetLife}
 use Rattle.cct_model.specs.declared.judging.OpenOrder.{OpenOrder}
@@ -14,7 +15,8 @@ use Rattle.cct_model.specs.Reply as reply
 use Rattle.cct_laws_live.specs.Posts.{Has, HasOver, HaveInTurn, since_taken}
 use Rattle.cct_laws_live.specs.Recording.{IsRecordedBy}
 
--- At a line a job begins anew: a command is taken, or a host starts. A halt is a line of the job that it stops.
+-- At a line a job begins anew: a command is taken, or a host starts. A halt is a line of the job
+-- that it stops.
 abbrev pub begins_anew : Line → Bool
 begins_anew (taken (command.Halt addr)) = false
 begins_anew (taken c) = true
@@ -42,13 +44,15 @@ life_heard count = exchange (Some GetLife) (Some (reply.life count))
 
 -- The line of an answered header 166, by which the hopper has no coin left to pay.
 abbrev pub none_left_heard : ℕ → ℕ → ℕ → Line
-none_left_heard events paid unpaid = exchange (Some GetStatus) (Some (reply.status events 0 paid unpaid))
+none_left_heard events paid unpaid =
+    exchange (Some GetStatus) (Some (reply.status events 0 paid unpaid))
 
 -- An order was opened, by whichever job and host.
 abbrev pub WasOpened : List Line → OpenOrder → Type 0
 WasOpened lines o = Has lines (put (record_of.Opened o.id o.addr o.count o.life))
 
--- The lines before a record: without the start of the host, where it was kept when the power was cut.
+-- The lines before a record: without the start of the host, where it was kept when the power was
+-- cut.
 abbrev pub before_start : List Line → List Line
 before_start (restarted ∷ past) = past
 before_start past = past
@@ -59,19 +63,21 @@ WasHeardOpen lines o =
     HasOver lines (put (record_of.Opened o.id o.addr o.count o.life))
     (λ older. Has (since_taken (before_start older)) (life_heard o.life))
 
--- A record closes an order at a life count: paid are as many coins as the two life counts tell, and unpaid the others of its
--- count. Where they tell more than its count, both are recorded.
+-- A record closes an order at a life count: paid are as many coins as the two life counts tell, and
+-- unpaid the others of its count. Where they tell more than its count, both are recorded.
 abbrev pub Settles : OpenOrder → ℕ → Record → Type 0
 Settles o life (record_of.Closed id paid unpaid) =
     (id ≡ o.id) × (paid ≡ life_between o.life life) × (paid + unpaid ≡ o.count)
 Settles o life (record_of.Odd id life_before life_after) =
-    (id ≡ o.id) × (life_before ≡ o.life) × (life_after ≡ life) × (o.count < life_between o.life life)
+    (id ≡ o.id) × (life_before ≡ o.life) × (life_after ≡ life)
+    × (o.count < life_between o.life life)
 Settles o life r = ⊥
 
--- A record closes the order that is open, which was opened so. Since the job that closes it began, opened it and sent its
--- dispense, if it did, its hopper was heard to have no coin left to pay; and then a life count was heard, at which the record
--- closes it.
-pub record ClosedBy (Opens : List Line → OpenOrder → Type 0) (lines : List Line) (r : Record) : Type 0 where
+-- A record closes the order that is open, which was opened so. Since the job that closes it began,
+-- opened it and sent its dispense, if it did, its hopper was heard to have no coin left to pay; and
+-- then a life count was heard, at which the record closes it.
+pub record ClosedBy (Opens : List Line → OpenOrder → Type 0) (lines : List Line) (r : Record) : Type
+    0 where
   pub owed : OpenOrder
   pub life : ℕ
   pub events : ℕ
@@ -79,14 +85,19 @@ pub record ClosedBy (Opens : List Line → OpenOrder → Type 0) (lines : List L
   pub unpaid : ℕ
   pub is_open : order lines ≡ Some owed
   pub opened : Opens lines owed
-  pub heard : HaveInTurn (since_sent lines) (life_heard life ∷ none_left_heard events paid unpaid ∷ [])
+  pub heard : HaveInTurn (since_sent lines)
+      (life_heard life ∷ none_left_heard events paid unpaid ∷ [])
   pub settles : Settles owed life r
 
--- So does each record that closes an order. The life count at which an order is opened was heard in the job that opens it.
+-- So does each record that closes an order. The life count at which an order is opened was heard in
+-- the job that opens it.
 abbrev pub CloseOf : (List Line → OpenOrder → Type 0) → List Line → Record → Type 0
-CloseOf Opens lines (record_of.Opened id addr count life) = Has (since_taken lines) (life_heard life)
-CloseOf Opens lines (record_of.Closed id paid unpaid) = ClosedBy Opens lines (record_of.Closed id paid unpaid)
-CloseOf Opens lines (record_of.Odd id life_before life_after) = ClosedBy Opens lines (record_of.Odd id life_before life_after)
+CloseOf Opens lines (record_of.Opened id addr count life) =
+    Has (since_taken lines) (life_heard life)
+CloseOf Opens lines (record_of.Closed id paid unpaid) =
+    ClosedBy Opens lines (record_of.Closed id paid unpaid)
+CloseOf Opens lines (record_of.Odd id life_before life_after) =
+    ClosedBy Opens lines (record_of.Odd id life_before life_after)
 CloseOf Opens lines r = ⊤
 
 -- So it is of each record of a device that is put, or kept when the power was cut.

@@ -1,5 +1,5 @@
--- A live transcript: what hosts send, record and tell, whatever is heard in their exchanges, over any number of lives of
--- the process over one journal.
+-- A live transcript: what hosts send, record and tell, whatever is heard in their exchanges, over
+-- any number of lives of the process over one journal.
 use Rattle.std.specs.Prelude.{◌≡◌, ◌≤◌, ℕ, List, [], ◌∷◌, ◌++◌, length, map, Option, ⊤}
 use Rattle.std.specs.List.{All}
 use Rattle.cct_model.specs.terms.wire.TheConstants.{MOST_HEARD}
@@ -19,13 +19,16 @@ use Rattle.cct_model.specs.Transcript.{onto}
 use Rattle.cct_laws_live.specs.LiveStep.{LiveStep}
 use Rattle.cct_laws_live.specs.LiveStep as live
 
--- The entries of a step of a live host, newest first. Any bytes are heard in an exchange, as many as a message has room
--- for. A start finds the records that were put, or these and the one that was due. Nothing is said of coins and resets,
--- nor whether an exchange was forged, and no fault is set.
+-- The entries of a step of a live host, newest first. Any bytes are heard in an exchange, as many
+-- as a message has room for. A start finds the records that were put, or these and the one that was
+-- due. Nothing is said of coins and resets, nor whether an exchange was forged, and no fault is
+-- set.
 abbrev pub LiveEntries : ℕ → Setup → List Entry → LiveStep → List Entry → Type 0
-LiveEntries capacity setup past (live.command c) news = news ≡ command_entry c (refusal capacity setup past c) ∷ []
+LiveEntries capacity setup past (live.command c) news =
+    news ≡ command_entry c (refusal capacity setup past c) ∷ []
 LiveEntries capacity setup past (live.next addr) news =
-    (heard : List ℕ) × (length heard ≤ MOST_HEARD) × EntriesOfNext (λ sent. heard) setup past addr news
+    (heard : List ℕ) × (length heard ≤ MOST_HEARD)
+    × EntriesOfNext (λ sent. heard) setup past addr news
 LiveEntries capacity setup past live.balance news = news ≡ entry.Balance (totals setup past) ∷ []
 LiveEntries capacity setup past (live.start at) news = EntriesOfRestart setup past at news
 
@@ -33,14 +36,16 @@ LiveEntries capacity setup past (live.start at) news = EntriesOfRestart setup pa
 abbrev pub LiveFrom : ℕ → Setup → List Entry → List LiveStep → List Entry → Type 0
 LiveFrom capacity setup past [] end = end ≡ past
 LiveFrom capacity setup past (s ∷ steps) end =
-    (news : List Entry) × LiveEntries capacity setup past s news × LiveFrom capacity setup (news ++ past) steps end
+    (news : List Entry) × LiveEntries capacity setup past s news
+    × LiveFrom capacity setup (news ++ past) steps end
 
--- A transcript, oldest entry first, is the entries of these steps of live hosts over one journal, which takes so many
--- records.
+-- A transcript, oldest entry first, is the entries of these steps of live hosts over one journal,
+-- which takes so many records.
 abbrev pub Live : ℕ → Setup → List LiveStep → List Entry → Type 0
 Live capacity setup steps transcript = LiveFrom capacity setup [] steps (onto [] transcript)
 
--- A past without what a live host doesn't tell: the faults that were set in it, and that an exchange was forged.
+-- A past without what a live host doesn't tell: the faults that were set in it, and that an
+-- exchange was forged.
 abbrev pub shown : List Entry → List Entry
 shown [] = []
 shown (entry.Fault f ∷ past) = shown past
@@ -51,16 +56,19 @@ shown (e ∷ past) = e ∷ shown past
 abbrev pub started : List Record → List Entry
 started before = entry.Crash (length before) ∷ map (λ r. entry.Put r) before
 
--- A past that goes on by steps to an end: the entries that it tells then, by which another past goes on in the same steps.
-pub record GoesOnAs (capacity : ℕ) (setup : Setup) (past : List Entry) (steps : List LiveStep) (end : List Entry)
+-- A past that goes on by steps to an end: the entries that it tells then, by which another past
+-- goes on in the same steps.
+pub record GoesOnAs (capacity : ℕ) (setup : Setup) (past : List Entry) (steps : List LiveStep)
+    (end : List Entry)
     (other : List Entry) : Type 0 where
   pub told : List Entry
   pub ends : end ≡ told ++ past
   pub goes : LiveFrom capacity setup other steps (told ++ other)
 
--- What a life told after a start over the records that earlier lives left, in these steps, is together with all that they
--- told what live hosts tell in the steps of all.
-pub record IsOneWith (capacity : ℕ) (setup : Setup) (lived : List LiveStep) (past news : List Entry) (at : Option CrashAt)
+-- What a life told after a start over the records that earlier lives left, in these steps, is
+-- together with all that they told what live hosts tell in the steps of all.
+pub record IsOneWith (capacity : ℕ) (setup : Setup) (lived : List LiveStep) (past news : List Entry)
+    (at : Option CrashAt)
     (steps : List LiveStep) (end : List Entry) : Type 0 where
   pub told : List Entry
   pub ends : end ≡ told ++ started (records (news ++ past))
@@ -74,14 +82,17 @@ pub record IsShown (capacity : ℕ) (setup : Setup) (before end : List Entry) : 
   pub legal : LegalFrom capacity setup before steps past
   pub shows : shown past ≡ end
 
--- A step can be told: the numbers of a command are in their ranges, and a put has four disk calls.
+-- A step can be reported: the numbers of a command are in their ranges, and a put has four disk
+-- calls.
 abbrev pub IsTellable : LiveStep → Type 0
 IsTellable (live.command c) = IsCommand c
 IsTellable (live.start at) = IsCrash at
 IsTellable s = ⊤
 
--- A fact of each live transcript of a sound setup, over a journal that takes so many records. The steps can be told.
+-- A fact of each live transcript of a sound setup, over a journal that takes so many records. The
+-- steps can be reported.
 abbrev pub EachLive : (ℕ → Setup → List Entry → Type 0) → Type 0
 EachLive P =
-    (capacity : ℕ) (setup : Setup) (steps : List LiveStep) (transcript : List Entry) → IsSoundSetup setup →
+    (capacity : ℕ) (setup : Setup) (steps : List LiveStep) (transcript : List Entry) →
+    IsSoundSetup setup →
     All IsTellable steps → Live capacity setup steps transcript → P capacity setup transcript

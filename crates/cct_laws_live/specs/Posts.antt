@@ -1,5 +1,7 @@
--- What is posted, whatever the wire does: by what was heard, and by the counters that were recorded.
-use Rattle.std.specs.Prelude.{◌≡◌, ◌⊎◌, ℕ, ◌-◌, Bool, true, false, List, [], ◌∷◌, length, map, Some, ⊤}
+-- What is posted, whatever the wire does: by what was heard, and by the counters that were
+-- recorded.
+use Rattle.std.specs.Prelude.{◌≡◌, ◌⊎◌, ℕ, ◌-◌, Bool, true, false, List, [], ◌∷◌, length, map, Some}
+use Rattle.std.specs.Prelude.{⊤}
 use Rattle.cct_model.specs.terms.coin.Coin.{Coin}
 use Rattle.cct_model.specs.terms.coin.Credits.{Credits}
 use Rattle.cct_model.specs.terms.coin.Pair.{Pair}
@@ -32,7 +34,8 @@ abbrev pub HaveInTurn : List Line → List Line → Type 0
 HaveInTurn lines [] = ⊤
 HaveInTurn lines (l ∷ before) = HasOver lines l (λ older. HaveInTurn older before)
 
--- The lines since the command of a job was taken, or since a host started; a halt is a line of the job that it stops.
+-- The lines since the command of a job was taken, or since a host started; a halt is a line of the
+-- job that it stops.
 abbrev pub since_taken : List Line → List Line
 since_taken [] = []
 since_taken (restarted ∷ past) = []
@@ -44,7 +47,8 @@ since_taken (line ∷ past) = line ∷ since_taken past
 abbrev pub credits_heard : DeviceBody → Credits → Line
 credits_heard body read = exchange (Some (credits_request body)) (Some (reply.credits read))
 
--- The events of a reply as they are judged: a bill that a bill acceptor holds counts as one that it gives back.
+-- The events of a reply as they are judged: a bill that a bill acceptor holds counts as one that it
+-- gives back.
 abbrev pub as_judged : DeviceBody → List Pair → List Pair
 as_judged (Acceptor accepts values ids) pairs = pairs
 as_judged (Hopper life value) pairs = pairs
@@ -58,12 +62,15 @@ mask_heard mask = exchange (Some GetMask) (Some (reply.mask mask))
 abbrev pub accepts_heard : ℕ → Line
 accepts_heard count = exchange (Some AcceptCount) (Some (reply.accepts count))
 
--- Coins are posted by replies that an acceptor's address heard since the command of its job was taken, in this turn: the
--- accept counter, the credits, the inhibit mask, and the accept counter again. Posted are, of that reply of the credits,
--- the newest of as many events as its counter tells since the event counter of the running epoch, and no more than a
--- reply has; of a bill acceptor none of a bill that it holds. Lost are as many as the second accept counter tells since
--- that of the epoch, without those posted. The inhibit mask and the event counter show a break, or show none.
-pub record PostedBy (body : DeviceBody) (lines : List Line) (breaks : Bool) (first seen counter lost accepts : ℕ)
+-- Coins are posted by replies that an acceptor's address heard since the command of its job was
+-- taken, in this turn: the accept counter, the credits, the inhibit mask, and the accept counter
+-- again. Posted are, of that reply of the credits, the newest of as many events as its counter
+-- tells since the event counter of the running epoch, and no more than a reply has; of a bill
+-- acceptor none of a bill that it holds. Lost are as many as the second accept counter tells since
+-- that of the epoch, without those posted. The inhibit mask and the event counter show a break, or
+-- show none.
+pub record PostedBy (body : DeviceBody) (lines : List Line) (breaks : Bool)
+    (first seen counter lost accepts : ℕ)
     (posted : List Coin) : Type 0 where
   pub mask : ℕ
   pub before : ℕ
@@ -77,10 +84,12 @@ pub record PostedBy (body : DeviceBody) (lines : List Line) (breaks : Bool) (fir
   pub posted_is : posted ≡ posted_of (distance before counter) (as_judged body read.pairs)
   pub lost_is : lost ≡ accepted_between earlier accepts - length posted
 
--- What a record posts was heard. A reading shows no break, and heard the same accept counter twice; a break shows
--- one. The accept counter at which an epoch begins was heard in the job that begins it.
+-- What a record posts was heard. A reading shows no break, and heard the same accept counter twice;
+-- a break shows one. The accept counter at which an epoch begins was heard in the job that begins
+-- it.
 abbrev pub PostOf : DeviceBody → List Line → Record → Type 0
-PostOf body lines (record_of.Epoch addr mask accepts) = Has (since_taken lines) (accepts_heard accepts)
+PostOf body lines (record_of.Epoch addr mask accepts) =
+    Has (since_taken lines) (accepts_heard accepts)
 PostOf body lines (record_of.Reading addr counter lost accepts posted) =
     (seen : ℕ) × PostedBy body lines false accepts seen counter lost accepts posted
 PostOf body lines (record_of.Broken addr seen counter lost accepts posted) =

@@ -1,4 +1,5 @@
--- A fact of each record of a device, by the lines before it: where it is put, and where it is kept when the power is cut.
+-- A fact of each record of a device, by the lines before it: where it is put, and where it is kept
+-- when the power is cut.
 use Rattle.std.specs.Prelude.{◌≡◌, List, ◌∷◌, ⊤}
 use Rattle.cct_model.specs.terms.device.DeviceSetup.{DeviceSetup}
 use Rattle.cct_model.specs.lines.record.Record.{Record}

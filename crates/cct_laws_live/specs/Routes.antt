@@ -1,5 +1,7 @@
--- What a host sends to a bill acceptor, whatever the wire does: it routes a bill only in the job of a `route`, and once.
-use Rattle.std.specs.Prelude.{◌≡◌, ◌==◌, ℕ, suc, List, [], ◌∷◌, if◌then◌else◌, Option, Some, None, ⊤}
+-- What a host sends to a bill acceptor, whatever the wire does: it routes a bill only in the job of
+-- a `route`, and once.
+use Rattle.std.specs.Prelude.{◌≡◌, ◌==◌, ℕ, suc, List, [], ◌∷◌, if◌then◌else◌, Option, Some, None}
+use Rattle.std.specs.Prelude.{⊤}
 use Rattle.cct_model.specs.terms.device.DeviceSetup.{DeviceSetup}
 use Rattle.cct_model.specs.terms.request.Request.{Request}
 use Rattle.cct_model.specs.terms.request.Request.TheVariants.{RouteBill}
@@ -21,8 +23,8 @@ abbrev pub anew_taken : ℕ → Command → ℕ → ℕ
 anew_taken addr (command.Route a way) before = if a == addr then 0 else before
 anew_taken addr c before = before
 
--- How many requests to route a bill were sent to a device since a `route` was last taken for it, by whatever job, and
--- whether or not the device heard them. A start changes nothing in it.
+-- How many requests to route a bill were sent to a device since a `route` was last taken for it, by
+-- whatever job, and whether or not the device heard them. A start changes nothing in it.
 abbrev pub routed_in : DeviceSetup → List Entry → ℕ
 routed_in d [] = 0
 routed_in d (entry.Taken c ∷ past) = anew_taken d.addr c (routed_in d past)
@@ -34,8 +36,8 @@ abbrev pub way_at_work : Job → Option ℕ
 way_at_work (works (command.Route addr way) since) = Some way
 way_at_work at_work = None
 
--- A request routes a bill only in an exchange of the device's own job, and only by the way of the `route` whose job that
--- is, where none was sent since that was taken.
+-- A request routes a bill only in an exchange of the device's own job, and only by the way of the
+-- `route` whose job that is, where none was sent since that was taken.
 abbrev pub RoutedBy : DeviceSetup → ℕ → ℕ → Job → Option Request → Type 0
 RoutedBy d addr sent at_work (Some (RouteBill way)) =
     (addr ≡ d.addr) × (sent ≡ 0) × (way_at_work at_work ≡ Some way)

@@ -26,14 +26,17 @@ HearsBytes (entry.Wire addr sent heard) = IsBytes heard
 HearsBytes e = ⊤
 
 -- A live transcript in bytes, by these steps.
-pub record IsInBytes (capacity : ℕ) (setup : Setup) (steps : List LiveStep) (transcript : List Entry) : Type 0 where
+pub record IsInBytes (capacity : ℕ) (setup : Setup) (steps : List LiveStep)
+    (transcript : List Entry) : Type 0 where
   pub steps_are : All IsTellable steps
   pub said : All SaysBytes steps
   pub heard : All HearsBytes transcript
   pub live : Live capacity setup steps transcript
 
--- What one life tells in bytes, oldest entry first, by these steps. The masks of the records that it found have 16 bits.
-pub record IsLifeInBytes (capacity : ℕ) (setup : Setup) (found : List Record) (steps : List LiveStep)
+-- What one life tells in bytes, oldest entry first, by these steps. The masks of the records that
+-- it found have 16 bits.
+pub record IsLifeInBytes (capacity : ℕ) (setup : Setup) (found : List Record)
+    (steps : List LiveStep)
     (transcript : List Entry) : Type 0 where
   pub masks : All IsRecord found
   pub life : IsLife capacity setup found steps (onto (started found) transcript)

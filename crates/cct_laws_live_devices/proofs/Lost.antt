@@ -1,4 +1,4 @@
--- An exchange in which a host hears no reply stands in some world, whether or not the devices heard it; so does one that goes
+-- An exchange in which a host hears no reply is in some world, whether or not the devices heard it; so does one that goes
 -- as it is to.
 use Rattle.std.proofs.Common.{◌≡◌, inl, inr, ℕ, ◌==◌, ◌||◌, Bool, true, false, List, [], ◌∷◌, ◌++◌, refl, sym, ap, ◌∙◌, subst, Option, None}
 use Rattle.std.specs.Prelude.{flat_map, unwrap_or}

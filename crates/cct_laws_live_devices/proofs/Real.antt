@@ -246,7 +246,7 @@ life_right capacity setup found steps past sound life whole world with over =
     let all = life_whole capacity setup found steps past whole life with in
     right_from capacity setup all.0 world whole sound all.1 all.2 over
 
--- the first life over a new journal is all that was told
+-- the first life over a new journal is all that was reported
 pub first_whole : (capacity : ℕ) (setup : Setup) (steps : List LiveStep) (past : List Entry) →
     IsLife capacity setup [] steps past → IsWhole capacity setup [] past past
 first_whole capacity setup steps past life =

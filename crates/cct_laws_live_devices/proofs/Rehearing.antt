@@ -1,5 +1,5 @@
 -- The entries of a `next` in which some bytes were heard are those of one in which the devices answer, where these bytes are
--- what they answer. They are one entry, or a further one that is told at once.
+-- what they answer. They are one entry, or a further one that is reported at once.
 use Rattle.std.proofs.Common.{◌≡◌, inl, inr, ℕ, ◌==◌, Bool, true, false, List, [], ◌∷◌, refl, sym, ap, ◌∙◌, subst, Option, Some, None, true≢false}
 use Rattle.std.specs.Prelude.{MatchBool, ⊤}
 use Rattle.cct_model.specs.terms.wire.CheckKind.{CheckKind}

@@ -11,7 +11,7 @@ use Rattle.cct_model.specs.Transcript.{lines_of, sale_lines, scan_lines}
 use Rattle.cct_laws_live.proofs.Alike.{Alike, alike_entry, alike_same}
 use Rattle.cct_laws_live_devices.specs.World.{told}
 
--- a line that stands at an address, and doesn't change its job
+-- a line that is at an address, and doesn't change its job
 quiet : (here : Bool) (l : Line) (lines others : List Line) → job (l ∷ lines) ≡ job lines → job lines ≡ job others →
     job (cond here (l ∷ []) [] ++ lines) ≡ job others
 quiet true l lines others same like = same ∙ like

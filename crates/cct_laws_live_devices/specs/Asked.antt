@@ -1,6 +1,7 @@
--- A world in which devices are also asked who they are, by questions that no host tells: as `cct_live` does before its host
--- starts.
-use Rattle.std.specs.Prelude.{◌≡◌, ℕ, ◌==◌, true, List, [], ◌∷◌, ◌++◌, flat_map, if◌then◌else◌, MatchBool, unwrap_or, ⊤}
+-- A world in which devices are also asked who they are, by questions that no host tells: as
+-- `cct_live` does before its host starts.
+use Rattle.std.specs.Prelude.{◌≡◌, ℕ, ◌==◌, true, List, [], ◌∷◌, ◌++◌, flat_map, if◌then◌else◌}
+use Rattle.std.specs.Prelude.{MatchBool, unwrap_or, ⊤}
 use Rattle.cct_model.specs.terms.device.DeviceSetup.{DeviceSetup}
 use Rattle.cct_model.specs.terms.device.Setup.{Setup}
 use Rattle.cct_model.specs.terms.family.Happening.{Happening}
@@ -42,7 +43,8 @@ met_in d (asks piece ∷ past) = heard (asks_of d piece) ∷ met_in d past
 unfoldable pub heard_by : Setup → (DeviceSetup → List Met) → WireFault → List ℕ → List ℕ
 heard_by setup mets f sent =
     heard_by_host f sent
-    (flat_map (λ d. unwrap_or (answer d (mets d) (heard_by_devices f sent)) []) (by_address setup.devices))
+    (flat_map (λ d. unwrap_or (answer d (mets d) (heard_by_devices f sent)) [])
+    (by_address setup.devices))
 
 -- The entry of what happens to the device at an address that met all this.
 abbrev pub befalling : ℕ → DeviceSetup → List Met → Happening → Entry
@@ -53,18 +55,21 @@ befalling addr d past (happening.Coin place) =
 befalling addr d past happening.Alien = entry.Alien addr
 befalling addr d past (happening.Bill place) =
     if holds past place then entry.Held d.addr place else entry.Inhibited d.addr place
-befalling addr d past happening.Fall = if remaining d.serial past == 0 then entry.NoFall d.addr else entry.Fell d.addr
-befalling addr d past happening.Jam = if remaining d.serial past == 0 then entry.NoJam d.addr else entry.Jammed d.addr
+befalling addr d past happening.Fall =
+    if remaining d.serial past == 0 then entry.NoFall d.addr else entry.Fell d.addr
+befalling addr d past happening.Jam =
+    if remaining d.serial past == 0 then entry.NoJam d.addr else entry.Jammed d.addr
 befalling addr d past happening.Reset = entry.Reset addr
 
 -- An entry is what an event makes of the device that knows of it, after what that met.
 abbrev pub BefallsIn : Setup → List Moment → Entry → Type 0
 BefallsIn setup past e =
     (addr : ℕ) × (what : Happening) × IsPlaced what
-    × OfKnowing what (device_at setup.devices addr) (λ d. (e ∷ []) ≡ (befalling addr d (met_in d past) what ∷ []))
+    × OfKnowing what (device_at setup.devices addr)
+    (λ d. (e ∷ []) ≡ (befalling addr d (met_in d past) what ∷ []))
 
--- What the devices and the wire have to do with an entry, as `AnswersAt`. Bytes of which no host tells ask nothing of any
--- device but who it is and which coins it knows.
+-- What the devices and the wire have to do with an entry, as `AnswersAt`. Bytes of which no host
+-- tells ask nothing of any device but who it is and which coins it knows.
 abbrev pub AnswersIn : Setup → List Moment → Moment → Type 0
 AnswersIn setup past (did (entry.Wire addr sent piece)) =
     HeardAs addr sent piece (heard_by setup (λ d. met_in d past) (pending (entries past)) sent)

@@ -9,7 +9,7 @@ use Rattle.cct_model.specs.Transcript.{heard_after}
 use Rattle.cct_model.specs.Legal.{LegalFrom}
 use Rattle.cct_model.specs.Script.{IsInRange}
 
--- A past is what a bench tells that plays some steps in range.
+-- A past is what a bench says that plays some steps in range.
 pub record IsPlayed (capacity : ℕ) (setup : Setup) (past : List Entry) : Type 0 where
   pub steps : List Step
   pub in_range : All IsInRange steps

@@ -1,5 +1,7 @@
--- What is promised of the money of what live hosts told, against what happened to the devices of their world.
-use Rattle.std.specs.Prelude.{◌≡◌, ◌⊎◌, ℕ, suc, ◌+◌, ◌==◌, List, [], ◌∷◌, ◌++◌, length, reverse, if◌then◌else◌, Option, Some, None, ⊤}
+-- What is promised of the money of what live hosts told, against what happened to the devices of
+-- their world.
+use Rattle.std.specs.Prelude.{◌≡◌, ◌⊎◌, ℕ, suc, ◌+◌, ◌==◌, List, [], ◌∷◌, ◌++◌, length, reverse}
+use Rattle.std.specs.Prelude.{if◌then◌else◌, Option, Some, None, ⊤}
 use Rattle.cct_model.specs.terms.coin.Coin.{Coin}
 use Rattle.cct_model.specs.terms.device.DeviceSetup.{DeviceSetup}
 use Rattle.cct_model.specs.terms.device.Setup.{Setup}
@@ -31,21 +33,25 @@ posted (r ∷ before) = reverse (posts_of r) ++ posted before
 abbrev pub AreAmong : List Coin → List Coin → Type 0
 AreAmong [] whole = ⊤
 AreAmong (coin ∷ some) [] = ⊥
-AreAmong (coin ∷ some) (other ∷ whole) = ((coin ≡ other) × AreAmong some whole) ⊎ AreAmong (coin ∷ some) whole
+AreAmong (coin ∷ some) (other ∷ whole) =
+    ((coin ≡ other) × AreAmong some whole) ⊎ AreAmong (coin ∷ some) whole
 
 -- The coins that an acceptor accepted in a world, newest first.
 abbrev pub accepted_at : ℕ → List Entry → List Coin
 accepted_at addr [] = []
-accepted_at addr (entry.Accepted at coin ∷ past) = if at == addr then coin ∷ accepted_at addr past else accepted_at addr past
+accepted_at addr (entry.Accepted at coin ∷ past) =
+    if at == addr then coin ∷ accepted_at addr past else accepted_at addr past
 accepted_at addr (e ∷ past) = accepted_at addr past
 
 -- How many coins fell out of a hopper in a world.
 abbrev pub fell_at : ℕ → List Entry → ℕ
 fell_at addr [] = 0
-fell_at addr (entry.Fell at ∷ past) = if at == addr then suc (fell_at addr past) else fell_at addr past
+fell_at addr (entry.Fell at ∷ past) =
+    if at == addr then suc (fell_at addr past) else fell_at addr past
 fell_at addr (e ∷ past) = fell_at addr past
 
--- Where a line tells up to some coins, these are as many as all that were posted and all that were told to be lost.
+-- Where a line tells up to some coins, these are as many as all that were posted and all that were
+-- told to be lost.
 abbrev pub CountsTo : Option (List Coin) → ℕ → Type 0
 CountsTo None many = ⊤
 CountsTo (Some known) many = length known ≡ many
@@ -58,14 +64,19 @@ CountedAt past line = CountsTo (claims.told past line) (tally (line ∷ past))
 pub record IsRightIn (setup : Setup) (world past : List Entry) : Type 0 where
   -- No id is used twice.
   pub fresh : AreFresh (records past)
-  -- What is posted of an acceptor, of coins or of bills, is what it accepted, in that order, and nothing of it twice.
-  pub posts : (d : DeviceSetup) → IsOf setup d → AreAmong (posted (records_told d past)) (coins (lines_of d world))
+  -- What is posted of an acceptor, of coins or of bills, is what it accepted, in that order, and
+  -- nothing of it twice.
+  pub posts : (d : DeviceSetup) → IsOf setup d →
+      AreAmong (posted (records_told d past)) (coins (lines_of d world))
   -- Of a coin acceptor these are the coins that fell in and were accepted.
-  pub accepted : (d : DeviceSetup) → IsAcceptor d.body → coins (lines_of d world) ≡ accepted_at d.addr world
-  -- After each completed reading as many were posted and told as lost as had been accepted before it, at the pace; after any
-  -- other line as many as at the last one.
-  pub counted : (d : DeviceSetup) → IsOf setup d → Pace (lines_of d world) → AllPast CountedAt (lines_of d world)
-  pub tallies : (d : DeviceSetup) → IsOf setup d → Pace (lines_of d world) → AlwaysTallies (lines_of d world)
+  pub accepted : (d : DeviceSetup) → IsAcceptor d.body → coins (lines_of d world)
+      ≡ accepted_at d.addr world
+  -- After each completed reading as many were posted and told as lost as had been accepted before
+  -- it, at the pace; after any other line as many as at the last one.
+  pub counted : (d : DeviceSetup) → IsOf setup d → Pace (lines_of d world) →
+      AllPast CountedAt (lines_of d world)
+  pub tallies : (d : DeviceSetup) → IsOf setup d → Pace (lines_of d world) →
+      AlwaysTallies (lines_of d world)
   -- And so are in the end those that the records tell.
   pub recorded : (d : DeviceSetup) → IsOf setup d → Pace (lines_of d world)
       → sum_in coins_posted (records_told d past) + sum_in coins_lost (records_told d past)

@@ -3,7 +3,8 @@ use Rattle.std.specs.Prelude.{◌≡◌, ℕ, List, Option, Some, None, ⊤}
 use Rattle.cct_model.specs.Acceptor.{accepted_coins, events, settings}
 use Rattle.cct_model.specs.Bill.{bill_events, bill_held, stacked_bills}
 use Rattle.cct_model.specs.History.{Met}
-use Rattle.cct_model.specs.Hopper.{Payout, dropped, enabled, falls, is_broken, is_tested, jammed_in, paid_of, payout, payouts, unpaid_of}
+use Rattle.cct_model.specs.Hopper.{Payout, dropped, enabled, falls, is_broken, is_tested, jammed_in}
+use Rattle.cct_model.specs.Hopper.{paid_of, payout, payouts, unpaid_of}
 
 -- What a hopper met since its last payout began comes to the same.
 pub record SameSince (one other : List Met) : Type 0 where

@@ -11,9 +11,11 @@ use Rattle.cct_model.specs.Script.{IsCrash}
 use Rattle.cct_laws_live.specs.LiveStep.{LiveStep}
 use Rattle.cct_laws_live.specs.Live.{IsTellable, LiveFrom, started}
 
--- The past of a life over the records that it found stands after all that earlier hosts told, from a journal without records
--- on, where these left the records: the whole is what they told, then its start, and then what it told.
-pub record IsWhole (capacity : ℕ) (setup : Setup) (found : List Record) (past whole : List Entry) : Type 0 where
+-- The past of a life over the records that it found is after all that earlier hosts told, from a
+-- journal without records on, where these left the records: the whole is what they told, then its
+-- start, and then what it told.
+pub record IsWhole (capacity : ℕ) (setup : Setup) (found : List Record) (past whole : List Entry)
+    : Type 0 where
   pub steps : List LiveStep
   pub before : List Entry
   pub at : Option CrashAt

@@ -10,7 +10,8 @@ ghost use Rattle.cct_model.specs.Legal.{EntriesOfRestart};
 ghost use Rattle.cct_model.specs.Records.{records};
 ghost use Rattle.cct_model.specs.Script.{IsCrash};
 ghost use Rattle.cct_model.specs.Transcript.{answers, heard_by_devices, onto, pending};
-ghost use Rattle.cct_model.specs.lines.command.WireFault.TheVariants.{Clear, DevicesHear, HostHears};
+ghost use Rattle.cct_model.specs.lines.command.WireFault.TheVariants.{Clear, DevicesHear};
+ghost use Rattle.cct_model.specs.lines.command.WireFault.TheVariants.{HostHears};
 ghost use Rattle.cct_model.specs.lines.entry.Entry.TheVariants.{Fault, Wire};
 ghost use Rattle.cct_model.specs.terms.wire.TheConstants.{BROADCAST};
 ghost use Rattle.cct_laws.specs.Honesty.{IsNoMessage};
@@ -30,16 +31,17 @@ ghost use Rattle.cct_laws_live_devices.specs.Played.{IsPlayed, mended};
 ghost use Rattle.cct_laws_live_devices.specs.Real.{IsRightIn};
 ghost use Rattle.cct_laws_live_devices.specs.Whole.{IsWhole};
 
-/// A world over which live hosts told a transcript, with devices that answer as the model's do, is what a bench tells that
-/// plays some script: their commands, and between them what happened to the devices. So all that `cct_laws` promises of a
-/// bench's run holds of it.
+/// A world over which live hosts told a transcript, with devices that answer as the model's do, is
+/// what a bench says that plays some script: their commands, and between them what happened to the
+/// devices. So all that `cct_laws` promises of a bench's run holds of it.
 pub fn a_world_of_live_hosts_is_a_run_of_a_bench()
     ensures { EachLive (λ capacity setup transcript. (world : List Entry) → OverDevices setup world (onto [] transcript)
         → IsPlayed capacity setup (mended setup world)) }
 {}
 
-/// The money is right of what live hosts told over devices that answer as the model's do. In one life over the records that
-/// it found it is so together with all that earlier hosts told, from a journal without records on.
+/// The money is right of what live hosts told over devices that answer as the model's do. In one
+/// life over the records that it found it is so together with all that earlier hosts told, from a
+/// journal without records on.
 pub fn no_coin_is_posted_twice_on_a_real_line()
     ensures live { EachLive (λ capacity setup transcript. (world : List Entry) → OverDevices setup world (onto [] transcript)
         → IsRightIn setup world (onto [] transcript)) }
@@ -47,7 +49,7 @@ pub fn no_coin_is_posted_twice_on_a_real_line()
         → IsWhole capacity setup found past whole → OverDevices setup world whole → IsRightIn setup world whole) }
 {}
 
-/// The first life over a new journal is all that was told, and a further one stands after that.
+/// The first life over a new journal is all that was reported, and a further one is after that.
 pub fn lives_stand_behind_one_another()
     ensures first { (capacity : ℕ) (setup : Setup) (steps : List LiveStep) (past : List Entry)
         → IsLife capacity setup [] steps past → IsWhole capacity setup [] past past }
@@ -58,9 +60,10 @@ pub fn lives_stand_behind_one_another()
         → IsWhole capacity setup left next (told ++ (news ++ whole)) }
 {}
 
-/// Questions that no host tells change nothing: who a device is, and which coins it knows. So where devices were asked them,
-/// the world without them is one in which devices answer as the model's do, and the laws above hold of it. The bytes of such a
-/// question ask nothing else of any device, under either check, damaged or not.
+/// Questions that no host tells change nothing: who a device is, and which coins it knows. So where
+/// devices were asked them, the world without them is one in which devices answer as the model's
+/// do, and the laws above hold of it. The bytes of such a question ask nothing else of any device,
+/// under either check, damaged or not.
 pub fn questions_may_be_left_out_of_a_world()
     ensures left_out { (setup : Setup) (world : List Moment) (past : List Entry) → OverAskedDevices setup world past
         → OverDevices setup (entries world) past }
@@ -69,9 +72,10 @@ pub fn questions_may_be_left_out_of_a_world()
         → is_question (asks_of d (heard_by_devices f (ask kind addr q))) ≡ true }
 {}
 
-/// Each exchange that goes right or brings no reply stands in some world. In one that goes right the host hears its echo and
-/// what the devices answer. In one with a single address that brings no reply, whatever the host hears, the devices heard
-/// what was sent, and acted; or they heard something else that is no message, and did nothing. Both are of an honest wire.
+/// Each exchange that goes right or brings no reply is in some world. In one that goes right the
+/// host hears its echo and what the devices answer. In one with a single address that brings no
+/// reply, whatever the host hears, the devices heard what was sent, and acted; or they heard
+/// something else that is no message, and did nothing. Both are of an honest wire.
 pub fn a_lost_exchange_stands_in_some_world()
     ensures right { (setup : Setup) (past : List Entry) (addr : ℕ) (sent : List ℕ) → pending past ≡ Clear
         → AnswersAt setup past (Wire addr sent (sent ++ answers setup past sent)) × IsHonestFault (pending past) sent }

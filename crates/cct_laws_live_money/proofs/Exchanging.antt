@@ -1,4 +1,4 @@
--- What happened in an exchange stands in the world.
+-- What happened in an exchange is in the world.
 use Rattle.std.proofs.Common.{◌≡◌, ◌≢◌, ◌⊎◌, inl, inr, ℕ, ◌==◌, ◌≤◌, ◌||◌, ◌&&◌, Bool, true, false, List, [], ◌∷◌, ◌++◌, length, refl, sym, ap, ap₂, ◌∙◌, subst, eqb-true, Option, Some, None, arith, append-nil, eq-eqb, true≢false}
 use Rattle.std.specs.Prelude.{flat_map, if◌then◌else◌, is_none, unwrap_or}
 use Rattle.std.proofs.lemmas.Bool.{ne_eqb}
@@ -264,7 +264,7 @@ poll_exchange setup history past addr kind polled piece _ sound few (went_wrong 
     (λ d. same_question (asks_of d bytes) (met_in d history) (met d all)
     (heard_question d sent bytes (poll_asks d kind polled) honest) (x.same d)) refl
 
--- an exchange that is told
+-- an exchange that is reported
 pub told_exchange : (setup : Setup) (history : List Moment) (past : List Entry) (addr : ℕ) (sent piece : List ℕ) (later : List Moment) →
     IsSoundSetup setup → length piece ≤ MOST_HEARD → IsAskedAt addr sent → Happened setup history sent piece later →
     IsExplained setup history past → IsExplained setup later (entry.Wire addr sent piece ∷ past)

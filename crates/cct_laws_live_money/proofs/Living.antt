@@ -233,7 +233,7 @@ module _ {L : Type 0} (reads : L → Option (List ℕ) → L → Type 0) (writes
             has.explained).explained));
       }
 
-  -- over the records that it found, as after all that was told
+  -- over the records that it found, as after all that was reported
   pub lives_alike : (devices : List Moment) (found : List Record) (whole : List Entry) →
       HaveLived reads writes echoes longest coming silent capacity setup history devices found whole →
       Alike (started found) whole

@@ -179,7 +179,7 @@ module _ {L : Type 0} (reads : L → Option (List ℕ) → L → Type 0) (writes
       too_late : silent line < longest → ⊥
       too_late fast = omega (arith, fast, late)
 
--- an exchange that a link doesn't give isn't told
+-- an exchange that a link doesn't give isn't reported
 abbrev gives_none : ℕ → List ℕ → List ℕ → ℕ → Type 0
 gives_none old sent piece new = ⊥
 

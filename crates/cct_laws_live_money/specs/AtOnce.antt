@@ -39,7 +39,8 @@ answer_on setup line sent = heard_by setup (λ d. met_in d (history_on line)) fa
 abbrev pub reads_on : Setup → AtOnce → Option (List ℕ) → AtOnce → Type 0
 reads_on setup (still silent history) (Some []) next =
     (later : List Moment) × Befell setup history later × (next ≡ still (suc silent) later)
-reads_on setup (under_way byte bytes history) (Some piece) next = (piece ≡ byte ∷ bytes) × (next ≡ still 0 history)
+reads_on setup (under_way byte bytes history) (Some piece) next =
+    (piece ≡ byte ∷ bytes) × (next ≡ still 0 history)
 reads_on setup line came next = ⊥
 
 -- What is written where nothing is under way the devices hear, and their answer is under way.

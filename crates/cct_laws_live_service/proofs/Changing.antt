@@ -330,7 +330,7 @@ short_so setup past orders trays (Some s) paid rest is ends =
     let so = short_paid setup past orders s s refl settled_is in
     (ap (λ n. n + rest) same_paid ∙ ap (λ n. s.amount - s.rest + n) same_rest ∙ so.0, so.1 ∙ sym same_paid)
 
--- the last entry that hosts told among others, and what stands before and after it
+-- the last entry that hosts told among others, and what is before and after it
 record LastTold (later : List Entry) (e : Entry) (news : List Entry) : Type 0 where
   after : List Entry
   between : List Entry

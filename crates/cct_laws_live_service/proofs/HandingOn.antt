@@ -112,7 +112,7 @@ module _ {L : Type 0} (reads : L → Option (List ℕ) → L → Type 0) (writes
       roll now desk left_desk ends left how old new given back service found whole there lives port).2
       (cut_left honest seen may_leave back setup how past image life.2 trusted may)
 
--- a disk that holds such an image tells its records
+-- a disk that holds such an image shows its records
 pub told_next : (D : Type 0) (honest : D → Bool) (seen : D → Option (List ℕ)) (may_leave : D → List ℕ → Type 0) (setup : Setup)
     (HasLived : List Record → List Entry → Type 0) (whole : List Entry) (image : List ℕ)
     (starts : StartsOver setup HasLived whole image) (next : D) → Holds honest seen may_leave next image →

@@ -14,7 +14,7 @@ use Rattle.cct_live_service.specs.Linked.{ExchangesSince, UsesLink, asks, goes_o
 use Rattle.cct_live_service.specs.Told.{Told, answer_news, entry, falls_short, finding, knows, last, news_of, notice, operates, pay_of, pays, refused, refused_for, taken, unsent, withheld_for}
 use Rattle.cct_laws_live_service.proofs.Rolls.{roll_chain}
 
--- what is told in two parts
+-- what is reported in two parts
 pub news_both : (told more : List Told) → news_of (told ++ more) ≡ news_of more ++ news_of told
 news_both [] more = sym (append-nil (news_of more))
 news_both (entry e ∷ told) more = ap (λ es. es ++ e ∷ []) (news_both told more) ∙ append_assoc (news_of more) (news_of told) (e ∷ [])

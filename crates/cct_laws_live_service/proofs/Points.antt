@@ -50,7 +50,7 @@ same_begin {A} (x ∷ a) (y ∷ b) end is = both (first is) (same_begin a b end 
     both : x ≡ y → a ≡ b → (x ∷ a) ≡ (y ∷ b)
     both e f = cc
 
--- a chain, cut where some of its entries were told
+-- a chain, cut where some of its entries were reported
 pub chain_cut : {L : Type 0} (gives : L → List ℕ → List ℕ → L → Type 0) (first last : L) (all more news : List Entry) →
     all ≡ more ++ news → Chain gives first all last → (line : L) × Chain gives first news line × Chain gives line more last
 chain_cut gives first last all [] news is chain = (last, subst (λ es. Chain gives first es last) is chain, not_begun)
@@ -87,7 +87,7 @@ chain_cut gives first last _ (e ∷ more) news is (gave_question past sent heard
     let cut = chain_cut gives first line past (e ∷ more) news is goes in
     (cut.0, cut.1, gave_question (e ∷ more) sent heard line next cut.2 asks given)
 
--- a past goes on by what is told
+-- a past goes on by what is reported
 live_told : (capacity : ℕ) (setup : Setup) (steps : List LiveStep) (past end : List Entry) →
     LiveFrom capacity setup past steps end → (told : List Entry) × (end ≡ told ++ past)
 live_told capacity setup [] past end is = ([], is)

@@ -111,7 +111,7 @@ step_puts capacity setup past news live.balance of is =
     subst (PutsOne past) (sym is) (no_more (length (records past)))
 step_puts capacity setup past news (live.start at) of is = absurd of
 
--- what is told takes no record away
+-- what is reported takes no record away
 pub records_grow : (news past : List Entry) → (put : List Record) × (records (news ++ past) ≡ put ++ records past)
 records_grow [] past = ([], refl)
 records_grow (entry.Put r ∷ news) past =

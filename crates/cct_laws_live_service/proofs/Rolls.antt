@@ -1,4 +1,4 @@
--- The questions of a survey and of a roll are a chain of which nothing is told.
+-- The questions of a survey and of a roll are a chain of which nothing is reported.
 use Rattle.std.proofs.Common.{◌≡◌, ℕ, true, List, [], refl, Option, Some, None}
 use Rattle.cct_model.specs.terms.wire.CheckKind.{CheckKind}
 use Rattle.cct_model.specs.terms.device.DeviceSetup.{DeviceSetup}

@@ -1,4 +1,4 @@
--- The questions of a survey are a chain of which nothing is told.
+-- The questions of a survey are a chain of which nothing is reported.
 use Rattle.std.proofs.Common.{◌≡◌, ℕ, ◌==◌, Bool, true, false, cond, List, [], slice_index, refl, sym, ◌∙◌, Option, Some, None, option_and_then, eq-eqb}
 use Rattle.cct_model.specs.terms.wire.CheckKind.{CheckKind}
 use Rattle.cct_model.specs.terms.wire.CheckKind.TheVariants.{Simple, Crc}

@@ -13,9 +13,10 @@ use Rattle.cct_laws_live.specs.Live.{started}
 use Rattle.cct_laws_live.specs.LiveStep.{LiveStep}
 use Rattle.cct_laws_live_port.specs.Chain.{Chain}
 
--- A point of a life over a link, of which these entries tell, newest first: the steps up to it are a life, the link had given
--- the exchanges that were told up to it, and gave the others later.
-pub record Point {L : Type 0} (gives : L → List ℕ → List ℕ → L → Type 0) (setup : Setup) (found : List Record) (first last : L)
+-- A point of a life over a link, of which these entries tell, newest first: the steps up to it are
+-- a life, the link had given the exchanges that were reported up to it, and gave the others later.
+pub record Point {L : Type 0} (gives : L → List ℕ → List ℕ → L → Type 0) (setup : Setup)
+    (found : List Record) (first last : L)
     (told : List Entry) : Type 0 where
   pub steps : List LiveStep
   pub news : List Entry
@@ -26,7 +27,8 @@ pub record Point {L : Type 0} (gives : L → List ℕ → List ℕ → L → Typ
   pub before : Chain gives first news line
   pub after : Chain gives line more last
 
--- An image of a disk stands for the records of a past, or for these and the one that is due at an address.
+-- An image of a disk stands for the records of a past, or for these and the one that is due at an
+-- address.
 abbrev pub IsLeftAt : Setup → List Entry → List ℕ → Type 0
 IsLeftAt setup past image =
     StandsFor (carry_of setup) image (reverse (records past))

@@ -10,8 +10,9 @@ use Rattle.cct_laws_change.specs.Orders.{opened_of, orders_after}
 use Rattle.cct_live_service.specs.AtDesk.{answered, ended, seen_at}
 use Rattle.cct_live_service.specs.Told.{Told, entry, falls_short, operates, pays}
 
--- What is told from a desk on, of a session with these orders, tells it right by all coins that fell in a world: they are worth
--- its amount where it was served, and what is told as paid where it falls short; and they are never worth more than its amount.
+-- What is told from a desk on, of a session with these orders, shows it right by all coins that
+-- fell in a world: they are worth its amount where it was served, and what is reported as paid
+-- where it falls short; and they are never worth more than its amount.
 abbrev pub TellsRight : Setup → List Entry → Desk → List Payment → List Told → Type 0
 TellsRight setup world desk orders [] = IsWithin setup world orders desk.session
 TellsRight setup world desk orders (entry e ∷ told) =

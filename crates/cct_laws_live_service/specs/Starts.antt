@@ -7,8 +7,10 @@ use Rattle.cct_model.specs.terms.device.Setup.{Setup}
 use Rattle.cct_model.specs.lines.entry.Entry.{Entry}
 use Rattle.cct_model.specs.lines.record.Record.{Record}
 
--- An image of a disk represents the records that a host finds that starts after all this was told; and so it has lived.
-pub record StartsOver (setup : Setup) (HasLived : List Record → List Entry → Type 0) (whole : List Entry) (image : List ℕ)
+-- An image of a disk represents the records that a host finds that starts after all this was
+-- reported; and so it has lived.
+pub record StartsOver (setup : Setup) (HasLived : List Record → List Entry → Type 0)
+    (whole : List Entry) (image : List ℕ)
     : Type 0 where
   pub left : List Record
   pub news : List Entry

@@ -19,16 +19,17 @@ ghost use Rattle.cct_poll.specs.Steps.{Steps};
 ghost use Rattle.cct_disk_queue.specs.Calls.{Since};
 ghost use Rattle.cct_laws_poll.specs.Runs.{Deed, LivesOn, Runs};
 
-/// A host that was started over a part begins a life over the records that the part held, and represents its past. A law: its
-/// body is empty.
+/// A host that was started over a part begins a life over the records that the part held, and
+/// represents its past. A law: its body is empty.
 pub fn a_start_begins_a_life()
     ensures { (poll : Poll) (part : List ℕ) (starts : Starts (setup_of poll.host) part poll.host) (found : List Record)
         → HeldRecords (setup_of poll.host) part starts.begun found
         → IsLife MOST_RECORDS (setup_of poll.host) found [] (started found) × StandsFor poll.host (started found) }
 {}
 
-/// What is told while a program gives commands, says what it heard, and makes the calls on its part, is what a live host tells
-/// in some steps, whatever is heard: so all that `cct_laws_live` says of one life holds of it. A law: its body is empty.
+/// What is reported while a program gives commands, says what it heard, and makes the calls on its
+/// part, is what a live host tells in some steps, whatever is heard: so all that `cct_laws_live`
+/// says of one life holds of it. A law: its body is empty.
 pub fn a_run_is_a_life()
     ensures { (found : List Record) (deeds : List Deed) (steps : List LiveStep) (past : List Entry) (before after : Poll)
         (told : List Entry) → IsSoundSetup (setup_of before.host)
@@ -36,9 +37,10 @@ pub fn a_run_is_a_life()
         → Runs deeds before.host after.host told → LivesOn (setup_of before.host) found steps past after.host told }
 {}
 
-/// After a step each image that a part might have had while the calls that it notes were made, in their order, stands for the
-/// records of the past, or for these and the one that the step puts. `make_calls` of `cct_disk_queue` says that a part has no other
-/// (`Since`). A law: its body is empty.
+/// After a step each image that a part might have had while the calls that it notes were made, in
+/// their order, stands for the records of the past, or for these and the one that the step puts.
+/// `make_calls` of `cct_disk_queue` says that a part has no other (`Since`). A law: its body is
+/// empty.
 pub fn a_part_keeps_the_records()
     ensures { (before after : Poll) (piece heard : List ℕ) (addr : ℕ) (told past : List Entry)
         (step : Steps piece heard addr before.host after.host told) → (disk_of before.host).calls ≡ []

@@ -1,4 +1,4 @@
--- A fact of each entry of a legal transcript, where it is one of what comes to a device, and holds of all else that is told.
+-- A fact of each entry of a legal transcript, where it is one of what comes to a device, and holds of all else that is reported.
 use Rattle.std.proofs.Common.{ℕ, List, [], ◌∷◌, ◌++◌, Option, Some, None, All}
 use Rattle.std.specs.Prelude.{⊤}
 use Rattle.cct_model.specs.terms.device.DeviceSetup.{DeviceSetup}

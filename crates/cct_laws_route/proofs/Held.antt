@@ -1,4 +1,4 @@
--- A bill is told as held exactly where the bill acceptor holds it, whatever the wire does.
+-- A bill is reported as held exactly where the bill acceptor holds it, whatever the wire does.
 use Rattle.std.proofs.Common.{◌≡◌, ◌≢◌, inl, inr, ℕ, ◌==◌, cond, true, false, Bool, List, [], ◌∷◌, ◌++◌, refl, ap, sym, ◌∙◌, subst, eqb-true}
 use Rattle.std.specs.Prelude.{⊤}
 use Rattle.cct_model.specs.terms.device.DeviceBody.{DeviceBody}
@@ -22,7 +22,7 @@ use Rattle.cct_laws_route.specs.Escrow.{held_bills}
 use Rattle.cct_laws_route.specs.Held.{held_told}
 use Rattle.cct_laws_route.proofs.Coming.{TellsNoCoin, legal_each}
 
--- at its address no coin is told, a bill that is told as held is held, and one that is told as inhibited isn't
+-- at its address no coin is reported, a bill that is reported as held is held, and one that is reported as inhibited isn't
 abbrev IsHeldAt : DeviceSetup → List Entry → Entry → Type 0
 IsHeldAt d past (entry.Accepted addr c) = addr ≢ d.addr
 IsHeldAt d past (entry.Held addr place) = addr ≡ d.addr → holds (met d past) place ≡ true
@@ -73,7 +73,7 @@ told_is d (entry.Reset addr ∷ past) each =
     met_if (addr == d.addr) reset (met d past) (held_told d past) (λ test. told_is d past each.1) (λ test. told_is d past each.1)
 told_is d (e ∷ past) each = told_is d past each.1
 
--- each step tells so
+-- each step shows so
 no_coins : (body : DeviceBody) → IsAcceptor body → IsBill body → ⊥
 no_coins (Acceptor accepts values ids) accepting billing = billing
 no_coins (Hopper life value) accepting billing = accepting

@@ -1,4 +1,4 @@
--- The end of a `route` tells what was held: it is the end of its one row, whose request is answered exactly if a bill is held.
+-- The end of a `route` says what was held: it is the end of its one row, whose request is answered exactly if a bill is held.
 use Rattle.std.proofs.Common.{◌≡◌, ◌⊎◌, inl, inr, ℕ, zero, suc, ◌≤◌, ◌==◌, cond, true, false, Bool, List, [], ◌∷◌, ◌++◌, refl, ap, sym, ◌∙◌, subst, Option, Some, None, All, arith, rules}
 use Rattle.std.specs.Prelude.{⊤, ◌&&◌, is_some}
 use Rattle.std.proofs.lemmas.Bool.{and_parts}

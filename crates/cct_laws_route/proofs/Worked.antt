@@ -137,7 +137,7 @@ no = 1 ∷ 0 ∷ 4 ∷ 5 ∷ 246 ∷ []
 abbrev before : ℕ → List Entry → List Entry
 before way past = entry.Taken (command.Route 4 way) ∷ past
 
--- what is told as held, by this and by another device
+-- what is reported as held, by this and by another device
 tells_held : held_told banker (entry.Held 5 2 ∷ entry.Held 4 1 ∷ lets_in) ≡ 1 ∷ []
 tells_held = refl
 
@@ -145,7 +145,7 @@ is_held : held_bills (met banker (entry.Held 5 2 ∷ entry.Held 4 1 ∷ lets_in)
 unfolding message spelling request_of requests_with data_of has_place asks_of
 is_held = refl
 
--- a bill that isn't let in isn't told as held
+-- a bill that isn't let in isn't reported as held
 not_told_unheld : held_told banker (entry.Held 4 2 ∷ lets_in) ≡ held_bills (met banker (entry.Held 4 2 ∷ lets_in)) → ⊥
 unfolding message spelling request_of requests_with data_of has_place asks_of
 not_told_unheld is = cc is

@@ -1,5 +1,6 @@
 -- What became of each bill that a bill acceptor held, read off all that it met, newest first.
-use Rattle.std.specs.Prelude.{ℕ, ◌==◌, Bool, true, false, List, [], ◌∷◌, ◌++◌, if◌then◌else◌, Option, Some, None}
+use Rattle.std.specs.Prelude.{ℕ, ◌==◌, Bool, true, false, List, [], ◌∷◌, ◌++◌, if◌then◌else◌}
+use Rattle.std.specs.Prelude.{Option, Some, None}
 use Rattle.cct_model.specs.terms.coin.Coin.{Coin}
 use Rattle.cct_model.specs.terms.request.TheConstants.{RETURN_CODE, STACK_CODE}
 use Rattle.cct_model.specs.terms.request.Request.{Request}
@@ -10,10 +11,12 @@ use Rattle.cct_model.specs.History.{Met, coin, reset, heard, unless_reset}
 -- The places of all bills that were ever held, newest first.
 abbrev pub held_bills : List Met → List ℕ
 held_bills [] = []
-held_bills (coin place ∷ past) = if holds past place then place ∷ held_bills past else held_bills past
+held_bills (coin place ∷ past) =
+    if holds past place then place ∷ held_bills past else held_bills past
 held_bills (what ∷ past) = held_bills past
 
--- How a bill left the escrow: it was stacked, or given back by a request to route it, or by a reset.
+-- How a bill left the escrow: it was stacked, or given back by a request to route it, or by a
+-- reset.
 pub data Left : Type 0 where
   stacked : (place : ℕ) → Left
   returned : (place : ℕ) → Left
@@ -52,18 +55,21 @@ in_escrow past = if_held (λ place. place ∷ []) (bill_held past)
 -- How a held bill leaves the escrow where bytes are heard, if they make it leave.
 abbrev pub left_by : Option Request → ℕ → List Left
 left_by (Some (RouteBill way)) place =
-    if way == STACK_CODE then stacked place ∷ [] else if way == RETURN_CODE then returned place ∷ [] else []
+    if way == STACK_CODE then stacked place ∷ [] else if way == RETURN_CODE then returned place
+    ∷ [] else []
 left_by (Some ResetDevice) place = dropped place ∷ []
 left_by asked place = []
 
 -- How each bill that left the escrow did, newest first.
 abbrev pub left_bills : List Met → List Left
 left_bills [] = []
-left_bills (reset ∷ past) = if_held (λ place. dropped place ∷ []) (bill_held past) ++ left_bills past
+left_bills (reset ∷ past) =
+    if_held (λ place. dropped place ∷ []) (bill_held past) ++ left_bills past
 left_bills (heard asked ∷ past) = if_held (left_by asked) (bill_held past) ++ left_bills past
 left_bills (what ∷ past) = left_bills past
 
--- The bills that were stacked since the last reset, newest first: each is a coin of its place, by path 0.
+-- The bills that were stacked since the last reset, newest first: each is a coin of its place, by
+-- path 0.
 abbrev pub stacked_since : List Met → List Coin
 stacked_since [] = []
 stacked_since (reset ∷ past) = []

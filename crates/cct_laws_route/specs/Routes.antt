@@ -1,5 +1,6 @@
 -- What the end of a `route` tells of the bill that was held.
-use Rattle.std.specs.Prelude.{◌≡◌, ℕ, ◌≤◌, ◌==◌, List, [], ◌∷◌, if◌then◌else◌, Option, Some, None, ⊤}
+use Rattle.std.specs.Prelude.{◌≡◌, ℕ, ◌≤◌, ◌==◌, List, [], ◌∷◌, if◌then◌else◌, Option, Some, None}
+use Rattle.std.specs.Prelude.{⊤}
 use Rattle.cct_model.specs.terms.device.DeviceSetup.{DeviceSetup}
 use Rattle.cct_model.specs.terms.request.TheConstants.{STACK_CODE}
 use Rattle.cct_model.specs.terms.request.Request.TheVariants.{RouteBill}
@@ -16,13 +17,14 @@ use Rattle.cct_model.specs.Job.{works, job}
 use Rattle.cct_model.specs.Line.{Line, accepted}
 use Rattle.cct_model.specs.Transcript.{pending, met, lines_of, doses_of}
 
--- What a bill of a place becomes by a way, as lines of its device: it is accepted by path 0 where it is stacked. A bill that is
--- given back is no line.
+-- What a bill of a place becomes by a way, as lines of its device: it is accepted by path 0 where
+-- it is stacked. A bill that is given back is no line.
 abbrev pub lines_by : ℕ → ℕ → List Line
-lines_by way place = if way == STACK_CODE then accepted (record { place = place; path = 0 }) ∷ [] else []
+lines_by way place =
+    if way == STACK_CODE then accepted (record { place = place; path = 0 }) ∷ [] else []
 
--- An exchange after a past is the one of a `route`: it is of the device's own job, which is that of a `route`, and it asks the
--- device to route a bill by the way that was given.
+-- An exchange after a past is the one of a `route`: it is of the device's own job, which is that of
+-- a `route`, and it asks the device to route a bill by the way that was given.
 pub record IsOfRoute (d : DeviceSetup) (past : List Entry) (addr : ℕ) (sent : List ℕ) : Type 0 where
   pub way : ℕ
   pub since : List Line
@@ -31,20 +33,25 @@ pub record IsOfRoute (d : DeviceSetup) (past : List Entry) (addr : ℕ) (sent : 
   pub asks : asked d.kind sent ≡ Some (RouteBill way)
   pub is_known : way ≤ STACK_CODE
 
--- It routes the bill that the device held before it: by way 1 this is accepted, and by way 0 nothing is. Then none is held.
-pub record RoutesBill (d : DeviceSetup) (past : List Entry) (addr : ℕ) (sent piece : List ℕ) (way : ℕ) : Type 0 where
+-- It routes the bill that the device held before it: by way 1 this is accepted, and by way 0
+-- nothing is. Then none is held.
+pub record RoutesBill (d : DeviceSetup) (past : List Entry) (addr : ℕ) (sent piece : List ℕ)
+    (way : ℕ) : Type 0 where
   pub place : ℕ
   pub held : bill_held (met d past) ≡ Some place
   pub does : doses_of d past sent ≡ lines_by way place
   pub empties : bill_held (met d (entry.Wire addr sent piece ∷ past)) ≡ None
 
--- A `route` ended `routed` after an exchange of its own; and if this was honest, it routed the bill that was held.
+-- A `route` ended `routed` after an exchange of its own; and if this was honest, it routed the bill
+-- that was held.
 abbrev pub IsRoutedAfter : DeviceSetup → List Entry → Type 0
 IsRoutedAfter d (entry.Wire addr sent piece ∷ past) =
-    (of : IsOfRoute d past addr sent) × (IsHonestFault (pending past) sent → RoutesBill d past addr sent piece of.way)
+    (of : IsOfRoute d past addr sent) × (IsHonestFault (pending past) sent →
+    RoutesBill d past addr sent piece of.way)
 IsRoutedAfter d past = ⊥
 
--- A `route` ended `routeunsure` after an exchange of its own; and if no fault was set for this, no bill was held.
+-- A `route` ended `routeunsure` after an exchange of its own; and if no fault was set for this, no
+-- bill was held.
 abbrev pub IsUnsureAfter : DeviceSetup → List Entry → Type 0
 IsUnsureAfter d (entry.Wire addr sent piece ∷ past) =
     (of : IsOfRoute d past addr sent) × (pending past ≡ Clear → bill_held (met d past) ≡ None)

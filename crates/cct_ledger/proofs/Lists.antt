@@ -24,7 +24,7 @@ any_set p (y ∷ ys) (suc i) x v is fails =
     turned false true = refl
     turned false false = refl
 
--- each element is the new one, or stands where it stood
+-- each element is the new one, or is where it stood
 pub set_cases : {X : Type 0} (xs : List X) (i j : ℕ) (v w : X) → slice_get (set xs i v) j ≡ Some w →
     (w ≡ v) ⊎ ((j ≢ i) × (slice_get xs j ≡ Some w))
 set_cases [] i j v w is = absurd cc

@@ -13,7 +13,7 @@ pub record IsAt {X : Type 0} (p : X → Bool) (xs : List X) (i : ℕ) : Type 0 w
   pub there : slice_get xs i ≡ Some item
   pub passes : p item ≡ true
 
--- what stands at the position of a test
+-- what is at the position of a test
 pub at_position : {X : Type 0} (p : X → Bool) (xs : List X) (i : ℕ) → position p xs ≡ Some i → IsAt p xs i
 at_position p [] i is = absurd cc
 at_position p (x ∷ xs) i is =

@@ -6,8 +6,8 @@ use Rattle.cct_model.specs.Carry.{available_held, order_held, reserved_held}
 use Rattle.cct_ledger.specs.declared.ledger.Ledger.{Ledger}
 use Rattle.cct_ledger.specs.Ledger.{applied, available_of, reserved_of, setup_of}
 
--- A ledger over this setup begins with a carry of so many records: it counts them, keeps the open orders of the carry, has
--- its sums, and reserves nothing beside them.
+-- A ledger over this setup begins with a carry of so many records: it counts them, keeps the open
+-- orders of the carry, has its sums, and reserves nothing beside them.
 pub record IsResumed (setup : Setup) (many : ℕ) (c : Carry) (ledger : Ledger) : Type 0 where
   pub setup_is : setup_of ledger ≡ setup
   pub counted : applied ledger ≡ many

@@ -13,8 +13,8 @@ ghost use Rattle.cct_ledger.specs.Resumed.{IsResumed};
 ghost use Rattle.cct_ledger.specs.Told.{totals_beside, is_of_money};
 ghost use Rattle.cct_ledger.specs.declared.ledger.Ledger.{Ledger};
 
-/// Where nothing is reserved beside the records, a ledger takes a record of an order or of a sale exactly where it
-/// follows those before it; and whatever is reserved, only where it does.
+/// Where nothing is reserved beside the records, a ledger takes a record of an order or of a sale
+/// exactly where it follows those before it; and whatever is reserved, only where it does.
 #[tactic(auto, using(crate::proofs::Following::allowed_alone, crate::proofs::Following::allowed_follows))]
 pub fn a_ledger_takes_what_follows()
     ensures alone { (setup : Setup) (before : List Record) (r : Record) → is_of_money r ≡ true
@@ -23,8 +23,8 @@ pub fn a_ledger_takes_what_follows()
         → is_allowed setup before beside r ≡ true → follows setup before r ≡ true }
 {}
 
-/// With what all running jobs reserve beside the records, what a ledger tells is what the operator has after these
-/// entries.
+/// With what all running jobs reserve beside the records, what a ledger tells is what the operator
+/// has after these entries.
 pub fn a_ledger_tells_what_the_operator_has()
     ensures available { (setup : Setup) (past : List Entry)
         → available_beside setup (records past) (reserved_at_work setup past) ≡ available setup past }
@@ -32,8 +32,8 @@ pub fn a_ledger_tells_what_the_operator_has()
         → totals_beside setup (records past) (reserved_at_work setup past) ≡ totals setup past }
 {}
 
-/// A ledger that begins with the carry of records that follow one another represents these records, and nothing is
-/// reserved beside them.
+/// A ledger that begins with the carry of records that follow one another represents these records,
+/// and nothing is reserved beside them.
 pub fn a_ledger_begins_where_its_records_end()
     ensures { (setup : Setup) (before : List Record) (ledger : Ledger) → IsSoundSetup setup
         → all_follow setup before ≡ true → IsResumed setup (length before) (carry setup before) ledger

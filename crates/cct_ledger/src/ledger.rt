@@ -1,6 +1,8 @@
 //! The ledger: what became of the money of all coins posted.
-ghost use Rattle.std.specs.Prelude.{◌≡◌, ◌+◌, ◌-◌, ◌*◌, ◌^◌, ◌<◌, ◌≤◌, ◌==◌, ◌&&◌, nat_le, not, true, false};
-ghost use Rattle.std.specs.Prelude.{ℕ, List, [], None, length, sum_by, is_ok, is_none, slice_index_or};
+ghost use Rattle.std.specs.Prelude.{◌≡◌, ◌+◌, ◌-◌, ◌*◌, ◌^◌, ◌<◌, ◌≤◌, ◌==◌, ◌&&◌, nat_le, not};
+ghost use Rattle.std.specs.Prelude.{true, false};
+ghost use Rattle.std.specs.Prelude.{ℕ, List, [], None, length, sum_by, is_ok, is_none};
+ghost use Rattle.std.specs.Prelude.{slice_index_or};
 ghost use Rattle.std.specs.List.{list_any};
 ghost use Rattle.cct_model.specs.lines.record.Record.{Record};
 ghost use Rattle.cct_model.specs.lines.record.Record.TheVariants as record_of;
@@ -21,20 +23,22 @@ use cct_journal_carry::{coins_of, coins_value};
 use cct_model::{Carry, Coins, DEVICES, OpenOrder, Record, Setup, Totals};
 use thiserror::Error;
 
-/// A record of an order or of a sale that doesn't follow those applied before, or that takes more than is available.
+/// A record of an order or of a sale that doesn't follow those applied before, or that takes more
+/// than is available.
 #[derive(Clone, Copy, Debug, Error, PartialEq, Eq)]
 #[error("the record doesn't follow those before it")]
 pub struct NotAllowed;
 
-/// What the operator has, in units of value (`docs/DEFINITIONS.md`, `specs/Money.antt` of `cct_model`).
+/// What the operator has, in units of value (`docs/DEFINITIONS.md`, `specs/Money.antt` of
+/// `cct_model`).
 ///
-/// A contract tells a ledger by the list of all records that it took, newest first, and by how much was reserved beside
-/// them and isn't released. It takes no memory.
+/// A contract shows a ledger by the list of all records that it took, newest first, and by how much
+/// was reserved beside them and isn't released. It takes no memory.
 #[derive(Debug, Drop)]
 pub struct Ledger<'s> {
     setup: &'s Setup,
-    /// How many records were applied. Each posts five coins at most, of less than 2^32 together, so their number bounds
-    /// every sum.
+    /// How many records were applied. Each posts five coins at most, of less than 2^32 together, so
+    /// their number bounds every sum.
     records: u32,
     /// The open order of each device of the setup, in its order.
     orders: ArrayVec<Option<OpenOrder>, DEVICES>,
@@ -53,7 +57,8 @@ pub struct Ledger<'s> {
 
 impl<'s> Ledger<'s> {
     ghost use Rattle.cct_ledger.specs.Resumed.{IsResumed};
-    ghost use Rattle.cct_ledger.specs.Ledger.{StandsFor, GoesOn, Reserves, Takes, setup_of, applied, available_of, reserved_of};
+    ghost use Rattle.cct_ledger.specs.Ledger.{StandsFor, GoesOn, Reserves, Takes, setup_of};
+    ghost use Rattle.cct_ledger.specs.Ledger.{applied, available_of, reserved_of};
 
     /// The ledger over a setup before any record.
     pub fn new(setup: &'s Setup) -> Ledger<'s>
@@ -75,8 +80,8 @@ impl<'s> Ledger<'s> {
         }
     }
 
-    /// The ledger over a setup after `base` records, by their carry. They count as applied, and nothing is reserved beside
-    /// them.
+    /// The ledger over a setup after `base` records, by their carry. They count as applied, and
+    /// nothing is reserved beside them.
     pub fn resume(setup: &'s Setup, base: u32, carry: &Carry) -> Ledger<'s>
         requires sound { IsSoundSetup setup.now }
         requires rightly { IsRightly base carry.now }
@@ -101,16 +106,19 @@ impl<'s> Ledger<'s> {
 
     /// Applies a record of the journal, of which fewer than 2^32 - 1 may have been applied before.
     ///
-    /// A [`Record::Opened`], [`Record::Closed`], [`Record::Odd`] or [`Record::Sold`] is refused where it doesn't follow
-    /// the records before it, or where what it takes isn't available beside all that is reserved. A closed order pays
-    /// the coins that fell and frees the others; an order whose counts of life don't fit it stays reserved.
+    /// A [`Record::Opened`], [`Record::Closed`], [`Record::Odd`] or [`Record::Sold`] is refused
+    /// where it doesn't follow the records before it, or where what it takes isn't available beside
+    /// all that is reserved. A closed order pays the coins that fell and frees the others; an order
+    /// whose counts of life don't fit it stays reserved.
     ///
-    /// A record of another kind is taken whether it follows or not. Each coin or bill that it posts has the value of its
-    /// place at the device of that address, and none where the place has no value or no device that takes money is there.
+    /// A record of another kind is taken whether it follows or not. Each coin or bill that it posts
+    /// has the value of its place at the device of that address, and none where the place has no
+    /// value or no device that takes money is there.
     pub fn apply(&mut self, entry: &Record) -> Result<(), NotAllowed>
         requires few { applied self.old < 2 ^ 32 - 1 }
         ensures takes { Takes self.old self.new entry.now result }
-        // A record that posts coins, begins an epoch or ends one is taken whether it follows or not.
+        // A record that posts coins, begins an epoch or ends one is taken whether it follows or
+        // not.
         ensures others { is_of_money entry.now ≡ false → is_ok result ≡ true }
     {
         match entry {
@@ -166,7 +174,8 @@ impl<'s> Ledger<'s> {
         self.reserved += amount;
     }
 
-    /// Frees what was reserved: before the record is applied that takes it, or where no such record comes.
+    /// Frees what was reserved: before the record is applied that takes it, or where no such record
+    /// comes.
     pub fn release(&mut self, amount: u64)
         requires { amount ≤ reserved_of self.old }
         ensures { Reserves (available_of self.old + amount) (reserved_of self.old - amount)
@@ -176,8 +185,8 @@ impl<'s> Ledger<'s> {
         self.available += amount;
     }
 
-    /// What is available, reserved, paid and sold. What is reserved are the amounts of open orders and of those whose
-    /// counts of life didn't fit, and what is reserved by [`Ledger::reserve`].
+    /// What is available, reserved, paid and sold. What is reserved are the amounts of open orders
+    /// and of those whose counts of life didn't fit, and what is reserved by [`Ledger::reserve`].
     pub fn totals(&self) -> Totals
         ensures stands { (before : List Record) (beside : ℕ) → StandsFor self.now before beside
             → result ≡ totals_beside (setup_of self.now) before beside }
@@ -211,7 +220,8 @@ impl<'s> Ledger<'s> {
     /// Opens an order at a hopper that has none, where its coins are available.
     fn open(&mut self, order: OpenOrder) -> Result<(), NotAllowed>
         requires few { applied self.old < 2 ^ 32 - 1 }
-        ensures { Takes self.old self.new (record_of.Opened order.id order.addr order.count order.life) result }
+        ensures { Takes self.old self.new
+            (record_of.Opened order.id order.addr order.count order.life) result }
     {
         let Some(place) = hopper_place(self.setup, order.addr) else {
             return Err(NotAllowed);

@@ -1,5 +1,5 @@
-//! The operator's money, record by record: a ledger takes the records of a journal and tells what is available,
-//! reserved, paid and sold.
+//! The operator's money, record by record: a ledger takes the records of a journal and says what is
+//! available, reserved, paid and sold.
 #![tactic(auto)]
 
 mod laws;

@@ -43,7 +43,7 @@ pub(crate) fn opened(
     Some((place, order))
 }
 
-/// Puts an open order, or none, in the place of what stands there.
+/// Puts an open order, or none, in the place of what is there.
 pub(crate) fn put_order(
     orders: &mut ArrayVec<Option<OpenOrder>, DEVICES>,
     place: usize,

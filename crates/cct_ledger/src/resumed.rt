@@ -1,4 +1,5 @@
-//! What a ledger begins with: the open orders of a carry, at the devices of a setup, and what they are worth.
+//! What a ledger begins with: the open orders of a carry, at the devices of a setup, and what they
+//! are worth.
 ghost use Rattle.std.specs.Prelude.{◌≡◌, ◌<◌, ◌^◌, map};
 ghost use Rattle.cct_model.specs.Carry.{order_held, owed_by};
 

@@ -38,14 +38,15 @@ impl LifeCount {
     }
 }
 
-/// How many coins were paid between two life counts, both below 2^24, where fewer than 2^24 were: `after` may be the
-/// smaller one, since the count goes from 2^24 - 1 to 0.
+/// How many coins were paid between two life counts, both below 2^24, where fewer than 2^24 were:
+/// `after` may be the smaller one, since the count goes from 2^24 - 1 to 0.
 pub fn since(before: u32, after: u32) -> u32
     requires before { before < 2 ^ 24 }
     requires after { after < 2 ^ 24 }
     ensures difference { result ≡ (after + 2 ^ 24 - before) % 2 ^ 24 }
     // Exactly so many coins lead from the one count to the other.
-    ensures rises { (coins : ℕ) → coins < 2 ^ 24 → after ≡ (before + coins) % 2 ^ 24 → result ≡ coins }
+    ensures rises { (coins : ℕ) → coins < 2 ^ 24 → after ≡ (before + coins) % 2 ^ 24 → result
+        ≡ coins }
 {
     (after + COUNTS - before) % COUNTS
 }

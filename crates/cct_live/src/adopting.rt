@@ -13,8 +13,9 @@ use cct_model_lines::{Entry, Setup};
 use cct_text::put_entry;
 use std::fs::Files;
 
-/// Keeps a setup for a journal in the place of the one that is kept, and tells the balance by both. Where the records don't
-/// follow by it nothing is kept, and what is wrong with the journal is told. The journal isn't changed.
+/// Keeps a setup for a journal in the place of the one that is kept, and shows the balance by both.
+/// Where the records don't follow by it nothing is kept, and what is wrong with the journal is
+/// reported. The journal isn't changed.
 pub(crate) fn adopt<R: Files, D: Disk + Drop, K: Sink>(
     rt: &R,
     names: &CopyNames,
@@ -63,7 +64,7 @@ fn balance_kept<D: Disk>(kept: &Option<Setup>, disk: D) -> (Option<Totals>, D)
     }
 }
 
-/// Tells why no host starts over a journal, and answers with the exit status.
+/// Says why no host starts over a journal, and answers with the exit status.
 fn tell_refusal<K: Sink>(why: &Served, out: &mut K) -> Result<u8, Stop> {
     if let Some(entry) = last_entry(why) {
         put_entry(out, &entry)?;

@@ -1,4 +1,5 @@
-//! How the program ends, with its last line and its exit status (`docs/OPERATING.md`, "Exit statuses"; `docs/LIVE.md`).
+//! How the program ends, with its last line and its exit status (`docs/OPERATING.md`, "Exit
+//! statuses"; `docs/LIVE.md`).
 
 use cct_advice_near::near_word;
 use cct_edge::Failed;
@@ -122,7 +123,8 @@ impl Stop {
     }
 }
 
-/// What is said on standard error of why the program stops: with this setup, over this port and this journal.
+/// What is said on standard error of why the program stops: with this setup, over this port and
+/// this journal.
 #[derive(Drop)]
 pub(crate) struct Cause<'w> {
     pub(crate) stop: Stop,

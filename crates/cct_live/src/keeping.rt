@@ -1,4 +1,5 @@
-//! A journal belongs to a setup: the setup beside it is compared with the one given, or taken along.
+//! A journal belongs to a setup: the setup beside it is compared with the one given, or taken
+//! along.
 ghost use Rattle.std.specs.Prelude.{◌≡◌, ◌≤◌, ◌+◌};
 ghost use Rattle.cct_model_lines.specs.Setup.{IsSoundSetup};
 
@@ -22,13 +23,13 @@ enum Standing {
     Blank,
     /// A journal that was made.
     Made,
-    /// Anything else, of which the service tells what it is; or it couldn't be read.
+    /// Anything else, of which the service says what it is; or it couldn't be read.
     Other,
 }
 
-/// Sees to it that the journal on a disk and the setup given belong together, and tells whether the setup was taken along
-/// beside an older journal. Where nothing was recorded yet, the setup is kept for the journal that is to be made. The disk
-/// is only read.
+/// Sees to it that the journal on a disk and the setup given belong together, and says whether the
+/// setup was taken along beside an older journal. Where nothing was recorded yet, the setup is kept
+/// for the journal that is to be made. The disk is only read.
 pub(crate) fn keep_setup<R: Files>(
     rt: &R,
     names: &CopyNames,
@@ -103,7 +104,8 @@ fn compare(kept: &Setup, setup: &Setup) -> Result<(), Stop> {
     }
 }
 
-/// Keeps the setup for a journal that has none, if the records follow by it. If they don't, the service tells so.
+/// Keeps the setup for a journal that has none, if the records follow by it. If they don't, the
+/// service shows so.
 fn take_along<R: Files>(
     rt: &R,
     names: &CopyNames,
@@ -121,7 +123,8 @@ fn take_along<R: Files>(
     }
 }
 
-/// What the operator has by a setup and the journal on a disk, which is only read; or why no host starts over it.
+/// What the operator has by a setup and the journal on a disk, which is only read; or why no host
+/// starts over it.
 pub(crate) fn totals_by<D: Disk>(setup: &Setup, disk: D) -> Result<(Totals, D), (D, Served)>
     requires sound { IsSoundSetup setup.now }
 {

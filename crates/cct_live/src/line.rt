@@ -8,8 +8,9 @@ use cct_live_terminal::{Terminal, TerminalNo};
 /// How many silent reads an answer is waited for before it is given up.
 const PATIENCE: u16 = 4;
 
-/// Opens the port of the line, locks it and looks at it, and finds out whether the line gives the echo, if that is asked for.
-/// The answer also tells whether it is known: it isn't where nothing at all was heard, and then the echo is waited for.
+/// Opens the port of the line, locks it and looks at it, and finds out whether the line gives the
+/// echo, if that is asked for. The answer also says whether it is known: it isn't where nothing at
+/// all was heard, and then the echo is waited for.
 pub(crate) fn open_line<'r>(
     rt: &'r HostRuntime,
     words: LineWords<'r>,

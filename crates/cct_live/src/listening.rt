@@ -5,7 +5,8 @@ use arrayvec::ArrayVec;
 use cct_model_lines::MOST_HEARD;
 use cct_wire::Link;
 
-/// A link over another one that knows whether a message came back whole before its reply, since it was made.
+/// A link over another one that knows whether a message came back whole before its reply, since it
+/// was made.
 #[derive(Drop)]
 pub(crate) struct Listening<L> {
     link: L,

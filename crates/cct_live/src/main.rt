@@ -1,7 +1,9 @@
-//! The program: the host of a machine on a line, over the journal that it finds (`cct_live_service`). A setup file names the
-//! devices, which are asked who they are before anything else (`cct_live_survey`); the journal belongs to the setup beside it
-//! (`cct_live_setup_copy`), and no other process may use it or the port meanwhile. Other forms of its words write a setup of what
-//! answers on the line, and take a changed setup over for a journal. The port is a terminal that is set up already.
+//! The program: the host of a machine on a line, over the journal that it finds
+//! (`cct_live_service`). A setup file names the devices, which are asked who they are before
+//! anything else (`cct_live_survey`); the journal belongs to the setup beside it
+//! (`cct_live_setup_copy`), and no other process may use it or the port meanwhile. Other forms of
+//! its words write a setup of what answers on the line, and take a changed setup over for a
+//! journal. The port is a terminal that is set up already.
 #![tactic(auto)]
 
 ghost use Rattle.std.specs.Prelude.{IfOk};
@@ -86,8 +88,8 @@ fn act(rt: &HostRuntime, words: Words<'_>) -> u8 {
     }
 }
 
-/// The exit status of what was done. Where it wasn't, the last line is written, and standard error says why, if it didn't
-/// say yet what is wrong with a line.
+/// The exit status of what was done. Where it wasn't, the last line is written, and standard error
+/// says why, if it didn't say yet what is wrong with a line.
 fn told(rt: &HostRuntime, done: Result<u8, Stop>, setup: &str, port: &str, journal: &str) -> u8 {
     let stop = match done {
         Ok(code) => return code,
@@ -148,7 +150,8 @@ fn ends_of(words: HostWords<'_>) -> AtEnd {
     }
 }
 
-/// Says on standard error what the end of a service means, where there is more to say than its last line does.
+/// Says on standard error what the end of a service means, where there is more to say than its last
+/// line does.
 fn advise_on(rt: &HostRuntime, served: &Served, last: &[u8], journal: &str) {
     let _ = match served {
         Served::Done => Ok(()),
@@ -179,7 +182,8 @@ fn warn_of_twins(rt: &HostRuntime, setup: &Setup) {
     }
 }
 
-/// The disk of a journal, which no other process may use from now on. It is made where it is missing.
+/// The disk of a journal, which no other process may use from now on. It is made where it is
+/// missing.
 fn lock_journal(rt: &HostRuntime, journal: &str) -> Result<FileDisk<HostRuntime>, Stop> {
     match FileDisk::open_locked(rt, journal) {
         Ok(disk) => Ok(disk),
@@ -187,8 +191,8 @@ fn lock_journal(rt: &HostRuntime, journal: &str) -> Result<FileDisk<HostRuntime>
     }
 }
 
-/// The port of the line. Standard error says first how it is to be set up, since a read of one that isn't may never come
-/// back; and if it isn't known whether the line gives the echo, that too.
+/// The port of the line. Standard error says first how it is to be set up, since a read of one that
+/// isn't may never come back; and if it isn't known whether the line gives the echo, that too.
 fn open_port<'r>(rt: &'r HostRuntime, line: LineWords<'r>) -> Result<Port<Terminal<'r>>, Stop> {
     let setting = Setting(line.port);
     let _ = eprintln!(rt;

@@ -8,7 +8,8 @@ use cct_model_lines::Record;
 /// Life counts are counted modulo 2^24 (ccTalk Generic Specification 4, part 3, header 168).
 const LIFE_COUNTS: u32 = 0x100_0000;
 
-/// What the records since the last turn of the journal on a disk tell of an order. The disk is only read.
+/// What the records since the last turn of the journal on a disk tell of an order. The disk is only
+/// read.
 pub(crate) fn order_on<D: Disk + Drop>(disk: D, id: u32) -> OrderTold {
     match Journal::reopen(disk) {
         Ok((mut journal, _)) => order_in(&mut journal, id),

@@ -8,16 +8,18 @@ use cct_live_survey::{Finding, Roll, write_finding};
 use cct_model_lines::Setup;
 use cct_text::TextLine;
 
-/// How many questions are asked before the first line of the input is read, at most. Each device of a setup is asked one
-/// within them.
+/// How many questions are asked before the first line of the input is read, at most. Each device of
+/// a setup is asked one within them.
 const FIRST_QUESTIONS: u32 = 64;
 
 /// How many first messages may come back damaged before the port counts as not set up.
 const FIRST_TRIES: u32 = 3;
 
-/// Calls the roll up to the first question that isn't answered, and tells what was found. The service calls what is left.
+/// Calls the roll up to the first question that isn't answered, and says what was found. The
+/// service calls what is left.
 ///
-/// [`Stop::Unset`] comes where the line is said to give the echo, and none of the first three messages comes back whole.
+/// [`Stop::Unset`] comes where the line is said to give the echo, and none of the first three
+/// messages comes back whole.
 pub(crate) fn call_first<L: CountedLink + Drop, K: Sink>(
     setup: &Setup,
     roll: &mut Roll,
@@ -34,7 +36,8 @@ pub(crate) fn call_first<L: CountedLink + Drop, K: Sink>(
     Ok(link)
 }
 
-/// Asks the first questions of the roll until one comes back whole. A port that fails is told of by the service.
+/// Asks the first questions of the roll until one comes back whole. A port that fails is told of by
+/// the service.
 fn hear_echo<L: CountedLink + Drop>(setup: &Setup, roll: &mut Roll, link: L) -> Result<L, Stop> {
     let mut link = Listening::new(link);
     for _ in 0..FIRST_TRIES {

@@ -9,7 +9,8 @@ static ECHOES: [&str; 3] = ["yes", "no", "find"];
 /// What the program does, in one sentence.
 const ABOUT: &str = "The host of the coin machine on a serial line (docs/LIVE.md)";
 
-/// What `--version` says: the version of the program, and that of the lines that it reads and writes (`docs/LIVE.md`).
+/// What `--version` says: the version of the program, and that of the lines that it reads and
+/// writes (`docs/LIVE.md`).
 const VERSION: &str = "1.0.0 protocol 1";
 
 /// What is said below the list of the words.
@@ -77,8 +78,9 @@ pub(crate) enum Echo {
     Find,
 }
 
-/// Reads the words of the command line, without the program's name: `SETUP PORT [options]`, `setup PORT [options]` or
-/// `adopt SETUP [options]`. The parser's error says why there are none, or has the help or the version that was asked for.
+/// Reads the words of the command line, without the program's name: `SETUP PORT [options]`,
+/// `setup PORT [options]` or `adopt SETUP [options]`. The parser's error says why there are none,
+/// or has the help or the version that was asked for.
 pub(crate) fn read_words<'w>(
     alloc: Global,
     words: &'w [String],

@@ -19,12 +19,12 @@ enum Scaling {
     Unasked,
     /// The bills of this country are worth so many times their figures.
     Told { country: [u8; 2], factor: u16 },
-    /// It isn't told when it is asked.
+    /// It isn't reported when it is asked.
     Untold,
 }
 
-/// Writes the values of the bills of a bill acceptor, as far as it tells them: a place is asked for after the one before it
-/// was told, and so is the scaling of another country.
+/// Writes the values of the bills of a bill acceptor, as far as it shows them: a place is asked for
+/// after the one before it was reported, and so is the scaling of another country.
 pub(crate) fn draft_bills<L: Link, K: Sink, N: Sink>(
     kind: CheckKind,
     addr: u8,
@@ -34,7 +34,8 @@ pub(crate) fn draft_bills<L: Link, K: Sink, N: Sink>(
     out: &mut K,
     notes: &mut N,
 ) -> Result<(), Failed>
-    ensures inquires { (first : L) → Inquires L.gives first link.old → Inquires L.gives first link.new }
+    ensures inquires { (first : L) → Inquires L.gives first link.old →
+        Inquires L.gives first link.new }
 {
     let mut scaling = Scaling::Unasked;
     for place in 1..=COIN_PLACES as u8 {
@@ -57,7 +58,8 @@ fn bill_id_of<L: Link>(
     link: &mut L,
     room: &mut Room,
 ) -> Option<[u8; 7]>
-    ensures inquires { (first : L) → Inquires L.gives first link.old → Inquires L.gives first link.new }
+    ensures inquires { (first : L) → Inquires L.gives first link.old →
+        Inquires L.gives first link.new }
 {
     let told = value_of(link, kind, addr, ValueRequest::BillId { place }, room)?;
     match *told.as_slice() {
@@ -75,7 +77,8 @@ fn scaling_for<L: Link>(
     link: &mut L,
     room: &mut Room,
 ) -> Scaling
-    ensures inquires { (first : L) → Inquires L.gives first link.old → Inquires L.gives first link.new }
+    ensures inquires { (first : L) → Inquires L.gives first link.old →
+        Inquires L.gives first link.new }
 {
     let [first, second, ..] = id;
     match scaling {
@@ -85,7 +88,7 @@ fn scaling_for<L: Link>(
     }
 }
 
-/// The scaling of a country's bills, as the acceptor tells it.
+/// The scaling of a country's bills, as the acceptor shows it.
 fn asked_scaling<L: Link>(
     country: [u8; 2],
     kind: CheckKind,
@@ -93,7 +96,8 @@ fn asked_scaling<L: Link>(
     link: &mut L,
     room: &mut Room,
 ) -> Scaling
-    ensures inquires { (first : L) → Inquires L.gives first link.old → Inquires L.gives first link.new }
+    ensures inquires { (first : L) → Inquires L.gives first link.old →
+        Inquires L.gives first link.new }
 {
     let [first, second] = country;
     let request = ValueRequest::Scaling { first, second };

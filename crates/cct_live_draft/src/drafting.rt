@@ -19,27 +19,32 @@ use cct_wire::Link;
 pub enum Drafted {
     /// Bytes came that aren't the echo of what was sent.
     Heard,
-    /// Nothing came, or nothing but the echo of what was sent. Nobody is on the line, or it is dead.
+    /// Nothing came, or nothing but the echo of what was sent. Nobody is on the line, or it is
+    /// dead.
     Dead,
 }
 
-/// Searches a line for devices, and writes a setup of them: a line for each acceptor of coins or bills and each hopper,
-/// a `value` line for each coin and each bill whose value is told, and `begin`. What it can't tell goes to `notes`, a line
-/// each; and of a device of another kind, or without a serial number, nothing else is written. Before each address that is
-/// tried `notes` gets a line `address 7 of 24`.
+/// Searches a line for devices, and writes a setup of them: a line for each acceptor of coins or
+/// bills and each hopper, a `value` line for each coin and each bill whose value is reported, and
+/// `begin`. What it can't tell goes to `notes`, a line each; and of a device of another kind, or
+/// without a serial number, nothing else is written. Before each address that is tried `notes` gets
+/// a line `address 7 of 24`.
 ///
-/// All devices are polled under both checks. Each address that answers is asked, and beside them 2 to 17 and 40 to 47, since
-/// some devices don't know that poll. Each message is sent three times at most. A coin is worth what its identification tells
-/// (header 184), a bill its figures times the scaling of its country (157 and 156), and a hopper's coins what it tells of
-/// them (171, else 131). A value is in units of the last decimal place that the devices count in, cents where `EU100A` tells
-/// 100 and the scaling of `EU` is 100. A hopper that doesn't tell the value of its coins, or that has several coins, gets a
-/// 0, which is none: nothing reads such a setup before a person has written the value.
+/// All devices are polled under both checks. Each address that answers is asked, and beside them 2
+/// to 17 and 40 to 47, since some devices don't know that poll. Each message is sent three times at
+/// most. A coin is worth what its identification tells (header 184), a bill its figures times the
+/// scaling of its country (157 and 156), and a hopper's coins what it tells of them (171, else
+/// 131). A value is in units of the last decimal place that the devices count in, cents where
+/// `EU100A` tells 100 and the scaling of `EU` is 100. A hopper that doesn't tell the value of its
+/// coins, or that has several coins, gets a 0, which is none: nothing reads such a setup before a
+/// person has written the value.
 pub fn draft<L: Link, K: Sink, N: Sink>(
     link: &mut L,
     out: &mut K,
     notes: &mut N,
 ) -> Result<Drafted, Failed>
-    // Whatever is heard, only questions who a device is, which coins it knows and what they are worth were asked.
+    // Whatever is heard, only questions who a device is, which coins it knows and what they are
+    // worth were asked.
     ensures inquires { Inquires L.gives link.old link.new }
 {
     let mut room = Room::new();
@@ -63,7 +68,8 @@ fn draft_all<L: Link, K: Sink, N: Sink>(
     out: &mut K,
     notes: &mut N,
 ) -> Result<(), Failed>
-    ensures inquires { (first : L) → Inquires L.gives first link.old → Inquires L.gives first link.new }
+    ensures inquires { (first : L) → Inquires L.gives first link.old →
+        Inquires L.gives first link.new }
 {
     let many = tried(heard, 255);
     for addr in 2..=255 {
@@ -85,7 +91,8 @@ fn draft_address<L: Link, K: Sink, N: Sink>(
     out: &mut K,
     notes: &mut N,
 ) -> Result<(), Failed>
-    ensures inquires { (first : L) → Inquires L.gives first link.old → Inquires L.gives first link.new }
+    ensures inquires { (first : L) → Inquires L.gives first link.old →
+        Inquires L.gives first link.new }
 {
     match check_at(link, addr, was_heard, room) {
         Some(kind) => draft_device(kind, addr, link, room, line, out, notes),
@@ -104,7 +111,8 @@ fn draft_device<L: Link, K: Sink, N: Sink>(
     out: &mut K,
     notes: &mut N,
 ) -> Result<(), Failed>
-    ensures inquires { (first : L) → Inquires L.gives first link.old → Inquires L.gives first link.new }
+    ensures inquires { (first : L) → Inquires L.gives first link.old →
+        Inquires L.gives first link.new }
 {
     let category = category_of(link, kind, addr, TRIES, room);
     let serial = serial_of(link, kind, addr, TRIES, room);
@@ -138,7 +146,8 @@ fn draft_coins<L: Link, K: Sink, N: Sink>(
     out: &mut K,
     notes: &mut N,
 ) -> Result<(), Failed>
-    ensures inquires { (first : L) → Inquires L.gives first link.old → Inquires L.gives first link.new }
+    ensures inquires { (first : L) → Inquires L.gives first link.old →
+        Inquires L.gives first link.new }
 {
     for place in 1..=COIN_PLACES as u8 {
         if let Some(id) = coin_id_of(link, kind, addr, place, TRIES, room) {

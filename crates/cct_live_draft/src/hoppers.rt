@@ -20,7 +20,7 @@ enum Worth {
     Untold,
 }
 
-/// Writes the line of a hopper, with the value of its coins where it is told.
+/// Writes the line of a hopper, with the value of its coins where it is reported.
 pub(crate) fn draft_hopper<L: Link, K: Sink, N: Sink>(
     kind: CheckKind,
     addr: u8,
@@ -31,7 +31,8 @@ pub(crate) fn draft_hopper<L: Link, K: Sink, N: Sink>(
     out: &mut K,
     notes: &mut N,
 ) -> Result<(), Failed>
-    ensures inquires { (first : L) → Inquires L.gives first link.old → Inquires L.gives first link.new }
+    ensures inquires { (first : L) → Inquires L.gives first link.old →
+        Inquires L.gives first link.new }
 {
     match worth_of(kind, addr, link, room) {
         Worth::Each(value) => put_hopper(kind, addr, serial, value, line, out),
@@ -46,10 +47,11 @@ pub(crate) fn draft_hopper<L: Link, K: Sink, N: Sink>(
     }
 }
 
-/// What a hopper tells of the value of its coins: by their identification, else by the value of the first of its coins,
-/// where it has no second one.
+/// What a hopper tells of the value of its coins: by their identification, else by the value of the
+/// first of its coins, where it has no second one.
 fn worth_of<L: Link>(kind: CheckKind, addr: u8, link: &mut L, room: &mut Room) -> Worth
-    ensures inquires { (first : L) → Inquires L.gives first link.old → Inquires L.gives first link.new }
+    ensures inquires { (first : L) → Inquires L.gives first link.old →
+        Inquires L.gives first link.new }
 {
     if let Some(value) = told_by_id(kind, addr, link, room) {
         return Worth::Each(value);
@@ -65,7 +67,8 @@ fn worth_of<L: Link>(kind: CheckKind, addr: u8, link: &mut L, room: &mut Room) -
 
 /// The value that the identification of a hopper's coins tells.
 fn told_by_id<L: Link>(kind: CheckKind, addr: u8, link: &mut L, room: &mut Room) -> Option<u32>
-    ensures inquires { (first : L) → Inquires L.gives first link.old → Inquires L.gives first link.new }
+    ensures inquires { (first : L) → Inquires L.gives first link.old →
+        Inquires L.gives first link.new }
 {
     let told = value_of(link, kind, addr, ValueRequest::HopperCoin, room)?;
     match *told.as_slice() {
@@ -82,7 +85,8 @@ fn told_of_coin<L: Link>(
     link: &mut L,
     room: &mut Room,
 ) -> Option<u32>
-    ensures inquires { (first : L) → Inquires L.gives first link.old → Inquires L.gives first link.new }
+    ensures inquires { (first : L) → Inquires L.gives first link.old →
+        Inquires L.gives first link.new }
 {
     let told = value_of(link, kind, addr, ValueRequest::HopperValue { place }, room)?;
     match *told.as_slice() {

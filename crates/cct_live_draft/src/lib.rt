@@ -1,5 +1,5 @@
-//! A setup is drafted of the devices that answer on a line: who they are, and what their coins and bills are worth. Nothing
-//! else is asked, so no device changes by it.
+//! A setup is drafted of the devices that answer on a line: who they are, and what their coins and
+//! bills are worth. Nothing else is asked, so no device changes by it.
 #![tactic(auto)]
 
 mod bills;

@@ -76,8 +76,8 @@ fn begin_device(word: &[u8], kind: CheckKind, addr: u8, serial: u32, line: &mut 
     line.push_number(u64::from(serial));
 }
 
-/// `value A PLACE VALUE ID`, where the identification tells the value and a setup line can spell it; else a note, but for a
-/// place without a coin.
+/// `value A PLACE VALUE ID`, where the identification shows the value and a setup line can spell
+/// it; else a note, but for a place without a coin.
 pub(crate) fn put_coin<K: Sink, N: Sink>(
     addr: u8,
     place: u8,
@@ -95,8 +95,8 @@ pub(crate) fn put_coin<K: Sink, N: Sink>(
     }
 }
 
-/// `value A PLACE VALUE ID`, where the value of a bill is sure and a setup line can spell the first six characters of its
-/// identification, its country and its figures; else a note.
+/// `value A PLACE VALUE ID`, where the value of a bill is sure and a setup line can spell the first
+/// six characters of its identification, its country and its figures; else a note.
 pub(crate) fn put_bill<K: Sink, N: Sink>(
     addr: u8,
     place: u8,
@@ -132,7 +132,7 @@ fn put_value<K: Sink>(
     out.put(line.as_slice())
 }
 
-/// Notes that an identification tells no value.
+/// Notes that an identification shows no value.
 fn note_value<N: Sink>(
     addr: u8,
     place: u8,

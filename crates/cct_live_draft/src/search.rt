@@ -8,7 +8,8 @@ use cct_wire::{Link, bare_after_echo};
 
 /// The addresses that answer a poll of all devices under either check.
 pub(crate) fn addresses_heard<L: Link>(link: &mut L, room: &mut Room) -> DeviceSet
-    ensures inquires { (first : L) → Inquires L.gives first link.old → Inquires L.gives first link.new }
+    ensures inquires { (first : L) → Inquires L.gives first link.old →
+        Inquires L.gives first link.new }
 {
     let mut heard = DeviceSet::new();
     poll_all(link, CheckKind::Simple, room);
@@ -32,8 +33,9 @@ pub(crate) fn is_tried(heard: &DeviceSet, addr: u8) -> bool {
     heard.has(addr) || is_usual(addr)
 }
 
-/// Whether an address is one of those that the standard gives to coin acceptors and hoppers, up to 17, or to bill acceptors,
-/// 40 to 47 (ccTalk Generic Specification 4, part 3, appendix on categories and addresses).
+/// Whether an address is one of those that the standard gives to coin acceptors and hoppers, up to
+/// 17, or to bill acceptors, 40 to 47 (ccTalk Generic Specification 4, part 3, appendix on
+/// categories and addresses).
 fn is_usual(addr: u8) -> bool {
     matches!(addr, 2..=17 | 40..=47)
 }
@@ -49,15 +51,16 @@ pub(crate) fn tried(heard: &DeviceSet, last: u8) -> u32 {
     many
 }
 
-/// The check under which the device at an address acknowledges a poll. Where an address was heard, it is polled up to three
-/// times under each check, and any other once.
+/// The check under which the device at an address acknowledges a poll. Where an address was heard,
+/// it is polled up to three times under each check, and any other once.
 pub(crate) fn check_at<L: Link>(
     link: &mut L,
     addr: u8,
     was_heard: bool,
     room: &mut Room,
 ) -> Option<CheckKind>
-    ensures inquires { (first : L) → Inquires L.gives first link.old → Inquires L.gives first link.new }
+    ensures inquires { (first : L) → Inquires L.gives first link.old →
+        Inquires L.gives first link.new }
 {
     let tries = if was_heard { TRIES } else { 1 };
     if is_there(link, CheckKind::Simple, addr, tries, room) {

@@ -1,5 +1,6 @@
 -- Whether what was heard is the whole reply to what was sent.
-use Rattle.std.specs.Prelude.{ℕ, ◌-◌, ◌==◌, ◌&&◌, ◌||◌, not, nat_le, Bool, false, List, [], ◌∷◌, Option, Some, None, length, drop, slice_index}
+use Rattle.std.specs.Prelude.{ℕ, ◌-◌, ◌==◌, ◌&&◌, ◌||◌, not, nat_le, Bool, false, List, [], ◌∷◌}
+use Rattle.std.specs.Prelude.{Option, Some, None, length, drop, slice_index}
 use Rattle.cct_model_wire.specs.declared.wire.CheckKind.{CheckKind}
 use Rattle.cct_model_wire.specs.declared.wire.CheckKind.TheVariants.{Simple, Crc}
 use Rattle.cct_model_wire.specs.declared.wire.TheConstants.{BROADCAST, MOST_HEARD}
@@ -7,8 +8,8 @@ use Rattle.cct_model_wire.specs.Message.{Message, message}
 use Rattle.cct_model_wire.specs.Exchange.{is_for_host}
 use Rattle.cct_wire.specs.Heard.{message_after}
 
--- A message is a reply to another one: that was for one device, and this one is for the host, and comes from that device
--- or from nobody named.
+-- A message is a reply to another one: that was for one device, and this one is for the host, and
+-- comes from that device or from nobody named.
 abbrev pub is_reply : Message → Message → Bool
 is_reply asked reply = not (asked.to == BROADCAST) && is_for_host asked.to reply
 
@@ -35,7 +36,8 @@ is_to_all (byte ∷ bytes) = byte == BROADCAST
 abbrev pub is_complete : List ℕ → Bool
 is_complete bytes = nat_le 5 (length bytes) && nat_le (slice_index bytes 1) (length bytes - 5)
 
--- No more is wanted of what was heard: there is no room, or the reply to what was sent is whole by its length. What all
--- devices answer has none.
+-- No more is wanted of what was heard: there is no room, or the reply to what was sent is whole by
+-- its length. What all devices answer has none.
 abbrev pub is_over : List ℕ → List ℕ → Bool
-is_over sent heard = nat_le MOST_HEARD (length heard) || (not (is_to_all sent) && is_complete (drop (length sent) heard))
+is_over sent heard = nat_le MOST_HEARD (length heard)
+    || (not (is_to_all sent) && is_complete (drop (length sent) heard))

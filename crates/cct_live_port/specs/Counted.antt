@@ -21,11 +21,14 @@ none_replies None None = refl
 pub silence_is_none : (sent : List ℕ) → answered sent [] ≡ false
 unfolding message after_echo
 silence_is_none [] = refl
-silence_is_none (byte ∷ bytes) = none_replies (message Simple (byte ∷ bytes)) (message Crc (byte ∷ bytes))
+silence_is_none (byte ∷ bytes) =
+    none_replies (message Simple (byte ∷ bytes)) (message Crc (byte ∷ bytes))
 
-module _ {L : Type 0} (reads : L → Option (List ℕ) → L → Type 0) (writes : L → List ℕ → Result (Unit {0}) Failed → L → Type 0) where
+module _ {L : Type 0} (reads : L → Option (List ℕ) → L → Type 0)
+    (writes : L → List ℕ → Result (Unit {0}) Failed → L → Type 0) where
   -- Of a message that wasn't written nothing is heard.
-  pub nothing_unsent : (old : Port L) (sent heard : List ℕ) (new : Port L) → Gives reads writes old sent heard new
+  pub nothing_unsent : (old : Port L) (sent heard : List ℕ) (new : Port L) →
+      Gives reads writes old sent heard new
       → was_sent new ≡ false → heard ≡ []
   nothing_unsent old sent heard new given unsent = elim given.goes [
     | inl h ↦ absurd (false≢true (sym unsent ∙ h.sent_whole))
@@ -33,7 +36,8 @@ module _ {L : Type 0} (reads : L → Option (List ℕ) → L → Type 0) (writes
   ]
 
   -- A port is settled exactly by the whole reply.
-  pub settled_by_reply : (old : Port L) (sent heard : List ℕ) (new : Port L) → Gives reads writes old sent heard new
+  pub settled_by_reply : (old : Port L) (sent heard : List ℕ) (new : Port L) →
+      Gives reads writes old sent heard new
       → settled new ≡ answered sent heard
   settled_by_reply old sent heard new given = elim given.goes [
     | inl h ↦ h.settles

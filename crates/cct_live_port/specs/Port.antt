@@ -1,5 +1,6 @@
 -- What an exchange over a port does.
-use Rattle.std.specs.Prelude.{◌≡◌, ◌⊎◌, ℕ, ◌≤◌, Bool, true, false, List, [], ◌++◌, Option, Result, length, if◌then◌else◌, ◌∷◌, Some, None, is_some}
+use Rattle.std.specs.Prelude.{◌≡◌, ◌⊎◌, ℕ, ◌≤◌, Bool, true, false, List, [], ◌++◌, Option, Result}
+use Rattle.std.specs.Prelude.{length, if◌then◌else◌, ◌∷◌, Some, None, is_some}
 use Rattle.cct_edge.specs.declared.fault.Failed.{Failed}
 use Rattle.cct_edge.specs.Faults.{next_count}
 use Rattle.cct_model_wire.specs.declared.wire.TheConstants.{MOST_HEARD}
@@ -21,7 +22,8 @@ options_of port = port.options
 abbrev pub settled : {L : Type 0} → Port L → Bool
 settled port = port.settled
 
--- How many reads in a row were silent at the end of the last exchange, since the last byte that came or was sent.
+-- How many reads in a row were silent at the end of the last exchange, since the last byte that
+-- came or was sent.
 abbrev pub silent_of : {L : Type 0} → Port L → ℕ
 silent_of port = port.silent
 
@@ -33,7 +35,8 @@ was_sent port = port.is_sent
 abbrev pub faults_of : {L : Type 0} → Port L → ℕ
 faults_of port = port.faults
 
--- How many reads in a row have to be silent before a port sends, those at the end of the last exchange counted.
+-- How many reads in a row have to be silent before a port sends, those at the end of the last
+-- exchange counted.
 abbrev pub wanted : {L : Type 0} → Port L → ℕ
 wanted port = if port.settled then port.options.gap else port.options.longest
 
@@ -45,9 +48,10 @@ patience port sent = if is_to_all sent then port.options.longest else port.optio
 abbrev pub echo_of : Bool → List ℕ → List ℕ
 echo_of echoes sent = if echoes then [] else sent
 
--- What a port is after an exchange that failed, in which all of the message was written or not: it counts that, nothing is
--- heard, and the next one waits anew.
-pub record GaveUp {L : Type 0} (before : Port L) (is_sent : Bool) (heard : List ℕ) (after : Port L) : Type 0 where
+-- What a port is after an exchange that failed, in which all of the message was written or not: it
+-- counts that, nothing is heard, and the next one waits anew.
+pub record GaveUp {L : Type 0} (before : Port L) (is_sent : Bool) (heard : List ℕ) (after : Port L)
+    : Type 0 where
   pub line : line_of after ≡ line_of before
   pub options : options_of after ≡ options_of before
   pub nothing : heard ≡ []
@@ -56,9 +60,11 @@ pub record GaveUp {L : Type 0} (before : Port L) (is_sent : Bool) (heard : List 
   pub sent : was_sent after ≡ is_sent
   pub counted : faults_of after ≡ next_count (faults_of before)
 
-module _ {L : Type 0} (reads : L → Option (List ℕ) → L → Type 0) (writes : L → List ℕ → Result (Unit {0}) Failed → L → Type 0) where
-  -- An exchange went through: the line was silent for so long, then these bytes were sent, and what came since is heard.
-  -- Only the whole reply settles the port. It keeps how many of the last reads were silent.
+module _ {L : Type 0} (reads : L → Option (List ℕ) → L → Type 0)
+    (writes : L → List ℕ → Result (Unit {0}) Failed → L → Type 0) where
+  -- An exchange went through: the line was silent for so long, then these bytes were sent, and what
+  -- came since is heard. Only the whole reply settles the port. It keeps how many of the last reads
+  -- were silent.
   pub record Hears (old : Port L) (sent heard : List ℕ) (new : Port L) : Type 0 where
     pub bytes : List ℕ
     pub calls : Converses reads writes (silent_of old) (wanted old) (patience old sent) sent
@@ -92,7 +98,7 @@ abbrev pub echo_in : List ℕ → Option Bool
 echo_in [] = None
 echo_in (byte ∷ heard) = Some (is_some (after_echo address_poll (byte ∷ heard)))
 
--- A port over a line of which this is told.
+-- A port over a line of which this is reported.
 abbrev pub with_echo : {L : Type 0} → Bool → Port L → Port L
 with_echo echoes port = record port { options = record port.options { echoes = echoes } }
 

@@ -1,13 +1,15 @@
 // Whether what was heard is the whole reply to what was sent.
 ghost use Rattle.std.specs.Prelude.{◌≡◌, ◌+◌};
-ghost use Rattle.cct_live_port.specs.Answer.{answered, answered_under, is_complete, is_reply, is_to_all};
+ghost use Rattle.cct_live_port.specs.Answer.{answered, answered_under, is_complete, is_reply};
+ghost use Rattle.cct_live_port.specs.Answer.{is_to_all};
 ghost use Rattle.cct_frame.specs.Frame.{message_of};
 
 use cct_frame::{FrameView, read};
 use cct_model_wire::{BROADCAST, CheckKind, HOST};
 use cct_wire::{Heard, hear};
 
-/// Whether what follows the echo is a message of whom the bytes were sent to, under their own check.
+/// Whether what follows the echo is a message of whom the bytes were sent to, under their own
+/// check.
 pub fn is_answered(sent: &[u8], heard: &[u8]) -> bool
     ensures { result ≡ answered sent.now heard.now }
 {
@@ -40,7 +42,8 @@ fn is_reply(asked: &FrameView<'_>, reply: &FrameView<'_>) -> bool
     asked.to != BROADCAST && reply.to == HOST && is_from
 }
 
-/// Whether so many bytes came after the echo as the message that they begin has, by the length that it tells.
+/// Whether so many bytes came after the echo as the message that they begin has, by the length that
+/// it tells.
 pub(crate) fn is_complete(rest: &[u8]) -> bool
     ensures { result ≡ is_complete rest.now }
 {

@@ -1,5 +1,6 @@
 // The reads of an exchange: those before it is sent, and those after it.
-ghost use Rattle.std.specs.Prelude.{◌≡◌, ◌<◌, ◌++◌, ℕ, List, [], Some, None, length, OnOk, OnErr, IfOk, drop};
+ghost use Rattle.std.specs.Prelude.{◌≡◌, ◌<◌, ◌++◌, ℕ, List, [], Some, None, length, OnOk, OnErr};
+ghost use Rattle.std.specs.Prelude.{IfOk, drop};
 ghost use Rattle.cct_model_wire.specs.declared.wire.TheConstants.{MOST_HEARD};
 ghost use Rattle.cct_live_port.specs.Calls.{Waits, Unquiet, Listens, Breaks, Sends, FailsToSend};
 ghost use Rattle.cct_live_port.specs.Answer.{is_over};
@@ -10,8 +11,9 @@ use arrayvec::ArrayVec;
 use cct_edge::Failed;
 use cct_model_wire::MOST_HEARD;
 
-/// Reads until so many reads in a row were silent, and drops what comes. So many are silent already, which count up to the
-/// first byte that comes. It fails if a read fails, or if the line isn't silent within so many reads and `MOST_HEARD` more.
+/// Reads until so many reads in a row were silent, and drops what comes. So many are silent
+/// already, which count up to the first byte that comes. It fails if a read fails, or if the line
+/// isn't silent within so many reads and `MOST_HEARD` more.
 fn wait<L: Line>(line: &mut L, already: u16, reads: u16) -> Result<(), Failed>
     ensures quiet { OnOk result (Waits L.reads L.writes already reads line.old line.new) }
     ensures unquiet { OnErr result (Unquiet L.reads L.writes already reads line.old line.new) }
@@ -39,14 +41,16 @@ pub(crate) fn send<L: Line>(
     sent: &[u8],
 ) -> Result<(), Failed>
     ensures sends { OnOk result (Sends L.reads L.writes already wanted sent.now line.old line.new) }
-    ensures fails { OnErr result (FailsToSend L.reads L.writes already wanted sent.now line.old line.new) }
+    ensures fails { OnErr result (FailsToSend L.reads L.writes already wanted sent.now line.old
+        line.new) }
 {
     wait(line, already, wanted)?;
     line.write(sent)
 }
 
-/// Reads what comes after a message was sent: until a reply is there by its length, so many reads in a row were silent,
-/// or there is no room for more; at most so many reads and `MOST_HEARD` more. It answers how many of the last were silent.
+/// Reads what comes after a message was sent: until a reply is there by its length, so many reads
+/// in a row were silent, or there is no room for more; at most so many reads and `MOST_HEARD` more.
+/// It answers how many of the last were silent.
 pub(crate) fn listen<L: Line>(
     line: &mut L,
     reads: u16,
@@ -56,7 +60,8 @@ pub(crate) fn listen<L: Line>(
     ensures brings { IfOk result (λ silent. (bytes : List ℕ)
         × Listens L.reads L.writes reads sent.now heard.old.items line.old bytes silent line.new
         × (heard.new.items ≡ heard.old.items ++ bytes)) }
-    ensures breaks { OnErr result (Breaks L.reads L.writes reads sent.now heard.old.items line.old line.new) }
+    ensures breaks { OnErr result (Breaks L.reads L.writes reads sent.now heard.old.items line.old
+        line.new) }
 {
     let mut silent = 0;
     for _ in 0..usize::from(reads) + MOST_HEARD {
@@ -72,7 +77,8 @@ pub(crate) fn listen<L: Line>(
     Ok(silent)
 }
 
-/// Whether nothing more is wanted: the reply to what was sent is whole by its length, or there is no room.
+/// Whether nothing more is wanted: the reply to what was sent is whole by its length, or there is
+/// no room.
 fn is_over(sent: &[u8], heard: &[u8]) -> bool
     ensures { result ≡ is_over sent.now heard.now }
 {
@@ -91,7 +97,8 @@ fn read_more<L: Line>(line: &mut L, heard: &mut ArrayVec<u8, MOST_HEARD>) -> Res
     requires { length heard.old.items < MOST_HEARD }
     ensures more { IfOk result (λ count. (bytes : List ℕ) × L.reads line.old (Some bytes) line.new
         × (heard.new.items ≡ heard.old.items ++ bytes) × (length bytes ≡ count)) }
-    ensures failed { OnErr result (L.reads line.old None line.new × (heard.new.items ≡ heard.old.items)) }
+    ensures failed { OnErr result (L.reads line.old None line.new
+        × (heard.new.items ≡ heard.old.items)) }
 {
     let mut room = [0; MOST_HEARD];
     let free = MOST_HEARD - heard.len();

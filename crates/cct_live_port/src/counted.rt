@@ -1,4 +1,4 @@
-//! A link that tells how its last exchange went, and how often it failed.
+//! A link that says how its last exchange went, and how often it failed.
 ghost use Rattle.std.specs.Prelude.{◌≡◌, ◌≤◌, ℕ, Bool, false, List, [], length};
 ghost use Rattle.cct_live_port.specs.Answer.{answered as is_whole_reply};
 ghost use Rattle.cct_model_wire.specs.declared.wire.TheConstants.{MOST_HEARD};
@@ -6,7 +6,8 @@ ghost use Rattle.cct_model_wire.specs.declared.wire.TheConstants.{MOST_HEARD};
 use crate::{Line, Port};
 use cct_wire::Link;
 
-/// A link of which exchanges may fail, by a fault of what is below it and not by the silence of a device.
+/// A link of which exchanges may fail, by a fault of what is below it and not by the silence of a
+/// device.
 pub trait CountedLink: Link {
     /// How many exchanges failed, as far as a number goes.
     ghost failures: { Self → ℕ };
@@ -21,14 +22,14 @@ pub trait CountedLink: Link {
     fn faults(&self) -> u64
         ensures { result ≡ failures self.now };
 
-    /// Whether all bytes of the last exchange's message were written. Where they weren't, nothing was heard, and no device
-    /// was asked anything. It is no before the first exchange.
+    /// Whether all bytes of the last exchange's message were written. Where they weren't, nothing
+    /// was heard, and no device was asked anything. It is no before the first exchange.
     fn was_sent(&self) -> bool
         ensures { result ≡ sent self.now };
 
-    /// Whether the last exchange brought the whole reply to its message, as far as its form tells: after the echo one
-    /// message under the same check, to the host, from the device or from nobody named. So it is no after an address poll,
-    /// and before the first exchange.
+    /// Whether the last exchange brought the whole reply to its message, as far as its form tells:
+    /// after the echo one message under the same check, to the host, from the device or from nobody
+    /// named. So it is no after an address poll, and before the first exchange.
     fn was_answered(&self) -> bool
         ensures { result ≡ answered self.now };
 

@@ -1,5 +1,5 @@
-//! The host's link over a serial line: it gives one exchange after another, and doesn't take a late reply for the reply
-//! of a later exchange.
+//! The host's link over a serial line: it gives one exchange after another, and doesn't take a late
+//! reply for the reply of a later exchange.
 #![tactic(auto)]
 
 mod answer;

@@ -8,15 +8,15 @@ use cct_edge::Failed;
 
 /// A line on which bytes come and go.
 pub trait Line {
-    /// What a read does: the line before, the bytes that came, or none if it failed, and the line after. No byte is
-    /// silence.
+    /// What a read does: the line before, the bytes that came, or none if it failed, and the line
+    /// after. No byte is silence.
     ghost reads: { Self → Option (List ℕ) → Self → Type 0 };
 
     /// What a write of bytes does, by its answer, to the line before and after.
     ghost writes: { Self → List ℕ → Result (Unit {0}) Failed → Self → Type 0 };
 
-    /// Puts what came into the front of `room`, and tells how many bytes it is: 0 if none came for as long as a read
-    /// waits.
+    /// Puts what came into the front of `room`, and says how many bytes it is: 0 if none came for
+    /// as long as a read waits.
     fn read(&mut self, room: &mut [u8]) -> Result<usize, Failed>
         requires { 0 < length room.old }
         ensures one { reads self.old (came result room.new) self.new }

@@ -1,5 +1,6 @@
 // The host's link over a line.
-ghost use Rattle.std.specs.Prelude.{◌≡◌, ◌≤◌, ◌++◌, ℕ, List, true, false, length, IfNone, IfSome, OnOk, OnErr};
+ghost use Rattle.std.specs.Prelude.{◌≡◌, ◌≤◌, ◌++◌, ℕ, List, true, false, length, IfNone, IfSome};
+ghost use Rattle.std.specs.Prelude.{OnOk, OnErr};
 ghost use Rattle.cct_model_wire.specs.declared.wire.TheConstants.{MOST_SENT};
 ghost use Rattle.cct_live_port.specs.Port.{echo_in, echo_of};
 
@@ -19,16 +20,18 @@ const ADDRESS_POLL: [u8; 5] = [0, 0, 1, 253, 2];
 pub struct Options {
     /// Whether the line gives back what is sent. Where it doesn't, the port writes the echo itself.
     pub echoes: bool,
-    /// How long the line has to be silent before a message is sent, if the last one was answered. After a whole reply no
-    /// device owes anything. So 0 is right where no device sends a reply twice, with or without an echo. Where one does, 1
-    /// drops what came twice. At 0 it stands before the echo of the next message, which then counts as not answered; and
-    /// where the line gives no echo, it is taken for the reply to the next message.
+    /// How long the line has to be silent before a message is sent, if the last one was answered.
+    /// After a whole reply no device owes anything. So 0 is right where no device sends a reply
+    /// twice, with or without an echo. Where one does, 1 drops what came twice. At 0 it is before
+    /// the echo of the next message, which then counts as not answered; and where the line gives no
+    /// echo, it is taken for the reply to the next message.
     pub gap: u16,
     /// How long an answer is waited for, and how long it may pause.
     pub patience: u16,
-    /// The longest time after which any device on the line may still answer. So long the line has to be silent before a
-    /// message is sent, at the start and if the last one wasn't answered, whatever that silence was waited for: the silent
-    /// reads in which its answer was waited for count. So long an address poll is listened to.
+    /// The longest time after which any device on the line may still answer. So long the line has
+    /// to be silent before a message is sent, at the start and if the last one wasn't answered,
+    /// whatever that silence was waited for: the silent reads in which its answer was waited for
+    /// count. So long an address poll is listened to.
     pub longest: u16,
 }
 
@@ -38,7 +41,8 @@ pub struct Port<L> {
     line: L,
     options: Options,
     settled: bool,
-    /// How many reads in a row were silent at the end of the last exchange, since the last byte that came or was sent.
+    /// How many reads in a row were silent at the end of the last exchange, since the last byte
+    /// that came or was sent.
     silent: u16,
     /// Whether all bytes of the last message were written.
     is_sent: bool,
@@ -46,7 +50,8 @@ pub struct Port<L> {
 }
 
 impl<L: Line> Port<L> {
-    ghost use Rattle.cct_live_port.specs.Port.{line_of, options_of, settled, silent_of, was_sent, faults_of, patience, wanted};
+    ghost use Rattle.cct_live_port.specs.Port.{line_of, options_of, settled, silent_of, was_sent};
+    ghost use Rattle.cct_live_port.specs.Port.{faults_of, patience, wanted};
     ghost use Rattle.cct_live_port.specs.Port.{Gives, address_poll, echo_in, with_echo, with_gap};
 
     /// A port over a line of which nothing is known, so its first exchange waits.
@@ -75,29 +80,31 @@ impl<L: Line> Port<L> {
         self.faults
     }
 
-    /// Whether all bytes of the last exchange's message were written; not where the line was never silent, or the write
-    /// failed, or before the first exchange.
+    /// Whether all bytes of the last exchange's message were written; not where the line was never
+    /// silent, or the write failed, or before the first exchange.
     pub fn was_sent(&self) -> bool
         ensures { result ≡ was_sent self.now }
     {
         self.is_sent
     }
 
-    /// Whether the last exchange brought the whole reply, so the next one needn't wait for late ones.
+    /// Whether the last exchange brought the whole reply, so the next one needn't wait for late
+    /// ones.
     pub fn is_settled(&self) -> bool
         ensures { result ≡ settled self.now }
     {
         self.settled
     }
 
-    /// Finds out by an address poll whether the line gives back what is sent, and goes by that from now on. If nothing
-    /// is heard, it isn't known, and nothing changes.
+    /// Finds out by an address poll whether the line gives back what is sent, and goes by that from
+    /// now on. If nothing is heard, it isn't known, and nothing changes.
     pub fn find_echo(&mut self) -> Option<bool>
         // It is one exchange, as over a line that gives the echo.
         ensures asks { (heard : List ℕ) × (echo_in heard ≡ result)
             × Gives L.reads L.writes (with_echo true self.old) address_poll heard (with_echo true self.new) }
         ensures found { IfSome result (λ echoes. (options_of self.new).echoes ≡ echoes) }
-        ensures unknown { IfNone result ((options_of self.new).echoes ≡ (options_of self.old).echoes) }
+        ensures unknown { IfNone result ((options_of self.new).echoes
+            ≡ (options_of self.old).echoes) }
     {
         let told = self.options.echoes;
         let mut heard = ArrayVec::new();
@@ -108,7 +115,8 @@ impl<L: Line> Port<L> {
         found
     }
 
-    /// From now on the line has to be silent for so long before a message is sent, if the last one was answered.
+    /// From now on the line has to be silent for so long before a message is sent, if the last one
+    /// was answered.
     pub fn set_gap(&mut self, gap: u16)
         ensures { self.new ≡ with_gap gap self.old }
     {
@@ -162,8 +170,8 @@ fn begin(echoes: bool, sent: &[u8], heard: &mut ArrayVec<u8, MOST_HEARD>)
 impl<L: Line> Port<L> {
     ghost use Rattle.cct_live_port.specs.Port.{GaveUp};
 
-    /// An exchange has failed, and all of its message was written or not: nothing is heard, and the next one waits as long
-    /// as the first.
+    /// An exchange has failed, and all of its message was written or not: nothing is heard, and the
+    /// next one waits as long as the first.
     fn give_up(&mut self, is_sent: bool, heard: &mut ArrayVec<u8, MOST_HEARD>)
         ensures gave_up { GaveUp self.old is_sent heard.new.items self.new }
     {

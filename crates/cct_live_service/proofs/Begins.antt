@@ -86,7 +86,7 @@ module _ {D : Type 0} {g : Ghosts D} where
       (journals.place_of journal) (reverse rs)) (sym opens.0)
       (opens.2 (sym reads.same_honest ∙ trusted.0, ap is_some (sym reads.same_seen) ∙ trusted.1))))
 
-  -- the same, where the setup is told
+  -- the same, where the setup is reported
   begins_by : (host : Host D g) (journal : Journal D g) (setup : Setup) (was_there : Bool) (found : List Record) →
       setup_of host ≡ setup →
       ((rs : List Record) → (reads : ReadsRecords setup g.seen (journals.disk_of journal) (journals.place_of journal) rs) →
@@ -295,7 +295,7 @@ module _ {D : Type 0} {g : Ghosts D} where
           (subst (λ s. EndsIn g.honest g.seen g.may_leave disk s (journals.base_of journal) (journals.carry_before journal) rest
           records) (sym same) ends)))
 
--- over a disk that tells nothing, whose journal never turned, the records after the empty carry are those that were found
+-- over a disk that shows nothing, whose journal never turned, the records after the empty carry are those that were found
 pub ends_alone : {D : Type 0} (honest : D → Bool) (seen : D → Option (List ℕ)) (may_leave : D → List ℕ → Type 0) (disk : D)
     (setup : Setup) (c : Carry) (rest : List Record) → seen disk ≡ None → IsFound seen disk setup 0 c rest →
     EndsIn honest seen may_leave disk setup 0 c rest (reverse rest)
@@ -310,7 +310,7 @@ ends_alone honest seen may_leave disk setup c rest silent found = record {
   settled = λ trusted. absurd (true≢false (sym trusted.1 ∙ ap is_some silent));
 }
 
--- what was told first is what a host began with
+-- what was reported first is what a host began with
 pub opening_put : {K D : Type 0} {g : Ghosts D} (written : K → Option (List ℕ))
     (puts : K → List ℕ → Result (Unit {0}) Failed → K → Type 0) (host : Host D g) {there : Bool} {before now : K}
     {result : Result (Unit {0}) Failed} → TellsOpening written puts host there before result now → (begun : Begun) →

@@ -1,4 +1,4 @@
--- What is told goes by the desk, one part of a service after another.
+-- What is reported goes by the desk, one part of a service after another.
 use Rattle.std.proofs.Common.{◌≡◌, ◌==◌, ◌||◌, ℕ, Bool, true, false, if◌then◌else◌, List, [], ◌∷◌, ◌++◌, reverse, Option, Some, None, Result, Ok, Err, inl, inr, refl, sym, ap, ◌∙◌, subst}
 use Rattle.std.specs.Prelude.{MatchBool, is_some}
 use Rattle.std.specs.List.{list_any}
@@ -121,7 +121,7 @@ seen_apart : (e : Entry) → ((p : Payment) (phase : Phase) → phase_after p (e
     IsApart (entry e ∷ [])
 seen_apart e same desk = sym (seen_same e same desk)
 
--- one that tells no record, and no end
+-- one that shows no record, and no end
 plain_phase : (e : Entry) → records (e ∷ []) ≡ [] → ((addr : ℕ) → is_end_at addr e ≡ false) → (p : Payment) (phase : Phase) →
     phase_after p (e ∷ []) phase ≡ phase
 plain_phase e none goes_on p Begun =
@@ -210,7 +210,7 @@ two_seen b a same desk = ap (λ session. record { session = session; trays = des
 abbrev seen_all : List Entry → Desk → Desk
 seen_all news desk = record { session = option_map (session_after news) desk.session; trays = desk.trays }
 
--- an exchange, as it is told
+-- an exchange, as it is reported
 asked_desk : (is_sent : Bool) (desk last : Desk) (addr : ℕ) (message heard : List ℕ) (more : List Entry) →
     AtDesk (seen_at (entry_of.Wire addr message heard) desk) last (as_told more) →
     AtDesk desk last (attempt_told is_sent (entry_of.Wire addr message heard ∷ more))
@@ -248,7 +248,7 @@ attempt_at_desk old new addr what reported is_sent notices is sees =
     (subst (λ es. AtDesk old (seen_all news old) (attempt_told is_sent es)) (sym is) (attempt_seen old addr what is_sent)))
     (apart_notices notices new)
 
--- a `serve` that tells an entry
+-- a `serve` that shows an entry
 pub ends_at_desk : (old new : Desk) (e : Entry) → Ends old new e → AtDesk old new (operates step.Serve e ∷ [])
 ends_at_desk old new e h = ((tt, h.entries), h.desk)
 

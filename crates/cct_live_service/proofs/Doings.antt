@@ -369,7 +369,7 @@ line_then knows Rested setup findings now lines number said is s1 s2 t1 t2 to h 
     (subst (λ f. DoesLine Rested setup.devices f (suc (length lines)) said s2 t2) found
     (subst (λ n. DoesLine Rested setup.devices now n said s2 t2) (sym is) k)))
 
--- what is told first, and then lines
+-- what is reported first, and then lines
 pub opening_then : (knows : Knows) (setup : Setup) (opening : Notice) (findings : List Finding) (lines : List Said)
     (s1 s2 : List LiveStep) (t1 t2 : List Told) → Tells (notice opening) s1 t1 → DoesLines knows setup findings lines s2 t2 →
     PlaysLines knows setup opening findings lines (s1 ++ s2) (t1 ++ t2)

@@ -1,4 +1,4 @@
--- What was found, read off what is told.
+-- What was found, read off what is reported.
 use Rattle.std.proofs.Common.{◌≡◌, ◌≤◌, ◌∙◌, ℕ, zero, suc, List, [], ◌∷◌, ◌++◌, Bool, true, false, Option, Some, None, refl, sym, ap, subst, inl, inr, append_assoc, length, drop, take, arith}
 use Rattle.std.proofs.lemmas.List.{append-nil, map-append}
 use Rattle.cct_model.specs.terms.device.DeviceSetup.{DeviceSetup}
@@ -22,7 +22,7 @@ use Rattle.cct_live_service.specs.Known.{Knows, Rests}
 use Rattle.cct_live_service.specs.Said.{Said}
 use Rattle.cct_live_service.proofs.Doings.{line_then, made_are, many_none, many_one, many_weaker}
 
--- what was found among what is told first and then
+-- what was found among what is reported first and then
 pub found_then : (first then : List Told) → findings_in (first ++ then) ≡ findings_in first ++ findings_in then
 found_then [] then = refl
 found_then (entry e ∷ first) then = found_then first then
@@ -106,7 +106,7 @@ pub command_finds : (c : Command) (why : Option Withheld) (steps : List LiveStep
 command_finds c None steps told h = one_finds (live.command c) steps told h
 command_finds c (Some why) steps told h = ap findings_in h.1
 
--- where none is told, what is found stays
+-- where none is reported, what is found stays
 pub finds_none : (findings : List Finding) (P : List LiveStep → List Told → Type 0) →
     ((steps : List LiveStep) (told : List Told) → P steps told → findings_in told ≡ []) → (steps : List LiveStep)
     (told : List Told) → P steps told → Finds findings findings P steps told
@@ -154,7 +154,7 @@ poll_none_finds findings = (many_none IsOfPoll, sym (append-nil findings))
 pub asking_none : (findings : List Finding) → Finds findings findings IsAsking [] []
 asking_none findings = (([], (refl, refl)), sym (append-nil findings))
 
--- findings that are told, where they are what is new
+-- findings that are reported, where they are what is new
 pub asking_new : (a b added : List Finding) → b ≡ a ++ added → (steps : List LiveStep) (told : List Told) →
     IsFound added steps told → Finds a b IsAsking steps told
 asking_new a b added is steps told h =
@@ -226,7 +226,7 @@ drop_front : (a b : List Finding) → drop (length a) (a ++ b) ≡ b
 drop_front [] b = refl
 drop_front (f ∷ a) b = drop_front a b
 
--- findings that are told, where they are those after the first so many
+-- findings that are reported, where they are those after the first so many
 pub asking_rest : (a b added : List Finding) (known : ℕ) → b ≡ a ++ added → known ≡ length a → (steps : List LiveStep)
     (told : List Told) → IsFound (drop known b) steps told → Finds a b IsAsking steps told
 asking_rest a b added known is len steps told h =

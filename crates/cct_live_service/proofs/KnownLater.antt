@@ -1,4 +1,4 @@
--- What is known of a host and a desk is known of those that began before, after what was told since.
+-- What is known of a host and a desk is known of those that began before, after what was reported since.
 use Rattle.std.proofs.Common.{◌≡◌, ◌∙◌, List, [], ◌∷◌, ◌++◌, Bool, Option, Result, Ok, refl, sym, ap, subst, append_assoc, ℕ}
 use Rattle.cct_edge.specs.declared.fault.Failed.{Failed}
 use Rattle.cct_model.specs.terms.device.Setup.{Setup}
@@ -20,7 +20,7 @@ use Rattle.cct_live_service.proofs.Desks.{desk_then}
 use Rattle.cct_live_service.proofs.Telling.{news_then}
 
 module _ {D : Type 0} {g : Ghosts D} where
-  -- what was told, and the way of a life from one host to another, and from one desk to another
+  -- what was reported, and the way of a life from one host to another, and from one desk to another
   abbrev pub GoesTo : Host D g → Host D g → Desk → Desk → List LiveStep → List Told → Type 0
   GoesTo host mid was desk steps told =
       LifeGoes g (setup_of host) (StandsSince host) steps told (StandsSince mid) × AtDesk was desk told

@@ -63,7 +63,7 @@ pub so_known : (T : Type 0) (setup : Setup) (past : List Entry) (all lines : Lis
 so_known T setup past all [] is = tt
 so_known T setup past all (line ∷ lines) is = (is, so_known T setup past all lines is)
 
--- lines that were written are told
+-- lines that were written are reported
 lines_known : (all lines : List (List ℕ)) → map told_line (knows_each all lines) ≡ lines
 lines_known all [] = refl
 lines_known all (line ∷ lines) = ap (λ ls. line ∷ ls) (lines_known all lines)
@@ -106,7 +106,7 @@ module _ {D : Type 0} {g : Ghosts D} (host : Host D g) where
         lines_are = ap₂ (λ k rs. state_lines (Some setup) k (reverse rs)) is one.rest_is;
       }
 
-  -- a disk that tells no bytes isn't trusted
+  -- a disk that shows no bytes isn't trusted
   pub untold_state : g.seen (disk_of host) ≡ None → (lines : List (List ℕ)) → IsStateFor host lines
   untold_state none lines past stands trusted =
       absurd (never (subst (λ (s : Option (List ℕ)). is_some s ≡ true) none trusted.1))

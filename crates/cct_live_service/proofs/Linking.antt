@@ -47,13 +47,13 @@ quiet_then (what ∷ t1) t2 h k =
     quiet_parts true c h = (refl, h)
     quiet_parts false c h = cc h
 
--- how a host stands is told quietly
+-- how a host stands is reported quietly
 status_quiet : (n : Notice) → IsOfStatus n → is_quiet (notice n) ≡ true
 status_quiet notice_of.LineFault h = absurd h
 status_quiet notice_of.LineBack h = absurd h
 status_quiet n h = refl
 
--- and so is what is told first
+-- and so is what is reported first
 pub opening_quiet : (setup : Setup) (begun : Begun) → AreQuiet (notice (opening_of setup begun) ∷ [])
 opening_quiet setup made_new = refl
 opening_quiet setup (found_there base c rest) = refl
@@ -138,7 +138,7 @@ module _ {L : Type 0} (gives : L → List ℕ → List ℕ → L → Type 0) (se
   -- the entries of an attempt, and notices after them
   module _ (nothing : (old : L) (message heard : List ℕ) (new : L) → gives old message heard new → sent new ≡ false
       → heard ≡ []) where
-    -- an exchange, as it is told
+    -- an exchange, as it is reported
     exchange_told : (is_sent : Bool) (old new : L) (addr : ℕ) (message heard : List ℕ) (more : List Entry) (told : List Told) →
         is_sent ≡ sent new → gives old message heard new →
         ExchangesSince gives sent failures (Some (has_counted failures old new)) new new (attempt_told true more ++ told) →
@@ -186,7 +186,7 @@ module _ {L : Type 0} (gives : L → List ℕ → List ℕ → L → Type 0) (se
         none_told false old new (entry_of.Put r) (entry_of.Ended addr end ∷ []) links notices h (λ x. x)
         (λ told k. k)
 
-    -- an attempt goes over its link as it is told
+    -- an attempt goes over its link as it is reported
     pub attempt_linked : (old new : L) (addr : ℕ) (what : Attempt) (reported : List Entry) (is_sent failed : Bool)
         (notices : List Notice) → Links gives old new what → reported ≡ reverse (attempt.news_of addr what) →
         is_sent ≡ sent new → failed ≡ has_counted failures old new → All (IsAfter failed reported) notices →
@@ -233,7 +233,7 @@ module _ {L : Type 0} (gives : L → List ℕ → List ℕ → L → Type 0) (se
   uses_then first between same a b c old line new t1 t2 h k =
       goes_on a b c old line new t1 t2 h (subst (λ s. UsesLink gives sent failures s.devices b c line new t2) same k)
 
--- two things of what is told
+-- two things of what is reported
 pub both_then : (S T U V W X : List Told → Type 0) → ((t1 t2 : List Told) → S t1 → T t2 → U (t1 ++ t2)) →
     ((t1 t2 : List Told) → V t1 → W t2 → X (t1 ++ t2)) → (t1 t2 : List Told) → Both S V t1 → Both T W t2 →
     Both U X (t1 ++ t2)

@@ -147,7 +147,7 @@ module _ {K : Type 0} (written : K → Option (List ℕ)) (puts : K → List ℕ
       UsesLink gives sent failures (setup_of last).devices roll now line next told
   devices_same told h = subst (λ s. UsesLink gives sent failures s.devices roll now line next told) same h
 
-  -- what is known after what was told, whichever records were found
+  -- what is known after what was reported, whichever records were found
   known_on : (told : List Told) (Fact : Desk → List Entry → Type 0) → KnownAfter host desk told Fact →
       KnownOn g.honest g.seen g.may_leave given (setup_of last) begun desk told Fact
   known_on told Fact known = (

@@ -61,7 +61,7 @@ pub none_is : (x : Option OrderTold) → is_some x ≡ false → x ≡ None
 none_is None is = refl
 none_is (Some told) is = cc is
 
--- where nothing is known, anything may be told
+-- where nothing is known, anything may be reported
 pub just_any : (known : Option OrderTold) (told : OrderTold) → known ≡ None → IsJust known told
 just_any None told is = tt
 just_any (Some found) told is = cc is

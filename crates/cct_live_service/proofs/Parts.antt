@@ -112,7 +112,7 @@ module _ {K : Type 0} (written : K → Option (List ℕ)) (puts : K → List ℕ
     linked = links h.told h.linked;
   }
 
-  -- nothing is done, and one line is told that isn't an entry
+  -- nothing is done, and one line is reported that isn't an entry
   pub part_line : {D : Type 0} {g : Ghosts D} (S : List Told → Type 0) (a b : K) (answer : Result (Unit {0}) Failed) (setup : Setup)
       (A : Given D → List Record → List Entry → Type 0) (what : Told) (P : List LiveStep → List Told → Type 0) → news_of (what ∷ []) ≡ [] →
       ((past : List Entry) → AreSo setup past (what ∷ [])) →
@@ -208,7 +208,7 @@ module _ {D : Type 0} {g : Ghosts D} where
         tt,
       )
 
-  -- a balance that is told
+  -- a balance that is reported
   pub balance_goes : (host : Host D g) (told : Totals) →
       ((past : List Entry) → Keeps host past → told ≡ totals (setup_of host) past) →
       LifeGoes g (setup_of host) (StandsSince host) (live.balance ∷ []) (as_told (entry_of.Balance told ∷ []))
@@ -222,7 +222,7 @@ module _ {D : Type 0} {g : Ghosts D} where
         tt,
       )
 
-  -- what the journal knows is told
+  -- what the journal knows is reported
   pub known_goes : (host : Host D g) (lines : List (List ℕ)) → IsStateFor host lines →
       LifeGoes g (setup_of host) (StandsSince host) [] (knows_each lines lines) (StandsSince host)
   known_goes host lines is given found steps past life since =
@@ -696,7 +696,7 @@ module _ {K : Type 0} (written : K → Option (List ℕ)) (puts : K → List ℕ
       acts_told S answer a b host (notice notice_of.StateUnread ∷ []) unread IsStating refl (λ past keeps. (tt, tt)) none whole
       sink (refl, inr refl)
 
-  -- one line that tells no entry
+  -- one line that shows no entry
   pub acts_line : (S : List Told → Type 0) (answer : Result (Unit {0}) Failed) (a b : K) (host : Host D g) (what : Told) →
       S (what ∷ []) → news_of (what ∷ []) ≡ [] → ((past : List Entry) → AreSo (setup_of host) past (what ∷ [])) →
       PutsLine written puts a (told_line what) answer b → has_failed host ≡ false → Serves written faults a b (IsErr answer) →

@@ -1,4 +1,4 @@
--- How a host stands is told as it is, one part of what is told after another.
+-- How a host stands is reported as it is, one part of what is reported after another.
 use Rattle.std.proofs.Common.{Bool, true, false, List, [], ◌∷◌, ◌++◌, subst, append_assoc}
 use Rattle.std.specs.List.{All}
 use Rattle.std.proofs.lemmas.List.Elements.{All-head, All-tail}
@@ -16,7 +16,7 @@ use Rattle.cct_live_service.specs.Opening.{opening_of}
 use Rattle.cct_live_service.specs.Reported.{AreSo, AreSoWhere, IsSo, IsStatusOf}
 use Rattle.cct_live_service.specs.Told.{Told, answer_news, as_told, attempt_told, entry, falls_short, finding, knows, last, news_of, notice, notices_told, operates, pays, refused, told_unsent, unheard, unsent}
 
--- what is told first and then
+-- what is reported first and then
 pub so_then : (T : Type 0) (setup : Setup) (past : List Entry) (t1 t2 : List Told) → AreSoWhere T setup past t1 →
     AreSoWhere T setup (news_of t1 ++ past) t2 → AreSoWhere T setup past (t1 ++ t2)
 so_then T setup past [] t2 h k = k
@@ -100,12 +100,12 @@ so_attempt setup past false failed (e ∷ entries) notices h =
     (λ later. so_as setup later entries (notices_told notices)
     (λ after. so_notices setup after failed (e ∷ entries) notices h))
 
--- nor what is told first
+-- nor what is reported first
 pub so_opening : (setup : Setup) (past : List Entry) (begun : Begun) → AreSo setup past (notice (opening_of setup begun) ∷ [])
 so_opening setup past made_new = (tt, tt)
 so_opening setup past (found_there base c rest) = (tt, tt)
 
--- and the notices of a host tell how it stands
+-- and the notices of a host say how it stands
 pub so_status : {D : Type 0} {g : Ghosts D} (host : Host D g) (notices : List Notice) → All (IsStatusOf host) notices →
     (past : List Entry) → Keeps host past → AreSo (setup_of host) past (notices_told notices)
 so_status host [] h past keeps = tt

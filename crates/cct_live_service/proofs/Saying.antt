@@ -23,7 +23,7 @@ none_told bytes e = cc e
 same_told : (a b : List ℕ) → Some a ≡ Some b → b ≡ a
 same_told a b e = cc e
 
--- bytes that came after those held, of an input that tells them
+-- bytes that came after those held, of an input that shows them
 consumed : (held new : List ℕ) (left now : Option (List ℕ)) → Fills held new left now → (bytes : List ℕ) →
     left ≡ Some bytes → (rest : List ℕ) × (now ≡ Some rest) × (held ++ bytes ≡ new ++ rest)
 consumed held new None now fills bytes is = absurd (none_told bytes is)

@@ -82,7 +82,7 @@ asked_by (Pay p) old new h = (
   subst (λ o. option_map (λ s. s.next) o ≡ Some p.id) (sym h.runs) (ap (λ n. Some n) (sym h.id)),
 )
 
--- a step at the desk tells no finding
+-- a step at the desk shows no finding
 pub step_finds : (s : Step) (steps : List LiveStep) (told : List Told) → TellsStep s steps told → findings_in told ≡ []
 step_finds s steps told h = ap findings_in h.1.1
 
@@ -106,7 +106,7 @@ pub may_rest : (Rested : Bool → Type 0) → Rested true → (findings : List F
     Finds findings findings (ServesOn Rested findings) [] []
 may_rest Rested none findings = (inl ((refl, refl), none), sym (append-nil findings))
 
--- a payment tells no finding
+-- a payment shows no finding
 pay_finds : (p : Payment) (why : Option Withheld) (steps : List LiveStep) (told : List Told) → DoesPay p why steps told →
     findings_in told ≡ []
 pay_finds p None steps told h = by_answer h.1

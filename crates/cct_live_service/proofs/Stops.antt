@@ -51,7 +51,7 @@ made_once addr =
     (attempt_told true (entry_of.Idle addr ∷ []) ++ notices_told []) (refl, refl)
     (refl, ([], (false, All-nil (IsAfter false (entry_of.Idle addr ∷ []))), refl))
 
--- a stop of which the attempts aren't told
+-- a stop of which the attempts aren't reported
 pub gives_front : (knows : Knows) (setup : Setup) (addr : ℕ) (steps : List LiveStep) (told : List Told) →
     TellsOne (live.command (command.Stop addr)) steps told → FrontOf (GivesStop knows setup addr) steps told
 gives_front knows setup addr steps told h = record {
@@ -75,7 +75,7 @@ gives_some knows setup addr =
     (λ said. GoesOnTo (knows said (HasJob setup addr false)) until_of.Ended addr) (live.command (command.Stop addr) ∷ [])
     (live.next addr ∷ []) (entry entry_of.Words ∷ []) (once addr) (refl, (entry_of.Words, refl)) (inr (made_once addr))
 
--- the attempts of a job, before the stop is told
+-- the attempts of a job, before the stop is reported
 pub running_front : (knows : Knows) (setup : Setup) (addr : ℕ) (steps : List LiveStep) (told : List Told) →
     GoesOnTo (knows [] (HasJob setup addr false)) until_of.Ended addr steps told →
     FrontOf (StopsRunning knows setup addr) steps told

@@ -1,4 +1,4 @@
--- What writing does to a sink, one part of what is told after another.
+-- What writing does to a sink, one part of what is reported after another.
 use Rattle.std.proofs.Common.{◌≡◌, ◌≤◌, ◌-◌, ◌+◌, ◌<◌, ℕ, zero, suc, take, drop, get_or, length, arith, List, [], ◌∷◌, ◌++◌, map, reverse, Bool, true, false, Option, Some, None, Result}
 use Rattle.std.proofs.Common.{Ok, Err, refl, ap, sym, ◌∙◌, subst, append_assoc, inl, inr}
 use Rattle.std.specs.Prelude.{OnOk, OnErr, MatchResult}
@@ -25,7 +25,7 @@ use Rattle.cct_live_service.specs.Reported.{IsStatusOf, TellsDevice, TellsDevice
 use Rattle.cct_live_service.specs.Status.{Stand, addresses_in, addresses_told, end_notices, stand_notices, stands_notices}
 use Rattle.cct_live_service.specs.Told.{Told, WritesTold, answer_news, as_told, attempt_told, entry, falls_short, finding, knows, last, maybe_told, news_of, notice, notices_told, operates, pays, refused, told_line, told_text, told_unsent, unheard, unsent}
 
--- the news of what is told first and then
+-- the news of what is reported first and then
 pub news_then : (first then : List Told) → news_of (first ++ then) ≡ news_of then ++ news_of first
 news_then [] then = sym (append-nil (news_of then))
 news_then (entry e ∷ first) then =
@@ -44,7 +44,7 @@ news_then (pays p answer ∷ first) then =
 news_then (falls_short p paid rest ∷ first) then = news_then first then
 news_then (knows all line ∷ first) then = news_then first then
 
--- entries that are told as they are
+-- entries that are reported as they are
 pub news_as : (entries : List Entry) → news_of (as_told entries) ≡ reverse entries
 news_as [] = refl
 news_as (e ∷ entries) =
@@ -87,19 +87,19 @@ first_apart (e ∷ entries) first some is =
     rest_whole (suc (length entries) - 1) entries (omega arith) in
     ap (λ x. x ∷ entries) (sym is) ∙ ap (λ es. first ∷ es) (sym rest)
 
--- an entry is its own news, also where it is told as unsent
+-- an entry is its own news, also where it is reported as unsent
 news_unsent : (e : Entry) (told : List Told) → news_of (told_unsent e (unheard e) ∷ told) ≡ news_of told ++ e ∷ []
 news_unsent (entry_of.Wire addr sent []) told = refl
 news_unsent (entry_of.Wire addr sent (byte ∷ heard)) told = refl
 news_unsent e told = refl
 
--- the entries of an attempt, however they are told
+-- the entries of an attempt, however they are reported
 news_attempt : (is_sent : Bool) (entries : List Entry) → news_of (attempt_told is_sent entries) ≡ reverse entries
 news_attempt true entries = news_as entries
 news_attempt false [] = refl
 news_attempt false (e ∷ entries) = news_unsent e (as_told entries) ∙ news_as (e ∷ entries)
 
--- the news of a `next`, after which notices are told
+-- the news of a `next`, after which notices are reported
 pub news_next : (news : List Entry) (is_sent : Bool) (notices : List Notice) →
     news_of (attempt_told is_sent (reverse news) ++ notices_told notices) ≡ news
 news_next news is_sent notices =
@@ -244,7 +244,7 @@ unfolding blank_at
 blanks_there [] = refl
 blanks_there (d ∷ ds) = ap (λ more. d.addr ∷ more) (blanks_there ds)
 
--- how a host stands is told
+-- how a host stands is reported
 module _ {K : Type 0} (written : K → Option (List ℕ)) (puts : K → List ℕ → Result (Unit {0}) Failed → K → Type 0)
     {D : Type 0} {g : Ghosts D} (host : Host D g) where
   writes_then : (a b c : K) (xs ys : List Notice) (answer : Result (Unit {0}) Failed) →
@@ -285,7 +285,7 @@ module _ {K : Type 0} (written : K → Option (List ℕ)) (puts : K → List ℕ
       more : take (i + 1) ds ≡ take i ds ++ d ∷ []
       more = take_more ds i d within ∙ ap (λ x. take i ds ++ x ∷ []) (sym at)
 
-  -- the first devices, of which the last one couldn't be told
+  -- the first devices, of which the last one couldn't be reported
   pub status_broken : (n : ℕ) (a b : K) (failed : Failed) →
       TellsDevices written puts host (take n (setup_of host).devices) a (Err failed) b →
       TellsStatus written puts host a (Err failed) b

@@ -13,16 +13,19 @@ abbrev pub most_asked : Option ℕ → ℕ
 most_asked (Some addr) = MOST_FINDINGS
 most_asked None = MOST_QUESTIONS
 
--- The address of the device that is asked before a command is decided: that of a payment or a start.
+-- The address of the device that is asked before a command is decided: that of a payment or a
+-- start.
 abbrev pub asked_before : Command → Option ℕ
 asked_before (Pay addr id count) = Some addr
 asked_before (Start addr mask) = Some addr
 asked_before c = None
 
--- Over a link of which is known what an exchange gives: the device at an address was asked what is left there, up to the
--- first silence; or nobody was.
-abbrev pub AsksAt : {L : Type 0} → (L → List ℕ → List ℕ → L → Type 0) → List DeviceSetup → Option ℕ → Rolled → L → Rolled
+-- Over a link of which is known what an exchange gives: the device at an address was asked what is
+-- left there, up to the first silence; or nobody was.
+abbrev pub AsksAt : {L : Type 0} → (L → List ℕ → List ℕ → L → Type 0) → List DeviceSetup →
+    Option ℕ → Rolled → L → Rolled
     → L → Type 0
 AsksAt gives devices (Some addr) old before new after =
-    (answered : Answered) × AsksRoll gives devices (Some addr) MOST_FINDINGS old before answered new after
+    (answered : Answered) × AsksRoll gives devices (Some addr) MOST_FINDINGS old before answered new
+    after
 AsksAt gives devices None old before new after = (new ≡ old) × (after ≡ before)

@@ -1,5 +1,6 @@
 -- What a host does for each line of its input, and what is told of it.
-use Rattle.std.specs.Prelude.{◌≡◌, ◌≤◌, ◌⊎◌, ℕ, zero, suc, Bool, true, false, List, [], ◌∷◌, ◌++◌, length, Option, Some, None, Ok, Err}
+use Rattle.std.specs.Prelude.{◌≡◌, ◌≤◌, ◌⊎◌, ℕ, zero, suc, Bool, true, false, List, [], ◌∷◌, ◌++◌}
+use Rattle.std.specs.Prelude.{length, Option, Some, None, Ok, Err}
 use Rattle.std.specs.List.{All}
 use Rattle.cct_model.specs.lines.command.Command.{Command}
 use Rattle.cct_model.specs.lines.command.Command.TheVariants as command
@@ -35,10 +36,13 @@ use Rattle.cct_live_service.specs.Held.{IsAfter}
 use Rattle.cct_live_service.specs.Known.{HasJob, IsIdle, Knows, Rests}
 use Rattle.cct_live_service.specs.Said.{Said}
 use Rattle.cct_live_service.specs.Status.{AreOfStatus}
-use Rattle.cct_live_service.specs.Told.{Told, attempt_told, entry, falls_short, findings_in, found_told, knows_each, notice, notices_told, operates, pay_of, pays, refused, refused_for, taken, withheld_for}
+use Rattle.cct_live_service.specs.Told.{Told, attempt_told, entry, falls_short, findings_in}
+use Rattle.cct_live_service.specs.Told.{found_told, knows_each, notice, notices_told, operates}
+use Rattle.cct_live_service.specs.Told.{pay_of, pays, refused, refused_for, taken, withheld_for}
 
--- One thing is done and told, and then another one, which goes by what was told.
-pub record ThenBy (First : List LiveStep → List Told → Type 0) (Next : List Told → List LiveStep → List Told → Type 0)
+-- One thing is done and told, and then another one, which goes by what was reported.
+pub record ThenBy (First : List LiveStep → List Told → Type 0)
+    (Next : List Told → List LiveStep → List Told → Type 0)
     (steps : List LiveStep) (told : List Told) : Type 0 where
   pub before : List LiveStep
   pub after : List LiveStep
@@ -50,12 +54,14 @@ pub record ThenBy (First : List LiveStep → List Told → Type 0) (Next : List 
   pub next : Next said after added
 
 -- One thing is done and told, and then the other.
-abbrev pub Then : (List LiveStep → List Told → Type 0) → (List LiveStep → List Told → Type 0) → List LiveStep → List Told
+abbrev pub Then : (List LiveStep → List Told → Type 0) → (List LiveStep → List Told → Type 0) →
+    List LiveStep → List Told
     → Type 0
 Then First Next = ThenBy First (λ said. Next)
 
 -- It is done and told up to where it broke off.
-pub record FrontOf (Whole : List LiveStep → List Told → Type 0) (steps : List LiveStep) (told : List Told) : Type 0 where
+pub record FrontOf (Whole : List LiveStep → List Told → Type 0) (steps : List LiveStep)
+    (told : List Told) : Type 0 where
   pub undone : List LiveStep
   pub untold : List Told
   pub whole : Whole (steps ++ undone) (told ++ untold)
@@ -64,15 +70,15 @@ pub record FrontOf (Whole : List LiveStep → List Told → Type 0) (steps : Lis
 abbrev pub IsNothing : List LiveStep → List Told → Type 0
 IsNothing steps told = (steps ≡ []) × (told ≡ [])
 
--- One step, and one entry is told.
+-- One step, and one entry is reported.
 abbrev pub TellsOne : LiveStep → List LiveStep → List Told → Type 0
 TellsOne s steps told = (steps ≡ s ∷ []) × ((e : Entry) × (told ≡ entry e ∷ []))
 
--- Nothing is done, and this alone is told.
+-- Nothing is done, and this alone is reported.
 abbrev pub Tells : Told → List LiveStep → List Told → Type 0
 Tells what steps told = (steps ≡ []) × (told ≡ what ∷ [])
 
--- Nothing is done, and it is told how a host stands, by the devices of its setup.
+-- Nothing is done, and it is reported how a host stands, by the devices of its setup.
 abbrev pub IsStatus : List DeviceSetup → List LiveStep → List Told → Type 0
 IsStatus devices steps told = (steps ≡ []) × AreOfStatus devices told
 
@@ -85,20 +91,23 @@ Times (suc n) Each = Then (Times n Each) Each
 abbrev pub Many : (List LiveStep → List Told → Type 0) → List LiveStep → List Told → Type 0
 Many Each steps told = (n : ℕ) × Times n Each steps told
 
--- What is told of an attempt, whose message was written or not, where it made an exchange: its entries, and notices that the
--- exchange bears out, which failed or not.
+-- What is told of an attempt, whose message was written or not, where it made an exchange: its
+-- entries, and notices that the exchange bears out, which failed or not.
 abbrev pub TellsAttempt : Bool → List Entry → List Told → Type 0
 TellsAttempt is_sent entries told =
     (notices : List Notice) × ((has_failed : Bool) × All (IsAfter has_failed entries) notices)
     × (told ≡ attempt_told is_sent entries ++ notices_told notices)
 
--- The job at an address makes one attempt with these entries, whose message was written or not, where it made an exchange.
+-- The job at an address makes one attempt with these entries, whose message was written or not,
+-- where it made an exchange.
 abbrev pub IsAttemptWith : Bool → List Entry → ℕ → List LiveStep → List Told → Type 0
-IsAttemptWith is_sent entries addr steps told = (steps ≡ live.next addr ∷ []) × TellsAttempt is_sent entries told
+IsAttemptWith is_sent entries addr steps told =
+    (steps ≡ live.next addr ∷ []) × TellsAttempt is_sent entries told
 
 -- The job at an address makes one attempt.
 abbrev pub IsAttempt : ℕ → List LiveStep → List Told → Type 0
-IsAttempt addr steps told = (is_sent : Bool) × (entries : List Entry) × IsAttemptWith is_sent entries addr steps told
+IsAttempt addr steps told =
+    (is_sent : Bool) × (entries : List Entry) × IsAttemptWith is_sent entries addr steps told
 
 -- The job at an address makes so many attempts at most.
 abbrev pub AreAttempts : ℕ → ℕ → List LiveStep → List Told → Type 0
@@ -108,8 +117,8 @@ AreAttempts addr most steps told = (n : ℕ) × (n ≤ most) × Times n (IsAttem
 abbrev pub GoesOn : ℕ → List LiveStep → List Told → Type 0
 GoesOn addr steps told = IsAttempt addr steps told × (tells_end told ≡ false)
 
--- It makes one attempt more after so many, up to its end or up to a failed try: it ends, or that was the last one that is
--- made. That a try failed isn't told.
+-- It makes one attempt more after so many, up to its end or up to a failed try: it ends, or that
+-- was the last one that is made. That a try failed isn't reported.
 abbrev pub IsLastTry : Until → ℕ → ℕ → List LiveStep → List Told → Type 0
 IsLastTry until_of.Ended made addr steps told =
     IsAttempt addr steps told × ((tells_end told ≡ true) ⊎ (suc made ≡ MOST_ATTEMPTS))
@@ -118,26 +127,28 @@ IsLastTry until_of.Failed made addr steps told = IsAttempt addr steps told
 -- The job at an address makes attempts up to there, one at least. The last one alone ends it.
 abbrev pub MakesAttempts : Until → ℕ → List LiveStep → List Told → Type 0
 MakesAttempts until addr steps told =
-    (made : ℕ) × (suc made ≤ MOST_ATTEMPTS) × Then (Times made (GoesOn addr)) (IsLastTry until made addr) steps told
+    (made : ℕ) × (suc made ≤ MOST_ATTEMPTS)
+    × Then (Times made (GoesOn addr)) (IsLastTry until made addr) steps told
 
 -- A command of this kind is given to the host, or a job makes an attempt.
 abbrev pub IsStepOf : (ℕ → Command) → List LiveStep → List Told → Type 0
 IsStepOf begun steps told =
-    ((addr : ℕ) × TellsOne (live.command (begun addr)) steps told) ⊎ ((addr : ℕ) × IsAttempt addr steps told)
+    ((addr : ℕ) × TellsOne (live.command (begun addr)) steps told)
+    ⊎ ((addr : ℕ) × IsAttempt addr steps told)
 
 -- Rounds are begun, and jobs make attempts.
 abbrev pub IsVisit : List LiveStep → List Told → Type 0
 IsVisit = Many (IsStepOf (λ addr. command.Round addr))
 
--- These findings are told.
+-- These findings are reported.
 abbrev pub IsFound : List Finding → List LiveStep → List Told → Type 0
 IsFound findings steps told = (steps ≡ []) × (told ≡ found_told findings)
 
--- Findings are told.
+-- Findings are reported.
 abbrev pub IsAsking : List LiveStep → List Told → Type 0
 IsAsking steps told = (findings : List Finding) × IsFound findings steps told
 
--- What a poll does: rounds are begun, jobs make attempts, and findings are told.
+-- What a poll does: rounds are begun, jobs make attempts, and findings are reported.
 abbrev pub IsOfPoll : List LiveStep → List Told → Type 0
 IsOfPoll steps told = IsStepOf (λ addr. command.Round addr) steps told ⊎ IsAsking steps told
 
@@ -145,44 +156,52 @@ IsOfPoll steps told = IsStepOf (λ addr. command.Round addr) steps told ⊎ IsAs
 abbrev pub IsPoll : List LiveStep → List Told → Type 0
 IsPoll = Many IsOfPoll
 
--- A command is given to the host, which answers; or it is told that it isn't, and why.
+-- A command is given to the host, which answers; or it is reported that it isn't, and why.
 abbrev pub DoesCommand : Command → Option Withheld → List LiveStep → List Told → Type 0
 DoesCommand c None = TellsOne (live.command c)
 DoesCommand c (Some why) = Tells (notice (notice_of.Withheld c why))
 
--- A command is decided by what is found: what was found before, and what is told first.
+-- A command is decided by what is found: what was found before, and what is reported first.
 abbrev pub Decides : List Finding → Command → List LiveStep → List Told → Type 0
-Decides findings c = ThenBy IsAsking (λ said. DoesCommand c (withheld_by (findings ++ findings_in said) c))
+Decides findings c =
+    ThenBy IsAsking (λ said. DoesCommand c (withheld_by (findings ++ findings_in said) c))
 
--- It is told what is known of an order.
+-- It is reported what is known of an order.
 abbrev pub IsOrder : ℕ → List LiveStep → List Told → Type 0
-IsOrder id steps told = (steps ≡ []) × ((known : OrderTold) × (told ≡ notice (notice_of.Order id known) ∷ []))
+IsOrder id steps told =
+    (steps ≡ []) × ((known : OrderTold) × (told ≡ notice (notice_of.Order id known) ∷ []))
 
--- Nothing is done, and it is told what the journal knows: all of it, a line each; or that it couldn't be read.
+-- Nothing is done, and it is reported what the journal knows: all of it, a line each; or that it
+-- couldn't be read.
 abbrev pub IsStating : List LiveStep → List Told → Type 0
 IsStating steps told =
     (steps ≡ [])
-    × (((lines : List (List ℕ)) × (told ≡ knows_each lines lines)) ⊎ (told ≡ notice notice_of.StateUnread ∷ []))
+    × (((lines : List (List ℕ)) × (told ≡ knows_each lines lines))
+    ⊎ (told ≡ notice notice_of.StateUnread ∷ []))
 
--- A step at the operator's desk, which gives the host nothing, and its entry is told. `AtDesk` says which that is.
+-- A step at the operator's desk, which gives the host nothing, and its entry is reported. `AtDesk`
+-- says which that is.
 abbrev pub TellsStep : Step → List LiveStep → List Told → Type 0
 TellsStep s steps told = (steps ≡ []) × ((e : Entry) × (told ≡ operates s e ∷ []))
 
--- A payment of a session is given to the host, which takes it, or refuses it and the session ends short; or it is told that
--- it isn't given, and why, and the session ends short.
+-- A payment of a session is given to the host, which takes it, or refuses it and the session ends
+-- short; or it is reported that it isn't given, and why, and the session ends short.
 abbrev pub DoesPay : Payment → Option Withheld → List LiveStep → List Told → Type 0
 DoesPay p None steps told =
     (steps ≡ live.command (pay_of p) ∷ [])
     × ((told ≡ pays p taken ∷ [])
-    ⊎ ((why : CommandNo) × (paid : ℕ) × (rest : ℕ) × (told ≡ pays p (refused_for why) ∷ falls_short p paid rest ∷ [])))
+    ⊎ ((why : CommandNo) × (paid : ℕ) × (rest : ℕ)
+    × (told ≡ pays p (refused_for why) ∷ falls_short p paid rest ∷ [])))
 DoesPay p (Some why) steps told =
-    (steps ≡ []) × ((paid : ℕ) × (rest : ℕ) × (told ≡ pays p (withheld_for why) ∷ falls_short p paid rest ∷ []))
+    (steps ≡ []) × ((paid : ℕ) × (rest : ℕ)
+    × (told ≡ pays p (withheld_for why) ∷ falls_short p paid rest ∷ []))
 
 -- Such a payment is decided as one of the operator is.
 abbrev pub DecidesPay : List Finding → Payment → List LiveStep → List Told → Type 0
-DecidesPay findings p = ThenBy IsAsking (λ said. DoesPay p (withheld_by (findings ++ findings_in said) (pay_of p)))
+DecidesPay findings p =
+    ThenBy IsAsking (λ said. DoesPay p (withheld_by (findings ++ findings_in said) (pay_of p)))
 
--- A session of change goes on: it is told how, or it makes a payment.
+-- A session of change goes on: it is reported how, or it makes a payment.
 abbrev pub IsServing : List Finding → List LiveStep → List Told → Type 0
 IsServing findings steps told =
     TellsStep step.Serve steps told ⊎ ((p : Payment) × DecidesPay findings p steps told)
@@ -192,9 +211,10 @@ abbrev pub ServesOn : (Bool → Type 0) → List Finding → List LiveStep → L
 ServesOn Rested findings steps told =
     (IsNothing steps told × Rested true) ⊎ (IsServing findings steps told × Rested false)
 
--- What is done for what a line says, by whether the session has nothing to do, by the devices of the setup, and by what was
--- found before. One that ends the service is none of these.
-abbrev pub Does : (Bool → Type 0) → List DeviceSetup → List Finding → LiveLine → List LiveStep → List Told → Type 0
+-- What is done for what a line says, by whether the session has nothing to do, by the devices of
+-- the setup, and by what was found before. One that ends the service is none of these.
+abbrev pub Does : (Bool → Type 0) → List DeviceSetup → List Finding → LiveLine → List LiveStep →
+    List Told → Type 0
 Does Rested devices findings (says.Command c) = Decides findings c
 Does Rested devices findings (says.Next addr) = IsAttempt addr
 Does Rested devices findings (says.Do addr) = MakesAttempts until_of.Ended addr
@@ -213,32 +233,40 @@ is_known devices (says.Stock addr count) = hopper_there (device_at devices addr)
 is_known devices said = true
 
 -- What is done for a line that names what is there, or not: what it says, or it is refused.
-abbrev pub DoesKnown : (Bool → Type 0) → Bool → List DeviceSetup → List Finding → ℕ → LiveLine → List LiveStep → List Told
+abbrev pub DoesKnown : (Bool → Type 0) → Bool → List DeviceSetup → List Finding → ℕ → LiveLine →
+    List LiveStep → List Told
     → Type 0
 DoesKnown Rested true devices findings number said = Does Rested devices findings said
 DoesKnown Rested false devices findings number said = Tells (refused number kind.Device)
 
--- What is done for the line of a number, by the devices of the setup; or it is told that it says nothing.
-abbrev pub DoesLine : (Bool → Type 0) → List DeviceSetup → List Finding → ℕ → Said → List LiveStep → List Told → Type 0
-DoesLine Rested devices findings number (Ok (input.Host said)) = DoesKnown Rested (is_known devices said) devices findings number said
+-- What is done for the line of a number, by the devices of the setup; or it is reported that it
+-- says nothing.
+abbrev pub DoesLine : (Bool → Type 0) → List DeviceSetup → List Finding → ℕ → Said → List LiveStep →
+    List Told → Type 0
+DoesLine Rested devices findings number (Ok (input.Host said)) =
+    DoesKnown Rested (is_known devices said) devices findings number said
 DoesLine Rested devices findings number (Ok input.State) = IsStating
 DoesLine Rested devices findings number (Err why) = Tells (refused number why)
 
--- What was done for lines, newest first: each one is done after those before it, by what is known and was found up to then.
+-- What was done for lines, newest first: each one is done after those before it, by what is known
+-- and was found up to then.
 abbrev pub DoesLines : Knows → Setup → List Finding → List Said → List LiveStep → List Told → Type 0
 DoesLines knows setup findings [] = IsNothing
 DoesLines knows setup findings (said ∷ before) =
     ThenBy (DoesLines knows setup findings before)
-    (λ told. DoesLine (λ rest. knows told (Rests setup rest)) setup.devices (findings ++ findings_in told)
+    (λ told. DoesLine (λ rest. knows told (Rests setup rest)) setup.devices
+    (findings ++ findings_in told)
     (suc (length before)) said)
 
--- It was done so, and what is found then is what was found before and what was told.
-abbrev pub Finds : List Finding → List Finding → (List LiveStep → List Told → Type 0) → List LiveStep → List Told → Type 0
+-- It was done so, and what is found then is what was found before and what was reported.
+abbrev pub Finds : List Finding → List Finding → (List LiveStep → List Told → Type 0) →
+    List LiveStep → List Told → Type 0
 Finds before now Doing steps told = Doing steps told × (now ≡ before ++ findings_in told)
 
 -- The job at an address makes attempts up to there, where one is; where none is, nothing is done.
 abbrev pub GoesOnTo : Type 0 → Until → ℕ → List LiveStep → List Told → Type 0
-GoesOnTo NoJob until addr steps told = (IsNothing steps told × NoJob) ⊎ MakesAttempts until addr steps told
+GoesOnTo NoJob until addr steps told =
+    (IsNothing steps told × NoJob) ⊎ MakesAttempts until addr steps told
 
 -- A stop is begun at an address, and its job makes attempts up to its end, if it was taken.
 abbrev pub GivesStop : Knows → Setup → ℕ → List LiveStep → List Told → Type 0
@@ -246,8 +274,8 @@ GivesStop knows setup addr =
     ThenBy (TellsOne (live.command (command.Stop addr)))
     (λ said. GoesOnTo (knows said (HasJob setup addr false)) until_of.Ended addr)
 
--- An acceptor that runs still after this is stopped. One at which a job was may be left so, since it may have ended for want
--- of an answer.
+-- An acceptor that runs still after this is stopped. One at which a job was may be left so, since
+-- it may have ended for want of an answer.
 abbrev pub StopsStill : Knows → Setup → ℕ → List Told → List LiveStep → List Told → Type 0
 StopsStill knows setup addr said steps told =
     (IsNothing steps told × (knows said (IsIdle setup addr) ⊎ knows [] (HasJob setup addr true)))
@@ -256,7 +284,8 @@ StopsStill knows setup addr said steps told =
 -- The job at an address makes attempts up to its end, and then the acceptor is stopped.
 abbrev pub StopsRunning : Knows → Setup → ℕ → List LiveStep → List Told → Type 0
 StopsRunning knows setup addr =
-    ThenBy (GoesOnTo (knows [] (HasJob setup addr false)) until_of.Ended addr) (StopsStill knows setup addr)
+    ThenBy (GoesOnTo (knows [] (HasJob setup addr false)) until_of.Ended addr)
+    (StopsStill knows setup addr)
 
 -- So the acceptor at an address is stopped, unless none runs there.
 abbrev pub StopsAt : Knows → Setup → ℕ → List LiveStep → List Told → Type 0
@@ -282,12 +311,14 @@ ends_by served.Disk ends = ends
 ends_by how ends = at_end.Leave
 
 -- What a service does for lines, newest first, up to its end: it tells first what it begins with.
-abbrev pub PlaysLines : Knows → Setup → Notice → List Finding → List Said → List LiveStep → List Told → Type 0
+abbrev pub PlaysLines : Knows → Setup → Notice → List Finding → List Said → List LiveStep →
+    List Told → Type 0
 PlaysLines knows setup opening findings lines =
     Then (Tells (notice opening)) (DoesLines knows setup findings lines)
 
 -- And what it does at the end.
-abbrev pub ServesLines : Knows → Setup → Notice → List Finding → AtEnd → List Said → List LiveStep → List Told → Type 0
+abbrev pub ServesLines : Knows → Setup → Notice → List Finding → AtEnd → List Said → List LiveStep →
+    List Told → Type 0
 ServesLines knows setup opening findings ends lines =
     ThenBy (PlaysLines knows setup opening findings lines)
     (λ said. StopsBy ends (λ more. knows (said ++ more)) setup)

@@ -32,7 +32,7 @@ abbrev pub lines_of : Option Entry → List Told
 lines_of None = []
 lines_of (Some e) = last e ∷ []
 
--- What is told last.
+-- What is reported last.
 abbrev pub last_told : Served → List Told
 last_told how = lines_of (last_entry how)
 

@@ -1,5 +1,6 @@
--- The bill that a reading of a bill acceptor tells as held.
-use Rattle.std.specs.Prelude.{◌≡◌, ℕ, ◌==◌, ◌&&◌, not, Bool, true, false, List, [], ◌∷◌, if◌then◌else◌, Option, Some, None, ⊤}
+-- The bill that a reading of a bill acceptor shows as held.
+use Rattle.std.specs.Prelude.{◌≡◌, ℕ, ◌==◌, ◌&&◌, not, Bool, true, false, List, [], ◌∷◌}
+use Rattle.std.specs.Prelude.{if◌then◌else◌, Option, Some, None, ⊤}
 use Rattle.cct_model.specs.lines.entry.Entry.{Entry}
 use Rattle.cct_model.specs.lines.entry.Entry.TheVariants as entry_of
 use Rattle.cct_model.specs.terms.coin.Credits.{Credits}
@@ -22,28 +23,32 @@ abbrev pub credits_of : Option Reply → Option Credits
 credits_of (Some (credits told)) = Some told
 credits_of reply = None
 
--- The events that an exchange with a bill acceptor told: none where it asked for something else, or wasn't answered.
+-- The events that an exchange with a bill acceptor told: none where it asked for something else, or
+-- wasn't answered.
 abbrev pub bills_told : CheckKind → ℕ → List ℕ → List ℕ → Option Credits
-bills_told kind addr sent heard = if asks_bills sent then credits_of (got kind addr form.Credits sent heard) else None
+bills_told kind addr sent heard =
+    if asks_bills sent then credits_of (got kind addr form.Credits sent heard) else None
 
--- The bill that an event tells as held: its place isn't 0, and its second byte is 1.
+-- The bill that an event shows as held: its place isn't 0, and its second byte is 1.
 abbrev pub hold_by : ℕ → Pair → Option Hold
 hold_by counter event =
-    if not (event.a == 0) && (event.b == 1) then Some (record { place = event.a; counter = counter }) else None
+    if not (event.a == 0) && (event.b == 1) then Some
+    (record { place = event.a; counter = counter }) else None
 
--- The bill that the first of these events tells as held.
+-- The bill that the first of these events shows as held.
 abbrev pub hold_in : ℕ → List Pair → Option Hold
 hold_in counter [] = None
 hold_in counter (event ∷ older) = hold_by counter event
 
--- The bill that the newest of these events tells as held.
+-- The bill that the newest of these events shows as held.
 abbrev pub newest_hold : Credits → Option Hold
 newest_hold told = hold_in told.counter told.pairs
 
 -- A bill of this place is held, by the newest event of the reply to this exchange.
 abbrev pub IsHeard : ℕ → List ℕ → List ℕ → ℕ → Type 0
 IsHeard addr sent heard place =
-    (kind : CheckKind) × (told : Credits) × (hold : Hold) × (bills_told kind addr sent heard ≡ Some told)
+    (kind : CheckKind) × (told : Credits) × (hold : Hold)
+    × (bills_told kind addr sent heard ≡ Some told)
     × (newest_hold told ≡ Some hold) × (hold.place ≡ place)
 
 -- Entries begin with an exchange.
@@ -51,8 +56,9 @@ abbrev pub HasExchange : List Entry → Type 0
 HasExchange (entry_of.Wire addr sent heard ∷ entries) = ⊤
 HasExchange entries = ⊥
 
--- A notice may come after the entries of an attempt whose exchange failed or not: that the line is lost where it did, that it
--- is back where there was one and it didn't, or a bill that its exchange tells as held.
+-- A notice may come after the entries of an attempt whose exchange failed or not: that the line is
+-- lost where it did, that it is back where there was one and it didn't, or a bill that its exchange
+-- shows as held.
 abbrev pub IsAfter : Bool → List Entry → Notice → Type 0
 IsAfter has_failed entries notice_of.LineFault = has_failed ≡ true
 IsAfter has_failed entries notice_of.LineBack = (has_failed ≡ false) × HasExchange entries

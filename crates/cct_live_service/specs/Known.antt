@@ -20,7 +20,7 @@ use Rattle.cct_live_service.specs.Opening.{is_running}
 use Rattle.cct_live_service.specs.Since.{Given, StandsSince}
 use Rattle.cct_live_service.specs.Told.{Told, news_of}
 
--- After what was told, what is known of the desk and of all that happened.
+-- After what was reported, what is known of the desk and of all that happened.
 abbrev pub Knows : Type 1
 Knows = List Told → (Desk → List Entry → Type 0) → Type 0
 
@@ -62,7 +62,7 @@ module _ {D : Type 0} {g : Ghosts D} where
   abbrev pub IsKnown : Host D g → Desk → (Desk → List Entry → Type 0) → Type 0
   IsKnown host desk Fact = (past : List Entry) → Keeps host past → Fact desk past
 
-  -- It holds after what was told since a host and a desk were so, whatever was given and found.
+  -- It holds after what was reported since a host and a desk were so, whatever was given and found.
   abbrev pub KnownAfter : Host D g → Desk → Knows
   KnownAfter host desk told Fact =
       (now : Desk) × AtDesk desk now told

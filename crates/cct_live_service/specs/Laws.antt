@@ -23,7 +23,8 @@ use Rattle.cct_laws_live_devices.specs.World.{OverDevices}
 
 -- The laws of a life over the records that were found.
 pub record IsLawful (setup : Setup) (found : List Record) (past : List Entry) : Type 0 where
-  -- A dispense is sent under the serial number of the setup, for an open order that none was sent for, and just its coins.
+  -- A dispense is sent under the serial number of the setup, for an open order that none was sent
+  -- for, and just its coins.
   pub sent : (d : DeviceSetup) → IsOf setup d → EachEntry (SentAt d) past
   pub once : (d : DeviceSetup) → IsOf setup d → sent_in (lines_of d past) ≤ 1
   -- A bill is routed only in the job of a `route`, by its way, and once.
@@ -39,7 +40,9 @@ pub record IsLawful (setup : Setup) (found : List Record) (past : List Entry) : 
   pub room : length (records past) + held setup past ≤ room_over MOST_RECORDS setup found
   -- What was posted since the start was heard, in its turn.
   pub posts : (d : DeviceSetup) → IsOf setup d → EachSinceStart (PostAt d) past
-  -- Over devices that answer as the model's do, and with all that earlier hosts told over the journal, the money is right: no
-  -- coin is posted twice or lost in silence, and no order is paid twice.
-  pub real : (whole world : List Entry) → IsWhole MOST_RECORDS setup found past whole → OverDevices setup world whole
+  -- Over devices that answer as the model's do, and with all that earlier hosts told over the
+  -- journal, the money is right: no coin is posted twice or lost in silence, and no order is paid
+  -- twice.
+  pub real : (whole world : List Entry) → IsWhole MOST_RECORDS setup found past whole →
+      OverDevices setup world whole
       → IsRightIn setup world whole

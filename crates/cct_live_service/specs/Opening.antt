@@ -1,5 +1,6 @@
 -- What a service begins with: what its disk had, and what it tells of it.
-use Rattle.std.specs.Prelude.{◌≡◌, ℕ, ◌+◌, Bool, true, false, List, [], length, Option, Some, Result, is_some, count_by}
+use Rattle.std.specs.Prelude.{◌≡◌, ℕ, ◌+◌, Bool, true, false, List, [], length, Option, Some}
+use Rattle.std.specs.Prelude.{Result, is_some, count_by}
 use Rattle.cct_edge.specs.declared.fault.Failed.{Failed}
 use Rattle.cct_model.specs.terms.device.DeviceSetup.{DeviceSetup}
 use Rattle.cct_model.specs.terms.device.Setup.{Setup}
@@ -38,10 +39,11 @@ epochs_known k devices = count_by (λ d. is_running (k.epoch_at d.addr)) devices
 
 -- What is told of a journal that was there, with so many records, by what is known of its devices.
 abbrev pub found_notice : Setup → ℕ → Known → Notice
-found_notice setup many k = notice_of.Found many (orders_known k setup.devices) (epochs_known k setup.devices)
+found_notice setup many k =
+    notice_of.Found many (orders_known k setup.devices) (epochs_known k setup.devices)
 
--- What a service tells of what it began with: how many records there are, at how many devices an order is open by them, and
--- at how many an epoch runs.
+-- What a service tells of what it began with: how many records there are, at how many devices an
+-- order is open by them, and at how many an epoch runs.
 abbrev pub opening_of : Setup → Begun → Notice
 opening_of setup made_new = notice_of.Made
 opening_of setup (found_there base c rest) =
@@ -53,9 +55,11 @@ opening_over setup made_new records = notice_of.Made
 opening_over setup (found_there base c rest) records =
     found_notice setup (length records) (known_in setup records)
 
--- A journal was found on a disk: its carry fits the setup, and each of the rest follows; and if the disk tells its bytes, these
--- are what they spell. Where there are no records before the rest, the carry is the empty one.
-pub record IsFound {D : Type 0} (seen : D → Option (List ℕ)) (disk : D) (setup : Setup) (base : ℕ) (c : Carry)
+-- A journal was found on a disk: its carry fits the setup, and each of the rest follows; and if the
+-- disk shows its bytes, these are what they spell. Where there are no records before the rest, the
+-- carry is the empty one.
+pub record IsFound {D : Type 0} (seen : D → Option (List ℕ)) (disk : D) (setup : Setup) (base : ℕ)
+    (c : Carry)
     (rest : List Record) : Type 0 where
   pub fits : Fits setup c
   pub follow : all_follow_carry setup c rest ≡ true
@@ -83,19 +87,23 @@ module _ {D : Type 0} {g : Ghosts D} where
     pub there_is : there ≡ was_found begun
     pub on : BegunOn g.seen disk setup begun
     pub has : HasBegun host begun
-    pub since : (records : List Record) → FoundOn g.honest g.seen g.may_leave disk setup begun records
+    pub since : (records : List Record) →
+        FoundOn g.honest g.seen g.may_leave disk setup begun records
         → (image : List ℕ) → StandsSince host (given_as disk image begun) records (started records)
-    pub numbers : (records : List Record) → FoundOn g.honest g.seen g.may_leave disk setup begun records
+    pub numbers : (records : List Record) →
+        FoundOn g.honest g.seen g.may_leave disk setup begun records
         → opening_of setup begun ≡ opening_over setup begun records
 
-  -- A notice tells what a host has just begun with, where the journal was there or was made.
+  -- A notice says what a host has just begun with, where the journal was there or was made.
   abbrev pub IsOpening : Host D g → Bool → Notice → Type 0
   IsOpening host there n =
-      (begun : Begun) → HasBegun host begun → there ≡ was_found begun → n ≡ opening_of (setup_of host) begun
+      (begun : Begun) → HasBegun host begun → there ≡ was_found begun → n
+      ≡ opening_of (setup_of host) begun
 
   -- What a host has just begun with was written, or wasn't.
   pub record TellsOpening {K : Type 0} (written : K → Option (List ℕ))
-      (puts : K → List ℕ → Result (Unit {0}) Failed → K → Type 0) (host : Host D g) (there : Bool) (before : K)
+      (puts : K → List ℕ → Result (Unit {0}) Failed → K → Type 0) (host : Host D g) (there : Bool)
+      (before : K)
       (result : Result (Unit {0}) Failed) (now : K) : Type 0 where
     pub n : Notice
     pub is : IsOpening host there n

@@ -1,5 +1,6 @@
--- What is told of how a host stands, against all that was told before it.
-use Rattle.std.specs.Prelude.{◌≡◌, ◌==◌, ℕ, List, [], ◌∷◌, ◌++◌, if◌then◌else◌, Option, Some, None, OnOk, Result, ⊤}
+-- What is told of how a host stands, against all that was reported before it.
+use Rattle.std.specs.Prelude.{◌≡◌, ◌==◌, ℕ, List, [], ◌∷◌, ◌++◌, if◌then◌else◌, Option, Some, None}
+use Rattle.std.specs.Prelude.{OnOk, Result, ⊤}
 use Rattle.std.specs.List.{All}
 use Rattle.cct_edge.specs.declared.fault.Failed.{Failed}
 use Rattle.cct_disk.specs.declared.disk.Disk.{Ghosts}
@@ -19,15 +20,17 @@ use Rattle.cct_live_service.specs.declared.notice.Notice.TheVariants as notice_o
 use Rattle.cct_live_service.specs.declared.outside.OrderTold.{OrderTold}
 use Rattle.cct_live_service.specs.declared.outside.OrderTold.TheVariants as order_of
 use Rattle.cct_live_service.specs.Stated.{IsStateOf}
-use Rattle.cct_live_service.specs.Status.{AreStatus, Stand, addresses_in, addresses_told, stand_notices, stands_notices}
-use Rattle.cct_live_service.specs.Told.{IsOfStatus, Told, WritesTold, answer_news, entry, knows, notice, notices_told, pays, unsent}
+use Rattle.cct_live_service.specs.Status.{AreStatus, Stand, addresses_in, addresses_told}
+use Rattle.cct_live_service.specs.Status.{stand_notices, stands_notices}
+use Rattle.cct_live_service.specs.Told.{IsOfStatus, Told, WritesTold, answer_news, entry, knows}
+use Rattle.cct_live_service.specs.Told.{notice, notices_told, pays, unsent}
 
 -- What is told of the order of an id, where this is an open order at an address.
 abbrev pub open_by : ℕ → ℕ → Option OpenOrder → Option OrderTold
 open_by id addr None = None
 open_by id addr (Some owed) = if owed.id == id then Some (order_of.Open addr owed.count) else None
 
--- This is told, or else the other.
+-- This is reported, or else the other.
 abbrev pub first_of : Option OrderTold → Option OrderTold → Option OrderTold
 first_of None other = other
 first_of (Some told) other = Some told
@@ -41,29 +44,34 @@ first_in tells (d ∷ devices) = first_of (tells d) (first_in tells devices)
 abbrev pub open_in : Setup → List Entry → ℕ → Option OrderTold
 open_in setup past id = first_in (λ d. open_by id d.addr (order_at setup past d.addr)) setup.devices
 
--- Just this is told, where it is known.
+-- Just this is reported, where it is known.
 abbrev pub IsJust : Option OrderTold → OrderTold → Type 0
 IsJust None told = ⊤
 IsJust (Some known) told = told ≡ known
 
--- A notice tells how a host stands after a past: the job, the running epoch and the open order at an address, the last id, the
--- room of the journal, and where an order is open.
+-- A notice says how a host is after a past: the job, the running epoch and the open order at an
+-- address, the last id, the room of the journal, and where an order is open.
 abbrev pub IsSo : Setup → List Entry → Notice → Type 0
 IsSo setup past (notice_of.Device addr job epoch order) =
-    (job ≡ command_at setup past addr) × (epoch ≡ epoch_at setup past addr) × (order ≡ order_at setup past addr)
+    (job ≡ command_at setup past addr) × (epoch ≡ epoch_at setup past addr)
+    × (order ≡ order_at setup past addr)
 IsSo setup past (notice_of.Last id) = id ≡ last_id setup past
 IsSo setup past (notice_of.Room records) = records ≡ room_after MOST_RECORDS setup past
 IsSo setup past (notice_of.Order id told) = IsJust (open_in setup past id) told
 IsSo setup past n = ⊤
 
--- Each does among what is told, after the past and the entries that are told before it; and what the journal knows is told as
--- the state of the records of that past, where this holds, as that its disk is trusted.
+-- Each does among what is reported, after the past and the entries that are reported before it; and
+-- what the journal knows is reported as the state of the records of that past, where this holds, as
+-- that its disk is trusted.
 abbrev pub AreSoWhere : Type 0 → Setup → List Entry → List Told → Type 0
 AreSoWhere trusted setup past [] = ⊤
 AreSoWhere trusted setup past (entry e ∷ told) = AreSoWhere trusted setup (e ∷ past) told
-AreSoWhere trusted setup past (unsent addr sent ∷ told) = AreSoWhere trusted setup (entry_of.Wire addr sent [] ∷ past) told
-AreSoWhere trusted setup past (pays p answer ∷ told) = AreSoWhere trusted setup (answer_news p answer ++ past) told
-AreSoWhere trusted setup past (notice n ∷ told) = IsSo setup past n × AreSoWhere trusted setup past told
+AreSoWhere trusted setup past (unsent addr sent ∷ told) =
+    AreSoWhere trusted setup (entry_of.Wire addr sent [] ∷ past) told
+AreSoWhere trusted setup past (pays p answer ∷ told) =
+    AreSoWhere trusted setup (answer_news p answer ++ past) told
+AreSoWhere trusted setup past (notice n ∷ told) =
+    IsSo setup past n × AreSoWhere trusted setup past told
 AreSoWhere trusted setup past (knows all line ∷ told) =
     (trusted → IsStateOf setup (records past) all) × AreSoWhere trusted setup past told
 AreSoWhere trusted setup past (what ∷ told) = AreSoWhere trusted setup past told
@@ -75,30 +83,38 @@ AreSo setup past told = AreSoWhere ⊤ setup past told
 module _ {D : Type 0} {g : Ghosts D} where
   -- A notice of how this host stands.
   abbrev pub IsStatusOf : Host D g → Notice → Type 0
-  IsStatusOf host n = IsOfStatus n × ((past : List Entry) → Keeps host past → IsSo (setup_of host) past n)
+  IsStatusOf host n =
+      IsOfStatus n × ((past : List Entry) → Keeps host past → IsSo (setup_of host) past n)
 
   -- These notices of it were written.
-  abbrev pub WritesStatus : {K : Type 0} → (K → Option (List ℕ)) → (K → List ℕ → Result (Unit {0}) Failed → K → Type 0)
+  abbrev pub WritesStatus : {K : Type 0} → (K → Option (List ℕ)) →
+      (K → List ℕ → Result (Unit {0}) Failed → K → Type 0)
       → Host D g → K → List Notice → Result (Unit {0}) Failed → K → Type 0
   WritesStatus written puts host before notices result now =
-      All (IsStatusOf host) notices × WritesTold written puts before (notices_told notices) result now
+      All (IsStatusOf host) notices × WritesTold written puts before (notices_told notices) result
+      now
 
   -- It was written how the device at an address stands.
-  abbrev pub TellsDevice : {K : Type 0} → (K → Option (List ℕ)) → (K → List ℕ → Result (Unit {0}) Failed → K → Type 0)
+  abbrev pub TellsDevice : {K : Type 0} → (K → Option (List ℕ)) →
+      (K → List ℕ → Result (Unit {0}) Failed → K → Type 0)
       → Host D g → ℕ → K → Result (Unit {0}) Failed → K → Type 0
   TellsDevice written puts host addr before result now =
-      (s : Stand) × (s.addr ≡ addr) × WritesStatus written puts host before (stand_notices s) result now
+      (s : Stand) × (s.addr ≡ addr) × WritesStatus written puts host before (stand_notices s) result
+      now
 
   -- It was written how these devices stand.
-  abbrev pub TellsDevices : {K : Type 0} → (K → Option (List ℕ)) → (K → List ℕ → Result (Unit {0}) Failed → K → Type 0)
+  abbrev pub TellsDevices : {K : Type 0} → (K → Option (List ℕ)) →
+      (K → List ℕ → Result (Unit {0}) Failed → K → Type 0)
       → Host D g → List DeviceSetup → K → Result (Unit {0}) Failed → K → Type 0
   TellsDevices written puts host devices before result now =
       (stands : List Stand) × (addresses_told stands ≡ addresses_in devices)
       × WritesStatus written puts host before (stands_notices stands) result now
 
   -- Its status was written, or the first notices of one, up to one that couldn't be.
-  abbrev pub TellsStatus : {K : Type 0} → (K → Option (List ℕ)) → (K → List ℕ → Result (Unit {0}) Failed → K → Type 0)
+  abbrev pub TellsStatus : {K : Type 0} → (K → Option (List ℕ)) →
+      (K → List ℕ → Result (Unit {0}) Failed → K → Type 0)
       → Host D g → K → Result (Unit {0}) Failed → K → Type 0
   TellsStatus written puts host before result now =
       (notices : List Notice) × (others : List Notice) × OnOk result (others ≡ [])
-      × AreStatus (setup_of host).devices (notices ++ others) × WritesStatus written puts host before notices result now
+      × AreStatus (setup_of host).devices (notices ++ others)
+      × WritesStatus written puts host before notices result now

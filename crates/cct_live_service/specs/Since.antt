@@ -19,35 +19,41 @@ pub record Given (D : Type 0) : Type 0 where
   pub image : List ℕ
   pub there : Bool
 
--- An image stands for the first ones of records, newest first: for those that were found, and for those that were put up to
--- some moment.
+-- An image stands for the first ones of records, newest first: for those that were found, and for
+-- those that were put up to some moment.
 pub record StandsForFirst (setup : Setup) (found all : List Record) (image : List ℕ) : Type 0 where
   pub later : List Record
   pub put : List Record
   pub all_are : all ≡ later ++ (put ++ found)
   pub stands : StandsFor (carry_of setup) image (reverse (put ++ found))
 
--- While a journal is made on a disk, what stands there is what stood there, no journal, or one without a record.
+-- While a journal is made on a disk, what is there is what stood there, no journal, or one without
+-- a record.
 abbrev pub IsMaking : Bool → List ℕ → List ℕ → Type 0
 IsMaking true old image = ⊥
 IsMaking false old image = IsCreated old image
 
--- What a power cut may leave while a service runs: an image on which the journal is being made, if it was made, or one that
--- represents the first ones of these records.
+-- What a power cut may leave while a service runs: an image on which the journal is being made, if
+-- it was made, or one that represents the first ones of these records.
 abbrev pub MayStand : Setup → Bool → List ℕ → List Record → List Record → List ℕ → Type 0
-MayStand setup there old found all image = IsMaking there old image ⊎ StandsForFirst setup found all image
+MayStand setup there old found all image =
+    IsMaking there old image ⊎ StandsForFirst setup found all image
 
 module _ {D : Type 0} {g : Ghosts D} where
-  -- A host represents a past since a disk was given, whose records are those that were found, and then those that were put.
-  pub record StandsSince (host : Host D g) (given : Given D) (found : List Record) (past : List Entry) : Type 0 where
+  -- A host represents a past since a disk was given, whose records are those that were found, and
+  -- then those that were put.
+  pub record StandsSince (host : Host D g) (given : Given D) (found : List Record)
+      (past : List Entry) : Type 0 where
     pub stands : hosts.StandsFor host past
     pub trusted : IsTrusted g.honest g.seen given.disk → IsTrusted g.honest g.seen (disk_of host)
     pub put : List Record
     pub put_are : records past ≡ put ++ found
-    -- Each power cut since might have left only the first ones of them, if the disk held the image alone.
+    -- Each power cut since might have left only the first ones of them, if the disk held the image
+    -- alone.
     pub left : Holds g.honest g.seen g.may_leave given.disk given.image
         → LeavesOnly g.moment g.left_since given.disk (disk_of host)
         (MayStand (setup_of host) given.there given.image found (records past))
     -- A disk with a journal was only read, where nothing was put.
     pub read : given.there ≡ true → put ≡ []
-        → OnlyReads g.size g.honest g.seen g.may_leave g.moment g.left_since g.cuts given.disk (disk_of host)
+        → OnlyReads g.size g.honest g.seen g.may_leave g.moment g.left_since g.cuts given.disk
+        (disk_of host)

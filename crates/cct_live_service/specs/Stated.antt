@@ -1,4 +1,4 @@
--- What is told of what the journal knows, against all that was told before it.
+-- What is told of what the journal knows, against all that was reported before it.
 use Rattle.std.specs.Prelude.{◌≡◌, ◌⊎◌, ℕ, List, [], ◌∷◌, ◌++◌, Option, Some, Result}
 use Rattle.cct_edge.specs.declared.fault.Failed.{Failed}
 use Rattle.cct_disk.specs.declared.disk.Disk.{Ghosts}
@@ -14,8 +14,9 @@ use Rattle.cct_bench_state.specs.Books.{state_lines}
 use Rattle.cct_live_service.specs.declared.notice.Notice.TheVariants as notice_of
 use Rattle.cct_live_service.specs.Told.{WritesTold, knows_each, notice}
 
--- These lines are the whole state of a journal with these records, newest first, of which it has the last ones after the carry
--- of the first ones: what `cct_bench_state` tells of them by the setup.
+-- These lines are the whole state of a journal with these records, newest first, of which it has
+-- the last ones after the carry of the first ones: what `cct_bench_state` tells of them by the
+-- setup.
 pub record IsStateOf (setup : Setup) (all : List Record) (lines : List (List ℕ)) : Type 0 where
   pub first : List Record
   pub since : List Record
@@ -23,19 +24,23 @@ pub record IsStateOf (setup : Setup) (all : List Record) (lines : List (List ℕ
   pub lines_are : lines ≡ state_lines (Some setup) (carry setup first) since
 
 module _ {D : Type 0} {g : Ghosts D} where
-  -- These lines are the state of the records of each past that a host represents, where its disk is trusted.
+  -- These lines are the state of the records of each past that a host represents, where its disk is
+  -- trusted.
   abbrev pub IsStateFor : Host D g → List (List ℕ) → Type 0
   IsStateFor host lines =
       (past : List Entry) → StandsFor host past → IsTrusted g.honest g.seen (disk_of host)
       → IsStateOf (setup_of host) (records past) lines
 
--- It was told that the journal couldn't be read.
-abbrev pub IsUnread : {K : Type 0} → (K → Option (List ℕ)) → (K → List ℕ → Result (Unit {0}) Failed → K → Type 0) → K
+-- It was reported that the journal couldn't be read.
+abbrev pub IsUnread : {K : Type 0} → (K → Option (List ℕ)) →
+    (K → List ℕ → Result (Unit {0}) Failed → K → Type 0) → K
     → Result (Unit {0}) Failed → K → Type 0
-IsUnread written puts before result now = WritesTold written puts before (notice notice_of.StateUnread ∷ []) result now
+IsUnread written puts before result now =
+    WritesTold written puts before (notice notice_of.StateUnread ∷ []) result now
 
--- The whole state of the journal of a host was told, or that it couldn't be read.
-abbrev pub TellsKnown : {K : Type 0} → (K → Option (List ℕ)) → (K → List ℕ → Result (Unit {0}) Failed → K → Type 0)
+-- The whole state of the journal of a host was reported, or that it couldn't be read.
+abbrev pub TellsKnown : {K : Type 0} → (K → Option (List ℕ)) →
+    (K → List ℕ → Result (Unit {0}) Failed → K → Type 0)
     → {D : Type 0} → {g : Ghosts D} → Host D g → K → Result (Unit {0}) Failed → K → Type 0
 TellsKnown written puts host before result now =
     ((lines : List (List ℕ)) × IsStateFor host lines

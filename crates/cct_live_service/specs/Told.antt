@@ -1,5 +1,6 @@
 -- What a host on a real line tells, and what writing it does to a sink.
-use Rattle.std.specs.Prelude.{◌≡◌, ℕ, List, [], ◌∷◌, ◌++◌, flat_map, map, Bool, true, false, Option, Some, None, Result, MatchResult, ⊤}
+use Rattle.std.specs.Prelude.{◌≡◌, ℕ, List, [], ◌∷◌, ◌++◌, flat_map, map, Bool, true, false, Option}
+use Rattle.std.specs.Prelude.{Some, None, Result, MatchResult, ⊤}
 use Rattle.std.specs.Io.KnownBytes.{Appends}
 use Rattle.std.specs.List.{All}
 use Rattle.std.specs.Option.{option_to_list}
@@ -26,15 +27,17 @@ use Rattle.cct_live_survey.specs.Finding.{finding_line}
 abbrev pub pay_of : Payment → Command
 pay_of p = command.Pay p.addr p.id p.count
 
--- What became of a payment that a session of change made: the host took it, or refused it, or wasn't given it.
+-- What became of a payment that a session of change made: the host took it, or refused it, or
+-- wasn't given it.
 pub data Answer : Type 0 where
   taken : Answer
   refused_for : (why : CommandNo) → Answer
   withheld_for : (why : Withheld) → Answer
 
--- An entry of a step, that of an exchange whose message wasn't written, so that nothing was heard, a line of the input that is refused, by its
--- number and kind, a notice, what a device said of itself, or the last line. Of the operator's desk: the entry of a step
--- there that gives the host no payment; the answer to a payment; and that a session ends short, as its payment wasn't taken.
+-- An entry of a step, that of an exchange whose message wasn't written, so that nothing was heard,
+-- a line of the input that is refused, by its number and kind, a notice, what a device said of
+-- itself, or the last line. Of the operator's desk: the entry of a step there that gives the host
+-- no payment; the answer to a payment; and that a session ends short, as its payment wasn't taken.
 -- And of what the journal knows a line, of all these.
 pub data Told : Type 0 where
   entry : (e : Entry) → Told
@@ -77,7 +80,7 @@ told_line (knows all line) = line
 abbrev pub told_text : List Told → List ℕ
 told_text told = flat_map told_line told
 
--- The entries of steps among what is told, newest first.
+-- The entries of steps among what is reported, newest first.
 abbrev pub news_of : List Told → List Entry
 news_of [] = []
 news_of (entry e ∷ told) = news_of told ++ e ∷ []
@@ -91,7 +94,7 @@ news_of (pays p answer ∷ told) = news_of told ++ answer_news p answer
 news_of (falls_short p paid rest ∷ told) = news_of told
 news_of (knows all line ∷ told) = news_of told
 
--- Entries are told as they are.
+-- Entries are reported as they are.
 abbrev pub as_told : List Entry → List Told
 as_told entries = map (λ e. entry e) entries
 
@@ -100,35 +103,35 @@ abbrev pub unheard : Entry → Option (ℕ × List ℕ)
 unheard (entry_of.Wire addr sent []) = Some (addr, sent)
 unheard e = None
 
--- An entry as it is told where the message of its exchange wasn't written.
+-- An entry as it is reported where the message of its exchange wasn't written.
 abbrev pub told_unsent : Entry → Option (ℕ × List ℕ) → Told
 told_unsent e None = entry e
 told_unsent e (Some message) = unsent message.0 message.1
 
--- The entries of an attempt as they are told. An exchange in which nothing was heard, since its message wasn't written, is
--- told as unsent.
+-- The entries of an attempt as they are reported. An exchange in which nothing was heard, since its
+-- message wasn't written, is told as unsent.
 abbrev pub attempt_told : Bool → List Entry → List Told
 attempt_told true entries = as_told entries
 attempt_told false [] = []
 attempt_told false (e ∷ entries) = told_unsent e (unheard e) ∷ as_told entries
 
--- Notices are told.
+-- Notices are reported.
 abbrev pub notices_told : List Notice → List Told
 notices_told notices = map (λ n. notice n) notices
 
--- A notice is told, if there is one.
+-- A notice is reported, if there is one.
 abbrev pub maybe_told : Option Notice → List Told
 maybe_told n = notices_told (option_to_list n)
 
--- Some lines of what the journal knows are told, of all these.
+-- Some lines of what the journal knows are reported, of all these.
 abbrev pub knows_each : List (List ℕ) → List (List ℕ) → List Told
 knows_each all lines = map (λ line. knows all line) lines
 
--- What devices said of themselves is told.
+-- What devices said of themselves is reported.
 abbrev pub found_told : List Finding → List Told
 found_told findings = map (λ f. finding f) findings
 
--- What devices said of themselves among what is told, in its order.
+-- What devices said of themselves among what is reported, in its order.
 abbrev pub findings_in : List Told → List Finding
 findings_in [] = []
 findings_in (finding f ∷ told) = f ∷ findings_in told
@@ -142,8 +145,9 @@ findings_in (pays p answer ∷ told) = findings_in told
 findings_in (falls_short p paid rest ∷ told) = findings_in told
 findings_in (knows all line ∷ told) = findings_in told
 
--- These were written to a sink: the line of each was put once, in their order, up to the first whose put failed; and what is
--- told of the bytes grew by their text, or by a front of it where a put failed.
+-- These were written to a sink: the line of each was put once, in their order, up to the first
+-- whose put failed; and what is told of the bytes grew by their text, or by a front of it where a
+-- put failed.
 pub record WritesTold {K : Type 0} (written : K → Option (List ℕ))
     (puts : K → List ℕ → Result (Unit {0}) Failed → K → Type 0) (before : K) (told : List Told)
     (result : Result (Unit {0}) Failed) (now : K) : Type 0 where
@@ -151,7 +155,8 @@ pub record WritesTold {K : Type 0} (written : K → Option (List ℕ))
   pub bytes : MatchResult result (λ _. Appends (written before) (written now) (told_text told))
       (λ _. AppendsFront (written before) (written now) (told_text told))
 
--- A notice of how a host stands: of a device, of a bill that it holds, of the last id, or of the room of the journal.
+-- A notice of how a host stands: of a device, of a bill that it holds, of the last id, or of the
+-- room of the journal.
 abbrev pub IsOfStatus : Notice → Type 0
 IsOfStatus (notice_of.Device addr job epoch order) = ⊤
 IsOfStatus (notice_of.Held addr place) = ⊤

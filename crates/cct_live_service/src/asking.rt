@@ -1,4 +1,4 @@
-//! Devices are asked who they are, where that is still open, and what is found is told.
+//! Devices are asked who they are, where that is still open, and what is found is reported.
 ghost use Rattle.std.specs.Prelude.{◌≡◌, ◌≤◌, ◌++◌, List, Some, drop, false, length};
 ghost use Rattle.cct_host.specs.Host.{has_failed, setup_of};
 ghost use Rattle.cct_live_survey.specs.declared.finding.Finding.{Finding};
@@ -23,8 +23,8 @@ use cct_wire::Link;
 /// How many questions are asked in a poll at most.
 const MOST_QUESTIONS: u32 = 4;
 
-/// In a poll some of the questions that are left are asked, up to one that isn't answered, and what is found is told. A device
-/// that was silent before a command comes first.
+/// In a poll some of the questions that are left are asked, up to one that isn't answered, and what
+/// is found is reported. A device that was silent before a command comes first.
 pub(crate) fn ask_some<K: Sink, D: Disk, L: CountedLink>(
     host: &mut Host<'_, D>,
     roll: &mut Roll,
@@ -46,7 +46,8 @@ pub(crate) fn ask_some<K: Sink, D: Disk, L: CountedLink>(
 
 /// Asks the device at an address what is left, or some of what is left at all.
 fn ask_next<L: Link>(whom: Option<u8>, setup: &Setup, roll: &mut Roll, link: &mut L) -> Answered
-    ensures asks { AsksRoll L.gives setup.now.devices whom (most_asked whom) roll.old link.old result roll.new link.new }
+    ensures asks { AsksRoll L.gives setup.now.devices whom (most_asked whom) roll.old link.old
+        result roll.new link.new }
     ensures grows { (added : List Finding) × (roll.new.findings ≡ roll.old.findings ++ added) }
 {
     match whom {
@@ -55,8 +56,8 @@ fn ask_next<L: Link>(whom: Option<u8>, setup: &Setup, roll: &mut Roll, link: &mu
     }
 }
 
-/// Before a payment or a start is decided, the device there is asked what is left, up to a question that isn't answered, and
-/// what is found is told.
+/// Before a payment or a start is decided, the device there is asked what is left, up to a question
+/// that isn't answered, and what is found is reported.
 pub(crate) fn ask_before<K: Sink, D: Disk, L: CountedLink>(
     host: &mut Host<'_, D>,
     roll: &mut Roll,
@@ -70,7 +71,8 @@ pub(crate) fn ask_before<K: Sink, D: Disk, L: CountedLink>(
         (Both (UsesLink L.gives L.sent L.failures (setup_of host.old).devices roll.old roll.new link.old link.new)
         IsApart)
         (Finds roll.old.findings roll.new.findings IsAsking) result out.old out.new host.old host.new }
-    ensures asks { AsksAt L.gives (setup_of host.old).devices (asked_before command.now) roll.old link.old roll.new link.new }
+    ensures asks { AsksAt L.gives (setup_of host.old).devices (asked_before command.now) roll.old
+        link.old roll.new link.new }
 {
     match asked_before(command) {
         Some(addr) => ask_at(host, roll, addr, link, out, page),
@@ -89,7 +91,7 @@ fn asked_before(command: &Command) -> Option<u8>
     }
 }
 
-/// The device at an address is asked what is left, and what is found is told.
+/// The device at an address is asked what is left, and what is found is reported.
 fn ask_at<K: Sink, D: Disk, L: CountedLink>(
     host: &mut Host<'_, D>,
     roll: &mut Roll,
@@ -103,7 +105,8 @@ fn ask_at<K: Sink, D: Disk, L: CountedLink>(
         (Both (UsesLink L.gives L.sent L.failures (setup_of host.old).devices roll.old roll.new link.old link.new)
         IsApart)
         (Finds roll.old.findings roll.new.findings IsAsking) result out.old out.new host.old host.new }
-    ensures asks { AsksAt L.gives (setup_of host.old).devices (Some addr) roll.old link.old roll.new link.new }
+    ensures asks { AsksAt L.gives (setup_of host.old).devices (Some addr) roll.old link.old roll.new
+        link.new }
 {
     let known = roll.findings().len();
     let answered = roll.ask_at(host.setup(), addr, link);

@@ -32,8 +32,9 @@ pub(crate) enum Until {
     Failed,
 }
 
-/// The job at an address makes one attempt, and its entries are written; then a `linefault`, where its exchange failed and
-/// none went through since the last one told, or a `lineback` where it is the first to go through; then a bill that is held.
+/// The job at an address makes one attempt, and its entries are written; then a `linefault`, where
+/// its exchange failed and none went through since the last one told, or a `lineback` where it is
+/// the first to go through; then a bill that is held.
 pub(crate) fn attempt<K: Sink, D: Disk, L: CountedLink>(
     host: &mut Host<'_, D>,
     addr: u8,
@@ -56,7 +57,8 @@ pub(crate) fn attempt<K: Sink, D: Disk, L: CountedLink>(
     }
 }
 
-/// The job at an address makes one attempt, whose entries are then the report, and this is how its exchange went.
+/// The job at an address makes one attempt, whose entries are then the report, and this is how its
+/// exchange went.
 fn make<D: Disk, L: CountedLink>(
     host: &mut Host<'_, D>,
     addr: u8,
@@ -66,7 +68,8 @@ fn make<D: Disk, L: CountedLink>(
     requires whole { has_failed host.old ≡ false }
     ensures whole { OnOk result (has_failed host.new ≡ false) }
     ensures setup { setup_of host.new ≡ setup_of host.old }
-    ensures nexts { OnOk result (Nexts L.gives link.old link.new addr host.old host.new [] page.new.report.items) }
+    ensures nexts { OnOk result (Nexts L.gives link.old link.new addr host.old host.new []
+        page.new.report.items) }
     ensures went { IfOk result (HasGone L.sent L.failures link.old link.new) }
     ensures link { OnErr result (link.new ≡ link.old) }
     ensures fails { OnErr result (Fails host.old host.new addr) }
@@ -86,7 +89,8 @@ fn make<D: Disk, L: CountedLink>(
     }
 }
 
-/// The job at an address makes attempts until it has ended, or up to a failed try, or the most: one at least.
+/// The job at an address makes attempts until it has ended, or up to a failed try, or the most: one
+/// at least.
 pub(crate) fn attempts<K: Sink, D: Disk, L: CountedLink>(
     host: &mut Host<'_, D>,
     addr: u8,
@@ -125,21 +129,22 @@ fn is_over(until: Until, page: &Page) -> bool
     }
 }
 
-/// Whether one of these entries tells that no job is left.
+/// Whether one of these entries says that no job is left.
 fn has_ended(entries: &[Entry]) -> bool
     ensures { result ≡ list_any is_end entries.now }
 {
     entries.iter().any(|entry| is_end(entry))
 }
 
-/// Whether an entry tells that no job is left at its address.
+/// Whether an entry says that no job is left at its address.
 fn is_end(entry: &Entry) -> bool
     ensures { result ≡ is_end entry.now }
 {
     matches!(entry, Entry::Ended { .. } | Entry::Idle { .. })
 }
 
-/// The job at an address, if there is one, makes attempts until it has ended, or up to a failed try, or the most.
+/// The job at an address, if there is one, makes attempts until it has ended, or up to a failed
+/// try, or the most.
 pub(crate) fn go_on<K: Sink, D: Disk, L: CountedLink>(
     host: &mut Host<'_, D>,
     addr: u8,

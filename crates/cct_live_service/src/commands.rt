@@ -23,7 +23,7 @@ use cct_host::Host;
 use cct_live_survey::{Finding, Withheld, withheld_by};
 use cct_model::{Command, Entry, OpenOrder};
 
-/// Gives the host a command, unless what was found withholds it, which is told.
+/// Gives the host a command, unless what was found withholds it, which is reported.
 pub(crate) fn answer_or_withhold<K: Sink, D: Disk>(
     host: &mut Host<'_, D>,
     findings: &[Finding],
@@ -43,7 +43,7 @@ pub(crate) fn answer_or_withhold<K: Sink, D: Disk>(
     }
 }
 
-/// Tells that a command isn't given to the host.
+/// Says that a command isn't given to the host.
 fn withhold<K: Sink, D: Disk>(
     host: &mut Host<'_, D>,
     command: &Command,
@@ -113,7 +113,7 @@ pub(crate) fn balance<K: Sink, D: Disk>(
     by_writing(page.write_report(out))
 }
 
-/// Tells how each device stands.
+/// Says how each device stands.
 pub(crate) fn status<K: Sink, D: Disk>(
     host: &mut Host<'_, D>,
     out: &mut K,
@@ -126,7 +126,7 @@ pub(crate) fn status<K: Sink, D: Disk>(
     by_writing(tell_status(host, out, page))
 }
 
-/// Tells what is known of an order.
+/// Says what is known of an order.
 pub(crate) fn order<K: Sink, D: Disk, O: Outside>(
     host: &mut Host<'_, D>,
     id: u32,
@@ -135,7 +135,8 @@ pub(crate) fn order<K: Sink, D: Disk, O: Outside>(
     page: &mut Page,
 ) -> Result<(), Served>
     requires whole { has_failed host.old ≡ false }
-    ensures acts { Acts K.written K.puts K.faults (Both AreQuiet IsApart) (IsOrder id) result out.old out.new host.old host.new }
+    ensures acts { Acts K.written K.puts K.faults (Both AreQuiet IsApart) (IsOrder id) result
+        out.old out.new host.old host.new }
 {
     let told = order_told(host, id, outside);
     by_writing(tell(out, &mut page.line, &Notice::Order { id, told }))
@@ -143,7 +144,8 @@ pub(crate) fn order<K: Sink, D: Disk, O: Outside>(
 
 /// What is known of an order: the host knows those that are open.
 fn order_told<D: Disk, O: Outside>(host: &Host<'_, D>, id: u32, outside: &mut O) -> OrderTold
-    ensures known { (past : List Entry) → Keeps host.now past → IsJust (open_in (setup_of host.now) past id) result }
+    ensures known { (past : List Entry) → Keeps host.now past →
+        IsJust (open_in (setup_of host.now) past id) result }
 {
     match open_order(host, id) {
         Some(told) => told,
@@ -153,7 +155,8 @@ fn order_told<D: Disk, O: Outside>(host: &Host<'_, D>, id: u32, outside: &mut O)
 
 /// Where an order is open, if it is.
 fn open_order<D: Disk>(host: &Host<'_, D>, id: u32) -> Option<OrderTold>
-    ensures known { (past : List Entry) → Keeps host.now past → result ≡ open_in (setup_of host.now) past id }
+    ensures known { (past : List Entry) → Keeps host.now past → result
+        ≡ open_in (setup_of host.now) past id }
 {
     for device in host.setup().devices.as_slice() {
         let told = open_by(id, device.addr, host.order_at(device.addr));

@@ -1,7 +1,9 @@
 //! The fields of notices.
 ghost use Rattle.std.specs.Prelude.{◌≡◌, ◌≤◌, ◌+◌, ◌++◌, codes, length};
 ghost use Rattle.cct_text.specs.Adding.{Adds};
-ghost use Rattle.cct_live_service.specs.Notice.{command_fields, epoch_field, job_field, job_word, mask_after, number_field, open_order_field, order_fields, withheld_fields, why_field};
+ghost use Rattle.cct_live_service.specs.Notice.{command_fields, epoch_field, job_field, job_word};
+ghost use Rattle.cct_live_service.specs.Notice.{mask_after, number_field, open_order_field};
+ghost use Rattle.cct_live_service.specs.Notice.{order_fields, withheld_fields, why_field};
 
 use crate::outside::OrderTold;
 use cct_live_survey::Withheld;

@@ -1,4 +1,5 @@
-//! Which bills are held, as far as the readings of bill acceptors tell (ccTalk Generic Specification 4, part 3, header 159).
+//! Which bills are held, as far as the readings of bill acceptors tell (ccTalk Generic
+//! Specification 4, part 3, header 159).
 ghost use Rattle.std.specs.Prelude.{◌≡◌};
 ghost use Rattle.std.specs.Option.{option_map};
 ghost use Rattle.cct_model.specs.Reply.{reply_shown};
@@ -20,7 +21,8 @@ pub struct Hold {
     pub counter: u8,
 }
 
-/// The events that an exchange with a bill acceptor told: none where it asked for something else, or wasn't answered.
+/// The events that an exchange with a bill acceptor told: none where it asked for something else,
+/// or wasn't answered.
 pub(crate) fn bills_told(kind: CheckKind, addr: u8, sent: &[u8], heard: &[u8]) -> Option<Credits>
     ensures { result ≡ bills_told kind addr sent.now heard.now }
 {
@@ -51,7 +53,7 @@ fn credits_of(reply: Option<Reply<'_>>) -> Option<Credits>
     }
 }
 
-/// The bill that the newest of these events tells as held.
+/// The bill that the newest of these events shows as held.
 pub(crate) fn newest_hold(credits: Credits) -> Option<Hold>
     ensures { result ≡ newest_hold credits }
 {
@@ -86,7 +88,7 @@ impl Holds {
         }
     }
 
-    /// A reading at an address tells this. Whether it is a bill that wasn't told yet.
+    /// A reading at an address shows this. Whether it is a bill that wasn't reported yet.
     pub(crate) fn note(&mut self, addr: u8, hold: Option<Hold>) -> bool {
         let is_new = hold.is_some() && hold != self.held[usize::from(addr)];
         self.held[usize::from(addr)] = hold;

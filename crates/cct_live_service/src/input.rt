@@ -1,4 +1,5 @@
-//! The lines of the input: what is said to the host, and what is asked of its journal (`docs/LIVE.md`).
+//! The lines of the input: what is said to the host, and what is asked of its journal
+//! (`docs/LIVE.md`).
 ghost use Rattle.std.specs.Prelude.{◌≡◌, IfOk};
 ghost use Rattle.cct_live_service.specs.Input.{IsToldInput, begins_with_state, input_line};
 
@@ -13,12 +14,12 @@ const STATE: &[u8] = b"state";
 pub enum InputLine {
     /// What it says to the host.
     Host(LiveLine),
-    /// `state`: what the journal knows now is told.
+    /// `state`: what the journal knows now is reported.
     State,
 }
 
-/// What a line of the input says, without its line feed: `state`, or a line of the host. `Form` where something stands after
-/// the word `state`; else why it is no line of the host.
+/// What a line of the input says, without its line feed: `state`, or a line of the host. `Form`
+/// where something is after the word `state`; else why it is no line of the host.
 pub(crate) fn read_input_line(line: &[u8]) -> Result<InputLine, LineKind>
     ensures reads { result ≡ input_line line.now }
     ensures told { IfOk result IsToldInput }

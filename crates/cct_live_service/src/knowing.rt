@@ -18,8 +18,8 @@ use cct_edge::{Failed, Sink};
 use cct_host::Host;
 use cct_text::TextLine;
 
-/// Tells what the journal knows now, in the lines of a bench's `state`. The host doesn't go on meanwhile; its disk is read
-/// beside it.
+/// Says what the journal knows now, in the lines of a bench's `state`. The host doesn't go on
+/// meanwhile; its disk is read beside it.
 pub(crate) fn state<K: Sink, D: Disk + Drop, O: Beside<D>>(
     host: &mut Host<'_, D>,
     outside: &mut O,
@@ -27,13 +27,14 @@ pub(crate) fn state<K: Sink, D: Disk + Drop, O: Beside<D>>(
     page: &mut Page,
 ) -> Result<(), Served>
     requires whole { has_failed host.old ≡ false }
-    ensures acts { Acts K.written K.puts K.faults (Both AreQuiet IsApart) IsStating result out.old out.new host.old host.new }
+    ensures acts { Acts K.written K.puts K.faults (Both AreQuiet IsApart) IsStating result out.old
+        out.new host.old host.new }
 {
     let disk = outside.beside(host.disk());
     by_writing(tell_known(host, disk, out, &mut page.line))
 }
 
-/// Tells what the journal knows by a disk that gives the bytes of the host's, or that there is none.
+/// Says what the journal knows by a disk that gives the bytes of the host's, or that there is none.
 fn tell_known<K: Sink, D: Disk + Drop>(
     host: &Host<'_, D>,
     disk: Option<D>,
@@ -50,7 +51,8 @@ fn tell_known<K: Sink, D: Disk + Drop>(
     }
 }
 
-/// Tells what the journal on a disk knows, which gives the bytes of the host's; or that it can't be read.
+/// Says what the journal on a disk knows, which gives the bytes of the host's; or that it can't be
+/// read.
 fn tell_disk<K: Sink, D: Disk + Drop>(
     host: &Host<'_, D>,
     disk: D,
@@ -69,7 +71,7 @@ fn tell_disk<K: Sink, D: Disk + Drop>(
     }
 }
 
-/// Tells that the journal couldn't be read.
+/// Says that the journal couldn't be read.
 fn tell_unread<K: Sink>(out: &mut K, line: &mut TextLine) -> Result<(), Failed>
     ensures tells { IsUnread K.written K.puts out.old result out.new }
     ensures serves { Serves K.written K.faults out.old out.new (IsErr result) }

@@ -1,5 +1,5 @@
-//! The service of a host on a real line: what its input says is done line by line, over the journal of a disk, and each
-//! entry is written before the next line is read (`docs/LIVE.md`).
+//! The service of a host on a real line: what its input says is done line by line, over the journal
+//! of a disk, and each entry is written before the next line is read (`docs/LIVE.md`).
 #![tactic(auto)]
 
 mod asking;

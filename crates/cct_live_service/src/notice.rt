@@ -13,27 +13,30 @@ use cct_live_survey::Withheld;
 use cct_model::{Command, EpochState, MOST_TEXT, OpenOrder};
 use cct_text::TextLine;
 
-/// What a host on a real line tells beside the entries of its transcript and what its devices say of themselves: a line each.
+/// What a host on a real line tells beside the entries of its transcript and what its devices say
+/// of themselves: a line each.
 #[derive(Clone, Copy, Debug, PartialEq, Eq)]
 pub enum Notice {
     /// `made 0 0 0`: the disk was blank, and a journal without records was made on it.
     Made,
-    /// `found RECORDS ORDERS EPOCHS`: the journal was there. It has so many records, so many orders are open by them, and
-    /// so many epochs run.
+    /// `found RECORDS ORDERS EPOCHS`: the journal was there. It has so many records, so many orders
+    /// are open by them, and so many epochs run.
     Found {
         records: u32,
         orders: u32,
         epochs: u32,
     },
-    /// `device ADDRESS JOB EPOCH ORDER`: the word of the command whose job is at the device; the inhibit mask of its running
-    /// epoch, in hexadecimal; the id of its open order. Each is `-` where there is none.
+    /// `device ADDRESS JOB EPOCH ORDER`: the word of the command whose job is at the device; the
+    /// inhibit mask of its running epoch, in hexadecimal; the id of its open order. Each is `-`
+    /// where there is none.
     Device {
         addr: u8,
         job: Option<Command>,
         epoch: EpochState,
         order: Option<OpenOrder>,
     },
-    /// `held ADDRESS PLACE`: the bill acceptor there holds a bill of this place, by the newest event of its last reading.
+    /// `held ADDRESS PLACE`: the bill acceptor there holds a bill of this place, by the newest
+    /// event of its last reading.
     Held {
         addr: u8,
         place: u8,
@@ -51,16 +54,17 @@ pub enum Notice {
         id: u32,
         told: OrderTold,
     },
-    /// `no pay ADDRESS ID COUNT otherserial` or `no start ADDRESS MASK othercoin`: this command wasn't given to the host,
-    /// since the device that answers there has another serial number than the setup names, or another coin at a place of
-    /// the mask.
+    /// `no pay ADDRESS ID COUNT otherserial` or `no start ADDRESS MASK othercoin`: this command
+    /// wasn't given to the host, since the device that answers there has another serial number than
+    /// the setup names, or another coin at a place of the mask.
     Withheld {
         command: Command,
         why: Withheld,
     },
     /// `state unread`: the journal couldn't be read beside the host.
     StateUnread,
-    /// `linefault`: an exchange failed, and not for want of an answer. It is told again only after one that went through.
+    /// `linefault`: an exchange failed, and not for want of an answer. It is reported again only
+    /// after one that went through.
     LineFault,
     /// `lineback`: the first exchange after a `linefault` went through.
     LineBack,

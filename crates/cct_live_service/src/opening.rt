@@ -1,4 +1,5 @@
-//! The host over the journal of a disk: one that is there is gone on with, and a blank one is made new.
+//! The host over the journal of a disk: one that is there is gone on with, and a blank one is made
+//! new.
 ghost use Rattle.std.specs.Prelude.{◌≡◌, [], List, false, IfErr, IfOk};
 ghost use Rattle.cct_disk.specs.declared.file.TheConstants as files;
 ghost use Rattle.cct_host.specs.Host as hosts;

@@ -9,7 +9,8 @@ pub enum OrderTold {
     Open { addr: u8, count: u8 },
     /// `closed PAID UNPAID`: it is closed, and so many of its coins were paid and so many not.
     Closed { paid: u8, unpaid: u8 },
-    /// `odd PAID`: it is closed, and its life counts tell that so many coins were paid, which are more than were ordered.
+    /// `odd PAID`: it is closed, and its life counts say that so many coins were paid, which are
+    /// more than were ordered.
     Odd { paid: u32 },
     /// `unknown`: the journal has no record of it since its last turn.
     Unknown,
@@ -19,7 +20,8 @@ pub enum OrderTold {
 
 /// The program around a service. It is told of refused lines, and looks up orders that aren't open.
 pub trait Outside {
-    /// The line of this number was refused. Its bytes are without the line feed; one that is too long or cut has none here.
+    /// The line of this number was refused. Its bytes are without the line feed; one that is too
+    /// long or cut has none here.
     fn refused(&mut self, number: u32, kind: LineKind, line: &[u8]);
 
     /// What the journal knows of an order that isn't open.

@@ -5,7 +5,8 @@ ghost use Rattle.std.specs.Option.{IfSome};
 ghost use Rattle.cct_edge.specs.Bytes.{Serves};
 ghost use Rattle.cct_live_service.specs.declared.notice.Notice.{Notice};
 ghost use Rattle.cct_live_service.specs.Held.{HasExchange, IsAfter};
-ghost use Rattle.cct_live_service.specs.Told.{WritesTold, as_told, attempt_told, maybe_told, notices_told};
+ghost use Rattle.cct_live_service.specs.Told.{WritesTold, as_told, attempt_told, maybe_told};
+ghost use Rattle.cct_live_service.specs.Told.{notices_told};
 
 use crate::holds::{Holds, bills_told, newest_hold};
 use crate::notice::{Notice, tell};
@@ -27,7 +28,8 @@ pub(crate) struct Went {
     pub(crate) is_answered: bool,
 }
 
-/// The entries of a step, the line that is written, and what a service remembers of its line and its devices.
+/// The entries of a step, the line that is written, and what a service remembers of its line and
+/// its devices.
 #[derive(Drop)]
 pub struct Page {
     pub(crate) report: ArrayVec<Entry, 8>,
@@ -36,7 +38,7 @@ pub struct Page {
     holds: Holds,
     /// What the last attempt was.
     tried: Tried,
-    /// A `linefault` was told, and no exchange went through since.
+    /// A `linefault` was reported, and no exchange went through since.
     is_down: bool,
 }
 
@@ -69,15 +71,16 @@ impl Page {
 
     /// Writes the entries of a step.
     pub(crate) fn write_report<K: Sink>(&mut self, out: &mut K) -> Result<(), Failed>
-        ensures writes { WritesTold K.written K.puts out.old (as_told self.old.report.items) result out.new }
+        ensures writes { WritesTold K.written K.puts out.old (as_told self.old.report.items) result
+            out.new }
         ensures report { self.new.report ≡ self.old.report }
         ensures serves { Serves K.written K.faults out.old out.new (IsErr result) }
     {
         write_entries(out, &mut self.line, self.report.as_slice())
     }
 
-    /// Writes the entries of an attempt at an address, whose exchange went so; then how the line is, where that changed; then
-    /// a bill that is held, where it wasn't told yet.
+    /// Writes the entries of an attempt at an address, whose exchange went so; then how the line
+    /// is, where that changed; then a bill that is held, where it wasn't reported yet.
     pub(crate) fn write_attempt<K: Sink>(
         &mut self,
         setup: &Setup,
@@ -114,7 +117,7 @@ impl Page {
         self.tell_if(notice, out)
     }
 
-    /// Writes a bill that the exchange of an attempt tells as held, where it wasn't told yet.
+    /// Writes a bill that the exchange of an attempt shows as held, where it wasn't reported yet.
     fn tell_hold<K: Sink>(&mut self, setup: &Setup, out: &mut K) -> Result<(), Failed>
         ensures writes { (n : Option Notice) × ((has_failed : Bool) → IfSome n (IsAfter has_failed self.old.report.items))
             × WritesTold K.written K.puts out.old (maybe_told n) result out.new }
@@ -125,9 +128,11 @@ impl Page {
         self.tell_if(notice, out)
     }
 
-    /// Writes the entries of an attempt. An exchange whose message wasn't written is told as unsent.
+    /// Writes the entries of an attempt. An exchange whose message wasn't written is reported as
+    /// unsent.
     fn write_entries_of<K: Sink>(&mut self, is_sent: bool, out: &mut K) -> Result<(), Failed>
-        ensures writes { WritesTold K.written K.puts out.old (attempt_told is_sent self.old.report.items) result out.new }
+        ensures writes { WritesTold K.written K.puts out.old
+            (attempt_told is_sent self.old.report.items) result out.new }
         ensures report { self.new.report ≡ self.old.report }
         ensures serves { Serves K.written K.faults out.old out.new (IsErr result) }
     {
@@ -140,7 +145,8 @@ impl Page {
 
     /// Writes the entries of an attempt whose message wasn't written.
     fn write_unsent<K: Sink>(&mut self, out: &mut K) -> Result<(), Failed>
-        ensures writes { WritesTold K.written K.puts out.old (attempt_told false self.old.report.items) result out.new }
+        ensures writes { WritesTold K.written K.puts out.old
+            (attempt_told false self.old.report.items) result out.new }
         ensures report { self.new.report ≡ self.old.report }
         ensures serves { Serves K.written K.faults out.old out.new (IsErr result) }
     {
@@ -181,7 +187,8 @@ impl Page {
         }
     }
 
-    /// The notice of how the line is, where that changed by an attempt, whose exchange failed or not.
+    /// The notice of how the line is, where that changed by an attempt, whose exchange failed or
+    /// not.
     fn watch(&mut self, has_failed: bool) -> Option<Notice>
         ensures report { self.new.report ≡ self.old.report }
         ensures of_line { IfSome result (λ n. IsAfter has_failed self.old.report.items n) }
@@ -202,10 +209,12 @@ impl Page {
         }
     }
 
-    /// The notice of a bill that the exchange of an attempt tells as held, where it wasn't told yet.
+    /// The notice of a bill that the exchange of an attempt shows as held, where it wasn't reported
+    /// yet.
     fn find_hold(&mut self, setup: &Setup) -> Option<Notice>
         ensures report { self.new.report ≡ self.old.report }
-        ensures heard { (has_failed : Bool) → IfSome result (λ n. IsAfter has_failed self.old.report.items n) }
+        ensures heard { (has_failed : Bool) →
+            IfSome result (λ n. IsAfter has_failed self.old.report.items n) }
     {
         let (addr, hold) = match self.report.as_slice() {
             [Entry::Wire { addr, sent, heard }, ..] => {
@@ -228,7 +237,8 @@ impl Page {
     }
 }
 
-/// What an attempt at an address was. A poll of all devices is answered by bare bytes, so it isn't a failed try.
+/// What an attempt at an address was. A poll of all devices is answered by bare bytes, so it isn't
+/// a failed try.
 fn tried(addr: u8, entries: &[Entry], is_answered: bool) -> Tried {
     if addr == BROADCAST || !made_exchange(entries) {
         Tried::Nothing

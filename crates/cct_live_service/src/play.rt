@@ -1,4 +1,5 @@
-//! What the input says is done, line by line, and each entry is written before the next line is read.
+//! What the input says is done, line by line, and each entry is written before the next line is
+//! read.
 ghost use Rattle.std.specs.Prelude.{◌≡◌, false, Ok, IfErr, IfOk};
 ghost use Rattle.cct_edge.specs.Bytes.{Serves};
 ghost use Rattle.cct_host.specs.Host.{disk_of, has_failed, setup_of};
@@ -9,12 +10,15 @@ ghost use Rattle.cct_script.specs.Endless.{held_of};
 ghost use Rattle.cct_live_service.specs.declared.input.InputLine.TheVariants as input;
 ghost use Rattle.cct_live_service.specs.Asked.{AsksAt, asked_before};
 ghost use Rattle.cct_live_service.specs.AtDesk.{Both, FollowsDesk, FollowsTo, IsApart};
-ghost use Rattle.cct_live_service.specs.Causes.{DiskServes, EndsBy, IsDiskFault, IsUnread, IsUnwritten};
-ghost use Rattle.cct_live_service.specs.Doing.{Decides, Does, DoesLine, DoesLines, Finds, IsAttempt, MakesAttempts, Tells, is_known};
+ghost use Rattle.cct_live_service.specs.Causes.{DiskServes, EndsBy, IsDiskFault, IsUnread};
+ghost use Rattle.cct_live_service.specs.Causes.{IsUnwritten};
+ghost use Rattle.cct_live_service.specs.Doing.{Decides, Does, DoesLine, DoesLines, Finds};
+ghost use Rattle.cct_live_service.specs.Doing.{IsAttempt, MakesAttempts, Tells, is_known};
 ghost use Rattle.cct_live_service.specs.Known.{KnownAfter, Rested};
 ghost use Rattle.cct_live_service.specs.Linked.{AreQuiet, Exchanges, UsesLink};
 ghost use Rattle.cct_live_service.specs.Parts.{Acts, Plays};
-ghost use Rattle.cct_live_service.specs.Said.{ComesNext, IsOfInput, IsSayable, stopped_by, unless_end};
+ghost use Rattle.cct_live_service.specs.Said.{ComesNext, IsOfInput, IsSayable, stopped_by};
+ghost use Rattle.cct_live_service.specs.Said.{unless_end};
 ghost use Rattle.cct_live_service.specs.Told.{refused};
 
 use crate::asking::ask_before;
@@ -39,7 +43,8 @@ use cct_model::{Command, Entry, LineKind, Setup};
 use cct_script::{EndlessLines, LinesNo, LiveLine, NextLine};
 use cct_text::{TextLine, write_entry};
 
-/// Does what each line says, up to `end` or the end of the input. A line that says nothing is told, and changes nothing.
+/// Does what each line says, up to `end` or the end of the input. A line that says nothing is
+/// reported, and changes nothing.
 pub(crate) fn play<S: Source, K: Sink, D: Disk + Drop, L: CountedLink, O: Beside<D>>(
     host: &mut Host<'_, D>,
     roll: &mut Roll,
@@ -79,15 +84,16 @@ pub(crate) fn play<S: Source, K: Sink, D: Disk + Drop, L: CountedLink, O: Beside
     }
 }
 
-/// What the next line of an input says, or why it says nothing; or how the input ends. The line has this number. Who is outside
-/// is told of it where it says nothing.
+/// What the next line of an input says, or why it says nothing; or how the input ends. The line has
+/// this number. Who is outside is told of it where it says nothing.
 fn next_line<S: Source, O: Outside>(
     lines: &mut EndlessLines,
     number: u32,
     input: &mut S,
     outside: &mut O,
 ) -> Result<Result<InputLine, LineKind>, Served>
-    ensures comes { ComesNext number result (held_of lines.old) (S.left input.old) (held_of lines.new) (S.left input.new) }
+    ensures comes { ComesNext number result (held_of lines.old) (S.left input.old)
+        (held_of lines.new) (S.left input.new) }
     ensures sayable { IfOk result IsSayable }
     ensures ends { IfErr result IsOfInput }
     ensures serves { Serves S.left S.faults input.old input.new (EndsBy IsUnread result) }
@@ -147,7 +153,7 @@ fn stopped(number: u32, why: LinesNo) -> Served
     }
 }
 
-/// Does what the line of this number says, or tells that it says nothing.
+/// Does what the line of this number says, or says that it says nothing.
 fn take_line<K: Sink, D: Disk + Drop, L: CountedLink, O: Beside<D>>(
     host: &mut Host<'_, D>,
     roll: &mut Roll,
@@ -200,7 +206,7 @@ fn is_hopper(setup: &Setup, addr: u8) -> bool
     }
 }
 
-/// Tells that a line names no device of its kind. Who is outside is told of it, too.
+/// Says that a line names no device of its kind. Who is outside is told of it, too.
 fn refuse_unknown<K: Sink, D: Disk, O: Outside>(
     host: &mut Host<'_, D>,
     number: u32,
@@ -228,7 +234,7 @@ fn write_stock(line: &mut TextLine, said: &LiveLine) {
     }
 }
 
-/// Tells that a line says nothing.
+/// Says that a line says nothing.
 fn refuse<K: Sink, D: Disk>(
     host: &mut Host<'_, D>,
     number: u32,
@@ -277,8 +283,8 @@ fn obey<K: Sink, D: Disk, L: CountedLink, O: Outside>(
     }
 }
 
-/// Gives the host a command, or withholds it, after the device that it is for was asked what is left. From now on a poll asks
-/// that device at once.
+/// Gives the host a command, or withholds it, after the device that it is for was asked what is
+/// left. From now on a poll asks that device at once.
 fn decide<K: Sink, D: Disk, L: CountedLink>(
     host: &mut Host<'_, D>,
     roll: &mut Roll,
@@ -294,7 +300,8 @@ fn decide<K: Sink, D: Disk, L: CountedLink>(
         IsApart)
         (Finds roll.old.findings roll.new.findings (Decides roll.old.findings command.now))
         result out.old out.new host.old host.new }
-    ensures asks { AsksAt L.gives (setup_of host.old).devices (asked_before command.now) roll.old link.old roll.new link.new }
+    ensures asks { AsksAt L.gives (setup_of host.old).devices (asked_before command.now) roll.old
+        link.old roll.new link.new }
 {
     page.rests.wake(command.address());
     match ask_before(host, roll, command, link, out, page) {

@@ -22,9 +22,10 @@ use cct_live_survey::Roll;
 /// How many addresses there are.
 const ADDRESSES: u16 = 256;
 
-/// The devices that aren't doubtful are visited in rising order of address, from where the last poll stopped, up to the first
-/// try that isn't answered. Where each was answered, and no acceptor takes coins faster than it is read out, one doubtful
-/// device is visited, and some of the questions that are left are asked; no more than one try of a poll isn't answered.
+/// The devices that aren't doubtful are visited in rising order of address, from where the last
+/// poll stopped, up to the first try that isn't answered. Where each was answered, and no acceptor
+/// takes coins faster than it is read out, one doubtful device is visited, and some of the
+/// questions that are left are asked; no more than one try of a poll isn't answered.
 pub(crate) fn poll<K: Sink, D: Disk, L: CountedLink>(
     host: &mut Host<'_, D>,
     roll: &mut Roll,
@@ -68,8 +69,8 @@ fn visit_all<K: Sink, D: Disk, L: CountedLink>(
     }
 }
 
-/// Visits the devices that are neither doubtful nor left alone, up to the first try that isn't answered. The next poll begins
-/// after that device.
+/// Visits the devices that are neither doubtful nor left alone, up to the first try that isn't
+/// answered. The next poll begins after that device.
 fn visit_sound<K: Sink, D: Disk, L: CountedLink>(
     host: &mut Host<'_, D>,
     desk: &mut Desk,
@@ -119,8 +120,8 @@ fn visit_if_sound<K: Sink, D: Disk, L: CountedLink>(
     }
 }
 
-/// What is done after the visits of a poll: the doubtful device whose turn it is, and questions that are left. Which of both
-/// comes first changes from poll to poll.
+/// What is done after the visits of a poll: the doubtful device whose turn it is, and questions
+/// that are left. Which of both comes first changes from poll to poll.
 fn try_others<K: Sink, D: Disk, L: CountedLink>(
     host: &mut Host<'_, D>,
     roll: &mut Roll,
@@ -142,7 +143,8 @@ fn try_others<K: Sink, D: Disk, L: CountedLink>(
     }
 }
 
-/// Asks some of the questions that are left, and then visits a doubtful device, unless the poll is spent before.
+/// Asks some of the questions that are left, and then visits a doubtful device, unless the poll is
+/// spent before.
 fn ask_then_visit<K: Sink, D: Disk, L: CountedLink>(
     host: &mut Host<'_, D>,
     roll: &mut Roll,
@@ -163,7 +165,8 @@ fn ask_then_visit<K: Sink, D: Disk, L: CountedLink>(
     }
 }
 
-/// Visits a doubtful device, and then asks some of the questions that are left, unless the poll is spent before.
+/// Visits a doubtful device, and then asks some of the questions that are left, unless the poll is
+/// spent before.
 fn visit_then_ask<K: Sink, D: Disk, L: CountedLink>(
     host: &mut Host<'_, D>,
     roll: &mut Roll,
@@ -227,8 +230,8 @@ fn visit_doubtful<K: Sink, D: Disk, L: CountedLink>(
     }
 }
 
-/// The address of the doubtful device whose turn it is: the first with something to do after the one that had the last turn.
-/// None where the poll is spent.
+/// The address of the doubtful device whose turn it is: the first with something to do after the
+/// one that had the last turn. None where the poll is spent.
 fn next_doubtful<D: Disk>(host: &Host<'_, D>, page: &Page) -> Option<u8> {
     if page.rests.is_spent() {
         return None;

@@ -3,7 +3,8 @@
 use cct_live_survey::Answered;
 use cct_model::DeviceSet;
 
-/// For how many polls a device is left alone, the one counted in which its job ended for want of an answer.
+/// For how many polls a device is left alone, the one counted in which its job ended for want of an
+/// answer.
 const REST: u8 = 17;
 
 /// What the last try at a device was.
@@ -19,8 +20,8 @@ pub(crate) enum Tried {
 
 /// How the devices of a line went in the last polls, by address.
 ///
-/// A device is doubtful from a failed try to the next one that is answered. After a job there ended for want of an answer it
-/// is left alone for sixteen polls.
+/// A device is doubtful from a failed try to the next one that is answered. After a job there ended
+/// for want of an answer it is left alone for sixteen polls.
 #[derive(Drop)]
 pub(crate) struct Rests {
     doubtful: DeviceSet,
@@ -36,7 +37,8 @@ pub(crate) struct Rests {
     has_moved: bool,
     /// The identities are asked for before the doubtful devices in this poll.
     asks_first: bool,
-    /// The device at this address didn't tell who it is before a command was decided, so the next poll asks it first.
+    /// The device at this address didn't say who it is before a command was decided, so the next
+    /// poll asks it first.
     asked: Option<u8>,
 }
 

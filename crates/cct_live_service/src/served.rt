@@ -2,7 +2,8 @@
 ghost use Rattle.std.specs.Prelude.{◌≡◌, IsErr, Result};
 ghost use Rattle.cct_edge.specs.Bytes.{Serves};
 ghost use Rattle.cct_edge.specs.declared.fault.Failed.{Failed};
-ghost use Rattle.cct_live_service.specs.Ending.{by_writing, closed_by, last_entry, last_told, unmade_by, unstarted_by};
+ghost use Rattle.cct_live_service.specs.Ending.{by_writing, closed_by, last_entry, last_told};
+ghost use Rattle.cct_live_service.specs.Ending.{unmade_by, unstarted_by};
 ghost use Rattle.cct_live_service.specs.Told.{WritesTold};
 
 use cct_edge::{Failed, Sink};
@@ -16,14 +17,14 @@ use cct_text::{TextLine, write_entry};
 pub enum Served {
     /// At the line `end`, or where the input ended.
     Done,
-    /// At a line that can't be passed over: 1,048,576 pieces of it were taken and it goes on, or 4,294,967,294 lines came before
-    /// it.
+    /// At a line that can't be passed over: 1,048,576 pieces of it were taken and it goes on, or
+    /// 4,294,967,294 lines came before it.
     Refused { number: u32, kind: LineKind },
     /// The input couldn't be read.
     Unread,
     /// A line couldn't be written.
     Unwritten,
-    /// A call of the disk failed. Whether the record that was being put stands on the disk is open.
+    /// A call of the disk failed. Whether the record that was being put is on the disk is open.
     Disk,
     /// The disk has another length than a journal wants.
     OtherSize { len: u64 },

@@ -6,7 +6,8 @@ ghost use Rattle.cct_edge.specs.Faults.{Rose};
 ghost use Rattle.cct_host.specs.Host.{disk_of, has_failed, setup_of};
 ghost use Rattle.cct_model.specs.Setup.{IsSoundSetup};
 ghost use Rattle.cct_live_service.specs.AtDesk.{Both, FollowsTo};
-ghost use Rattle.cct_live_service.specs.Causes.{DiskServes, IsDiskFault, IsUnread, IsUnwritten, SuitsDisk};
+ghost use Rattle.cct_live_service.specs.Causes.{DiskServes, IsDiskFault, IsUnread, IsUnwritten};
+ghost use Rattle.cct_live_service.specs.Causes.{SuitsDisk};
 ghost use Rattle.cct_live_service.specs.Doing.{PlaysLines, ServesLines, ends_by};
 ghost use Rattle.cct_live_service.specs.Found.{Begun, was_found};
 ghost use Rattle.cct_live_service.specs.Known.{KnownAfter};
@@ -31,14 +32,14 @@ use cct_live_port::CountedLink;
 use cct_live_survey::Roll;
 use cct_model::Setup;
 
-/// Opens the journal of a disk, or makes it where the disk is blank, starts a host over it, and does what each line of the
-/// input says, up to `end` or the end of the input. The disk is given back, with how it ended; the last line, where there is
-/// one, is written.
+/// Opens the journal of a disk, or makes it where the disk is blank, starts a host over it, and
+/// does what each line of the input says, up to `end` or the end of the input. The disk is given
+/// back, with how it ended; the last line, where there is one, is written.
 ///
-/// `roll` has what was found of the devices so far, and what is still to be asked: a payment at a hopper that told another
-/// serial number than the setup names isn't given to the host, and neither is a start whose mask has a place that told another
-/// coin. What is left is asked in polls, and before such a command is decided. `page` may be used for one service after
-/// another.
+/// `roll` has what was found of the devices so far, and what is still to be asked: a payment at a
+/// hopper that told another serial number than the setup names isn't given to the host, and neither
+/// is a start whose mask has a place that told another coin. What is left is asked in polls, and
+/// before such a command is decided. `page` may be used for one service after another.
 pub fn serve<S: Source, K: Sink, D: Disk + Drop, L: CountedLink, O: Beside<D>>(
     setup: &Setup,
     roll: &mut Roll,
@@ -52,9 +53,10 @@ pub fn serve<S: Source, K: Sink, D: Disk + Drop, L: CountedLink, O: Beside<D>>(
     page: &mut Page,
 ) -> (Served, D)
     requires sound { IsSoundSetup setup.now }
-    // What was done and told is what the lines of the input said, and it is the life of a host over the records that the disk
-    // had, whatever is heard; and how it ended. First it was told what the disk had: a journal was made only where no byte but 0
-    // was, and else the numbers are those of the records that were found. What went over the link are the exchanges that were
+    // What was done and told is what the lines of the input said, and it is the life of a host over
+    // the records that the disk had, whatever is heard; and how it ended. First it was reported
+    // what the disk had: a journal was made only where no byte but 0 was, and else the numbers are
+    // those of the records that were found. What went over the link are the exchanges that were
     // told, and the questions of the roll, and nothing else.
     ensures lived { Closed K.written K.puts L.gives L.sent L.failures D.size D.honest D.seen D.may_leave D.moment
         D.left_since D.cuts disk result.1 setup.now roll.old roll.new desk.old desk.new ends (S.left input.old) result.0 out.old
@@ -67,7 +69,7 @@ pub fn serve<S: Source, K: Sink, D: Disk + Drop, L: CountedLink, O: Beside<D>>(
     // A disk that no host is started over, and what it then is. It was only read.
     ensures refused { SuitsDisk D.size D.honest D.seen D.may_leave D.moment D.left_since D.cuts disk result.1 setup.now
         result.0 }
-    // One of another length is told as such, or that couldn't be written.
+    // One of another length is reported as such, or that couldn't be written.
     ensures size { D.size disk ≢ files.MADE_LEN
         → (result.0 ≡ Served.OtherSize (D.size disk)) ⊎ (result.0 ≡ Served.Unwritten) }
 
@@ -104,7 +106,8 @@ fn live<S: Source, K: Sink, D: Disk + Drop, L: CountedLink, O: Beside<D>>(
     ensures size { D.size disk ≢ files.MADE_LEN → result.0 ≡ Served.OtherSize (D.size disk) }
     ensures input { Serves S.left S.faults input.old input.new (IsUnread result.0) }
     ensures sink { Serves K.written K.faults out.old out.new (IsUnwritten result.0) }
-    ensures disk { DiskServes D.size D.honest D.seen D.cuts D.faults disk result.1 (IsDiskFault result.0) }
+    ensures disk { DiskServes D.size D.honest D.seen D.cuts D.faults disk result.1
+        (IsDiskFault result.0) }
 {
     let (host, was_there) = match open_host(setup, disk) {
         Ok(opened) => opened,
@@ -117,7 +120,8 @@ fn live<S: Source, K: Sink, D: Disk + Drop, L: CountedLink, O: Beside<D>>(
     (how, host.into_disk())
 }
 
-/// Tells what was found, does what each line says, and stops the acceptors that run, where it is wanted.
+/// Says what was found, does what each line says, and stops the acceptors that run, where it is
+/// wanted.
 fn live_on<S: Source, K: Sink, D: Disk + Drop, L: CountedLink, O: Beside<D>>(
     host: &mut Host<'_, D>,
     was_there: bool,
@@ -151,7 +155,7 @@ fn live_on<S: Source, K: Sink, D: Disk + Drop, L: CountedLink, O: Beside<D>>(
     }
 }
 
-/// Tells what was found, and does what each line says.
+/// Says what was found, and does what each line says.
 fn open_and_play<S: Source, K: Sink, D: Disk + Drop, L: CountedLink, O: Beside<D>>(
     host: &mut Host<'_, D>,
     was_there: bool,

@@ -1,5 +1,5 @@
-//! The operator's desk: stocks that are counted, and sessions of change, whose payments are given to the host
-//! (`docs/SCRIPT.md`).
+//! The operator's desk: stocks that are counted, and sessions of change, whose payments are given
+//! to the host (`docs/SCRIPT.md`).
 ghost use Rattle.std.specs.Prelude.{◌≡◌, ◌≤◌, ◌∷◌, [], ℕ, Some, None, IsErr, false};
 ghost use Rattle.std.specs.Option.{option_map};
 ghost use Rattle.cct_edge.specs.Bytes.{Serves};
@@ -20,12 +20,14 @@ ghost use Rattle.cct_live_survey.specs.declared.withholding.Withheld.{Withheld};
 ghost use Rattle.cct_live_survey.specs.Finding.{withheld_by};
 ghost use Rattle.cct_live_service.specs.declared.notice.Notice.TheVariants as notice_of;
 ghost use Rattle.cct_live_service.specs.AtDesk.{Both, FollowsDesk, GivesAt};
-ghost use Rattle.cct_live_service.specs.Doing.{DecidesPay, DoesPay, Finds, IsServing, ServesOn, TellsStep};
+ghost use Rattle.cct_live_service.specs.Doing.{DecidesPay, DoesPay, Finds, IsServing, ServesOn};
+ghost use Rattle.cct_live_service.specs.Doing.{TellsStep};
 ghost use Rattle.cct_live_service.specs.Known.{Rested};
 ghost use Rattle.cct_live_service.specs.Linked.{AreQuiet, UsesLink};
 ghost use Rattle.cct_live_service.specs.Parts.{Acts, HostGoes};
 ghost use Rattle.cct_live_service.specs.Session.{HasAsked};
-ghost use Rattle.cct_live_service.specs.Told.{WritesTold, as_told, falls_short, pay_of, pays, withheld_for};
+ghost use Rattle.cct_live_service.specs.Told.{WritesTold, as_told, falls_short, pay_of, pays};
+ghost use Rattle.cct_live_service.specs.Told.{withheld_for};
 
 use crate::asking::ask_before;
 use crate::notice::{Notice, tell};
@@ -41,7 +43,7 @@ use cct_live_survey::{Finding, Roll, Withheld, withheld_by};
 use cct_model::{Command, CommandNo, Entry, Payment};
 use cct_text::{TextLine, write_entry};
 
-/// The operator counted the coins of a hopper, which is told.
+/// The operator counted the coins of a hopper, which is reported.
 pub(crate) fn count_stock<K: Sink, D: Disk>(
     host: &mut Host<'_, D>,
     desk: &mut Desk,
@@ -59,7 +61,7 @@ pub(crate) fn count_stock<K: Sink, D: Disk>(
     tell_desk(host, &Entry::Stock { addr, count }, out, page)
 }
 
-/// A session begins, unless one runs, which is told.
+/// A session begins, unless one runs, which is reported.
 pub(crate) fn begin_session<K: Sink, D: Disk>(
     host: &mut Host<'_, D>,
     desk: &mut Desk,
@@ -90,7 +92,7 @@ fn change_entry(first: u32, amount: u32, began: bool) -> Entry
     }
 }
 
-/// The session goes on, and it is told how.
+/// The session goes on, and it is reported how.
 pub(crate) fn serve_session<K: Sink, D: Disk, L: CountedLink>(
     host: &mut Host<'_, D>,
     roll: &mut Roll,
@@ -139,7 +141,7 @@ pub(crate) fn go_on_with_session<K: Sink, D: Disk, L: CountedLink>(
     }
 }
 
-/// Gives the host the payment that a session comes to, or tells what else it comes to.
+/// Gives the host the payment that a session comes to, or says what else it comes to.
 fn act_on<K: Sink, D: Disk, L: CountedLink>(
     host: &mut Host<'_, D>,
     roll: &mut Roll,
@@ -181,7 +183,8 @@ fn tell_desk<K: Sink, D: Disk>(
     by_writing(write_entry(out, &mut page.line, entry))
 }
 
-/// A payment of the session is decided as one of the operator: the hopper is asked first what is left, and it may be withheld.
+/// A payment of the session is decided as one of the operator: the hopper is asked first what is
+/// left, and it may be withheld.
 fn pay<K: Sink, D: Disk, L: CountedLink>(
     host: &mut Host<'_, D>,
     roll: &mut Roll,
@@ -218,7 +221,8 @@ fn command_of(payment: Payment) -> Command
     }
 }
 
-/// Gives the host a payment of the session, unless what was found withholds it. Where it isn't taken, the session ends short.
+/// Gives the host a payment of the session, unless what was found withholds it. Where it isn't
+/// taken, the session ends short.
 fn give_or_withhold<K: Sink, D: Disk>(
     host: &mut Host<'_, D>,
     findings: &[Finding],
@@ -285,7 +289,8 @@ fn report_refused(
     report: &mut ArrayVec<Entry, 8>,
 )
     requires { report.old.items ≡ [] }
-    ensures { report.new.items ≡ entry_of.No (pay_of payment) why ∷ entry_of.Short shortfall.paid shortfall.rest ∷ [] }
+    ensures { report.new.items ≡ entry_of.No (pay_of payment) why
+        ∷ entry_of.Short shortfall.paid shortfall.rest ∷ [] }
 {
     report.push(Entry::No {
         command: command_of(payment),
@@ -306,7 +311,7 @@ fn ask_host<D: Disk>(host: &mut Host<'_, D>, payment: Payment) -> Result<(), Com
     host.command(&command_of(payment))
 }
 
-/// Tells that a payment of the session isn't given to the host, and that the session ends short.
+/// Says that a payment of the session isn't given to the host, and that the session ends short.
 fn withhold<K: Sink, D: Disk>(
     host: &mut Host<'_, D>,
     desk: &mut Desk,

@@ -4,7 +4,8 @@ ghost use Rattle.cct_edge.specs.Bytes.{Serves};
 ghost use Rattle.cct_host.specs.Host.{setup_of};
 ghost use Rattle.cct_host.specs.Starting.{BeginsAs};
 ghost use Rattle.cct_model.specs.Following.{Known};
-ghost use Rattle.cct_live_service.specs.Opening.{IsOpening, TellsOpening, epochs_known, is_running, orders_known};
+ghost use Rattle.cct_live_service.specs.Opening.{IsOpening, TellsOpening, epochs_known, is_running};
+ghost use Rattle.cct_live_service.specs.Opening.{orders_known};
 ghost use Rattle.cct_live_service.specs.Reported.{TellsDevice, TellsStatus};
 ghost use Rattle.cct_live_service.specs.Told as lines;
 ghost use Rattle.cct_live_service.specs.Told.{WritesTold};
@@ -17,7 +18,7 @@ use cct_host::Host;
 use cct_model::EpochState;
 use cct_text::TextLine;
 
-/// Tells what a host that has just started found.
+/// Says what a host that has just started found.
 pub(crate) fn tell_found<K: Sink, D: Disk>(
     host: &Host<'_, D>,
     was_there: bool,
@@ -47,7 +48,8 @@ fn opening_notice<D: Disk>(host: &Host<'_, D>, was_there: bool) -> Notice
 
 /// How many orders are open.
 fn open_orders<D: Disk>(host: &Host<'_, D>) -> u32
-    ensures { (k : Known) (last : ℕ) → BeginsAs host.now k last → result ≡ orders_known k (setup_of host.now).devices }
+    ensures { (k : Known) (last : ℕ) → BeginsAs host.now k last → result
+        ≡ orders_known k (setup_of host.now).devices }
 {
     let mut count = 0;
     for device in host.setup().devices.as_slice() {
@@ -60,7 +62,8 @@ fn open_orders<D: Disk>(host: &Host<'_, D>) -> u32
 
 /// How many epochs run.
 fn running_epochs<D: Disk>(host: &Host<'_, D>) -> u32
-    ensures { (k : Known) (last : ℕ) → BeginsAs host.now k last → result ≡ epochs_known k (setup_of host.now).devices }
+    ensures { (k : Known) (last : ℕ) → BeginsAs host.now k last → result
+        ≡ epochs_known k (setup_of host.now).devices }
 {
     let mut count = 0;
     for device in host.setup().devices.as_slice() {
@@ -81,7 +84,8 @@ pub(crate) fn runs(epoch: EpochState) -> bool
     }
 }
 
-/// Tells how each device stands, in the order of the setup, then the last id, and then how much room the journal has.
+/// Says how each device stands, in the order of the setup, then the last id, and then how much room
+/// the journal has.
 pub(crate) fn tell_status<K: Sink, D: Disk>(
     host: &Host<'_, D>,
     out: &mut K,
@@ -103,7 +107,7 @@ pub(crate) fn tell_status<K: Sink, D: Disk>(
     tell_two(&last, &room, out, &mut page.line)
 }
 
-/// Tells how the device at an address stands, and the bill that it holds.
+/// Says how the device at an address stands, and the bill that it holds.
 fn tell_device<K: Sink, D: Disk>(
     host: &Host<'_, D>,
     addr: u8,
@@ -127,7 +131,8 @@ fn tell_device<K: Sink, D: Disk>(
 
 /// Tells one notice.
 fn tell_one<K: Sink>(notice: &Notice, out: &mut K, line: &mut TextLine) -> Result<(), Failed>
-    ensures tells { WritesTold K.written K.puts out.old (lines.notice notice.now ∷ []) result out.new }
+    ensures tells { WritesTold K.written K.puts out.old (lines.notice notice.now ∷ []) result
+        out.new }
     ensures serves { Serves K.written K.faults out.old out.new (IsErr result) }
 {
     tell(out, line, notice)
@@ -140,7 +145,8 @@ fn tell_two<K: Sink>(
     out: &mut K,
     line: &mut TextLine,
 ) -> Result<(), Failed>
-    ensures tells { WritesTold K.written K.puts out.old (lines.notice first.now ∷ lines.notice second.now ∷ []) result out.new }
+    ensures tells { WritesTold K.written K.puts out.old
+        (lines.notice first.now ∷ lines.notice second.now ∷ []) result out.new }
     ensures serves { Serves K.written K.faults out.old out.new (IsErr result) }
 {
     match tell_one(first, out, line) {

@@ -4,7 +4,8 @@ ghost use Rattle.cct_host.specs.Host.{Keeps, has_failed, setup_of};
 ghost use Rattle.cct_host.specs.Standing.{epoch_at};
 ghost use Rattle.cct_model.specs.lines.entry.Entry.{Entry};
 ghost use Rattle.cct_live_service.specs.AtDesk.{Both, FollowsDesk};
-ghost use Rattle.cct_live_service.specs.Doing.{GivesStop, StopsAt, StopsBy, StopsRunning, StopsUpTo};
+ghost use Rattle.cct_live_service.specs.Doing.{GivesStop, StopsAt, StopsBy, StopsRunning};
+ghost use Rattle.cct_live_service.specs.Doing.{StopsUpTo};
 ghost use Rattle.cct_live_service.specs.Known.{KnownAfter};
 ghost use Rattle.cct_live_service.specs.Opening.{is_running};
 ghost use Rattle.cct_live_service.specs.Linked.{Exchanges};
@@ -27,8 +28,8 @@ use cct_model::{Command, End, Entry};
 pub enum AtEnd {
     /// They go on accepting, and their epochs run.
     Leave,
-    /// Each is stopped first: a job that is there makes attempts up to its end, and then a `stop`. One that doesn't answer three
-    /// times in succession is left as it is.
+    /// Each is stopped first: a job that is there makes attempts up to its end, and then a `stop`.
+    /// One that doesn't answer three times in succession is left as it is.
     Stop,
 }
 
@@ -95,7 +96,8 @@ fn stop_if_running<K: Sink, D: Disk, L: CountedLink>(
     }
 }
 
-/// The job at an address makes attempts up to its end, and then a `stop` does, unless that job got no answer or ended the epoch.
+/// The job at an address makes attempts up to its end, and then a `stop` does, unless that job got
+/// no answer or ended the epoch.
 fn stop<K: Sink, D: Disk, L: CountedLink>(
     host: &mut Host<'_, D>,
     addr: u8,
@@ -121,7 +123,8 @@ fn stop<K: Sink, D: Disk, L: CountedLink>(
     }
 }
 
-/// Whether the acceptor at an address still runs, and the job that was there, if one was, didn't end for want of an answer.
+/// Whether the acceptor at an address still runs, and the job that was there, if one was, didn't
+/// end for want of an answer.
 fn is_to_stop<D: Disk>(host: &Host<'_, D>, addr: u8, had_job: bool, page: &Page) -> bool
     ensures stays { result ≡ false → had_job ≡ false
         → (past : List Entry) → Keeps host.now past → is_running (epoch_at (setup_of host.now) past addr) ≡ false }
@@ -129,7 +132,7 @@ fn is_to_stop<D: Disk>(host: &Host<'_, D>, addr: u8, had_job: bool, page: &Page)
     runs(host.epoch_at(addr)) && !(had_job && is_unanswered(page.report.as_slice()))
 }
 
-/// Whether the last of these entries tells that a job got no answer.
+/// Whether the last of these entries says that a job got no answer.
 fn is_unanswered(entries: &[Entry]) -> bool {
     matches!(
         entries,

@@ -12,14 +12,15 @@ use cct_edge::{Failed, Sink};
 use cct_model::{Entry, MOST_TEXT, Sent};
 use cct_text::{TextLine, write_entry};
 
-/// Writes the first entry of an attempt whose message wasn't written, by one put: `unsent ADDRESS HEX` where it is an exchange
-/// in which nothing was heard.
+/// Writes the first entry of an attempt whose message wasn't written, by one put:
+/// `unsent ADDRESS HEX` where it is an exchange in which nothing was heard.
 pub(crate) fn tell_first<K: Sink>(
     out: &mut K,
     line: &mut TextLine,
     entry: &Entry,
 ) -> Result<(), Failed>
-    ensures puts { PutsLine K.written K.puts out.old (told_line (told_unsent entry.now (unheard entry.now))) result out.new }
+    ensures puts { PutsLine K.written K.puts out.old
+        (told_line (told_unsent entry.now (unheard entry.now))) result out.new }
     ensures serves { Serves K.written K.faults out.old out.new (IsErr result) }
 {
     match unheard(entry) {

@@ -18,7 +18,8 @@ use cct_host_change::Desk;
 use cct_live_port::CountedLink;
 use cct_model::{Command, End, Entry};
 
-/// How many rounds read out an acceptor in a poll, each after the first since a coin came while it was being read.
+/// How many rounds read out an acceptor in a poll, each after the first since a coin came while it
+/// was being read.
 const MOST_ROUNDS: u8 = 4;
 
 /// What is to be done at an address.
@@ -52,7 +53,8 @@ pub(crate) fn has_task<D: Disk>(host: &Host<'_, D>, addr: u8) -> bool {
     !matches!(task_at(host, addr), Task::Nothing)
 }
 
-/// Does at an address what is to be done there: an acceptor is read out by rounds, and any other job makes one attempt.
+/// Does at an address what is to be done there: an acceptor is read out by rounds, and any other
+/// job makes one attempt.
 pub(crate) fn visit<K: Sink, D: Disk, L: CountedLink>(
     host: &mut Host<'_, D>,
     addr: u8,
@@ -73,8 +75,8 @@ pub(crate) fn visit<K: Sink, D: Disk, L: CountedLink>(
     }
 }
 
-/// An acceptor is read out by a round, and by further ones where a coin came meanwhile. If the last one found so too, nothing
-/// more is done in the poll.
+/// An acceptor is read out by a round, and by further ones where a coin came meanwhile. If the last
+/// one found so too, nothing more is done in the poll.
 fn read_out<K: Sink, D: Disk, L: CountedLink>(
     host: &mut Host<'_, D>,
     addr: u8,
@@ -101,7 +103,7 @@ fn read_out<K: Sink, D: Disk, L: CountedLink>(
     Ok(())
 }
 
-/// Whether the last of these entries tells that a coin came while an acceptor was being read.
+/// Whether the last of these entries says that a coin came while an acceptor was being read.
 fn has_moved(entries: &[Entry]) -> bool {
     matches!(
         entries,
@@ -115,8 +117,8 @@ fn has_moved(entries: &[Entry]) -> bool {
     )
 }
 
-/// The round at an address goes on up to its end, or to the first try that isn't answered. One is begun where no job is there,
-/// if it is taken.
+/// The round at an address goes on up to its end, or to the first try that isn't answered. One is
+/// begun where no job is there, if it is taken.
 fn round<K: Sink, D: Disk, L: CountedLink>(
     host: &mut Host<'_, D>,
     addr: u8,
@@ -144,7 +146,8 @@ fn begin_round<K: Sink, D: Disk>(
     page: &mut Page,
 ) -> Result<(), Served>
     requires whole { has_failed host.old ≡ false }
-    ensures acts { Acts K.written K.puts K.faults (Both AreQuiet IsApart) IsVisit result out.old out.new host.old host.new }
+    ensures acts { Acts K.written K.puts K.faults (Both AreQuiet IsApart) IsVisit result out.old
+        out.new host.old host.new }
 {
     if host.command_at(addr).is_none() {
         answer(host, &Command::Round { addr }, out, page)

@@ -4,7 +4,7 @@ use Rattle.std.proofs.Math.Seq.{take-length}
 use Rattle.cct_model_lines.specs.terms.device.DeviceSetup.{DeviceSetup}
 use Rattle.cct_live_setup_copy.specs.Text.{device_text, devices_text, places_text, value_text}
 
--- the others of a list, whose number is told by the length
+-- the others of a list, whose number is reported by the length
 others_whole : {X : Type 0} (x : X) (xs : List X) → take (length (x ∷ xs) - 1) xs ≡ xs
 others_whole x xs =
     let less : length (x ∷ xs) - 1 ≡ length xs = omega arith in rw less (take-length xs)

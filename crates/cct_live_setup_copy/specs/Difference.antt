@@ -1,5 +1,7 @@
--- In what a setup differs from the one that a journal was made for, of all that touches its records or money.
-use Rattle.std.specs.Prelude.{ℕ, ◌==◌, Bool, true, false, bytes_eq, if◌then◌else◌, Option, Some, None}
+-- In what a setup differs from the one that a journal was made for, of all that touches its records
+-- or money.
+use Rattle.std.specs.Prelude.{ℕ, ◌==◌, Bool, true, false, bytes_eq, if◌then◌else◌, Option, Some}
+use Rattle.std.specs.Prelude.{None}
 use Rattle.cct_model_lines.specs.terms.wire.CheckKind.{CheckKind}
 use Rattle.cct_model_lines.specs.terms.wire.CheckKind.TheVariants.{Simple, Crc}
 use Rattle.cct_model_lines.specs.terms.device.DeviceBody.{DeviceBody}
@@ -9,7 +11,8 @@ use Rattle.cct_model_lines.specs.terms.device.Setup.{Setup}
 use Rattle.cct_model_lines.specs.Exchange.{device_at}
 use Rattle.cct_model_wire.specs.Family.{family_of, is_same}
 use Rattle.cct_live_setup_copy.specs.declared.difference.What.{What}
-use Rattle.cct_live_setup_copy.specs.declared.difference.What.TheVariants.{Missing, New, Kind, Check, Serial, Value}
+use Rattle.cct_live_setup_copy.specs.declared.difference.What.TheVariants.{Missing, New, Kind}
+use Rattle.cct_live_setup_copy.specs.declared.difference.What.TheVariants.{Check, Serial, Value}
 
 -- Two checks are the same.
 abbrev pub same_check : CheckKind → CheckKind → Bool
@@ -18,7 +21,8 @@ same_check Simple Crc = false
 same_check Crc Simple = false
 same_check Crc Crc = true
 
--- Two devices have the same values: those of the places of acceptors of coins, or of bills, or those of hoppers' coins.
+-- Two devices have the same values: those of the places of acceptors of coins, or of bills, or
+-- those of hoppers' coins.
 abbrev pub same_values : DeviceBody → DeviceBody → Bool
 same_values (Acceptor accepts values ids) (Acceptor counted others names) = bytes_eq values others
 same_values (Bill accepts values ids) (Bill counted others names) = bytes_eq values others
@@ -45,4 +49,5 @@ difference_of (Some kept) (Some given) = difference_between kept given
 
 -- What differs at an address between the setup that is kept and another one.
 unfoldable pub difference_at : Setup → Setup → ℕ → Option What
-difference_at kept given addr = difference_of (device_at kept.devices addr) (device_at given.devices addr)
+difference_at kept given addr =
+    difference_of (device_at kept.devices addr) (device_at given.devices addr)

@@ -1,5 +1,6 @@
 -- The setup lines that say a setup.
-use Rattle.std.specs.Prelude.{ℕ, ◌+◌, ◌==◌, Bool, true, false, List, [], ◌∷◌, ◌++◌, if◌then◌else◌, codes}
+use Rattle.std.specs.Prelude.{ℕ, ◌+◌, ◌==◌, Bool, true, false, List, [], ◌∷◌, ◌++◌, if◌then◌else◌}
+use Rattle.std.specs.Prelude.{codes}
 use Rattle.cct_model_lines.specs.terms.wire.CheckKind.{CheckKind}
 use Rattle.cct_model_lines.specs.terms.wire.CheckKind.TheVariants.{Simple, Crc}
 use Rattle.cct_model_lines.specs.terms.device.DeviceBody.{DeviceBody}

@@ -5,7 +5,8 @@ use Rattle.cct_edge.specs.Bytes.{AppendsFront, Serves}
 use Rattle.cct_edge.specs.declared.fault.Failed.{Failed}
 
 -- A text was written whole, or a front of it where a put failed, and nothing else was.
-pub record WritesText {K : Type 0} (written : K → Option (List ℕ)) (faults : K → ℕ) (text : List ℕ) (old : K)
+pub record WritesText {K : Type 0} (written : K → Option (List ℕ)) (faults : K → ℕ) (text : List ℕ)
+    (old : K)
     (result : Result (Unit {0}) Failed) (new : K) : Type 0 where
   pub ok : OnOk result (Appends (written old) (written new) text)
   pub err : OnErr result (AppendsFront (written old) (written new) text)

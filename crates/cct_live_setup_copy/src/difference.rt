@@ -1,12 +1,14 @@
 //! In what a setup differs from the one that a journal was made for.
 ghost use Rattle.std.specs.Prelude.{◌≡◌, ◌≤◌, ◌<◌, ℕ, None, Some, MatchOption, bytes_eq};
-ghost use Rattle.cct_live_setup_copy.specs.Difference.{difference_at, difference_between, same_values};
+ghost use Rattle.cct_live_setup_copy.specs.Difference.{difference_at, difference_between};
+ghost use Rattle.cct_live_setup_copy.specs.Difference.{same_values};
 
 use cct_model_lines::{DeviceBody, DeviceSetup, Setup};
 use std::fmt;
 
-/// What differs at an address, by the first of these that does. Texts, coins' identifications, the counts at which a
-/// bench's devices begin and the paths of a sorter aren't compared: they touch neither the records of a journal nor money.
+/// What differs at an address, by the first of these that does. Texts, coins' identifications, the
+/// counts at which a bench's devices begin and the paths of a sorter aren't compared: they touch
+/// neither the records of a journal nor money.
 #[derive(Clone, Copy, Debug, PartialEq, Eq)]
 pub enum What {
     /// The setup that is kept has a device there, and the other has none.
@@ -36,8 +38,8 @@ impl fmt::Display for What {
     }
 }
 
-/// The first address, in rising order, at which a setup differs from the one that is kept, and what differs there; `None`
-/// where all records and all money are the same under both.
+/// The first address, in rising order, at which a setup differs from the one that is kept, and what
+/// differs there; `None` where all records and all money are the same under both.
 pub fn first_difference(kept: &Setup, given: &Setup) -> Option<(u8, What)>
     ensures { MatchOption result
         ((addr : ℕ) → addr ≤ 255 → difference_at kept.now given.now addr ≡ None)

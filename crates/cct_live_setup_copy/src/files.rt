@@ -1,4 +1,4 @@
-//! The file of the setup that stands beside a journal.
+//! The file of the setup that is beside a journal.
 ghost use Rattle.std.specs.Prelude.{IfOk, IfSome};
 ghost use Rattle.cct_model_lines.specs.Setup.{IsSoundSetup};
 
@@ -20,7 +20,8 @@ pub enum CopyNo {
     Unread,
     /// The file is no setup that was written whole: the line of this number is refused.
     Torn { number: u32, kind: LineKind },
-    /// The file can't be made, written, synced, read back as it was written, or renamed, or its folder can't be synced.
+    /// The file can't be made, written, synced, read back as it was written, or renamed, or its
+    /// folder can't be synced.
     Unwritten,
 }
 
@@ -31,7 +32,7 @@ pub struct CopyNames {
     kept: String,
     /// `JOURNAL.setup.new`, which is renamed once it is whole.
     fresh: String,
-    /// `JOURNAL.setup.new` stands in it.
+    /// `JOURNAL.setup.new` is in it.
     folder: String,
 }
 
@@ -61,9 +62,10 @@ impl CopyNames {
         }
     }
 
-    /// Keeps a setup in the place of the one that is kept: another file is written whole, synced and read back, then it is
-    /// renamed, and the folder is synced. So at each moment one of the two stands there, whole. After an error it is the one
-    /// from before, or where the folder alone couldn't be synced either of them.
+    /// Keeps a setup in the place of the one that is kept: another file is written whole, synced
+    /// and read back, then it is renamed, and the folder is synced. So at each moment one of the
+    /// two is there, whole. After an error it is the one from before, or where the folder alone
+    /// couldn't be synced either of them.
     pub fn keep<R: Files>(&self, rt: &R, setup: &Setup) -> Result<(), CopyNo> {
         self.write_fresh(rt, setup)?;
         self.check_fresh(rt, setup)?;

@@ -1,5 +1,5 @@
-//! The setup that stands beside a journal, for which the journal was made (`docs/OPERATING.md`, "Another setup"): it is
-//! written, read back whole, and compared with another one field by field.
+//! The setup that is beside a journal, for which the journal was made (`docs/OPERATING.md`,
+//! "Another setup"): it is written, read back whole, and compared with another one field by field.
 #![tactic(auto)]
 
 mod difference;

@@ -7,8 +7,9 @@ use cct_edge::Source;
 use cct_model_lines::{Devices, LineKind, MOST_LINES, Setup, SetupLine};
 use cct_script::{Line, Lines, LinesNo, SetupNo, add, read_setup_line};
 
-/// Reads a setup that was written whole: setup lines, of which `begin` is the last one and ends the text; `None` where the
-/// text is empty. Any other text is refused, by its first line that isn't so, so a front of a setup is never taken for one.
+/// Reads a setup that was written whole: setup lines, of which `begin` is the last one and ends the
+/// text; `None` where the text is empty. Any other text is refused, by its first line that isn't
+/// so, so a front of a setup is never taken for one.
 pub fn read_copy<S: Source>(source: &mut S) -> Result<Option<Setup>, SetupNo>
     ensures sound { IfOk result (λ found. IfSome found IsSoundSetup) }
     // `Read` comes only where the source failed.
@@ -33,7 +34,7 @@ pub fn read_copy<S: Source>(source: &mut S) -> Result<Option<Setup>, SetupNo>
     Err(torn_at(MOST_LINES))
 }
 
-/// Takes a line into the setup, and tells whether another may follow.
+/// Takes a line into the setup, and says whether another may follow.
 fn take_line(setup: &mut Setup, line: &[u8]) -> Result<bool, LineKind>
     ensures { IsSoundSetup setup.old → IsSoundSetup setup.new }
 {
@@ -64,7 +65,8 @@ fn ends_with(
     }
 }
 
-/// A text that ends before the line of this number, and no `begin` came: it is no setup, unless it is empty.
+/// A text that ends before the line of this number, and no `begin` came: it is no setup, unless it
+/// is empty.
 fn ended_at(number: u32) -> Result<Option<Setup>, SetupNo>
     ensures sound { IfOk result (λ found. IfSome found IsSoundSetup) }
     ensures read { result ≡ Err SetupNo.Read → ⊥ }

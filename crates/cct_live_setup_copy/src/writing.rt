@@ -1,15 +1,18 @@
 //! A setup is written as its setup lines.
 ghost use Rattle.std.specs.Prelude.{◌≡◌, ◌≤◌, ◌<◌, ◌+◌, [], ◌++◌, true, length};
 ghost use Rattle.cct_text.specs.Adding.{Adds};
-ghost use Rattle.cct_live_setup_copy.specs.Text.{check_field, device_line, device_text, devices_text, field, head_text, named_text, number_field, places_text, rest_text, setup_text, value_line, value_text, values_text};
+ghost use Rattle.cct_live_setup_copy.specs.Text.{check_field, device_line, device_text};
+ghost use Rattle.cct_live_setup_copy.specs.Text.{devices_text, field, head_text, named_text};
+ghost use Rattle.cct_live_setup_copy.specs.Text.{number_field, places_text, rest_text, setup_text};
+ghost use Rattle.cct_live_setup_copy.specs.Text.{value_line, value_text, values_text};
 ghost use Rattle.cct_live_setup_copy.specs.Writing.{WritesText};
 
 use cct_edge::{Failed, Sink};
 use cct_model_lines::{COIN_PLACES, CheckKind, DeviceBody, DeviceSetup, MOST_TEXT, Setup, Texts};
 use cct_text::TextLine;
 
-/// Writes the setup lines of a setup, with `begin`, each by one put (`docs/SCRIPT.md`). Whoever reads them has the devices in
-/// the same order, with all that a setup line says.
+/// Writes the setup lines of a setup, with `begin`, each by one put (`docs/SCRIPT.md`). Whoever
+/// reads them has the devices in the same order, with all that a setup line says.
 #[tactic(auto, using(crate::proofs::Written::first_failed, crate::proofs::Written::both_written))]
 pub fn write_setup<K: Sink>(setup: &Setup, out: &mut K) -> Result<(), Failed>
     ensures { WritesText K.written K.faults (setup_text setup.now) out.old result out.new }
@@ -58,7 +61,8 @@ fn put_device<K: Sink>(device: &DeviceSetup, line: &mut TextLine, out: &mut K) -
 
 /// Writes the first line of a device.
 fn put_head<K: Sink>(device: &DeviceSetup, line: &mut TextLine, out: &mut K) -> Result<(), Failed>
-    ensures { WritesText K.written K.faults (device_line device.now.body device.now) out.old result out.new }
+    ensures { WritesText K.written K.faults (device_line device.now.body device.now) out.old result
+        out.new }
 {
     write_device(line, device);
     out.put(line.as_slice())
@@ -158,7 +162,8 @@ fn put_places<K: Sink>(
     out: &mut K,
 ) -> Result<(), Failed>
     requires { place + length values.now ≤ COIN_PLACES + 1 }
-    ensures { WritesText K.written K.faults (places_text addr place values.now ids.now) out.old result out.new }
+    ensures { WritesText K.written K.faults (places_text addr place values.now ids.now) out.old
+        result out.new }
 {
     match values {
         [] => Ok(()),
@@ -181,7 +186,8 @@ fn put_value<K: Sink>(
     line: &mut TextLine,
     out: &mut K,
 ) -> Result<(), Failed>
-    ensures { WritesText K.written K.faults (value_text addr place value id.now) out.old result out.new }
+    ensures { WritesText K.written K.faults (value_text addr place value id.now) out.old result
+        out.new }
 {
     if value == 0 {
         return Ok(());
@@ -215,7 +221,8 @@ fn write_field(line: &mut TextLine, text: &[u8])
 
 /// Writes the line of a device's texts, where a line said them.
 fn put_texts<K: Sink>(device: &DeviceSetup, line: &mut TextLine, out: &mut K) -> Result<(), Failed>
-    ensures { WritesText K.written K.faults (named_text device.now.named device.now.addr device.now.texts) out.old result out.new }
+    ensures { WritesText K.written K.faults
+        (named_text device.now.named device.now.addr device.now.texts) out.old result out.new }
 {
     if !device.named {
         return Ok(());

@@ -1,5 +1,6 @@
 -- Questions over a link: which messages were sent, and what was made of what was heard.
-use Rattle.std.specs.Prelude.{◌≡◌, ℕ, ◌+◌, ◌≤◌, ◌==◌, ◌&&◌, Bool, true, false, List, [], ◌∷◌, length, if◌then◌else◌, Option, Some, None, option_and_then, take}
+use Rattle.std.specs.Prelude.{◌≡◌, ℕ, ◌+◌, ◌≤◌, ◌==◌, ◌&&◌, Bool, true, false, List, [], ◌∷◌}
+use Rattle.std.specs.Prelude.{length, if◌then◌else◌, Option, Some, None, option_and_then, take}
 use Rattle.std.specs.Option.{option_map}
 use Rattle.cct_live_survey.specs.declared.category.TheConstants.{MOST_CATEGORY}
 use Rattle.cct_model_wire.specs.declared.wire.CheckKind.{CheckKind}
@@ -73,7 +74,8 @@ answers_to_all kind heard = after_echo (ask kind BROADCAST request.AddressPoll) 
 
 -- The message by which the host asks what a bill or a coin is worth.
 abbrev pub asking_value : ℕ → ValueRequest → Message
-asking_value addr q = record { to = addr; from = Some HOST; header = value_header q; body = value_data q }
+asking_value addr q =
+    record { to = addr; from = Some HOST; header = value_header q; body = value_data q }
 
 -- Its bytes.
 unfoldable pub ask_value : CheckKind → ℕ → ValueRequest → List ℕ
@@ -81,42 +83,54 @@ ask_value kind addr q = spelling kind (asking_value addr q)
 
 -- The data bytes of a reply to the host from an address, if there are so many.
 abbrev pub data_from : ℕ → ℕ → Message → Option (List ℕ)
-data_from many addr m = if is_for_host addr m && (m.header == 0) && (length m.body == many) then Some m.body else None
+data_from many addr m =
+    if is_for_host addr m && (m.header == 0) && (length m.body == many) then Some m.body else None
 
 -- The data bytes of the reply to such a question, in what was heard.
 unfoldable pub value_in : CheckKind → ℕ → ValueRequest → List ℕ → Option (List ℕ)
 value_in kind addr q heard =
-    option_and_then (data_from (value_length q) addr) (option_and_then (message kind) (after_echo (ask_value kind addr q) heard))
+    option_and_then (data_from (value_length q) addr)
+    (option_and_then (message kind) (after_echo (ask_value kind addr q) heard))
 
 -- Over a link of which is known what an exchange gives.
 module _ {L : Type 0} (gives : L → List ℕ → List ℕ → L → Type 0) where
-  -- One message was sent so many times, none of them but the last answered, and this is the answer of the last.
-  pub data Tries {A : Type 0} (piece : List ℕ) (answer : List ℕ → Option A) (first : L) : ℕ → Option A → L → Type 0 where
+  -- One message was sent so many times, none of them but the last answered, and this is the answer
+  -- of the last.
+  pub data Tries {A : Type 0} (piece : List ℕ) (answer : List ℕ → Option A) (first : L) : ℕ →
+      Option A → L → Type 0 where
     untried : Tries piece answer first 0 None first
     tried : (made : ℕ) (heard : List ℕ) (line next : L) → Tries piece answer first made None line
         → gives line piece heard next → Tries piece answer first (made + 1) (answer heard) next
 
   -- It was sent at least once, and at most so many times.
-  pub record Asked (most : ℕ) {A : Type 0} (piece : List ℕ) (answer : List ℕ → Option A) (first : L) (found : Option A) (last : L) : Type 0 where
+  pub record Asked (most : ℕ) {A : Type 0} (piece : List ℕ) (answer : List ℕ → Option A) (first : L)
+      (found : Option A) (last : L) : Type 0 where
     pub made : ℕ
     pub some : 1 ≤ made
     pub few : made ≤ most
     pub tries : Tries piece answer first made found last
 
-  -- The device at an address was asked a request for a reply of a form, at most so many times, and this is what was made of
-  -- the reply.
-  pub record Asks (most : ℕ) {A : Type 0} (kind : CheckKind) (addr : ℕ) (q : Request) (form : ReplyForm) (made_of : Option Reply → A) (first : L) (told : A) (last : L) : Type 0 where
+  -- The device at an address was asked a request for a reply of a form, at most so many times, and
+  -- this is what was made of the reply.
+  pub record Asks (most : ℕ) {A : Type 0} (kind : CheckKind) (addr : ℕ) (q : Request)
+      (form : ReplyForm) (made_of : Option Reply → A) (first : L) (told : A) (last : L) : Type 0 where
     pub found : Option Reply
     pub asked : Asked most (ask kind addr q) (reply_to kind addr q form) first found last
     pub told_is : told ≡ made_of found
 
-  -- Questions of this kind were asked, one after another, each at most three times, and nothing else was sent.
+  -- Questions of this kind were asked, one after another, each at most three times, and nothing
+  -- else was sent.
   pub data Inquires (first : L) : L → Type 0 where
     still : Inquires first first
-    asks_one : (most : ℕ) (kind : CheckKind) (addr : ℕ) (q : Request) (form : ReplyForm) (found : Option Reply) (line next : L)
+    asks_one : (most : ℕ) (kind : CheckKind) (addr : ℕ) (q : Request) (form : ReplyForm)
+        (found : Option Reply) (line next : L)
         → Inquires first line → is_identity q ≡ true → most ≤ 3
-        → Asked most (ask kind addr q) (reply_to kind addr q form) line found next → Inquires first next
+        → Asked most (ask kind addr q) (reply_to kind addr q form) line found next →
+        Inquires first next
     asks_all : (kind : CheckKind) (found : Option (List ℕ)) (line next : L) → Inquires first line
-        → Asked 3 (ask kind BROADCAST request.AddressPoll) (answers_to_all kind) line found next → Inquires first next
-    asks_value : (kind : CheckKind) (addr : ℕ) (q : ValueRequest) (found : Option (List ℕ)) (line next : L) → Inquires first line
-        → Asked 3 (ask_value kind addr q) (value_in kind addr q) line found next → Inquires first next
+        → Asked 3 (ask kind BROADCAST request.AddressPoll) (answers_to_all kind) line found next →
+        Inquires first next
+    asks_value : (kind : CheckKind) (addr : ℕ) (q : ValueRequest) (found : Option (List ℕ))
+        (line next : L) → Inquires first line
+        → Asked 3 (ask_value kind addr q) (value_in kind addr q) line found next →
+        Inquires first next

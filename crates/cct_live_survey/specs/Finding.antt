@@ -1,5 +1,7 @@
--- In what a device isn't as the setup says: the line that tells it, and the commands that are withheld for it.
-use Rattle.std.specs.Prelude.{ℕ, ◌==◌, ◌&&◌, nat_le, Bool, true, false, List, [], ◌∷◌, ◌++◌, map, if◌then◌else◌, Option, Some, None, codes}
+-- In what a device isn't as the setup says: the line that shows it, and the commands that are
+-- withheld for it.
+use Rattle.std.specs.Prelude.{ℕ, ◌==◌, ◌&&◌, nat_le, Bool, true, false, List, [], ◌∷◌, ◌++◌, map}
+use Rattle.std.specs.Prelude.{if◌then◌else◌, Option, Some, None, codes}
 use Rattle.std.specs.List.{list_any}
 use Rattle.cct_model_lines.specs.Text.{number_text}
 use Rattle.cct_model_lines.specs.declared.command.Command.{Command}
@@ -18,7 +20,7 @@ shown byte = if nat_le 32 byte && nat_le byte 126 then byte else 63
 abbrev pub begun : ℕ → List ℕ → List ℕ
 begun addr word = codes "device " ++ number_text addr ++ word
 
--- A category that was told, or a dash.
+-- A category that was reported, or a dash.
 abbrev pub category_text : Option (List ℕ) → List ℕ
 category_text (Some text) = map shown text
 category_text None = codes "-"
@@ -41,12 +43,16 @@ tells_other_serial addr f = false
 
 -- The device at an address told another coin at a place that a mask has.
 abbrev pub tells_other_coin : ℕ → ℕ → Finding → Bool
-tells_other_coin addr mask (finding.Coin there place id) = (there == addr) && is_place place && has_place mask place
+tells_other_coin addr mask (finding.Coin there place id) =
+    (there == addr) && is_place place && has_place mask place
 tells_other_coin addr mask f = false
 
--- Why a command isn't to be given to the host, by what was found: no payment goes to a device that told another serial
--- number, and no start to an acceptor that told another coin at a place of its mask.
+-- Why a command isn't to be given to the host, by what was found: no payment goes to a device that
+-- told another serial number, and no start to an acceptor that told another coin at a place of its
+-- mask.
 abbrev pub withheld_by : List Finding → Command → Option Withheld
-withheld_by findings (Pay addr id count) = if list_any (tells_other_serial addr) findings then Some OtherSerial else None
-withheld_by findings (Start addr mask) = if list_any (tells_other_coin addr mask) findings then Some OtherCoin else None
+withheld_by findings (Pay addr id count) =
+    if list_any (tells_other_serial addr) findings then Some OtherSerial else None
+withheld_by findings (Start addr mask) =
+    if list_any (tells_other_coin addr mask) findings then Some OtherCoin else None
 withheld_by findings command = None

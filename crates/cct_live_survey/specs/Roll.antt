@@ -1,5 +1,7 @@
 -- The roll of a setup: its devices are asked one question after another who they are.
-use Rattle.std.specs.Prelude.{◌≡◌, ◌⊎◌, ℕ, ◌+◌, ◌-◌, ◌≤◌, ◌<◌, ◌==◌, nat_le, Bool, false, List, [], ◌++◌, length, map, if◌then◌else◌, Option, Some, None, bytes_eq, codes, slice_get}
+use Rattle.std.specs.Prelude.{◌≡◌, ◌⊎◌, ℕ, ◌+◌, ◌-◌, ◌≤◌, ◌<◌, ◌==◌, nat_le, Bool, false, List, []}
+use Rattle.std.specs.Prelude.{◌++◌, length, map, if◌then◌else◌, Option, Some, None, bytes_eq, codes}
+use Rattle.std.specs.Prelude.{slice_get}
 use Rattle.std.specs.List.{position, remove, sum_by}
 use Rattle.std.specs.Option.{option_map, option_to_list}
 use Rattle.cct_model_lines.specs.terms.device.DeviceSetup.{DeviceSetup}
@@ -29,9 +31,10 @@ use Rattle.cct_live_survey.specs.Coins.{coin_at, next_coin}
 abbrev pub serial_call : DeviceSetup → Option ℕ → Called
 serial_call d None = called.Silent
 serial_call d (Some number) =
-    if number == d.serial then called.Told None else called.Told (Some (finding.Serial d.addr number))
+    if number == d.serial then called.Told None else called.Told
+    (Some (finding.Serial d.addr number))
 
--- A family, if one was told, is that of a device.
+-- A family, if one was reported, is that of a device.
 abbrev pub is_family : DeviceSetup → Option Family → Bool
 is_family d (Some told) = is_same told (family_of d.body)
 is_family d None = false
@@ -44,14 +47,16 @@ is_family_of d text = is_family d (family_told text)
 abbrev pub category_call : DeviceSetup → Option (List ℕ) → Called
 category_call d None = called.Silent
 category_call d (Some text) =
-    if is_family_of d text then called.Told None else called.Told (Some (finding.Kind d.addr (Some text)))
+    if is_family_of d text then called.Told None else called.Told
+    (Some (finding.Kind d.addr (Some text)))
 
--- What is found where this identification is told, and the setup names that coin, if any.
+-- What is found where this identification is reported, and the setup names that coin, if any.
 abbrev pub differing_coin : DeviceSetup → ℕ → List ℕ → Option (List ℕ) → Option Finding
-differing_coin d place id (Some wanted) = if bytes_eq wanted id then None else Some (finding.Coin d.addr place id)
+differing_coin d place id (Some wanted) =
+    if bytes_eq wanted id then None else Some (finding.Coin d.addr place id)
 differing_coin d place id None = Some (finding.Coin d.addr place id)
 
--- What is found where a device tells this identification of the coin of a place.
+-- What is found where a device shows this identification of the coin of a place.
 abbrev pub other_coin : DeviceSetup → ℕ → List ℕ → Option Finding
 other_coin d place id = differing_coin d place id (coin_at d.body place)
 
@@ -72,7 +77,8 @@ first_turn d = record { addr = d.addr; about = about.Serial; silent = 0 }
 
 -- The roll before any device was asked.
 abbrev pub first_roll : Bool → List DeviceSetup → Rolled
-first_roll trusts_coins devices = record { trusts_coins = trusts_coins; left = map first_turn devices; findings = [] }
+first_roll trusts_coins devices =
+    record { trusts_coins = trusts_coins; left = map first_turn devices; findings = [] }
 
 -- The question of the first coin from a place on, or none.
 abbrev pub coin_from : DeviceBody → ℕ → Option About
@@ -87,7 +93,8 @@ next_about trusts_coins body (about.Coin place) = coin_from body (place + 1)
 -- The next turn of a device after this one, or none.
 abbrev pub next_turn : Bool → DeviceBody → Turn → Option Turn
 next_turn trusts_coins body t =
-    option_map (λ next. record { addr = t.addr; about = next; silent = 0 }) (next_about trusts_coins body t.about)
+    option_map (λ next. record { addr = t.addr; about = next; silent = 0 })
+    (next_about trusts_coins body t.about)
 
 -- The same turn after one silence more.
 abbrev pub once_more : Turn → Turn
@@ -108,7 +115,8 @@ pub record IsRoomy (left : List Turn) (findings : List Finding) : Type 0 where
   pub turns : length left ≤ DEVICES
   pub room : length findings + sum_by most_found left ≤ MOST_FINDINGS
 
--- The roll after the turn at an index: this one, if any, comes last, and this was found, if anything.
+-- The roll after the turn at an index: this one, if any, comes last, and this was found, if
+-- anything.
 abbrev pub moved : ℕ → Option Turn → Option Finding → Rolled → Rolled
 moved index next found r = record {
   trusts_coins = r.trusts_coins;
@@ -120,9 +128,11 @@ moved index next found r = record {
 abbrev pub gone_on : ℕ → DeviceBody → Turn → Option Finding → Rolled → Rolled
 gone_on index body t found r = moved index (next_turn r.trusts_coins body t) found r
 
--- The roll after the third silence at a question. A device that is absent, or doesn't tell a coin, rests from then on.
+-- The roll after the third silence at a question. A device that is absent, or doesn't tell a coin,
+-- rests from then on.
 abbrev pub given_up : ℕ → DeviceBody → Turn → About → Rolled → Rolled
-given_up index body t about.Serial r = moved index (Some (once_more t)) (Some (finding.Absent t.addr)) r
+given_up index body t about.Serial r =
+    moved index (Some (once_more t)) (Some (finding.Absent t.addr)) r
 given_up index body t about.Category r = gone_on index body t (Some (finding.Kind t.addr None)) r
 given_up index body t (about.Coin place) r = moved index (Some (once_more t)) None r
 
@@ -143,19 +153,24 @@ module _ {L : Type 0} (gives : L → List ℕ → List ℕ → L → Type 0) whe
   -- A device was asked one question once, and this is what came of it.
   abbrev pub CallsOnce : DeviceSetup → About → L → Called → L → Type 0
   CallsOnce d about.Serial first came last =
-      (told : Option ℕ) × Asks gives 1 d.kind d.addr request.SerialNumber form.Serial serial_told first told last
+      (told : Option ℕ) × Asks gives 1 d.kind d.addr request.SerialNumber form.Serial serial_told
+      first told last
       × (came ≡ serial_call d told)
   CallsOnce d about.Category first came last =
-      (told : Option (List ℕ)) × Asks gives 1 d.kind d.addr request.Category form.Text category_told first told last
+      (told : Option (List ℕ)) × Asks gives 1 d.kind d.addr request.Category form.Text category_told
+      first told last
       × (came ≡ category_call d told)
   CallsOnce d (about.Coin place) first came last =
-      (told : Option (List ℕ)) × Asks gives 1 d.kind d.addr (request.CoinId place) form.CoinId id_told first told last
+      (told : Option (List ℕ)) × Asks gives 1 d.kind d.addr (request.CoinId place) form.CoinId
+      id_told first told last
       × (came ≡ coin_call d place told)
 
-  -- The question of a turn was asked once of the device of the setup, and this is the roll then. If the setup has no such
-  -- device, nothing was asked.
-  pub data CallsAt (devices : List DeviceSetup) (index : ℕ) (r : Rolled) (first : L) : Answered → Rolled → L → Type 0 where
-    was_told : (t : Turn) (d : DeviceSetup) (found : Option Finding) (last : L) → slice_get r.left index ≡ Some t
+  -- The question of a turn was asked once of the device of the setup, and this is the roll then. If
+  -- the setup has no such device, nothing was asked.
+  pub data CallsAt (devices : List DeviceSetup) (index : ℕ) (r : Rolled) (first : L) : Answered →
+      Rolled → L → Type 0 where
+    was_told : (t : Turn) (d : DeviceSetup) (found : Option Finding) (last : L) →
+        slice_get r.left index ≡ Some t
         → device_at devices t.addr ≡ Some d → CallsOnce d t.about first (called.Told found) last
         → CallsAt devices index r first answered.All (gone_on index d.body t found r) last
     was_silent : (t : Turn) (d : DeviceSetup) (last : L) → slice_get r.left index ≡ Some t
@@ -165,16 +180,24 @@ module _ {L : Type 0} (gives : L → List ℕ → List ℕ → L → Type 0) whe
         → CallsAt devices index r first answered.All (moved index None None r) first
 
   -- So many questions were asked of those who are meant, one after another, each answered.
-  pub data Calls (devices : List DeviceSetup) (whom : Option ℕ) (r : Rolled) (first : L) : ℕ → Rolled → L → Type 0 where
+  pub data Calls (devices : List DeviceSetup) (whom : Option ℕ) (r : Rolled) (first : L) : ℕ →
+      Rolled → L → Type 0 where
     uncalled : Calls devices whom r first 0 r first
-    called_more : (many index : ℕ) (before now : Rolled) (line next : L) → Calls devices whom r first many before line
-        → position (is_meant whom) before.left ≡ Some index → CallsAt devices index before line answered.All now next
+    called_more : (many index : ℕ) (before now : Rolled) (line next : L) →
+        Calls devices whom r first many before line
+        → position (is_meant whom) before.left ≡ Some index →
+        CallsAt devices index before line answered.All now next
         → Calls devices whom r first (many + 1) now next
 
   -- Those who are meant were asked at most so many questions, up to the first that wasn't answered.
-  pub data AsksRoll (devices : List DeviceSetup) (whom : Option ℕ) (most : ℕ) (r : Rolled) (first : L) : Answered → Rolled → L → Type 0 where
-    all_answered : (many : ℕ) (now : Rolled) (last : L) → many ≤ most → Calls devices whom r first many now last
-        → (many ≡ most) ⊎ (position (is_meant whom) now.left ≡ None) → AsksRoll devices whom most r first answered.All now last
-    last_silent : (many index : ℕ) (before now : Rolled) (line last : L) → many < most → Calls devices whom r first many before line
-        → position (is_meant whom) before.left ≡ Some index → CallsAt devices index before line answered.Silent now last
+  pub data AsksRoll (devices : List DeviceSetup) (whom : Option ℕ) (most : ℕ) (r : Rolled)
+      (first : L) : Answered → Rolled → L → Type 0 where
+    all_answered : (many : ℕ) (now : Rolled) (last : L) → many ≤ most →
+        Calls devices whom r first many now last
+        → (many ≡ most) ⊎ (position (is_meant whom) now.left ≡ None) →
+        AsksRoll devices whom most r first answered.All now last
+    last_silent : (many index : ℕ) (before now : Rolled) (line last : L) → many < most →
+        Calls devices whom r first many before line
+        → position (is_meant whom) before.left ≡ Some index →
+        CallsAt devices index before line answered.Silent now last
         → AsksRoll devices whom most r first answered.Silent now last

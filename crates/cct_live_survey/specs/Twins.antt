@@ -1,5 +1,7 @@
--- Two devices under the CRC that have the same replies: both hoppers, or both acceptors, of coins or of bills.
-use Rattle.std.specs.Prelude.{ℕ, ◌&&◌, Bool, true, false, List, [], ◌∷◌, if◌then◌else◌, Option, Some, None}
+-- Two devices under the CRC that have the same replies: both hoppers, or both acceptors, of coins
+-- or of bills.
+use Rattle.std.specs.Prelude.{ℕ, ◌&&◌, Bool, true, false, List, [], ◌∷◌, if◌then◌else◌, Option}
+use Rattle.std.specs.Prelude.{Some, None}
 use Rattle.cct_model_wire.specs.declared.wire.CheckKind.{CheckKind}
 use Rattle.cct_model_wire.specs.declared.wire.CheckKind.TheVariants.{Simple, Crc}
 use Rattle.cct_model_wire.specs.declared.device.DeviceSetup.{DeviceSetup}
@@ -30,7 +32,8 @@ abbrev pub two_or : ℕ → Option ℕ → Option (ℕ × ℕ) → Option (ℕ �
 two_or addr (Some other) rest = Some (addr, other)
 two_or addr None rest = rest
 
--- The addresses of the first two devices of a list that have the same replies, and are both under the CRC.
+-- The addresses of the first two devices of a list that have the same replies, and are both under
+-- the CRC.
 abbrev pub crc_twins : List DeviceSetup → Option (ℕ × ℕ)
 crc_twins [] = None
 crc_twins (d ∷ devices) = two_or d.addr (twin_of d devices) (crc_twins devices)

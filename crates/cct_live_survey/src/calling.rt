@@ -1,6 +1,7 @@
 //! One question to a device of the setup, asked once, and what its answer tells.
 ghost use Rattle.std.specs.Prelude.{◌≡◌};
-ghost use Rattle.cct_live_survey.specs.Roll.{CallsOnce, category_call, coin_call, is_family_of, other_coin, serial_call};
+ghost use Rattle.cct_live_survey.specs.Roll.{CallsOnce, category_call, coin_call, is_family_of};
+ghost use Rattle.cct_live_survey.specs.Roll.{other_coin, serial_call};
 
 use crate::category::Category;
 use crate::coins::coin_at;
@@ -101,7 +102,7 @@ fn coin_call(device: &DeviceSetup, place: u8, told: Option<[u8; 6]>) -> Called
     }
 }
 
-/// What is found where a device tells this identification of the coin of a place.
+/// What is found where a device shows this identification of the coin of a place.
 fn other_coin(device: &DeviceSetup, place: u8, id: [u8; 6]) -> Option<Finding>
     ensures { result ≡ other_coin device.now place id }
 {

@@ -53,8 +53,8 @@ impl Category {
         self.text.as_slice()
     }
 
-    /// The family that has this category: `Coin Acceptor`, `Payout` or `Bill Validator`, letter by letter. No other
-    /// text is one of a family.
+    /// The family that has this category: `Coin Acceptor`, `Payout` or `Bill Validator`, letter by
+    /// letter. No other text is one of a family.
     pub fn family(&self) -> Option<Family>
         ensures { result ≡ family_told self.now }
     {

@@ -11,8 +11,8 @@ pub const NO_COIN: [u8; 6] = *b"......";
 /// The coin places.
 const PLACES: [u8; COIN_PLACES] = [1, 2, 3, 4, 5, 6, 7, 8, 9, 10, 11, 12, 13, 14, 15, 16];
 
-/// The identification of the coin of a place of a coin acceptor, as its `value` line says it. None where the place has no
-/// `value` line, or one with six points, which name no coin.
+/// The identification of the coin of a place of a coin acceptor, as its `value` line says it. None
+/// where the place has no `value` line, or one with six points, which name no coin.
 pub(crate) fn coin_at(body: &DeviceBody, place: u8) -> Option<[u8; 6]>
     ensures { result ≡ coin_at body.now place }
 {

@@ -1,9 +1,10 @@
-//! In what a device isn't as the setup says, and the line that tells it.
+//! In what a device isn't as the setup says, and the line that shows it.
 ghost use Rattle.std.specs.Prelude.{◌≡◌, ◌+◌, ◌<◌, ◌≤◌, ◌++◌, length, map, IsErr};
 ghost use Rattle.cct_edge.specs.Bytes.{Serves};
 ghost use Rattle.cct_text.specs.Adding.{Adds};
 ghost use Rattle.cct_text.specs.Writing.{PutsLine};
-ghost use Rattle.cct_live_survey.specs.Finding.{begun, category_text, finding_line, finding_text, shown};
+ghost use Rattle.cct_live_survey.specs.Finding.{begun, category_text, finding_line, finding_text};
+ghost use Rattle.cct_live_survey.specs.Finding.{shown};
 
 use crate::category::Category;
 use cct_edge::{Failed, Sink};
@@ -46,9 +47,10 @@ impl Default for Finding {
     }
 }
 
-/// Writes the line of a finding by one put: `device A absent`, `device A kind TEXT`, `device A serial N` or
-/// `device A coin PLACE TEXT` (`docs/LIVE.md`). A dash is the category that isn't told, and a question mark each byte of a
-/// text that isn't printing. The line buffer is used for it, whatever it holds; afterwards it holds the line.
+/// Writes the line of a finding by one put: `device A absent`, `device A kind TEXT`,
+/// `device A serial N` or `device A coin PLACE TEXT` (`docs/LIVE.md`). A dash is the category that
+/// isn't reported, and a question mark each byte of a text that isn't printing. The line buffer is
+/// used for it, whatever it holds; afterwards it holds the line.
 pub fn write_finding<K: Sink>(
     finding: &Finding,
     line: &mut TextLine,

@@ -1,6 +1,6 @@
-//! Who is on a line. The devices of a setup are asked who they are, and what isn't as the setup says is found; by it commands
-//! are withheld. Nothing is asked but who a device is, which coins it knows and what they are worth, so no device changes by
-//! it.
+//! Who is on a line. The devices of a setup are asked who they are, and what isn't as the setup
+//! says is found; by it commands are withheld. Nothing is asked but who a device is, which coins it
+//! knows and what they are worth, so no device changes by it.
 #![tactic(auto)]
 
 mod calling;

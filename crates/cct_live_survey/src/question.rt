@@ -6,7 +6,9 @@ ghost use Rattle.cct_model_wire.specs.Reply.{reply_shown};
 ghost use Rattle.cct_model_wire.specs.declared.request.Request.TheVariants as request;
 ghost use Rattle.cct_model_wire.specs.declared.request.ReplyForm.TheVariants as form;
 ghost use Rattle.cct_live_survey.specs.declared.question.TheConstants.{TRIES};
-ghost use Rattle.cct_live_survey.specs.Asking.{Asked, Asks, Inquires, answers_to_all, category_told, id_told, is_identity, reply_to, serial_told};
+ghost use Rattle.cct_live_survey.specs.Asking.{Asked, Asks, Inquires, answers_to_all};
+ghost use Rattle.cct_live_survey.specs.Asking.{category_told, id_told, is_identity, reply_to};
+ghost use Rattle.cct_live_survey.specs.Asking.{serial_told};
 
 use crate::category::Category;
 use crate::room::Room;
@@ -17,7 +19,8 @@ use cct_wire::{Link, bare_after_echo};
 /// How often a question is asked at most.
 pub const TRIES: u8 = 3;
 
-/// Asks a request of an address until the reply in the form that is wanted is heard, or so many times.
+/// Asks a request of an address until the reply in the form that is wanted is heard, or so many
+/// times.
 fn question<L: Link>(
     link: &mut L,
     kind: CheckKind,
@@ -32,7 +35,8 @@ fn question<L: Link>(
     requires few { tries ≤ TRIES }
     ensures asked { Asked L.gives tries (ask kind addr request) (reply_to kind addr request form) link.old
         (reply_to kind addr request form room.new.heard.items) link.new }
-    ensures inquires { (first : L) → Inquires L.gives first link.old → Inquires L.gives first link.new }
+    ensures inquires { (first : L) → Inquires L.gives first link.old →
+        Inquires L.gives first link.new }
     ensures sent { room.new.sent.items ≡ ask kind addr request }
 {
     encode_request(kind, addr, &request, &mut room.sent);
@@ -43,7 +47,7 @@ fn question<L: Link>(
     }
 }
 
-/// Sends what is in the room, and tells whether the reply in the form that is wanted is heard.
+/// Sends what is in the room, and says whether the reply in the form that is wanted is heard.
 fn is_answered<L: Link>(
     link: &mut L,
     kind: CheckKind,
@@ -53,7 +57,8 @@ fn is_answered<L: Link>(
 ) -> bool
     ensures gives { L.gives link.old room.old.sent.items room.new.heard.items link.new }
     ensures sent { room.new.sent.items ≡ room.old.sent.items }
-    ensures answered { result ≡ is_some (got kind addr form room.new.sent.items room.new.heard.items) }
+    ensures answered { result ≡ is_some (got kind addr form room.new.sent.items
+        room.new.heard.items) }
 {
     room.exchange(link);
     wanted_reply(
@@ -66,7 +71,8 @@ fn is_answered<L: Link>(
     .is_some()
 }
 
-/// The serial number that the device at an address tells under a check, asked so many times at most.
+/// The serial number that the device at an address tells under a check, asked so many times at
+/// most.
 pub fn serial_of<L: Link>(
     link: &mut L,
     kind: CheckKind,
@@ -76,8 +82,10 @@ pub fn serial_of<L: Link>(
 ) -> Option<u32>
     requires some { 1 ≤ tries }
     requires few { tries ≤ TRIES }
-    ensures asks { Asks L.gives tries kind addr request.SerialNumber form.Serial serial_told link.old result link.new }
-    ensures inquires { (first : L) → Inquires L.gives first link.old → Inquires L.gives first link.new }
+    ensures asks { Asks L.gives tries kind addr request.SerialNumber form.Serial serial_told
+        link.old result link.new }
+    ensures inquires { (first : L) → Inquires L.gives first link.old →
+        Inquires L.gives first link.new }
 {
     question(
         link,
@@ -110,8 +118,10 @@ pub fn category_of<L: Link>(
 ) -> Option<Category>
     requires some { 1 ≤ tries }
     requires few { tries ≤ TRIES }
-    ensures asks { Asks L.gives tries kind addr request.Category form.Text category_told link.old result link.new }
-    ensures inquires { (first : L) → Inquires L.gives first link.old → Inquires L.gives first link.new }
+    ensures asks { Asks L.gives tries kind addr request.Category form.Text category_told link.old
+        result link.new }
+    ensures inquires { (first : L) → Inquires L.gives first link.old →
+        Inquires L.gives first link.new }
 {
     question(
         link,
@@ -134,8 +144,8 @@ pub fn category_of<L: Link>(
     }
 }
 
-/// The identification of the coin of a place that the device at an address tells under a check, asked so many times at
-/// most.
+/// The identification of the coin of a place that the device at an address tells under a check,
+/// asked so many times at most.
 pub fn coin_id_of<L: Link>(
     link: &mut L,
     kind: CheckKind,
@@ -146,8 +156,10 @@ pub fn coin_id_of<L: Link>(
 ) -> Option<[u8; 6]>
     requires some { 1 ≤ tries }
     requires few { tries ≤ TRIES }
-    ensures asks { Asks L.gives tries kind addr (request.CoinId place) form.CoinId id_told link.old result link.new }
-    ensures inquires { (first : L) → Inquires L.gives first link.old → Inquires L.gives first link.new }
+    ensures asks { Asks L.gives tries kind addr (request.CoinId place) form.CoinId id_told link.old
+        result link.new }
+    ensures inquires { (first : L) → Inquires L.gives first link.old →
+        Inquires L.gives first link.new }
 {
     question(
         link,
@@ -180,8 +192,10 @@ pub fn is_there<L: Link>(
 ) -> bool
     requires some { 1 ≤ tries }
     requires few { tries ≤ TRIES }
-    ensures asks { Asks L.gives tries kind addr request.SimplePoll form.Ack is_some link.old result link.new }
-    ensures inquires { (first : L) → Inquires L.gives first link.old → Inquires L.gives first link.new }
+    ensures asks { Asks L.gives tries kind addr request.SimplePoll form.Ack is_some link.old result
+        link.new }
+    ensures inquires { (first : L) → Inquires L.gives first link.old →
+        Inquires L.gives first link.new }
 {
     question(
         link,
@@ -202,12 +216,13 @@ pub fn is_there<L: Link>(
     .is_some()
 }
 
-/// Polls all devices under a check until the echo is good, three times at most. The addresses that answer, bare bytes, are
-/// what follows the echo of what is in the room then.
+/// Polls all devices under a check until the echo is good, three times at most. The addresses that
+/// answer, bare bytes, are what follows the echo of what is in the room then.
 pub fn poll_all<L: Link>(link: &mut L, kind: CheckKind, room: &mut Room)
     ensures asked { Asked L.gives 3 (ask kind BROADCAST request.AddressPoll) (answers_to_all kind)
         link.old (answers_to_all kind room.new.heard.items) link.new }
-    ensures inquires { (first : L) → Inquires L.gives first link.old → Inquires L.gives first link.new }
+    ensures inquires { (first : L) → Inquires L.gives first link.old →
+        Inquires L.gives first link.new }
     ensures sent { room.new.sent.items ≡ ask kind BROADCAST request.AddressPoll }
 {
     encode_request(kind, BROADCAST, &Request::AddressPoll, &mut room.sent);
@@ -218,7 +233,7 @@ pub fn poll_all<L: Link>(link: &mut L, kind: CheckKind, room: &mut Room)
     }
 }
 
-/// Sends what is in the room, and tells whether the echo is good.
+/// Sends what is in the room, and says whether the echo is good.
 fn is_echoed<L: Link>(link: &mut L, room: &mut Room) -> bool
     ensures gives { L.gives link.old room.old.sent.items room.new.heard.items link.new }
     ensures sent { room.new.sent.items ≡ room.old.sent.items }

@@ -1,10 +1,14 @@
-//! The roll of a setup: which devices are still to be asked who they are, and what was found so far.
-ghost use Rattle.std.specs.Prelude.{◌≡◌, ◌<◌, ◌≤◌, ◌+◌, ◌++◌, List, Some, None, IfSome, is_some, length, not, slice_get};
+//! The roll of a setup: which devices are still to be asked who they are, and what was found so
+//! far.
+ghost use Rattle.std.specs.Prelude.{◌≡◌, ◌<◌, ◌≤◌, ◌+◌, ◌++◌, List, Some, None, IfSome, is_some};
+ghost use Rattle.std.specs.Prelude.{length, not, slice_get};
 ghost use Rattle.std.specs.List.{position, sum_by};
 ghost use Rattle.std.specs.Option.{option_to_list};
 ghost use Rattle.cct_live_survey.specs.declared.finding.Finding.{Finding};
 ghost use Rattle.cct_live_survey.specs.Asking.{Inquires};
-ghost use Rattle.cct_live_survey.specs.Roll.{AsksRoll, CallsAt, coin_from, first_roll, found_from, given_up, gone_on, is_meant, most_found, moved, next_about, next_turn, once_more, passed_over};
+ghost use Rattle.cct_live_survey.specs.Roll.{AsksRoll, CallsAt, coin_from, first_roll, found_from};
+ghost use Rattle.cct_live_survey.specs.Roll.{given_up, gone_on, is_meant, most_found, moved};
+ghost use Rattle.cct_live_survey.specs.Roll.{next_about, next_turn, once_more, passed_over};
 
 use crate::calling::{About, Called, call};
 use crate::coins::next_coin;
@@ -16,8 +20,8 @@ use cct_model_lines::{DEVICES, DeviceBody, DeviceSetup, Setup};
 use cct_wire::Link;
 use std::marker::Model;
 
-/// The most findings: nineteen of each device, that it is absent, one of its serial number, one of its category, and one of
-/// each coin place.
+/// The most findings: nineteen of each device, that it is absent, one of its serial number, one of
+/// its category, and one of each coin place.
 pub const MOST_FINDINGS: usize = 608;
 
 /// A device that is still to be asked: what it is asked next, and how often it was silent to that.
@@ -37,18 +41,20 @@ pub enum Answered {
     Silent,
 }
 
-/// The roll of a setup: which of its devices are still to be asked who they are, and all that was found so far, oldest
-/// first.
+/// The roll of a setup: which of its devices are still to be asked who they are, and all that was
+/// found so far, oldest first.
 ///
-/// A device is asked for its serial number (header 242), then for its category (245), and a coin acceptor then for each
-/// coin that the setup names (184), unless the coins are trusted. It is asked the next question once it answered the last
-/// one. The devices take turns in the order of the setup, a question each: whoever was asked stands last from then on. So
-/// the serial numbers of all come first, then the categories, then the coins; and a device that is silent is asked again
+/// A device is asked for its serial number (header 242), then for its category (245), and a coin
+/// acceptor then for each coin that the setup names (184), unless the coins are trusted. It is
+/// asked the next question once it answered the last one. The devices take turns in the order of
+/// the setup, a question each: whoever was asked stands last from then on. So the serial numbers of
+/// all come first, then the categories, then the coins; and a device that is silent is asked again
 /// only after all others that are left.
 ///
-/// After three silent turns at a question it is given up. Without a serial number the device is absent, and without a
-/// category it is of another kind; of coins that it doesn't tell nothing is found. A device that is absent, or doesn't tell
-/// its coins, rests: it is asked the same again only by [`Roll::ask_at`], as before a start.
+/// After three silent turns at a question it is given up. Without a serial number the device is
+/// absent, and without a category it is of another kind; of coins that it doesn't tell nothing is
+/// found. A device that is absent, or doesn't tell its coins, rests: it is asked the same again
+/// only by [`Roll::ask_at`], as before a start.
 #[derive(Drop)]
 pub struct Roll {
     trusts_coins: bool,
@@ -67,7 +73,8 @@ impl Model for Roll {
 }
 
 impl Roll {
-    /// The roll of a setup before any device was asked. Where the coins are trusted, no acceptor is asked for one.
+    /// The roll of a setup before any device was asked. Where the coins are trusted, no acceptor is
+    /// asked for one.
     pub fn new(setup: &Setup, trusts_coins: bool) -> Roll
         ensures { result ≡ first_roll trusts_coins setup.now.devices }
     {
@@ -101,11 +108,13 @@ impl Roll {
         self.first_of(None).is_none()
     }
 
-    /// Asks what is left, at most so many questions, up to the first that isn't answered. Each is one exchange. The setup is
-    /// that of the roll; of a device that it doesn't have nothing is asked.
+    /// Asks what is left, at most so many questions, up to the first that isn't answered. Each is
+    /// one exchange. The setup is that of the roll; of a device that it doesn't have nothing is
+    /// asked.
     pub fn ask<L: Link>(&mut self, setup: &Setup, most: u32, link: &mut L) -> Answered
         // Just these questions were asked, in this order, and what is found was heard.
-        ensures asks { AsksRoll L.gives setup.now.devices None most self.old link.old result self.new link.new }
+        ensures asks { AsksRoll L.gives setup.now.devices None most self.old link.old result
+            self.new link.new }
         // Only who a device is was asked, and which coins it knows.
         ensures inquires { Inquires L.gives link.old link.new }
         // Nothing that was found before changes.
@@ -114,16 +123,19 @@ impl Roll {
         self.ask_those(setup, None, most, link)
     }
 
-    /// Asks what is left at one address, up to the first question that isn't answered. Each is one exchange.
+    /// Asks what is left at one address, up to the first question that isn't answered. Each is one
+    /// exchange.
     pub fn ask_at<L: Link>(&mut self, setup: &Setup, addr: u8, link: &mut L) -> Answered
-        ensures asks { AsksRoll L.gives setup.now.devices (Some addr) MOST_FINDINGS self.old link.old result self.new link.new }
+        ensures asks { AsksRoll L.gives setup.now.devices (Some addr) MOST_FINDINGS self.old
+            link.old result self.new link.new }
         ensures inquires { Inquires L.gives link.old link.new }
         ensures grows { (added : List Finding) × (self.new.findings ≡ self.old.findings ++ added) }
     {
         self.ask_those(setup, Some(addr), MOST_FINDINGS as u32, link)
     }
 
-    /// Asks what is left at one address, or at all, at most so many questions, up to the first that isn't answered.
+    /// Asks what is left at one address, or at all, at most so many questions, up to the first that
+    /// isn't answered.
     fn ask_those<L: Link>(
         &mut self,
         setup: &Setup,
@@ -131,7 +143,8 @@ impl Roll {
         most: u32,
         link: &mut L,
     ) -> Answered
-        ensures { AsksRoll L.gives setup.now.devices whom most self.old link.old result self.new link.new }
+        ensures { AsksRoll L.gives setup.now.devices whom most self.old link.old result self.new
+            link.new }
     {
         let mut room = Room::new();
         for _ in 0..most {
@@ -192,7 +205,8 @@ impl Roll {
         }
     }
 
-    /// A turn was answered, or its question is given up: the device is asked the next one when its turn comes.
+    /// A turn was answered, or its question is given up: the device is asked the next one when its
+    /// turn comes.
     fn go_on(&mut self, index: usize, turn: Turn, body: &DeviceBody, found: Option<Finding>)
         requires { slice_get self.old.left index ≡ Some turn }
         ensures { self.new ≡ gone_on index body.now turn found self.old }
@@ -240,7 +254,8 @@ impl Roll {
     /// The turn at an index is over: this one, if any, comes last, and this is found, if anything.
     fn move_on(&mut self, index: usize, turn: Turn, next: Option<Turn>, found: Option<Finding>)
         requires turn { slice_get self.old.left index ≡ Some turn }
-        requires room { length (option_to_list found) + sum_by most_found (option_to_list next) ≤ most_found turn }
+        requires room { length (option_to_list found) + sum_by most_found (option_to_list next)
+            ≤ most_found turn }
         ensures { self.new ≡ moved index next found self.old }
     {
         self.left.remove(index);

@@ -1,8 +1,10 @@
-//! Questions what a bill or a coin is worth. They are no requests of `cct_model_wire`, since the host at work asks none of them.
+//! Questions what a bill or a coin is worth. They are no requests of `cct_model_wire`, since the
+//! host at work asks none of them.
 ghost use Rattle.std.specs.Prelude.{◌≡◌, ◌≤◌, length};
 ghost use Rattle.cct_frame.specs.Frame.{message_of};
 ghost use Rattle.cct_model_wire.specs.Exchange.{is_from};
-ghost use Rattle.cct_live_survey.specs.Asking.{Asked, Inquires, ask_value, data_from, value_data, value_header, value_in, value_length};
+ghost use Rattle.cct_live_survey.specs.Asking.{Asked, Inquires, ask_value, data_from, value_data};
+ghost use Rattle.cct_live_survey.specs.Asking.{value_header, value_in, value_length};
 
 use crate::question::TRIES;
 use crate::room::Room;
@@ -19,15 +21,18 @@ pub const MOST_VALUE_DATA: usize = 8;
 pub enum ValueRequest {
     /// Header 157, one data byte, the place of a bill: its identification, seven characters.
     BillId { place: u8 },
-    /// Header 156, two characters of a country: a scaling factor, low byte first, and how many decimal places.
+    /// Header 156, two characters of a country: a scaling factor, low byte first, and how many
+    /// decimal places.
     Scaling { first: u8, second: u8 },
     /// Header 171: the identification of a hopper's coins, six characters.
     HopperCoin,
-    /// Header 131, one data byte, the place of a coin: its identification, six characters, and its value, low byte first.
+    /// Header 131, one data byte, the place of a coin: its identification, six characters, and its
+    /// value, low byte first.
     HopperValue { place: u8 },
 }
 
-/// Asks an address what a bill or a coin is worth, three times at most, and gives the data bytes of the reply.
+/// Asks an address what a bill or a coin is worth, three times at most, and gives the data bytes of
+/// the reply.
 pub fn value_of<L: Link>(
     link: &mut L,
     kind: CheckKind,
@@ -35,8 +40,10 @@ pub fn value_of<L: Link>(
     request: ValueRequest,
     room: &mut Room,
 ) -> Option<Bytes<MOST_VALUE_DATA>>
-    ensures asked { Asked L.gives 3 (ask_value kind addr request) (value_in kind addr request) link.old result link.new }
-    ensures inquires { (first : L) → Inquires L.gives first link.old → Inquires L.gives first link.new }
+    ensures asked { Asked L.gives 3 (ask_value kind addr request) (value_in kind addr request)
+        link.old result link.new }
+    ensures inquires { (first : L) → Inquires L.gives first link.old →
+        Inquires L.gives first link.new }
 {
     encode_value(kind, addr, request, &mut room.sent);
     for _ in 0..TRIES {

@@ -10,11 +10,11 @@ use cct_model_lines::{Command, has_place};
 /// Why a command isn't to be given to the host.
 #[derive(Clone, Copy, Debug, PartialEq, Eq)]
 pub enum Withheld {
-    /// A payment, and the device told another serial number than the setup's. It would take no dispense that is meant for
-    /// the hopper of the setup.
+    /// A payment, and the device told another serial number than the setup's. It would take no
+    /// dispense that is meant for the hopper of the setup.
     OtherSerial,
-    /// A start, and the acceptor told another coin than the setup's at a place of the mask. Such a coin would be posted
-    /// with the value of the setup's.
+    /// A start, and the acceptor told another coin than the setup's at a place of the mask. Such a
+    /// coin would be posted with the value of the setup's.
     OtherCoin,
 }
 
@@ -50,7 +50,7 @@ fn has_other_serial(findings: &[Finding], addr: u8) -> bool
         .any(|finding| tells_other_serial(addr, finding))
 }
 
-/// Whether this tells another serial number of the device at an address.
+/// Whether this shows another serial number of the device at an address.
 fn tells_other_serial(addr: u8, finding: &Finding) -> bool
     ensures { result ≡ tells_other_serial addr finding.now }
 {
@@ -69,7 +69,7 @@ fn has_other_coin(findings: &[Finding], addr: u8, mask: u16) -> bool
         .any(|finding| tells_other_coin(addr, mask, finding))
 }
 
-/// Whether this tells another coin of the acceptor at an address, at a place of a mask.
+/// Whether this shows another coin of the acceptor at an address, at a place of a mask.
 fn tells_other_coin(addr: u8, mask: u16, finding: &Finding) -> bool
     ensures { result ≡ tells_other_coin addr mask finding.now }
 {

@@ -1,7 +1,8 @@
-//! The serial port of a line, as a terminal of the system that is set up already: opened, locked and looked at before a byte
-//! is written, and opened again after it failed.
+//! The serial port of a line, as a terminal of the system that is set up already: opened, locked
+//! and looked at before a byte is written, and opened again after it failed.
 //!
-//! No contract can say what a terminal gives, so its clauses are those of a line that tells nothing.
+//! No contract can say what a terminal gives, so its clauses are those of a line that shows
+//! nothing.
 #![tactic(auto)]
 
 mod opening;

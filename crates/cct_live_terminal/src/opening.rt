@@ -13,7 +13,8 @@ pub enum TerminalNo {
     NoTerminal,
     /// Another process has locked it.
     InUse,
-    /// It isn't set up: reads that find nothing come back at once, ten in a row, as after `stty min 0 time 0`.
+    /// It isn't set up: reads that find nothing come back at once, ten in a row, as after
+    /// `stty min 0 time 0`.
     Unset,
 }
 

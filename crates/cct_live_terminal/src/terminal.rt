@@ -13,11 +13,12 @@ use std::time::Duration;
 /// After how many tenths of a second a port that failed is opened again.
 const TENTHS_BETWEEN: u8 = 10;
 
-/// A line over a terminal that is set up so that a read which finds nothing waits for a tenth of a second (`stty raw -echo
-/// min 0 time 1`), and which is locked while it is open. Such a read is a silent one. Where reads bring nothing at once, ten in
-/// a row, it fails, as after the terminal was hung up. A read or a write that fails closes the terminal. It is opened again
-/// after a second of such reads and writes, each of which takes its tenth and fails, and so on; each time it is locked and
-/// looked at anew.
+/// A line over a terminal that is set up so that a read which finds nothing waits for a tenth of a
+/// second (`stty raw -echo min 0 time 1`), and which is locked while it is open. Such a read is a
+/// silent one. Where reads bring nothing at once, ten in a row, it fails, as after the terminal was
+/// hung up. A read or a write that fails closes the terminal. It is opened again after a second of
+/// such reads and writes, each of which takes its tenth and fails, and so on; each time it is
+/// locked and looked at anew.
 ///
 /// A read of a terminal that isn't set up so may never come back: no call of the library ends it.
 #[derive(Drop)]
@@ -43,7 +44,8 @@ impl<'r> Terminal<'r> {
         }
     }
 
-    /// Where the terminal is closed, a tenth of a second goes by, and after so many of them it is opened again.
+    /// Where the terminal is closed, a tenth of a second goes by, and after so many of them it is
+    /// opened again.
     fn wait_where_closed(&mut self) {
         if self.port.is_some() {
             return;
@@ -83,7 +85,7 @@ fn write_to(port: &mut File, bytes: &[u8]) -> Result<(), Failed> {
 }
 
 impl Line for Terminal<'_> {
-    // As a line it tells nothing.
+    // As a line it shows nothing.
     ghost reads = { λ _ _ _. Unit {0} };
 
     ghost writes = { λ _ _ _ _. Unit {0} };

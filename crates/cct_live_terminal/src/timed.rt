@@ -6,16 +6,17 @@ use std::io;
 use std::io::Read;
 use std::time::{Duration, Instant};
 
-/// A read that finds nothing waits for a tenth of a second, as `stty min 0 time 1` sets it. One that comes back in fewer
-/// milliseconds didn't wait.
+/// A read that finds nothing waits for a tenth of a second, as `stty min 0 time 1` sets it. One
+/// that comes back in fewer milliseconds didn't wait.
 const LEAST_WAIT: u64 = 50;
 
-/// Where so many reads in a row found nothing and didn't wait, the terminal doesn't wait. A single one may come back too early:
-/// a machine that stood still for a moment, as a virtual one does, counts that time in.
+/// Where so many reads in a row found nothing and didn't wait, the terminal doesn't wait. A single
+/// one may come back too early: a machine that stood still for a moment, as a virtual one does,
+/// counts that time in.
 const MOST_EARLY: u32 = 10;
 
-/// Reads, again where a read came back too early with nothing, and tells whether the last one took the time of a silent read.
-/// Where the clock can't be read, it did.
+/// Reads, again where a read came back too early with nothing, and says whether the last one took
+/// the time of a silent read. Where the clock can't be read, it did.
 pub(crate) fn read_timed(
     rt: &HostRuntime,
     port: &mut File,
@@ -32,7 +33,7 @@ pub(crate) fn read_timed(
     (Ok(0), false)
 }
 
-/// Reads once, and tells whether it took the time of a silent read.
+/// Reads once, and says whether it took the time of a silent read.
 fn read_once(rt: &HostRuntime, port: &mut File, room: &mut [u8]) -> (io::Result<usize>, bool)
     ensures bound { ReadsAtMost result.0 room.new }
 {

@@ -10,8 +10,8 @@ const JOURNAL: &str = "cctalk.jnl";
 /// The name of no file: a disk of it has no file, and none is made.
 const NO_FILE: &str = "";
 
-/// A call: its words without the option that names a file, what these want, or none where they are refused or couldn't be
-/// read, and the file of its journal.
+/// A call: its words without the option that names a file, what these want, or none where they are
+/// refused or couldn't be read, and the file of its journal.
 #[derive(Drop)]
 pub(crate) struct Call<'w> {
     pub(crate) words: &'w [String],
@@ -33,8 +33,8 @@ impl<'w> Call<'w> {
         }
     }
 
-    /// The file of the journal, or the name of none where nothing is done with one: in an audit or a check, or where the
-    /// words are refused.
+    /// The file of the journal, or the name of none where nothing is done with one: in an audit or
+    /// a check, or where the words are refused.
     pub(crate) fn journal(&self) -> &'w str {
         match self.wants {
             Some(Words::Audit | Words::Check) | None => NO_FILE,
@@ -42,7 +42,7 @@ impl<'w> Call<'w> {
         }
     }
 
-    /// What it asks to be told, if it asks for help.
+    /// What it asks to be reported, if it asks for help.
     pub(crate) fn help(&self) -> Option<Help> {
         match self.words {
             [word] if is_help(word) => Some(Help::Usage),
@@ -74,7 +74,8 @@ impl<'w> Call<'w> {
         )
     }
 
-    /// Whether it may write into the journal, so that no other process may use it meanwhile. A report and a state only read.
+    /// Whether it may write into the journal, so that no other process may use it meanwhile. A
+    /// report and a state only read.
     pub(crate) fn locks(&self) -> bool {
         matches!(
             self.wants,

@@ -1,5 +1,5 @@
-//! What an audit heard of each watched device, said on standard error: how many exchanges were for it, and what may be wrong where
-//! it heard nothing.
+//! What an audit heard of each watched device, said on standard error: how many exchanges were for
+//! it, and what may be wrong where it heard nothing.
 
 use cct_bench::{Family, Heard, Money, Monitor};
 use cct_model_lines::CheckKind;

@@ -1,6 +1,7 @@
-//! The program: does what the words of the command line say, with the script or the capture on standard input where they
-//! want one, writes to standard output, and ends with the status as exit status. What a last line means, or what is wrong
-//! with a refused line, it says on standard error (`cct_advice`).
+//! The program: does what the words of the command line say, with the script or the capture on
+//! standard input where they want one, writes to standard output, and ends with the status as exit
+//! status. What a last line means, or what is wrong with a refused line, it says on standard error
+//! (`cct_advice`).
 #![tactic(auto)]
 
 mod call;
@@ -74,7 +75,8 @@ fn answer(rt: &HostRuntime, call: &Call<'_>) -> End {
     }
 }
 
-/// Does what a call wants that reads a script or a journal, and tells on standard error what there is to say of the end.
+/// Does what a call wants that reads a script or a journal, and tells on standard error what there
+/// is to say of the end.
 fn play(rt: &HostRuntime, call: &Call<'_>) -> End {
     let mut script = KeptSource::new(StdSource::new(rt.reader()));
     let mut out = KeptSink::new(StdSink::new(io::writer(rt)));
@@ -116,7 +118,8 @@ fn tell_meant(rt: &impl Eprint, call: &Call<'_>) {
     }
 }
 
-/// Audits the capture, and says on standard error how many of its exchanges were for each watched device.
+/// Audits the capture, and says on standard error how many of its exchanges were for each watched
+/// device.
 fn audit(rt: &HostRuntime) -> Status {
     let mut script = KeptSource::of_capture(StdSource::new(rt.reader()));
     let mut out = KeptSink::new(StdSink::new(io::writer(rt)));
@@ -159,7 +162,7 @@ fn open(rt: &HostRuntime, call: &Call<'_>) -> Result<FileDisk<HostRuntime>, InUs
     }
 }
 
-/// Tells that another process uses the journal.
+/// Says that another process uses the journal.
 fn tell_in_use<K: Sink>(out: &mut K) -> End {
     match out.put(b"inuse journal\n") {
         Ok(()) => End::InUse,
@@ -175,8 +178,8 @@ fn is_missing(rt: &impl Files, journal: &str) -> bool {
     }
 }
 
-/// A report or an upgrade where there is no file: it says what one of a blank file does. None is made, and no script is
-/// read.
+/// A report or an upgrade where there is no file: it says what one of a blank file does. None is
+/// made, and no script is read.
 fn tell_missing(rt: &HostRuntime, journal: &str) -> Status {
     let mut out = StdSink::new(io::writer(rt));
     match put_entry(&mut out, &Entry::JournalAlien) {

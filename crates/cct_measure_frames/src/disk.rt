@@ -1,4 +1,5 @@
-//! A disk of bytes in memory that counts its calls and keeps no trace of them, so it takes any number.
+//! A disk of bytes in memory that counts its calls and keeps no trace of them, so it takes any
+//! number.
 ghost use Rattle.std.specs.Prelude.{◌≡◌, None, false, length};
 ghost use Rattle.cct_edge.specs.Faults.{next_count};
 ghost use Rattle.cct_disk.specs.Laws.{untold_fits};

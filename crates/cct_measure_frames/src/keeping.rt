@@ -36,7 +36,8 @@ const NOTHING: Kept = Kept {
     calls: NONE,
 };
 
-/// The length of a disk whose halves take one record each, so that each put but the first begins with a turn.
+/// The length of a disk whose halves take one record each, so that each put but the first begins
+/// with a turn.
 const LEAST_LEN: u64 = 2_368;
 
 /// What so many passes leave.

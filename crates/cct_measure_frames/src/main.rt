@@ -1,13 +1,16 @@
-//! A benchmark for people: goes over frames in memory so many times, and prints the sum of the answers.
+//! A benchmark for people: goes over frames in memory so many times, and prints the sum of the
+//! answers.
 //!
-//! Its three words are what each pass does (`none`, `crc16`, `simple` or `crc`), the number of data bytes of a frame, and
-//! the number of passes. With `credits` in the place of the first, a pass is an acceptor that hears the request for its
-//! credits and answers it; the number of data bytes is then not used.
+//! Its three words are what each pass does (`none`, `crc16`, `simple` or `crc`), the number of data
+//! bytes of a frame, and the number of passes. With `credits` in the place of the first, a pass is
+//! an acceptor that hears the request for its credits and answers it; the number of data bytes is
+//! then not used.
 //!
-//! Nor is it with one of the words on records. With `tallies` a tally goes over a record each pass. With `puts` a new
-//! journal on a disk in memory takes it too; `turns` does the same on the least disk, on which each put but the first begins
-//! with a turn; `reopened` does as `puts`, and then opens that journal again. What is printed is how many records there are at
-//! the end, and how many reads, writes and syncs the disk was given.
+//! Nor is it with one of the words on records. With `tallies` a tally goes over a record each pass.
+//! With `puts` a new journal on a disk in memory takes it too; `turns` does the same on the least
+//! disk, on which each put but the first begins with a turn; `reopened` does as `puts`, and then
+//! opens that journal again. What is printed is how many records there are at the end, and how many
+//! reads, writes and syncs the disk was given.
 //!
 //! Other words end it with exit status 2, and want of memory ends it with 3.
 #![tactic(auto)]
@@ -115,8 +118,8 @@ fn asked(rt: &(impl Env + AllocGlobal)) -> Option<Task> {
     })
 }
 
-/// The lengths of all answers of an acceptor to requests for its credits, added up. Which of two askers is the next is
-/// told by the sum so far.
+/// The lengths of all answers of an acceptor to requests for its credits, added up. Which of two
+/// askers is the next is told by the sum so far.
 fn exchanges(alloc: Global, passes: u32) -> Result<u64, AllocError> {
     let setup = acceptor();
     let mut acceptor = Acceptor::new(alloc, &setup)?;
@@ -180,8 +183,8 @@ fn name() -> Name
     name
 }
 
-/// The sum of the answers of all passes over frames. The sum so far tells which of two frames is the next, so no pass
-/// can be left out or taken for another.
+/// The sum of the answers of all passes over frames. The sum so far says which of two frames is the
+/// next, so no pass can be left out or taken for another.
 fn readings(look: Look, data: u8, passes: u32) -> u64 {
     let body = &DATA[..data as usize];
     let first = frame(look, 2, body);
@@ -207,7 +210,8 @@ fn frame(look: Look, from: u8, body: &[u8]) -> ArrayVec<u8, MOST_SENT>
     out
 }
 
-/// The length of a frame, its CRC, or the header and the number of data bytes of the message that it is, added up.
+/// The length of a frame, its CRC, or the header and the number of data bytes of the message that
+/// it is, added up.
 fn answer(look: Look, frame: &[u8]) -> u64 {
     match look {
         Look::Nothing => frame.len() as u64,

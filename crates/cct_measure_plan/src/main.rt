@@ -1,8 +1,9 @@
-//! A benchmark for people: plans an amount out of so many trays, and prints how many coins the plan has, or `none` where
-//! there is none, as for more trays or a greater amount than a table takes.
+//! A benchmark for people: plans an amount out of so many trays, and prints how many coins the plan
+//! has, or `none` where there is none, as for more trays or a greater amount than a table takes.
 //!
-//! Its three words are the number of trays, the amount, and the stock of each tray. The coins of the trays are worth 1 and 2
-//! by turns: the less a coin is worth, the more a row of the table takes to fill.
+//! Its three words are the number of trays, the amount, and the stock of each tray. The coins of
+//! the trays are worth 1 and 2 by turns: the less a coin is worth, the more a row of the table
+//! takes to fill.
 //!
 //! Other words end it with exit status 2, and want of memory ends it with 3.
 #![tactic(auto)]

@@ -26,7 +26,7 @@ use Rattle.cct_model.proofs.Machine.{setup, coin, wire, bytes_of, Row, AllPlay, 
 abbrev sets : WireFault → Row
 sets f = one (step.Fault f) (entry.Fault f)
 
--- the bytes of a message: a reply that tells one coin of place 5, and one that refuses
+-- the bytes of a message: a reply that shows one coin of place 5, and one that refuses
 abbrev told_coin : List ℕ
 told_coin = bytes_of (codes "010b02000105010000000000000000eb")
 

@@ -64,7 +64,7 @@ paid =
     ++ both (step.Next 3) (entry.Put (record_of.Closed 41 4 0)) (entry.Ended 3 end_of.Closed)
     ∷ []
 
--- the reply to the dispense is lost and the hopper is reset: the life count still tells what fell
+-- the reply to the dispense is lost and the hopper is reset: the life count still says what fell
 abbrev pub lost_ack : List Row
 lost_ack =
     ordered

@@ -171,7 +171,7 @@ reset_half = refl
 asked_to_reset : status_of 197121 (heard (Some ResetDevice) ∷ half) ≡ reply.status 0 0 0 0
 asked_to_reset = refl
 
--- a stop tells what was left, and then nothing
+-- a stop says what was left, and then nothing
 stops_two : hopper_reply 197121 16777214 (half) (StopNow) ≡ Some (reply.remaining 2)
 unfolding hopper_reply
 stops_two = refl

@@ -86,7 +86,7 @@ answers_as d c since state owed q is =
     answers_first (address_of c) (judged_in c since state) (noted_in since owed) (rest d c since) q
     (rest_asks d c since state owed q is)
 
--- whether the row that asks is sent once is told by its request, and tells it
+-- whether the row that asks is sent once is reported by its request, and shows it
 pub fails_rest : (d : DeviceSetup) (c : Command) (since : List Line) (state : EpochState) (owed : Option OpenOrder)
     (q : Request) → row d c since state owed ≡ sends q → FailsAs (rest d c since) q
 fails_rest d c since state owed q is =

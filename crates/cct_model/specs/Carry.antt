@@ -1,5 +1,6 @@
 -- The carry of records: what a host needs of them, and how it goes on by one more.
-use Rattle.std.specs.Prelude.{◌≡◌, ℕ, ◌+◌, ◌-◌, ◌≤◌, max, ◌&&◌, Bool, true, List, [], ◌∷◌, All, reverse, Option, Some, None}
+use Rattle.std.specs.Prelude.{◌≡◌, ℕ, ◌+◌, ◌-◌, ◌≤◌, max, ◌&&◌, Bool, true, List, [], ◌∷◌, All}
+use Rattle.std.specs.Prelude.{reverse, Option, Some, None}
 use Rattle.std.specs.Prelude.{if◌then◌else◌, is_some, option_map, ⊤}
 use Rattle.cct_model.specs.terms.device.DeviceSetup.{DeviceSetup}
 use Rattle.cct_model.specs.terms.device.Setup.{Setup}
@@ -11,17 +12,20 @@ use Rattle.cct_model.specs.lines.carry.CarryOrder.{CarryOrder}
 use Rattle.cct_model.specs.declared.judging.EpochState.{EpochState}
 use Rattle.cct_model.specs.declared.judging.EpochState.TheVariants.{Idle, Running}
 use Rattle.cct_model.specs.declared.judging.OpenOrder.{OpenOrder}
-use Rattle.cct_model.specs.Carried.{IsRightly, addr_of_epoch, addr_of_order, first_with, id_of_order, set_with, with_some}
+use Rattle.cct_model.specs.Carried.{IsRightly, addr_of_epoch, addr_of_order, first_with}
+use Rattle.cct_model.specs.Carried.{id_of_order, set_with, with_some}
 use Rattle.cct_model.specs.Device.{is_taker}
 use Rattle.cct_model.specs.Exchange.{by_address, device_at, hopper_there, taker_there}
 use Rattle.cct_model.specs.Following.{Known, follows_known}
 use Rattle.cct_model.specs.Job.{epoch_by}
 use Rattle.cct_model.specs.Order.{order_by}
-use Rattle.cct_model.specs.Money.{coins_of, coins_value, odd_amount, odd_in, paid_in, posted_in, sold_in}
+use Rattle.cct_model.specs.Money.{coins_of, coins_value, odd_amount, odd_in, paid_in, posted_in}
+use Rattle.cct_model.specs.Money.{sold_in}
 use Rattle.cct_model.specs.Records.{epoch_in, greatest_id, hopper_of, id_of, order_in}
-use Rattle.cct_model.specs.Sums.{coins_paid, coins_posted, coins_unpaid, coins_lost, posts_of, price_sold, sum_in}
+use Rattle.cct_model.specs.Sums.{coins_paid, coins_posted, coins_unpaid, coins_lost, posts_of}
+use Rattle.cct_model.specs.Sums.{price_sold, sum_in}
 
--- What stands at each of some devices, in their order.
+-- What is at each of some devices, in their order.
 abbrev pub gathered : {X : Type 0} → (DeviceSetup → Option X) → List DeviceSetup → List X
 gathered f [] = []
 gathered f (d ∷ ds) = with_some (f d) (gathered f ds)
@@ -42,11 +46,13 @@ epoch_at before d = if is_taker d.body then epoch_entry d.addr (epoch_in d.addr 
 
 -- What a carry has of the open order of a device, which is a hopper.
 abbrev pub order_at : List Record → DeviceSetup → Option CarryOrder
-order_at before d = if is_taker d.body then None else option_map order_entry (order_in d.addr before)
+order_at before d =
+    if is_taker d.body then None else option_map order_entry (order_in d.addr before)
 
--- The carry of records, newest first: the greatest id; the value of all coins posted, that of all coins paid and that of
--- the orders whose counts of life don't fit; how many coins were posted, lost, paid and not paid, and the sum of all prices;
--- and in rising order of address the running epochs of the devices that take money and the open orders of the hoppers.
+-- The carry of records, newest first: the greatest id; the value of all coins posted, that of all
+-- coins paid and that of the orders whose counts of life don't fit; how many coins were posted,
+-- lost, paid and not paid, and the sum of all prices; and in rising order of address the running
+-- epochs of the devices that take money and the open orders of the hoppers.
 abbrev pub carry : Setup → List Record → Carry
 carry setup before = record {
   last_id = greatest_id before;
@@ -114,7 +120,8 @@ known_by setup c = record {
 abbrev pub follows_carry : Setup → Carry → Record → Bool
 follows_carry setup c r = follows_known setup (known_by setup c) r
 
--- The address that a record belongs to, by a carry of those before it: that of the order that it closes, and 1 for a sale.
+-- The address that a record belongs to, by a carry of those before it: that of the order that it
+-- closes, and 1 for a sale.
 abbrev pub owner_by : Carry → Record → ℕ
 owner_by c r = address_by (λ id. hopper_of (order_with id c)) (effect r).owned
 
@@ -124,11 +131,13 @@ odd_more setup c r = odd_amount setup (λ id. order_with id c) r
 
 -- The running epochs after a record of this address.
 abbrev pub epochs_after : ℕ → Record → Carry → List CarryEpoch
-epochs_after addr r c = set_with addr_of_epoch addr (epoch_entry addr (epoch_by r (epoch_held addr c))) c.epochs
+epochs_after addr r c =
+    set_with addr_of_epoch addr (epoch_entry addr (epoch_by r (epoch_held addr c))) c.epochs
 
 -- The open orders after a record of this address.
 abbrev pub orders_after : ℕ → Record → Carry → List CarryOrder
-orders_after addr r c = set_with addr_of_order addr (option_map order_entry (order_by r (order_held addr c))) c.orders
+orders_after addr r c =
+    set_with addr_of_order addr (option_map order_entry (order_by r (order_held addr c))) c.orders
 
 -- The carry with one record more, which follows.
 abbrev pub carry_with : Setup → Record → Carry → Carry
@@ -154,7 +163,8 @@ carry_over setup c (r ∷ later) = carry_over setup (carry_with setup r c) later
 -- Each of these records, oldest first, follows those of a carry and those before it.
 abbrev pub all_follow_carry : Setup → Carry → List Record → Bool
 all_follow_carry setup c [] = true
-all_follow_carry setup c (r ∷ later) = follows_carry setup c r && all_follow_carry setup (carry_with setup r c) later
+all_follow_carry setup c (r ∷ later) =
+    follows_carry setup c r && all_follow_carry setup (carry_with setup r c) later
 
 -- An order has another id than this one.
 abbrev pub IsOther : ℕ → CarryOrder → Type 0
@@ -165,8 +175,9 @@ abbrev pub AreApart : List CarryOrder → Type 0
 AreApart [] = ⊤
 AreApart (o ∷ orders) = All (IsOther o.id) orders × AreApart orders
 
--- A carry fits a setup: its epochs are of devices that take money and its orders of hoppers, no id is above the last one and none stands
--- twice, and the value posted covers what was paid and sold and what is reserved.
+-- A carry fits a setup: its epochs are of devices that take money and its orders of hoppers, no id
+-- is above the last one and none stands twice, and the value posted covers what was paid and sold
+-- and what is reserved.
 pub record Fits (setup : Setup) (c : Carry) : Type 0 where
   pub epochs : All (λ e. taker_there (device_at setup.devices e.addr) ≡ true) c.epochs
   pub orders : All (λ o. hopper_there (device_at setup.devices o.addr) ≡ true) c.orders
@@ -174,7 +185,8 @@ pub record Fits (setup : Setup) (c : Carry) : Type 0 where
   pub apart : AreApart c.orders
   pub covered : c.paid_value + c.odd_value + c.sold + owed_by setup c.orders ≤ c.value
 
--- A carry of so many records that a host may have: it may be the carry of so many, and fits the setup.
+-- A carry of so many records that a host may have: it may be the carry of so many, and fits the
+-- setup.
 pub record IsSafe (setup : Setup) (many : ℕ) (c : Carry) : Type 0 where
   pub rightly : IsRightly many c
   pub fits : Fits setup c

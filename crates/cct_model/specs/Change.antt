@@ -1,5 +1,7 @@
 -- Sessions of change: what the desk of the operator knows, read off the steps and their entries.
-use Rattle.std.specs.Prelude.{◌≡◌, ◌⊎◌, ℕ, ◌+◌, ◌-◌, ◌*◌, ◌^◌, ◌<◌, ◌≤◌, ◌==◌, ◌&&◌, Bool, true, false, List, [], ◌∷◌, flat_map, if◌then◌else◌, Option, Some, None, MatchBool}
+use Rattle.std.specs.Prelude.{◌≡◌, ◌⊎◌, ℕ, ◌+◌, ◌-◌, ◌*◌, ◌^◌, ◌<◌, ◌≤◌, ◌==◌, ◌&&◌, Bool, true}
+use Rattle.std.specs.Prelude.{false, List, [], ◌∷◌, flat_map, if◌then◌else◌, Option, Some, None}
+use Rattle.std.specs.Prelude.{MatchBool}
 use Rattle.std.specs.List.{list_any}
 use Rattle.std.specs.Option.{option_map}
 use Rattle.cct_model.specs.terms.device.DeviceBody.{DeviceBody}
@@ -25,8 +27,8 @@ use Rattle.cct_model.specs.Plan.{IsChosen, HasNoPlan}
 use Rattle.cct_model.specs.Records.{records}
 use Rattle.cct_model.specs.Refusal.{refusal}
 
--- What the desk of the operator knows: the session that runs, if one does, and the trays, which are the hoppers of the
--- setup in rising order of address.
+-- What the desk of the operator knows: the session that runs, if one does, and the trays, which are
+-- the hoppers of the setup in rising order of address.
 pub record Desk : Type 0 where
   pub session : Option Session
   pub trays : List Tray
@@ -49,7 +51,8 @@ clear_desk setup = record { session = None; trays = trays_of (by_address setup.d
 abbrev pub restocked : ℕ → (ℕ → ℕ) → List Tray → List Tray
 restocked addr becomes [] = []
 restocked addr becomes (t ∷ ts) =
-    (if t.addr == addr then record { addr = t.addr; value = t.value; stock = becomes t.stock } else t)
+    (if t.addr == addr then record { addr = t.addr; value = t.value; stock = becomes t.stock } else
+    t)
     ∷ restocked addr becomes ts
 
 -- What a coin of the tray at an address is worth, 0 where there is none.
@@ -59,10 +62,11 @@ value_in (t ∷ ts) addr = if t.addr == addr then t.value else value_in ts addr
 
 -- A record opens the order of a payment.
 abbrev pub is_opening : Payment → Record → Bool
-is_opening p (record_of.Opened id addr count life) = (id == p.id) && (addr == p.addr) && (count == p.count)
+is_opening p (record_of.Opened id addr count life) =
+    (id == p.id) && (addr == p.addr) && (count == p.count)
 is_opening p r = false
 
--- An entry ends the job at an address: it tells so, or it tells a power cut.
+-- An entry ends the job at an address: it shows so, or it shows a power cut.
 abbrev pub is_end_at : ℕ → Entry → Bool
 is_end_at addr (entry.Ended other end) = other == addr
 is_end_at addr (entry.Crash records) = true
@@ -71,34 +75,45 @@ is_end_at addr e = false
 -- What became of an open order after these records, newest first.
 abbrev pub closed_in : ℕ → List Record → Phase
 closed_in id [] = Opened
-closed_in id (record_of.Closed closed paid unpaid ∷ rs) = if closed == id then Closed paid unpaid else closed_in id rs
-closed_in id (record_of.Odd closed before after ∷ rs) = if closed == id then Odd else closed_in id rs
+closed_in id (record_of.Closed closed paid unpaid ∷ rs) =
+    if closed == id then Closed paid unpaid else closed_in id rs
+closed_in id (record_of.Odd closed before after ∷ rs) =
+    if closed == id then Odd else closed_in id rs
 closed_in id (r ∷ rs) = closed_in id rs
 
--- What became of a payment after the entries of a step, newest first. Its order is opened by a record that is put or kept
--- in a step before which its job was running; and it never is where that job ended in another step.
+-- What became of a payment after the entries of a step, newest first. Its order is opened by a
+-- record that is put or kept in a step before which its job was running; and it never is where that
+-- job ended in another step.
 abbrev pub phase_after : Payment → List Entry → Phase → Phase
 phase_after p news Begun =
-    if list_any (is_opening p) (records news) then Opened else if list_any (is_end_at p.addr) news then Lost else Begun
+    if list_any (is_opening p) (records news) then Opened else if list_any (is_end_at p.addr) news
+    then Lost else Begun
 phase_after p news Opened = closed_in p.id (records news)
 phase_after p news phase = phase
 
 -- A payment that isn't settled after the entries of a step that is none of the desk's.
 abbrev pub due_after : List Entry → Due → Due
-due_after news due = record { payment = due.payment; phase = phase_after due.payment news due.phase }
+due_after news due =
+    record { payment = due.payment; phase = phase_after due.payment news due.phase }
 
 -- A session after them.
 abbrev pub session_after : List Entry → Session → Session
 session_after news s =
-    record { amount = s.amount; rest = s.rest; next = s.next; due = option_map (due_after news) s.due }
+    record {
+      amount = s.amount;
+      rest = s.rest;
+      next = s.next;
+      due =
+          option_map (due_after news) s.due;
+    }
 
--- The coins that were paid, as the record tells that closed the order.
+-- The coins that were paid, as the record says that closed the order.
 abbrev pub paid_in_phase : Phase → ℕ
 paid_in_phase (Closed paid unpaid) = paid
 paid_in_phase phase = 0
 
--- The stock of a hopper whose payment is settled: the coins that were paid are gone. It is 0 where some were left unpaid,
--- or where the order was never opened.
+-- The stock of a hopper whose payment is settled: the coins that were paid are gone. It is 0 where
+-- some were left unpaid, or where the order was never opened.
 abbrev pub stock_left : Phase → ℕ → ℕ
 stock_left (Closed paid unpaid) before = if unpaid == 0 then before - paid else 0
 stock_left phase before = 0
@@ -137,26 +152,32 @@ IsStuck trays s = HasNoPlan trays s.rest ⊎ (2 ^ 32 ≤ s.next)
 abbrev pub short_entry : Session → Entry
 short_entry s = entry.Short (s.amount - s.rest) s.rest
 
--- The entries of a payment of a session, newest first: it is taken, or it is refused with this reason, and the session ends.
+-- The entries of a payment of a session, newest first: it is taken, or it is refused with this
+-- reason, and the session ends.
 abbrev pub pay_entries : Session → Payment → Option CommandNo → List Entry
 pay_entries s p None = entry.Taken (command.Pay p.addr p.id p.count) ∷ []
 pay_entries s p (Some why) = short_entry s ∷ entry.No (command.Pay p.addr p.id p.count) why ∷ []
 
--- The entries of a session whose payments are settled and that has a rest: it can't pay on, or it pays.
+-- The entries of a session whose payments are settled and that has a rest: it can't pay on, or it
+-- pays.
 abbrev pub PaysOn : ℕ → Setup → List Entry → List Tray → Session → List Entry → Type 0
 PaysOn capacity setup past trays s news =
     (IsStuck trays s × (news ≡ short_entry s ∷ []))
     ⊎ ((p : Payment) × PaysNext trays s p
     × (news ≡ pay_entries s p (refusal capacity setup past (command.Pay p.addr p.id p.count))))
 
--- The entries of a session whose payments are settled: it is served where nothing is left, else it pays on.
+-- The entries of a session whose payments are settled: it is served where nothing is left, else it
+-- pays on.
 abbrev pub GoesOn : ℕ → Setup → List Entry → List Tray → Session → List Entry → Type 0
 GoesOn capacity setup past trays s news =
-    MatchBool (s.rest == 0) (news ≡ entry.Served s.amount ∷ []) (PaysOn capacity setup past trays s news)
+    MatchBool (s.rest == 0) (news ≡ entry.Served s.amount ∷ [])
+    (PaysOn capacity setup past trays s news)
 
--- The entries of a `serve` while a session has a payment to settle, by what became of that: it waits while the job is at
--- work or the order is open; it ends where the order is odd; else it settles it and goes on.
-abbrev pub Settles : ℕ → Setup → List Entry → List Tray → Session → Due → Phase → List Entry → Type 0
+-- The entries of a `serve` while a session has a payment to settle, by what became of that: it
+-- waits while the job is at work or the order is open; it ends where the order is odd; else it
+-- settles it and goes on.
+abbrev pub Settles : ℕ → Setup → List Entry → List Tray → Session → Due → Phase → List Entry →
+    Type 0
 Settles capacity setup past trays s due Begun news = news ≡ entry.ServeWait due.payment.addr ∷ []
 Settles capacity setup past trays s due Opened news = news ≡ entry.ServeWait due.payment.addr ∷ []
 Settles capacity setup past trays s due Odd news = news ≡ entry.ServeOdd due.payment.id ∷ []
@@ -164,9 +185,11 @@ Settles capacity setup past trays s due phase news =
     GoesOn capacity setup past (settled_trays due trays) (settled trays due s) news
 
 -- The entries of a `serve` while a session runs.
-abbrev pub ServesDue : ℕ → Setup → List Entry → List Tray → Session → Option Due → List Entry → Type 0
+abbrev pub ServesDue : ℕ → Setup → List Entry → List Tray → Session → Option Due → List Entry →
+    Type 0
 ServesDue capacity setup past trays s None news = GoesOn capacity setup past trays s news
-ServesDue capacity setup past trays s (Some due) news = Settles capacity setup past trays s due due.phase news
+ServesDue capacity setup past trays s (Some due) news =
+    Settles capacity setup past trays s due due.phase news
 
 -- The entries of a `serve` after all that came before, newest first.
 abbrev pub Serves : ℕ → Setup → List Entry → List Tray → Option Session → List Entry → Type 0
@@ -183,8 +206,8 @@ abbrev pub changed : ℕ → ℕ → Option Session → Session
 changed first amount None = record { amount = amount; rest = amount; next = first; due = None }
 changed first amount (Some s) = s
 
--- The desk after a session whose payments are settled gave these entries: it goes on with the payment that was taken, and
--- else it is over.
+-- The desk after a session whose payments are settled gave these entries: it goes on with the
+-- payment that was taken, and else it is over.
 abbrev pub gone_on : List Entry → List Tray → Session → Desk
 gone_on (entry.Taken (command.Pay addr id count) ∷ news) trays s = record {
   session = Some (record {
@@ -197,7 +220,8 @@ gone_on (entry.Taken (command.Pay addr id count) ∷ news) trays s = record {
 }
 gone_on news trays s = record { session = None; trays = trays }
 
--- The desk after a `serve` gave these entries, while a session has a payment to settle, by what became of that.
+-- The desk after a `serve` gave these entries, while a session has a payment to settle, by what
+-- became of that.
 abbrev pub served_due : List Entry → List Tray → Session → Due → Phase → Desk
 served_due news trays s due Begun = record { session = Some s; trays = trays }
 served_due news trays s due Opened = record { session = Some s; trays = trays }

@@ -1,5 +1,6 @@
 -- The wire's faults as far as the laws allow for them: damaged bytes fail their check.
-use Rattle.std.specs.Prelude.{◌≡◌, ◌&&◌, ◌||◌, not, ℕ, Bool, true, false, List, [], ◌∷◌, ◌++◌, if◌then◌else◌, Option, None, Some, is_none, bytes_eq, ⊤}
+use Rattle.std.specs.Prelude.{◌≡◌, ◌&&◌, ◌||◌, not, ℕ, Bool, true, false, List, [], ◌∷◌, ◌++◌}
+use Rattle.std.specs.Prelude.{if◌then◌else◌, Option, None, Some, is_none, bytes_eq, ⊤}
 use Rattle.std.specs.List.{All}
 use Rattle.cct_model.specs.terms.wire.CheckKind.TheVariants.{Simple, Crc}
 use Rattle.cct_model.specs.terms.request.Request.TheVariants.{AddressPoll}
@@ -17,15 +18,17 @@ is_no_message piece = is_none (message Simple piece) && is_none (message Crc pie
 
 -- Whether bytes are the address poll by which a scan asks all devices, under one of the checks.
 abbrev pub is_address_poll : List ℕ → Bool
-is_address_poll sent = bytes_eq sent (ask Simple 0 AddressPoll) || bytes_eq sent (ask Crc 0 AddressPoll)
+is_address_poll sent =
+    bytes_eq sent (ask Simple 0 AddressPoll) || bytes_eq sent (ask Crc 0 AddressPoll)
 
 -- Whether what follows the host's own echo is no message, or there is no whole echo.
 abbrev pub has_no_message : Option (List ℕ) → Bool
 has_no_message None = true
 has_no_message (Some rest) = is_no_message rest
 
--- Whether a fault does an honest damage to an exchange: the bytes that the devices hear are no message. Where no address
--- poll is sent, the bytes that the host hears are none, nor are those after the host's own echo.
+-- Whether a fault does an honest damage to an exchange: the bytes that the devices hear are no
+-- message. Where no address poll is sent, the bytes that the host hears are none, nor are those
+-- after the host's own echo.
 abbrev pub is_honest : WireFault → List ℕ → Bool
 is_honest fault.Clear sent = true
 is_honest (fault.DevicesHear piece) sent = is_no_message piece
@@ -37,7 +40,8 @@ is_honest (fault.WholeHeard piece) sent =
 abbrev pub IsHonestFault : WireFault → List ℕ → Type 0
 IsHonestFault f sent = is_honest f sent ≡ true
 
--- An entry shows an honest wire: where it is an exchange, the fault that was set for it is an honest one.
+-- An entry shows an honest wire: where it is an exchange, the fault that was set for it is an
+-- honest one.
 abbrev pub IsHonestAt : List Entry → Entry → Type 0
 IsHonestAt past (entry.Wire addr sent piece) = IsHonestFault (pending past) sent
 IsHonestAt past e = ⊤
@@ -47,23 +51,25 @@ abbrev pub HonestPast : List Entry → Type 0
 HonestPast [] = ⊤
 HonestPast (e ∷ past) = IsHonestAt past e × HonestPast past
 
--- A transcript, oldest entry first, shows an honest wire: all bytes that a fault damages fail their check.
+-- A transcript, oldest entry first, shows an honest wire: all bytes that a fault damages fail their
+-- check.
 abbrev pub Honest : List Entry → Type 0
 Honest transcript = HonestPast (onto [] transcript)
 
--- Whether the last exchange was forged: the fault that was set for it did another damage than an honest one. Before the
--- first exchange none was.
+-- Whether the last exchange was forged: the fault that was set for it did another damage than an
+-- honest one. Before the first exchange none was.
 abbrev pub was_forged : List Entry → Bool
 was_forged [] = false
 was_forged (entry.Wire addr sent piece ∷ past) = not (is_honest (pending past) sent)
 was_forged (e ∷ past) = was_forged past
 
--- The entry that tells that an exchange at an address was forged, after this past, or none where it wasn't.
+-- The entry that says that an exchange at an address was forged, after this past, or none where it
+-- wasn't.
 abbrev pub forged_line : List Entry → ℕ → List ℕ → List Entry
 forged_line past addr sent = if is_honest (pending past) sent then [] else entry.Forged addr ∷ []
 
--- What the entries of a step, newest first, have told after them: that their exchange was forged, where there is one that
--- was.
+-- What the entries of a step, newest first, have told after them: that their exchange was forged,
+-- where there is one that was.
 abbrev pub forged_after : List Entry → List Entry → List Entry
 forged_after past [] = []
 forged_after past (entry.Wire addr sent piece ∷ earlier) = forged_line (earlier ++ past) addr sent

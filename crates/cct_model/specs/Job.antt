@@ -1,13 +1,20 @@
--- The job at an address, read off its lines: which command began it, what it has read, and how often a row failed. And the
--- epoch of an acceptor, read off its records.
-use Rattle.std.specs.Prelude.{ℕ, suc, ◌==◌, Bool, List, [], ◌∷◌, map, if◌then◌else◌, Option, Some, None}
+-- The job at an address, read off its lines: which command began it, what it has read, and how
+-- often a row failed. And the epoch of an acceptor, read off its records.
+use Rattle.std.specs.Prelude.{ℕ, suc, ◌==◌, Bool, List, [], ◌∷◌, map, if◌then◌else◌, Option, Some}
+use Rattle.std.specs.Prelude.{None}
 use Rattle.std.specs.Option.{option_map, option_or}
 use Rattle.cct_model.specs.terms.coin.Credits.{Credits}
 use Rattle.cct_model.specs.terms.coin.Pair.{Pair}
 use Rattle.cct_model.specs.terms.device.DeviceBody.{DeviceBody}
 use Rattle.cct_model.specs.terms.device.DeviceBody.TheVariants.{Acceptor, Bill, Hopper}
 use Rattle.cct_model.specs.terms.request.Request.{Request}
-use Rattle.cct_model.specs.terms.request.Request.TheVariants.{MakerId, Category, ProductCode, SerialNumber, SoftwareRevision, BuildCode, CommsRevision, GetMask, GetMaster, ReadCredits, SetPath, GetPath, SetDefault, GetDefault, CoinId, AcceptCount, ReadBills, TestHopper, GetStatus, StopNow}
+use Rattle.cct_model.specs.terms.request.Request.TheVariants.{MakerId, Category, ProductCode}
+use Rattle.cct_model.specs.terms.request.Request.TheVariants.{SerialNumber, SoftwareRevision}
+use Rattle.cct_model.specs.terms.request.Request.TheVariants.{BuildCode, CommsRevision, GetMask}
+use Rattle.cct_model.specs.terms.request.Request.TheVariants.{GetMaster, ReadCredits, SetPath}
+use Rattle.cct_model.specs.terms.request.Request.TheVariants.{GetPath, SetDefault, GetDefault}
+use Rattle.cct_model.specs.terms.request.Request.TheVariants.{CoinId, AcceptCount, ReadBills}
+use Rattle.cct_model.specs.terms.request.Request.TheVariants.{TestHopper, GetStatus, StopNow}
 use Rattle.cct_model.specs.lines.record.Record.{Record}
 use Rattle.cct_model.specs.lines.record.Record.TheVariants as record_of
 use Rattle.cct_model.specs.Effect.{EpochMove, effect}
@@ -22,11 +29,13 @@ use Rattle.cct_model.specs.declared.judging.OpenOrder.{OpenOrder}
 use Rattle.cct_model.specs.lines.command.Command.{Command}
 use Rattle.cct_model.specs.lines.command.Command.TheVariants as command
 use Rattle.cct_model.specs.lines.entry.End.{End}
-use Rattle.cct_model.specs.lines.entry.End.TheVariants.{Unquiet, Clean, Moved, NoAnswer, Closed, OddLife}
+use Rattle.cct_model.specs.lines.entry.End.TheVariants.{Unquiet, Clean, Moved, NoAnswer, Closed}
+use Rattle.cct_model.specs.lines.entry.End.TheVariants.{OddLife}
 use Rattle.cct_model.specs.Request.{header_of}
 use Rattle.cct_model.specs.Reply.{Reply}
 use Rattle.cct_model.specs.Reply as reply
-use Rattle.cct_model.specs.Line.{Line, accepted, inhibited, alien, fell, reset, dispensed, exchange, scanned, put, taken, ended, restarted}
+use Rattle.cct_model.specs.Line.{Line, accepted, inhibited, alien, fell, reset, dispensed, exchange}
+use Rattle.cct_model.specs.Line.{scanned, put, taken, ended, restarted}
 use Rattle.cct_model.specs.Reading.{judge}
 use Rattle.cct_model.specs.Order.{close, is_marked, life_read}
 
@@ -40,12 +49,14 @@ abbrev pub with_line : Line → Job → Job
 with_line line free = free
 with_line line (works command since) = works command (line ∷ since)
 
--- The job after a command was taken: a halt is a line of the job that it stops, and any other command begins its own.
+-- The job after a command was taken: a halt is a line of the job that it stops, and any other
+-- command begins its own.
 abbrev pub begun : Command → Job → Job
 begun (command.Halt addr) before = with_line (taken (command.Halt addr)) before
 begun c before = works c []
 
--- The job at an address: that of the last command taken there, and none where it has ended or the power was cut.
+-- The job at an address: that of the last command taken there, and none where it has ended or the
+-- power was cut.
 abbrev pub job : List Line → Job
 job [] = free
 job (taken c ∷ past) = begun c (job past)
@@ -61,14 +72,14 @@ job (fell ∷ past) = job past
 job (reset ∷ past) = job past
 job (dispensed count ∷ past) = job past
 
--- One failed try more, where an exchange asked this header and was not answered; an exchange that was answered, or asked
--- another header, ends what is counted.
+-- One failed try more, where an exchange asked this header and was not answered; an exchange that
+-- was answered, or asked another header, ends what is counted.
 abbrev pub tries_after : ℕ → Option Request → Option Reply → ℕ → ℕ
 tries_after header (Some q) None before = if header_of q == header then suc before else 0
 tries_after header asked got before = 0
 
--- The failed tries of the row that asks a header: its exchanges without the wanted reply since the last line of the job
--- that is a wanted reply, a put, or an exchange of another row.
+-- The failed tries of the row that asks a header: its exchanges without the wanted reply since the
+-- last line of the job that is a wanted reply, a put, or an exchange of another row.
 abbrev pub tries : ℕ → List Line → ℕ
 tries header [] = 0
 tries header (put entry ∷ since) = 0
@@ -80,8 +91,8 @@ abbrev pub credits_reply : Option Reply → Option Credits
 credits_reply (Some (reply.credits c)) = Some c
 credits_reply got = None
 
--- An event of a bill acceptor as it is judged: that of a held bill, which isn't accepted yet, represents error 1, as that of
--- a bill which is given back does.
+-- An event of a bill acceptor as it is judged: that of a held bill, which isn't accepted yet,
+-- represents error 1, as that of a bill which is given back does.
 abbrev pub settled : Pair → Pair
 settled pair = if pair.b == 1 then record { a = 0; b = 1 } else pair
 
@@ -138,15 +149,16 @@ at_credits (Some read) count earlier = count
 -- The accept counter that was last read before the credits were.
 abbrev pub accepts_before : List Line → Option ℕ
 accepts_before [] = None
-accepts_before (line ∷ past) = at_credits (credits_line line) (accepts_read past) (accepts_before past)
+accepts_before (line ∷ past) =
+    at_credits (credits_line line) (accepts_read past) (accepts_before past)
 
 -- An epoch with another event counter and another accept counter.
 abbrev pub counted : ℕ → ℕ → EpochState → EpochState
 counted counter accepts Idle = Idle
 counted counter accepts (Running mask before earlier) = Running mask counter accepts
 
--- The epoch after a record: it begins at event counter 0 with the accept counter that it records, a reading moves both, and
--- a break or its end ends it.
+-- The epoch after a record: it begins at event counter 0 with the accept counter that it records, a
+-- reading moves both, and a break or its end ends it.
 abbrev pub epoch_by : Record → EpochState → EpochState
 epoch_by r before = epoch_after (effect r).epoch before
   where
@@ -156,14 +168,15 @@ epoch_by r before = epoch_after (effect r).epoch before
     epoch_after (move.moved counter accepts) before = counted counter accepts before
     epoch_after move.ended before = Idle
 
--- The epoch of an acceptor: its inhibit mask and its recorded event counter and accept counter, or none.
+-- The epoch of an acceptor: its inhibit mask and its recorded event counter and accept counter, or
+-- none.
 abbrev pub epoch : List Line → EpochState
 epoch [] = Idle
 epoch (put entry ∷ past) = epoch_by entry (epoch past)
 epoch (line ∷ past) = epoch past
 
--- What the credits and the mask that a job read mean, with the accept counters before and after them, beside the epoch;
--- nothing where one of them wasn't read, or no epoch runs.
+-- What the credits and the mask that a job read mean, with the accept counters before and after
+-- them, beside the epoch; nothing where one of them wasn't read, or no epoch runs.
 abbrev pub judged_by : ℕ → EpochState → Option Credits → Option ℕ → Option ℕ → Option ℕ → Judged
 judged_by addr (Running mask counter accepts) (Some c) (Some seen) (Some before) (Some now) =
     judge addr mask counter accepts c seen before now
@@ -175,7 +188,8 @@ pub data Row : Type 0 where
   puts : (entry : Record) → Row
   no_row : Row
 
--- The row that puts what was judged, or another where that is nothing; none after a reading that has to be made again.
+-- The row that puts what was judged, or another where that is nothing; none after a reading that
+-- has to be made again.
 abbrev pub put_or : Row → Judged → Row
 put_or other Nothing = other
 put_or other judged_of.Moved = no_row
@@ -188,7 +202,8 @@ coin_places = 1 ∷ 2 ∷ 3 ∷ 4 ∷ 5 ∷ 6 ∷ 7 ∷ 8 ∷ 9 ∷ 10 ∷ 11 �
 
 -- What a device of a kind is asked of itself, after what every device is asked.
 abbrev pub own_requests : DeviceBody → List Request
-own_requests (Acceptor accepts values ids) = GetMaster ∷ GetDefault ∷ AcceptCount ∷ map CoinId coin_places
+own_requests (Acceptor accepts values ids) =
+    GetMaster ∷ GetDefault ∷ AcceptCount ∷ map CoinId coin_places
 own_requests (Hopper life value) = TestHopper ∷ []
 own_requests (Bill accepts values ids) = GetMaster ∷ AcceptCount ∷ []
 
@@ -201,7 +216,8 @@ credits_request (Bill accepts values ids) = ReadBills
 -- All that a device is asked of itself, in this order.
 abbrev pub ident_requests : DeviceBody → List Request
 ident_requests body =
-    MakerId ∷ Category ∷ ProductCode ∷ SerialNumber ∷ SoftwareRevision ∷ BuildCode ∷ CommsRevision ∷ own_requests body
+    MakerId ∷ Category ∷ ProductCode ∷ SerialNumber ∷ SoftwareRevision ∷ BuildCode ∷ CommsRevision
+    ∷ own_requests body
 
 -- The request that sets a sorter path; place 0 sets the default path.
 abbrev pub path_set : ℕ → ℕ → Request
@@ -211,8 +227,8 @@ path_set place path = if place == 0 then SetDefault path else SetPath place path
 abbrev pub path_read : ℕ → Request
 path_read place = if place == 0 then GetDefault else GetPath place
 
--- What the lines of a job tell beside what they judge: whether its payout is to be stopped, the life count that was last
--- read, the order that is open, and the accept counter that was last read.
+-- What the lines of a job tell beside what they judge: whether its payout is to be stopped, the
+-- life count that was last read, the order that is open, and the accept counter that was last read.
 pub record Noted : Type 0 where
   pub is_marked : Bool
   pub life : Option ℕ
@@ -245,12 +261,19 @@ address_of c = (shape_of c).address
 -- What the lines of a job mean, beside the epoch.
 abbrev pub judged_in : Command → List Line → EpochState → Judged
 judged_in c since state =
-    judged_by (address_of c) state (credits_read since) (mask_read since) (accepts_before since) (accepts_read since)
+    judged_by (address_of c) state (credits_read since) (mask_read since) (accepts_before since)
+    (accepts_read since)
 
 -- What the lines of a job tell beside that, and the open order.
 abbrev pub noted_in : List Line → Option OpenOrder → Noted
 noted_in since owed =
-    record { is_marked = is_marked since; life = life_read since; owed = owed; accepts = accepts_read since }
+    record {
+      is_marked = is_marked since;
+      life = life_read since;
+      owed = owed;
+      accepts =
+          accepts_read since;
+    }
 
 -- The end of a payment by the record that closes its order.
 abbrev pub end_of_close : Record → Option End

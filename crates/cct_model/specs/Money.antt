@@ -1,5 +1,6 @@
 -- What the operator has, as sums over all records and over the jobs that run.
-use Rattle.std.specs.Prelude.{ℕ, ◌+◌, ◌-◌, ◌*◌, ◌==◌, List, [], ◌∷◌, if◌then◌else◌, Option, Some, None}
+use Rattle.std.specs.Prelude.{ℕ, ◌+◌, ◌-◌, ◌*◌, ◌==◌, List, [], ◌∷◌, if◌then◌else◌, Option, Some}
+use Rattle.std.specs.Prelude.{None}
 use Rattle.cct_model.specs.terms.coin.Coin.{Coin}
 use Rattle.cct_model.specs.terms.device.DeviceBody.{DeviceBody}
 use Rattle.cct_model.specs.terms.device.DeviceBody.TheVariants.{Acceptor, Bill, Hopper}
@@ -19,7 +20,8 @@ use Rattle.cct_model.specs.Records.{records, order_named, order_in, owner_in}
 use Rattle.cct_model.specs.Sums.{posts_of, coins_paid, price_sold, sum_in}
 use Rattle.cct_model.specs.Transcript.{lines_of, sale_lines}
 
--- The value of a coin of a place at a device, 0 where there is none or the place has none; places are numbered from 1.
+-- The value of a coin of a place at a device, 0 where there is none or the place has none; places
+-- are numbered from 1.
 abbrev pub place_value : Option DeviceSetup → ℕ → ℕ
 place_value None place = 0
 place_value (Some d) place = if place == 0 then 0 else value_at d.body place
@@ -71,7 +73,8 @@ paid_in setup (r ∷ before) = paid_by setup before r + paid_in setup before
 abbrev pub sold_in : List Record → ℕ
 sold_in before = sum_in price_sold before
 
--- The amount of an order that a record closes with counts of life that don't fit it, with the orders by their ids.
+-- The amount of an order that a record closes with counts of life that don't fit it, with the
+-- orders by their ids.
 abbrev pub odd_amount : Setup → (ℕ → Option OpenOrder) → Record → ℕ
 odd_amount setup named r = odd_of (effect r).order
   where
@@ -97,19 +100,22 @@ sum_over f (d ∷ ds) = f d + sum_over f ds
 abbrev pub owed_in : Setup → List Record → ℕ
 owed_in setup before = sum_over (λ d. amount setup (order_in d.addr before)) setup.devices
 
--- What the records reserve: the amounts of the open orders, and of those whose counts of life don't fit.
+-- What the records reserve: the amounts of the open orders, and of those whose counts of life don't
+-- fit.
 abbrev pub reserved_in : Setup → List Record → ℕ
 reserved_in setup before = owed_in setup before + odd_in setup before
 
 -- What is available beside the records alone.
 abbrev pub available_in : Setup → List Record → ℕ
-available_in setup before = posted_in setup before - (reserved_in setup before + paid_in setup before + sold_in before)
+available_in setup before =
+    posted_in setup before - (reserved_in setup before + paid_in setup before + sold_in before)
 
--- What is available: the value of all coins posted, less what the records and others beside them reserve, and what was
--- paid and sold.
+-- What is available: the value of all coins posted, less what the records and others beside them
+-- reserve, and what was paid and sold.
 abbrev pub available_beside : Setup → List Record → ℕ → ℕ
 available_beside setup before beside =
-    posted_in setup before - (reserved_in setup before + beside + paid_in setup before + sold_in before)
+    posted_in setup before - (reserved_in setup before + beside + paid_in setup before
+    + sold_in before)
 
 -- What a record that is still to be put reserves, at an address.
 abbrev pub reserves : Setup → ℕ → Due → ℕ
@@ -120,7 +126,8 @@ reserves setup addr due = 0
 -- What these rows reserve until they put their records.
 abbrev pub reserved_for : Setup → ℕ → List TableRow → ℕ
 reserved_for setup addr [] = 0
-reserved_for setup addr (puts_due due behind ∷ rows) = reserves setup addr due + reserved_for setup addr rows
+reserved_for setup addr (puts_due due behind ∷ rows) =
+    reserves setup addr due + reserved_for setup addr rows
 reserved_for setup addr (row ∷ rows) = reserved_for setup addr rows
 
 -- What the job at a device reserves until it puts its record: the amount of an order that it opens.
@@ -139,7 +146,8 @@ reserved_at_work setup past =
     sum_over (λ d. reserved_by setup d (job (lines_of d past))) setup.devices
     + reserved_by_sale setup (job (sale_lines past))
 
--- What running jobs reserve no more once a record is put: the amount of an order that it opens, and the price of a sale.
+-- What running jobs reserve no more once a record is put: the amount of an order that it opens, and
+-- the price of a sale.
 abbrev pub freed_by : Setup → Record → ℕ
 freed_by setup r = freed (effect r).order (effect r).sale
   where

@@ -1,5 +1,7 @@
--- The open order of a hopper, read off the lines of its address; what a payment's lines tell, and how an order is closed.
-use Rattle.std.specs.Prelude.{ℕ, ◌+◌, ◌-◌, ◌%◌, ◌^◌, nat_le, Bool, true, false, List, [], ◌∷◌, if◌then◌else◌, Option, Some, None}
+-- The open order of a hopper, read off the lines of its address; what a payment's lines tell, and
+-- how an order is closed.
+use Rattle.std.specs.Prelude.{ℕ, ◌+◌, ◌-◌, ◌%◌, ◌^◌, nat_le, Bool, true, false, List, [], ◌∷◌}
+use Rattle.std.specs.Prelude.{if◌then◌else◌, Option, Some, None}
 use Rattle.std.specs.Option.{option_or}
 use Rattle.cct_model.specs.terms.request.Request.{Request}
 use Rattle.cct_model.specs.terms.request.Request.TheVariants.{GetLife, StopNow}
@@ -12,7 +14,8 @@ use Rattle.cct_model.specs.Reply.{Reply}
 use Rattle.cct_model.specs.Reply as reply
 use Rattle.cct_model.specs.Line.{Line, exchange, put, taken}
 
--- The open order after a record: one is opened, or the open one is closed, with counts of life that fit it or not.
+-- The open order after a record: one is opened, or the open one is closed, with counts of life that
+-- fit it or not.
 abbrev pub order_by : Record → Option OpenOrder → Option OpenOrder
 order_by r before = order_after (effect r).order before
   where
@@ -48,8 +51,8 @@ abbrev pub is_stopped : Option Request → Option Reply → Bool
 is_stopped (Some StopNow) (Some got) = true
 is_stopped asked got = false
 
--- A payment is to be stopped: it was halted, and the hopper has not been stopped since. The only command that is a line
--- of a job is a halt.
+-- A payment is to be stopped: it was halted, and the hopper has not been stopped since. The only
+-- command that is a line of a job is a halt.
 abbrev pub is_marked : List Line → Bool
 is_marked [] = false
 is_marked (taken c ∷ since) = true
@@ -60,9 +63,10 @@ is_marked (line ∷ since) = is_marked since
 unfoldable pub life_between : ℕ → ℕ → ℕ
 life_between before after = (after + 2 ^ 24 - before) % 2 ^ 24
 
--- The record that closes an order whose hopper then has this life count: the coins that fell were paid, and the others
--- were not; where more fell than were ordered, both life counts are recorded.
+-- The record that closes an order whose hopper then has this life count: the coins that fell were
+-- paid, and the others were not; where more fell than were ordered, both life counts are recorded.
 unfoldable pub close : OpenOrder → ℕ → Record
 close o after =
     let paid = life_between o.life after in
-    if nat_le paid o.count then record_of.Closed o.id paid (o.count - paid) else record_of.Odd o.id o.life after
+    if nat_le paid o.count then record_of.Closed o.id paid (o.count - paid) else record_of.Odd o.id
+    o.life after

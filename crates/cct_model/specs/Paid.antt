@@ -1,6 +1,7 @@
--- What holds of the lines of a hopper: each order is dispensed at most once, and is closed with exactly the coins that
--- fell and did not.
-use Rattle.std.specs.Prelude.{◌≡◌, ℕ, suc, ◌+◌, ◌≤◌, ◌==◌, Bool, false, List, [], ◌∷◌, Option, Some, None, ⊤}
+-- What holds of the lines of a hopper: each order is dispensed at most once, and is closed with
+-- exactly the coins that fell and did not.
+use Rattle.std.specs.Prelude.{◌≡◌, ℕ, suc, ◌+◌, ◌≤◌, ◌==◌, Bool, false, List, [], ◌∷◌, Option, Some}
+use Rattle.std.specs.Prelude.{None, ⊤}
 use Rattle.std.specs.List.{list_any}
 use Rattle.cct_model.specs.lines.record.Record.{Record}
 use Rattle.cct_model.specs.lines.record.Record.TheVariants as record_of
@@ -38,8 +39,8 @@ abbrev pub OfOrder : Option OpenOrder → (OpenOrder → Type 0) → Type 0
 OfOrder None P = ⊥
 OfOrder (Some o) P = P o
 
--- An order is opened where none is open, and closed where it is the open one, with exactly the coins that fell and the
--- others of its count; that counts of life don't fit is never recorded.
+-- An order is opened where none is open, and closed where it is the open one, with exactly the
+-- coins that fell and the others of its count; that counts of life don't fit is never recorded.
 abbrev pub PaidBy : List Line → Record → Type 0
 PaidBy past (record_of.Opened id addr count life) = order past ≡ None
 PaidBy past (record_of.Closed id paid unpaid) =
@@ -47,8 +48,8 @@ PaidBy past (record_of.Closed id paid unpaid) =
 PaidBy past (record_of.Odd id life_before life_after) = ⊥
 PaidBy past r = ⊤
 
--- A hopper takes a dispense where an order is open that none was taken for, for just its coins; and a coin falls where an
--- order is open, no more of them than it has.
+-- A hopper takes a dispense where an order is open that none was taken for, for just its coins; and
+-- a coin falls where an order is open, no more of them than it has.
 abbrev pub PaidAt : List Line → Line → Type 0
 PaidAt past (dispensed count) = OfOrder (order past) (λ o. (dispenses past ≡ 0) × (count ≡ o.count))
 PaidAt past fell = OfOrder (order past) (λ o. suc (fallen past) ≤ o.count)

@@ -17,7 +17,8 @@ AreWithin [] [] = ⊤
 AreWithin (t ∷ ts) (c ∷ cs) = (c ≤ most_of t) × AreWithin ts cs
 AreWithin ts cs = ⊥
 
--- A plan of an amount: one count for each tray, at most what a plan takes of it, worth the amount together.
+-- A plan of an amount: one count for each tray, at most what a plan takes of it, worth the amount
+-- together.
 pub record IsPlan (trays : List Tray) (amount : ℕ) (counts : List ℕ) : Type 0 where
   pub within : AreWithin trays counts
   pub pays : worth trays counts ≡ amount
@@ -33,7 +34,8 @@ ComesFirst (c ∷ cs) (o ∷ os) = (o < c) ⊎ ((o ≡ c) × ComesFirst cs os)
 ComesFirst [] [] = ⊤
 ComesFirst cs os = ⊥
 
--- The chosen plan: among the fewest, the one with the greatest count at the first tray, then at the second, and so on.
+-- The chosen plan: among the fewest, the one with the greatest count at the first tray, then at the
+-- second, and so on.
 pub record IsChosen (trays : List Tray) (amount : ℕ) (counts : List ℕ) : Type 0 where
   pub fewest : IsFewest trays amount counts
   pub first : (other : List ℕ) → IsFewest trays amount other → ComesFirst counts other

@@ -1,6 +1,7 @@
--- What the records of a journal alone tell, newest first: whose each is, the epoch and the open order of each device, and
--- which ids were used.
-use Rattle.std.specs.Prelude.{ℕ, max, ◌==◌, Bool, true, false, List, [], ◌∷◌, if◌then◌else◌, Option, Some, None}
+-- What the records of a journal alone tell, newest first: whose each is, the epoch and the open
+-- order of each device, and which ids were used.
+use Rattle.std.specs.Prelude.{ℕ, max, ◌==◌, Bool, true, false, List, [], ◌∷◌, if◌then◌else◌, Option}
+use Rattle.std.specs.Prelude.{Some, None}
 use Rattle.cct_model.specs.lines.record.Record.{Record}
 use Rattle.cct_model.specs.Effect.{OrderMove, address_by, effect, id_used}
 use Rattle.cct_model.specs.Effect as move
@@ -25,7 +26,8 @@ named_by id r before = named_after (effect r).order before
   where
     named_after : OrderMove → Option OpenOrder → Option OpenOrder
     named_after (move.newly_opened opened addr count life) before =
-        if opened == id then Some (record { id = opened; addr = addr; count = count; life = life }) else before
+        if opened == id then Some (record { id = opened; addr = addr; count = count; life = life })
+        else before
     named_after other before = before
 
 -- The order that was opened last with an id, or none.
@@ -49,7 +51,8 @@ owner_in before r = address_by (λ id. opened_in id before) (effect r).owned
 -- The records of an address.
 abbrev pub records_at : ℕ → List Record → List Record
 records_at addr [] = []
-records_at addr (r ∷ before) = if owner_in before r == addr then r ∷ records_at addr before else records_at addr before
+records_at addr (r ∷ before) =
+    if owner_in before r == addr then r ∷ records_at addr before else records_at addr before
 
 -- The epoch that the records of an address tell.
 abbrev pub epoch_of : List Record → EpochState
@@ -75,8 +78,10 @@ is_open_by id r before = is_open_after (effect r).order before
   where
     is_open_after : OrderMove → Bool → Bool
     is_open_after move.none_moved before = before
-    is_open_after (move.newly_opened opened addr count life) before = if opened == id then true else before
-    is_open_after (move.fitly_closed closed paid unpaid) before = if closed == id then false else before
+    is_open_after (move.newly_opened opened addr count life) before =
+        if opened == id then true else before
+    is_open_after (move.fitly_closed closed paid unpaid) before =
+        if closed == id then false else before
     is_open_after (move.oddly_closed closed) before = if closed == id then false else before
 
 -- An order with an id is open.

@@ -1,5 +1,7 @@
 -- Why a command is refused: the tests of each, in their order.
-use Rattle.std.specs.Prelude.{ℕ, ◌+◌, max, ◌==◌, ◌&&◌, nat_le, Bool, true, false, not, is_some, List, [], ◌∷◌, length, find, unwrap_or, if◌then◌else◌, Option, Some, None}
+use Rattle.std.specs.Prelude.{ℕ, ◌+◌, max, ◌==◌, ◌&&◌, nat_le, Bool, true, false, not, is_some}
+use Rattle.std.specs.Prelude.{List, [], ◌∷◌, length, find, unwrap_or, if◌then◌else◌, Option, Some}
+use Rattle.std.specs.Prelude.{None}
 use Rattle.std.specs.List.{filter_map}
 use Rattle.std.specs.Option.{option_map, option_or}
 use Rattle.cct_model.specs.terms.device.DeviceBody.{DeviceBody}
@@ -8,32 +10,44 @@ use Rattle.cct_model.specs.terms.device.Setup.{Setup}
 use Rattle.cct_model.specs.lines.command.Command.{Command}
 use Rattle.cct_model.specs.lines.command.Command.TheVariants as command
 use Rattle.cct_model.specs.lines.command.CommandNo.{CommandNo}
-use Rattle.cct_model.specs.lines.command.CommandNo.TheVariants.{NoDevice, WrongKind, Busy, EpochRuns, NoEpoch, NoValue, OrderOpen, NoOrder, NoPayout, OldId, Short, JournalFull}
+use Rattle.cct_model.specs.lines.command.CommandNo.TheVariants.{NoDevice, WrongKind, Busy}
+use Rattle.cct_model.specs.lines.command.CommandNo.TheVariants.{EpochRuns, NoEpoch, NoValue}
+use Rattle.cct_model.specs.lines.command.CommandNo.TheVariants.{OrderOpen, NoOrder, NoPayout, OldId}
+use Rattle.cct_model.specs.lines.command.CommandNo.TheVariants.{Short, JournalFull}
 use Rattle.cct_model.specs.lines.entry.Entry.{Entry}
 use Rattle.cct_model.specs.declared.judging.EpochState.{EpochState}
 use Rattle.cct_model.specs.declared.judging.EpochState.TheVariants.{Idle, Running}
 use Rattle.cct_model.specs.declared.judging.OpenOrder.{OpenOrder}
 use Rattle.cct_model.specs.declared.tests.Test.{Test}
-use Rattle.cct_model.specs.declared.tests.Test.TheVariants.{AtADevice, AtATaker, AtAnAcceptor, AtABillAcceptor, AtAHopper, WithNoJob, WithNoEpoch, WithAnEpoch, WithValues, WithNoOrder, WithAnOrder, WithAPayout, WithNewId, WithCoins, WithPrice, WithRoom}
+use Rattle.cct_model.specs.declared.tests.Test.TheVariants.{AtADevice, AtATaker, AtAnAcceptor}
+use Rattle.cct_model.specs.declared.tests.Test.TheVariants.{AtABillAcceptor, AtAHopper, WithNoJob}
+use Rattle.cct_model.specs.declared.tests.Test.TheVariants.{WithNoEpoch, WithAnEpoch, WithValues}
+use Rattle.cct_model.specs.declared.tests.Test.TheVariants.{WithNoOrder, WithAnOrder, WithAPayout}
+use Rattle.cct_model.specs.declared.tests.Test.TheVariants.{WithNewId, WithCoins, WithPrice}
+use Rattle.cct_model.specs.declared.tests.Test.TheVariants.{WithRoom}
 use Rattle.cct_model.specs.Setting.{has_place}
 use Rattle.cct_model.specs.Device.{value_at}
-use Rattle.cct_model.specs.Exchange.{acceptor_there, bill_there, device_at, hopper_there, taker_there}
+use Rattle.cct_model.specs.Exchange.{acceptor_there, bill_there, device_at, hopper_there}
+use Rattle.cct_model.specs.Exchange.{taker_there}
 use Rattle.cct_model.specs.Line.{Line}
 use Rattle.cct_model.specs.Order.{order}
 use Rattle.cct_model.specs.Job.{Job, free, works, job, coin_places, epoch, address_of}
-use Rattle.cct_model.specs.Rows.{rows_of, rows_of_sale, rows_for, left, left_of_sale, puts_in, need_in, id_ahead, closes_order, can_halt}
+use Rattle.cct_model.specs.Rows.{rows_of, rows_of_sale, rows_for, left, left_of_sale, puts_in}
+use Rattle.cct_model.specs.Rows.{need_in, id_ahead, closes_order, can_halt}
 use Rattle.cct_model.specs.Records.{records, greatest_id}
 use Rattle.cct_model.specs.Money.{sum_over, coins_of, available}
 use Rattle.cct_model.specs.Transcript.{lines_of, scan_lines, sale_lines}
 
--- The tests of a command in their order: those of the state stand before those of the money and of the room.
+-- The tests of a command in their order: those of the state stand before those of the money and of
+-- the room.
 abbrev pub tests_of : Command → List Test
 tests_of (command.Start addr mask) =
     AtADevice ∷ AtATaker ∷ WithNoJob ∷ WithNoEpoch ∷ WithValues mask ∷ WithRoom ∷ []
 tests_of (command.Round addr) = AtADevice ∷ AtATaker ∷ WithNoJob ∷ WithAnEpoch ∷ WithRoom ∷ []
 tests_of (command.Stop addr) = AtADevice ∷ AtATaker ∷ WithNoJob ∷ WithAnEpoch ∷ WithRoom ∷ []
 tests_of (command.Pay addr id count) =
-    AtADevice ∷ AtAHopper ∷ WithNoJob ∷ WithNoOrder ∷ WithNewId id ∷ WithCoins addr count ∷ WithRoom ∷ []
+    AtADevice ∷ AtAHopper ∷ WithNoJob ∷ WithNoOrder ∷ WithNewId id ∷ WithCoins addr count ∷ WithRoom
+    ∷ []
 tests_of (command.Settle addr) = AtADevice ∷ AtAHopper ∷ WithNoJob ∷ WithAnOrder ∷ WithRoom ∷ []
 tests_of (command.Halt addr) = AtADevice ∷ AtAHopper ∷ WithAPayout ∷ []
 tests_of command.Scan = WithNoJob ∷ []
@@ -89,8 +103,8 @@ first_of fails [] = None
 first_of fails (test ∷ []) = fails test
 first_of fails (test ∷ next ∷ tests) = option_or (fails test) (first_of fails (next ∷ tests))
 
--- What the tests of the state look at: the device at the address, whether a job is there, whether it can be halted, the
--- epoch and the open order there, and the last id.
+-- What the tests of the state look at: the device at the address, whether a job is there, whether
+-- it can be halted, the epoch and the open order there, and the last id.
 pub record View : Type 0 where
   pub found : Option DeviceSetup
   pub is_busy : Bool
@@ -170,7 +184,8 @@ order_holds false (Some o) = 1
 
 -- How many records are held for the lines of a device.
 abbrev pub holds_of : DeviceSetup → List Line → ℕ
-holds_of d lines = job_holds d (epoch lines) (job lines) + order_holds (closes_order d (job lines)) (order lines)
+holds_of d lines =
+    job_holds d (epoch lines) (job lines) + order_holds (closes_order d (job lines)) (order lines)
 
 -- How many records are held for a device.
 abbrev pub holds_at : List Entry → DeviceSetup → ℕ
@@ -181,7 +196,8 @@ abbrev pub sale_holds : Job → ℕ
 sale_holds free = 0
 sale_holds (works c since) = puts_in (left_of_sale c since)
 
--- How many records are held: what running jobs may still put, and one for each open order that no job is to close.
+-- How many records are held: what running jobs may still put, and one for each open order that no
+-- job is to close.
 abbrev pub held : Setup → List Entry → ℕ
 held setup past = sum_over (holds_at past) setup.devices + sale_holds (job (sale_lines past))
 
@@ -189,7 +205,8 @@ held setup past = sum_over (holds_at past) setup.devices + sale_holds (job (sale
 abbrev pub need_for : Option DeviceSetup → Command → ℕ
 need_for found c = need_in (rows_for found c)
 
--- The test that the journal, which takes so many records, has no room for these beside those that are held.
+-- The test that the journal, which takes so many records, has no room for these beside those that
+-- are held.
 abbrev pub full_refusal : Setup → List Entry → ℕ → ℕ → Option CommandNo
 full_refusal setup past need capacity =
     if nat_le (length (records past) + held setup past + need) capacity then None
@@ -213,17 +230,20 @@ sale_id (works c since) = unwrap_or (id_ahead (rows_of_sale c)) 0
 -- The greatest such id among devices.
 abbrev pub greatest_running : List Entry → List DeviceSetup → ℕ
 greatest_running past [] = 0
-greatest_running past (d ∷ ds) = max (running_id d (job (lines_of d past))) (greatest_running past ds)
+greatest_running past (d ∷ ds) =
+    max (running_id d (job (lines_of d past))) (greatest_running past ds)
 
 -- The last id: the greatest of the records and of the running jobs, 0 where there is none.
 abbrev pub last_id : Setup → List Entry → ℕ
 last_id setup past =
-    max (greatest_id (records past)) (max (greatest_running past setup.devices) (sale_id (job (sale_lines past))))
+    max (greatest_id (records past)) (max (greatest_running past setup.devices)
+    (sale_id (job (sale_lines past))))
 
--- The reason why a test of the money or of the room fails, if it does, over a journal that takes so many records, where
--- the command wants room for so many.
+-- The reason why a test of the money or of the room fails, if it does, over a journal that takes so
+-- many records, where the command wants room for so many.
 abbrev pub room_fails : ℕ → Setup → List Entry → ℕ → Test → Option CommandNo
-room_fails capacity setup past need (WithCoins addr count) = short_refusal setup past (coins_of setup addr count)
+room_fails capacity setup past need (WithCoins addr count) =
+    short_refusal setup past (coins_of setup addr count)
 room_fails capacity setup past need (WithPrice price) = short_refusal setup past price
 room_fails capacity setup past need WithRoom = full_refusal setup past need capacity
 room_fails capacity setup past need test = None
@@ -233,7 +253,8 @@ abbrev pub is_busy : Job → Bool
 is_busy free = false
 is_busy (works c since) = true
 
--- The lines among which the job of a command is: those of the device at its address, of scans, or of sales.
+-- The lines among which the job of a command is: those of the device at its address, of scans, or
+-- of sales.
 abbrev pub lines_for : List Entry → Command → Option DeviceSetup → List Line
 lines_for past command.Scan found = scan_lines past
 lines_for past (command.Vend id price) found = sale_lines past
@@ -259,7 +280,8 @@ view_of found lines last = record {
 -- What the tests of a command look at.
 abbrev pub view_for : Setup → List Entry → Command → View
 view_for setup past c =
-    let found = device_at setup.devices (address_of c) in view_of found (lines_for past c found) (last_id setup past)
+    let found = device_at setup.devices (address_of c) in view_of found (lines_for past c found)
+    (last_id setup past)
 
 -- The first reason for which a command is refused but for the money and the room, or none.
 abbrev pub state_refusal : Setup → List Entry → Command → Option CommandNo
@@ -271,6 +293,8 @@ room_refusal capacity setup past c =
     let need = need_for (device_at setup.devices (address_of c)) c in
     first_of (room_fails capacity setup past need) (tests_of c)
 
--- The first reason that holds for which a command is refused, or none, over a journal that takes so many records.
+-- The first reason that holds for which a command is refused, or none, over a journal that takes so
+-- many records.
 abbrev pub refusal : ℕ → Setup → List Entry → Command → Option CommandNo
-refusal capacity setup past c = option_or (state_refusal setup past c) (room_refusal capacity setup past c)
+refusal capacity setup past c =
+    option_or (state_refusal setup past c) (room_refusal capacity setup past c)

@@ -1,10 +1,13 @@
--- The table of jobs, and what is read off the rows of it that a job has left: what it sends or puts next, how it ends, what
--- it may still put and what it reserves, and whether it can be halted.
-use Rattle.std.specs.Prelude.{ℕ, suc, zero, ◌==◌, Bool, true, false, List, [], ◌∷◌, ◌++◌, if◌then◌else◌, Option, Some, None}
+-- The table of jobs, and what is read off the rows of it that a job has left: what it sends or puts
+-- next, how it ends, what it may still put and what it reserves, and whether it can be halted.
+use Rattle.std.specs.Prelude.{ℕ, suc, zero, ◌==◌, Bool, true, false, List, [], ◌∷◌, ◌++◌}
+use Rattle.std.specs.Prelude.{if◌then◌else◌, Option, Some, None}
 use Rattle.cct_model.specs.terms.request.TheConstants.{ENABLE_CODE}
 use Rattle.cct_model.specs.terms.device.DeviceSetup.{DeviceSetup}
 use Rattle.cct_model.specs.terms.request.Request.{Request}
-use Rattle.cct_model.specs.terms.request.Request.TheVariants.{ResetDevice, SetMask, GetMask, SetMaster, AcceptCount, RouteBill, Enable, Dispense, GetLife}
+use Rattle.cct_model.specs.terms.request.Request.TheVariants.{ResetDevice, SetMask, GetMask}
+use Rattle.cct_model.specs.terms.request.Request.TheVariants.{SetMaster, AcceptCount, RouteBill}
+use Rattle.cct_model.specs.terms.request.Request.TheVariants.{Enable, Dispense, GetLife}
 use Rattle.cct_model.specs.lines.record.Record.{Record}
 use Rattle.cct_model.specs.lines.record.Record.TheVariants as record_of
 use Rattle.cct_model.specs.declared.judging.Judged.{Judged}
@@ -14,17 +17,23 @@ use Rattle.cct_model.specs.declared.judging.OpenOrder.{OpenOrder}
 use Rattle.cct_model.specs.lines.command.Command.{Command}
 use Rattle.cct_model.specs.lines.command.Command.TheVariants as command
 use Rattle.cct_model.specs.lines.entry.End.{End}
-use Rattle.cct_model.specs.lines.entry.End.TheVariants.{Started, StartUnsure, Posted, Broke, Stopped, Told, PathSet, Routed, RouteUnsure, Sold}
+use Rattle.cct_model.specs.lines.entry.End.TheVariants.{Started, StartUnsure, Posted, Broke}
+use Rattle.cct_model.specs.lines.entry.End.TheVariants.{Stopped, Told, PathSet, Routed, RouteUnsure}
+use Rattle.cct_model.specs.lines.entry.End.TheVariants.{Sold}
 use Rattle.cct_model.specs.Request.{header_of}
 use Rattle.cct_model.specs.Reply.{Reply}
 use Rattle.cct_model.specs.Reply as reply
 use Rattle.cct_model.specs.Line.{Line, exchange, put}
-use Rattle.cct_model.specs.Job.{Job, free, works, tries, Row, sends, puts, no_row, put_or, begin_row, credits_request, ident_requests, path_set, path_read, Noted, state_row, open_row, close_row, address_of, judged_in, noted_in, end_of_close, end_of_credits, end_of_moving, end_of_reading, end_of_tries}
+use Rattle.cct_model.specs.Job.{Job, free, works, tries, Row, sends, puts, no_row, put_or}
+use Rattle.cct_model.specs.Job.{begin_row, credits_request, ident_requests, path_set, path_read}
+use Rattle.cct_model.specs.Job.{Noted, state_row, open_row, close_row, address_of, judged_in}
+use Rattle.cct_model.specs.Job.{noted_in, end_of_close, end_of_credits, end_of_moving}
+use Rattle.cct_model.specs.Job.{end_of_reading, end_of_tries}
 
--- How a job goes on after a row: by its next row; it ends so; by the next row if the acceptor's counter is 0; by the next
--- row if the reading gives a record, else it ends by what the reading means; by the next row unless the reading has to be
--- made again, which ends it. With the path that was read it ends. A break ends it, and a reading may. The record that
--- closes the order ends it.
+-- How a job goes on after a row: by its next row; it ends so; by the next row if the acceptor's
+-- counter is 0; by the next row if the reading gives a record, else it ends by what the reading
+-- means; by the next row unless the reading has to be made again, which ends it. With the path that
+-- was read it ends. A break ends it, and a reading may. The record that closes the order ends it.
 pub data Then : Type 0 where
   goes_on : Then
   ends_as : (end : End) → Then
@@ -35,8 +44,8 @@ pub data Then : Type 0 where
   if_posted : (of_reading : Option End) → Then
   if_closed : Then
 
--- What a row puts: that an epoch begins; what the reading was judged to be, if it means something; that the epoch ends;
--- that an order is opened, and closed; a sale.
+-- What a row puts: that an epoch begins; what the reading was judged to be, if it means something;
+-- that the epoch ends; that an order is opened, and closed; a sale.
 pub data Due : Type 0 where
   new_epoch : (mask : ℕ) → Due
   reading : Due
@@ -45,8 +54,9 @@ pub data Due : Type 0 where
   order_end : Due
   sale : (id : ℕ) (price : ℕ) → Due
 
--- A row of the table of jobs. It asks, up to three times; or asks once, and goes on without an answer too; or waits until
--- a payout has no coin left, and stops it before where it was halted; or it puts a record.
+-- A row of the table of jobs. It asks, up to three times; or asks once, and goes on without an
+-- answer too; or waits until a payout has no coin left, and stops it before where it was halted; or
+-- it puts a record.
 pub data TableRow : Type 0 where
   asks_for : (request : Request) (behind : Then) → TableRow
   asks_once : (request : Request) (behind : Then) (without : Then) → TableRow
@@ -98,7 +108,8 @@ rows_of d (command.Settle addr) = settling
 rows_of d (command.Ident addr) = telling (ident_requests d.body)
 rows_of d (command.Path addr place path) =
     asks_for (path_set place path) goes_on ∷ asks_for (path_read place) (path_told place) ∷ []
-rows_of d (command.Route addr way) = asks_once (RouteBill way) (ends_as Routed) (ends_as RouteUnsure) ∷ []
+rows_of d (command.Route addr way) =
+    asks_once (RouteBill way) (ends_as Routed) (ends_as RouteUnsure) ∷ []
 rows_of d c = []
 
 -- The rows of a command at no device: those of a sale.
@@ -127,12 +138,13 @@ abbrev pub sent_once : List TableRow → Bool
 sent_once (asks_once q behind without ∷ rows) = true
 sent_once rows = false
 
--- An exchange ends the first of these rows: by its answer; one that is sent once without an answer too; and a wait by a
--- state with no coin left to pay, not by the answer to a stop.
+-- An exchange ends the first of these rows: by its answer; one that is sent once without an answer
+-- too; and a wait by a state with no coin left to pay, not by the answer to a stop.
 abbrev pub ends_first : List TableRow → Option Reply → Bool
 ends_first (asks_for q behind ∷ rows) (Some y) = true
 ends_first (asks_once q behind without ∷ rows) got = true
-ends_first (waits_for_coins ∷ rows) (Some (reply.status events left_to_pay paid unpaid)) = left_to_pay == 0
+ends_first (waits_for_coins ∷ rows) (Some (reply.status events left_to_pay paid unpaid)) =
+    left_to_pay == 0
 ends_first rows got = false
 
 -- How many of these rows a job has done: by its exchanges that ended their row, and by its puts.
@@ -182,7 +194,8 @@ row_at d c n means p = first (address_of c) means p (left_at d c n means)
 
 -- The row at which a job at a device stands, beside its epoch and its open order.
 abbrev pub row : DeviceSetup → Command → List Line → EpochState → Option OpenOrder → Row
-row d c since state owed = row_at d c (done (rows_of d c) since) (judged_in c since state) (noted_in since owed)
+row d c since state owed =
+    row_at d c (done (rows_of d c) since) (judged_in c since state) (noted_in since owed)
 
 -- The row at which a job that is at no device stands: a sale.
 abbrev pub row_of_sale : Command → List Line → Row
@@ -216,8 +229,8 @@ abbrev pub closes_order : DeviceSetup → Job → Bool
 closes_order d free = false
 closes_order d (works c since) = has_closes (rest d c since)
 
--- How many records these rows want room for: those that they put, but for one that closes an order which none of them
--- opens; that one is held already.
+-- How many records these rows want room for: those that they put, but for one that closes an order
+-- which none of them opens; that one is held already.
 abbrev pub need_in : List TableRow → ℕ
 need_in [] = 0
 need_in (puts_due (new_order id count) behind ∷ rows) = suc (puts_in rows)
@@ -249,8 +262,10 @@ end_bare behind = None
 -- The end that a record brings after the row that puts it.
 abbrev pub end_by_record : Then → Record → Option End
 end_by_record (ends_as end) r = Some end
-end_by_record (if_posted of_reading) (record_of.Reading addr counter lost accepts coins) = of_reading
-end_by_record (if_posted of_reading) (record_of.Broken addr seen counter lost accepts coins) = Some Broke
+end_by_record (if_posted of_reading) (record_of.Reading addr counter lost accepts coins) =
+    of_reading
+end_by_record (if_posted of_reading) (record_of.Broken addr seen counter lost accepts coins) =
+    Some Broke
 end_by_record if_closed r = end_of_close r
 end_by_record behind r = None
 
@@ -265,8 +280,8 @@ abbrev pub end_failed : List TableRow → ℕ → Option End
 end_failed (asks_once q behind without ∷ rows) failed = end_bare without
 end_failed rows failed = end_of_tries failed
 
--- The end that a record brings to the first of these rows that may put it: one that puts what was judged puts a reading or
--- a break.
+-- The end that a record brings to the first of these rows that may put it: one that puts what was
+-- judged puts a reading or a break.
 abbrev pub end_kept : List TableRow → Record → Option End
 end_kept [] r = None
 end_kept (puts_due reading behind ∷ rows) (record_of.Reading addr counter lost accepts coins) =

@@ -1,5 +1,7 @@
--- A transcript, newest entry first: the wire's pending fault, what each device met, and the lines of each address.
-use Rattle.std.specs.Prelude.{ℕ, ◌==◌, List, [], ◌∷◌, ◌++◌, flat_map, if◌then◌else◌, Option, Some, None, option_and_then, unwrap_or, slice_index, bytes_eq}
+-- A transcript, newest entry first: the wire's pending fault, what each device met, and the lines
+-- of each address.
+use Rattle.std.specs.Prelude.{ℕ, ◌==◌, List, [], ◌∷◌, ◌++◌, flat_map, if◌then◌else◌, Option, Some}
+use Rattle.std.specs.Prelude.{None, option_and_then, unwrap_or, slice_index, bytes_eq}
 use Rattle.cct_model.specs.terms.wire.TheConstants.{BROADCAST, HOST}
 use Rattle.cct_model.specs.terms.wire.CheckKind.TheVariants.{Simple, Crc}
 use Rattle.cct_model.specs.terms.device.DeviceBody.{DeviceBody}
@@ -25,7 +27,7 @@ use Rattle.cct_model.specs.Job.{address_of}
 use Rattle.cct_model.specs.Records.{records, opened_in, owner_in}
 use Rattle.cct_model.specs.Scan.{poll_of}
 
--- What stands at an address, where that is the device's.
+-- What is at an address, where that is the device's.
 abbrev pub at : {A : Type 0} → ℕ → DeviceSetup → A → List A
 at addr d x = if addr == d.addr then x ∷ [] else []
 
@@ -41,14 +43,15 @@ abbrev pub heard_by_devices : WireFault → List ℕ → List ℕ
 heard_by_devices (fault.DevicesHear piece) sent = piece
 heard_by_devices f sent = sent
 
--- What the host hears, where it sent bytes and the devices answer: its own echo, and the answers after it.
+-- What the host hears, where it sent bytes and the devices answer: its own echo, and the answers
+-- after it.
 abbrev pub heard_by_host : WireFault → List ℕ → List ℕ → List ℕ
 heard_by_host (fault.HostHears piece) sent answered = sent ++ piece
 heard_by_host (fault.WholeHeard piece) sent answered = piece
 heard_by_host f sent answered = sent ++ answered
 
--- What an entry says that a device met: what fell into it or out of it, its resets, and all bytes that the devices
--- heard, whoever it was for.
+-- What an entry says that a device met: what fell into it or out of it, its resets, and all bytes
+-- that the devices heard, whoever it was for.
 abbrev pub meets : DeviceSetup → List Entry → Entry → List Met
 meets d past (entry.Accepted addr c) = at addr d (coin c.place)
 meets d past (entry.Held addr place) = at addr d (coin place)
@@ -59,7 +62,8 @@ meets d past (entry.NoFall addr) = at addr d fall
 meets d past (entry.Jammed addr) = at addr d jam
 meets d past (entry.NoJam addr) = at addr d jam
 meets d past (entry.Reset addr) = at addr d reset
-meets d past (entry.Wire addr sent piece) = heard (asks_of d (heard_by_devices (pending past) sent)) ∷ []
+meets d past (entry.Wire addr sent piece) =
+    heard (asks_of d (heard_by_devices (pending past) sent)) ∷ []
 meets d past e = []
 
 -- All that a device met.
@@ -69,7 +73,8 @@ met d (e ∷ past) = meets d past e ++ met d past
 
 -- The bytes with which the devices of a setup answer what they hear, in rising order of address.
 abbrev pub answers : Setup → List Entry → List ℕ → List ℕ
-answers setup past piece = flat_map (λ d. unwrap_or (answer d (met d past) piece) []) (by_address setup.devices)
+answers setup past piece =
+    flat_map (λ d. unwrap_or (answer d (met d past) piece) []) (by_address setup.devices)
 
 -- What the host hears after it sent bytes.
 unfoldable pub heard_after : Setup → List Entry → List ℕ → List ℕ
@@ -78,7 +83,8 @@ heard_after setup past sent =
 
 -- The reply that a device's exchange got: the wanted one to the request that was sent.
 unfoldable pub got_by : DeviceSetup → List ℕ → List ℕ → Option Reply
-got_by d sent piece = option_and_then (λ form. got d.kind d.addr form sent piece) (option_and_then form_of (asked d.kind sent))
+got_by d sent piece = option_and_then (λ form. got d.kind d.addr form sent piece)
+    (option_and_then form_of (asked d.kind sent))
 
 -- The address at which an order was opened last with an id, 0 where none was.
 abbrev pub opened_at : ℕ → List Entry → ℕ
@@ -98,8 +104,8 @@ abbrev pub stacked_line : Option ℕ → List Line
 stacked_line None = []
 stacked_line (Some place) = line.accepted (record { place = place; path = 0 }) ∷ []
 
--- What a device did of what it heard, whoever's job the exchange is: a hopper took a dispense, and a bill acceptor stacked
--- the bill that it held.
+-- What a device did of what it heard, whoever's job the exchange is: a hopper took a dispense, and
+-- a bill acceptor stacked the bill that it held.
 abbrev pub doses : DeviceBody → ℕ → List Met → Option Request → List Line
 doses (Acceptor accepts values ids) own past asked = []
 doses (Hopper life value) own past asked = dispensed_by (taken_of own past asked)
@@ -107,10 +113,12 @@ doses (Bill accepts values ids) own past asked = stacked_line (stacked_by asked 
 
 -- What a device does in an exchange in which the host sends bytes.
 abbrev pub doses_of : DeviceSetup → List Entry → List ℕ → List Line
-doses_of d past sent = doses d.body d.serial (met d past) (asks_of d (heard_by_devices (pending past) sent))
+doses_of d past sent =
+    doses d.body d.serial (met d past) (asks_of d (heard_by_devices (pending past) sent))
 
--- The lines of a device's address that an entry is, newest first: an exchange may be two, of which the one that says what
--- was got is the newer one. A bill that is held is none: it isn't accepted yet.
+-- The lines of a device's address that an entry is, newest first: an exchange may be two, of which
+-- the one that says what was got is the newer one. A bill that is held is none: it isn't accepted
+-- yet.
 abbrev pub own : DeviceSetup → List Entry → Entry → List Line
 own d past (entry.Accepted addr c) = at addr d (line.accepted c)
 own d past (entry.Inhibited addr place) = at addr d (line.inhibited place)
@@ -131,12 +139,12 @@ abbrev pub lines_of : DeviceSetup → List Entry → List Line
 lines_of d [] = []
 lines_of d (e ∷ past) = own d past e ++ lines_of d past
 
--- What stands at address 0, where scans are.
+-- What is at address 0, where scans are.
 abbrev pub at_scan : {A : Type 0} → ℕ → A → List A
 at_scan addr x = if addr == BROADCAST then x ∷ [] else []
 
--- The line of a scan that an exchange is: it polled the address that the bytes sent are for, under the check of the two
--- whose poll they are.
+-- The line of a scan that an exchange is: it polled the address that the bytes sent are for, under
+-- the check of the two whose poll they are.
 unfoldable pub scan_line : List ℕ → List ℕ → Line
 scan_line sent piece =
     let addr = slice_index sent 0 in
@@ -157,7 +165,7 @@ abbrev pub scan_lines : List Entry → List Line
 scan_lines [] = []
 scan_lines (e ∷ past) = scan_own e ++ scan_lines past
 
--- What stands at address 1, where sales are.
+-- What is at address 1, where sales are.
 abbrev pub at_sale : {A : Type 0} → ℕ → A → List A
 at_sale addr x = if addr == HOST then x ∷ [] else []
 

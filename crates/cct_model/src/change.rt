@@ -11,7 +11,8 @@ pub struct Tray {
     pub stock: u32,
 }
 
-/// A payment that a session of change gave the host: hopper `addr` is to pay `count` coins, and the order has this id.
+/// A payment that a session of change gave the host: hopper `addr` is to pay `count` coins, and the
+/// order has this id.
 #[derive(Clone, Copy, Debug, PartialEq, Eq)]
 pub struct Payment {
     pub addr: u8,

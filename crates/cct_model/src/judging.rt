@@ -20,8 +20,8 @@ pub enum Judged {
 pub enum EpochState {
     /// No epoch runs.
     Idle,
-    /// An epoch runs with this inhibit mask; the event counter is that of the last reading recorded in it, or 0, and the
-    /// accept counter, below 2^24, that of the last record in it.
+    /// An epoch runs with this inhibit mask; the event counter is that of the last reading recorded
+    /// in it, or 0, and the accept counter, below 2^24, that of the last record in it.
     Running {
         mask: u16,
         counter: u8,
@@ -29,8 +29,8 @@ pub enum EpochState {
     },
 }
 
-/// An order that is open: its id, its hopper, how many coins it is for, and the life count of the hopper, below 2^24,
-/// that was read before.
+/// An order that is open: its id, its hopper, how many coins it is for, and the life count of the
+/// hopper, below 2^24, that was read before.
 #[derive(Clone, Copy, Debug, PartialEq, Eq)]
 pub struct OpenOrder {
     pub id: u32,

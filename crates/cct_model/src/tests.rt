@@ -94,7 +94,8 @@ pub fn room_tests(command: &Command) -> [Option<Test>; 2]
 
 /// How many records a command wants room for, given whether a device is at its address.
 pub fn need_of(command: &Command, is_there: bool) -> u32
-    ensures { (found : Option DeviceSetup) → is_some found ≡ is_there → result ≡ need_for found command.now }
+    ensures { (found : Option DeviceSetup) → is_some found ≡ is_there → result
+        ≡ need_for found command.now }
 {
     match command {
         Command::Start { .. } if is_there => 1,

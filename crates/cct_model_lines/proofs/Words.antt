@@ -24,7 +24,7 @@ bit_there zero number i within = absurd (omega arith)
 bit_there (suc count) number zero within = ap (λ bit. bit == 1) (sym (bit_at_lowest number))
 bit_there (suc count) number (suc i) within = bit_there count (number / 2) i (omega arith) ∙ ap (λ bit. bit == 1) (sym (bit_at-suc number i))
 
--- a set tells as many addresses as its words have bits
+-- a set shows as many addresses as its words have bits
 pub all_told : (words : List ℕ) → length (set_in words).members ≡ length words * 64
 unfolding set_in
 all_told [] = refl
@@ -142,7 +142,7 @@ still_words words n word are fits = record {
 pub still_told : (words : List ℕ) (n word : ℕ) → AreWords words → length (set_in (set words n word)).members ≡ 256
 still_told words n word are = all_told (set words n word) ∙ omega (arith, length-set words n word, are.four)
 
--- the least address of a set: none is below the first word that isn't 0, and its lowest bit tells it
+-- the least address of a set: none is below the first word that isn't 0, and its lowest bit shows it
 
 none_in : (words : List ℕ) (addr : ℕ) → get_or words (addr / 64) 0 ≡ 0 → has_bit words addr ≡ false
 none_in words addr zeros = rw (zeros, bit_at-zero (addr % 64)) refl

@@ -1,5 +1,6 @@
 -- What a carry is: what a host needs of all records before some of them.
-use Rattle.std.specs.Prelude.{◌≡◌, ℕ, ◌+◌, ◌*◌, ◌^◌, ◌<◌, ◌≤◌, nat_lt, ◌==◌, List, [], ◌∷◌, length, map, All, Option, Some, None}
+use Rattle.std.specs.Prelude.{◌≡◌, ℕ, ◌+◌, ◌*◌, ◌^◌, ◌<◌, ◌≤◌, nat_lt, ◌==◌, List, [], ◌∷◌, length}
+use Rattle.std.specs.Prelude.{map, All, Option, Some, None}
 use Rattle.std.specs.Prelude.{if◌then◌else◌, ⊤}
 use Rattle.std.proofs.Props.{props}
 use Rattle.cct_model_lines.specs.terms.device.TheConstants.{DEVICES}
@@ -88,9 +89,9 @@ pub record OrderFits (o : CarryOrder) : Type 0 where
   pub count : o.count < 256
   pub life : o.life < 2 ^ 24
 
--- A carry may be that of so many records: its epochs and its orders stand in strictly rising order of address, at most 32
--- together and at most as many as records; its sums are small; all numbers fit their bytes; and of no record it is the
--- empty carry.
+-- A carry may be that of so many records: its epochs and its orders stand in strictly rising order
+-- of address, at most 32 together and at most as many as records; its sums are small; all numbers
+-- fit their bytes; and of no record it is the empty carry.
 pub record IsRightly (many : ℕ) (c : Carry) : Type 0 where
   pub epochs_rise : Rise (map addr_of_epoch c.epochs)
   pub orders_rise : Rise (map addr_of_order c.orders)

@@ -1,5 +1,6 @@
 -- Sets of addresses.
-use Rattle.std.specs.Prelude.{ℕ, suc, zero, ◌==◌, ◌||◌, nat_lt, Bool, false, List, [], ◌∷◌, ◌++◌, if◌then◌else◌, Option, Some, None, filter, slice_index_or}
+use Rattle.std.specs.Prelude.{ℕ, suc, zero, ◌==◌, ◌||◌, nat_lt, Bool, false, List, [], ◌∷◌, ◌++◌}
+use Rattle.std.specs.Prelude.{if◌then◌else◌, Option, Some, None, filter, slice_index_or}
 use Rattle.cct_model_lines.specs.declared.device_set.DeviceSet.{DeviceSet}
 
 -- Whether a set has an address.
@@ -19,7 +20,8 @@ all_addresses = addresses_below 256
 abbrev pub addresses_in : DeviceSet → List ℕ
 addresses_in set = filter (has set) all_addresses
 
--- A list of addresses in rising order with one more in its place, or as it is where it has that address.
+-- A list of addresses in rising order with one more in its place, or as it is where it has that
+-- address.
 unfoldable pub with_address : ℕ → List ℕ → List ℕ
 with_address addr [] = addr ∷ []
 with_address addr (first ∷ rest) =

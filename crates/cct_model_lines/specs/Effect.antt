@@ -1,5 +1,5 @@
--- What a record does to the books: whose it is, what becomes of the epoch and of the open order there, the coins that it
--- posts and tells to be lost, and what it sells.
+-- What a record does to the books: whose it is, what becomes of the epoch and of the open order
+-- there, the coins that it posts and tells to be lost, and what it sells.
 use Rattle.std.specs.Prelude.{ℕ, List, [], Option, Some, None}
 use Rattle.cct_model_lines.specs.terms.coin.Coin.{Coin}
 use Rattle.cct_model_lines.specs.terms.wire.TheConstants.{HOST}
@@ -18,8 +18,8 @@ pub data EpochMove : Type 0 where
   moved : (counter : ℕ) (accepts : ℕ) → EpochMove
   ended : EpochMove
 
--- What becomes of an order: none is opened or closed, one is opened, one is closed with so many coins paid and so many not,
--- or one is closed with counts of life that don't fit.
+-- What becomes of an order: none is opened or closed, one is opened, one is closed with so many
+-- coins paid and so many not, or one is closed with counts of life that don't fit.
 pub data OrderMove : Type 0 where
   none_moved : OrderMove
   newly_opened : (id : ℕ) (addr : ℕ) (count : ℕ) (life : ℕ) → OrderMove
@@ -40,14 +40,22 @@ pub record Effect : Type 0 where
   pub order : OrderMove
   pub sale : Option Sale
 
--- A record that moves the epoch at an address, posts these coins and tells so many to be lost.
+-- A record that moves the epoch at an address, posts these coins and shows so many to be lost.
 abbrev pub at_epoch : ℕ → EpochMove → List Coin → ℕ → Effect
 at_epoch addr move posts lost =
-    record { owned = of_address addr; epoch = move; posts = posts; lost = lost; order = none_moved; sale = None }
+    record {
+      owned = of_address addr;
+      epoch = move;
+      posts = posts;
+      lost = lost;
+      order = none_moved;
+      sale = None;
+    }
 
 -- A record that opens or closes an order.
 abbrev pub at_order : Owner → OrderMove → Effect
-at_order owner move = record { owned = owner; epoch = kept; posts = []; lost = 0; order = move; sale = None }
+at_order owner move =
+    record { owned = owner; epoch = kept; posts = []; lost = 0; order = move; sale = None }
 
 -- A record that sells something, at the host's address.
 abbrev pub at_sale : ℕ → ℕ → Effect
@@ -63,10 +71,12 @@ at_sale id price = record {
 -- The table of the records.
 abbrev pub effect : Record → Effect
 effect (record_of.Epoch addr mask accepts) = at_epoch addr (begun mask accepts) [] 0
-effect (record_of.Reading addr counter lost accepts posted) = at_epoch addr (moved counter accepts) posted lost
+effect (record_of.Reading addr counter lost accepts posted) =
+    at_epoch addr (moved counter accepts) posted lost
 effect (record_of.Broken addr seen counter lost accepts posted) = at_epoch addr ended posted lost
 effect (record_of.EpochEnd addr) = at_epoch addr ended [] 0
-effect (record_of.Opened id addr count life) = at_order (of_address addr) (newly_opened id addr count life)
+effect (record_of.Opened id addr count life) =
+    at_order (of_address addr) (newly_opened id addr count life)
 effect (record_of.Closed id paid unpaid) = at_order (of_order id) (fitly_closed id paid unpaid)
 effect (record_of.Odd id life_before life_after) = at_order (of_order id) (oddly_closed id)
 effect (record_of.Sold id price) = at_sale id price

@@ -1,6 +1,8 @@
--- The lines of a script: what a setup line and a step line say by their fields, and what a setup line adds to the setup
--- (docs/SCRIPT.md).
-use Rattle.std.specs.Prelude.{ℕ, ◌+◌, ◌-◌, ◌*◌, ◌==◌, ◌&&◌, ◌||◌, nat_le, Bool, true, false, List, [], ◌∷◌, ◌++◌, length, map, replicate, if◌then◌else◌, Option, Some, None, is_some, Result, Ok, Err, codes, bytes_eq, slice_index}
+-- The lines of a script: what a setup line and a step line say by their fields, and what a setup
+-- line adds to the setup (docs/SCRIPT.md).
+use Rattle.std.specs.Prelude.{ℕ, ◌+◌, ◌-◌, ◌*◌, ◌==◌, ◌&&◌, ◌||◌, nat_le, Bool, true, false, List}
+use Rattle.std.specs.Prelude.{[], ◌∷◌, ◌++◌, length, map, replicate, if◌then◌else◌, Option, Some}
+use Rattle.std.specs.Prelude.{None, is_some, Result, Ok, Err, codes, bytes_eq, slice_index}
 use Rattle.std.specs.List.{slice_split, slice_set, list_all}
 use Rattle.std.specs.Option.{option_map, ok_or}
 use Rattle.std.specs.Result.{result_ok}
@@ -44,7 +46,8 @@ is_digit byte = nat_le 48 byte && nat_le byte 57
 -- The number that digits go on to spell, or none where a byte is no digit.
 abbrev pub digits_from : ℕ → List ℕ → Option ℕ
 digits_from n [] = Some n
-digits_from n (byte ∷ bytes) = if is_digit byte then digits_from (10 * n + (byte - 48)) bytes else None
+digits_from n (byte ∷ bytes) =
+    if is_digit byte then digits_from (10 * n + (byte - 48)) bytes else None
 
 -- The number that a field spells in decimal, without sign and without leading zeros.
 abbrev pub number_in : List ℕ → Option ℕ
@@ -77,7 +80,8 @@ is_printing byte = nat_le 33 byte && nat_le byte 126
 
 -- The text that a field is: 1 to 24 printing characters.
 unfoldable pub word_in : List ℕ → Option (List ℕ)
-word_in field = if nat_le 1 (length field) && nat_le (length field) MOST_NAME && list_all is_printing field then Some field else None
+word_in field = if nat_le 1 (length field) && nat_le (length field) MOST_NAME
+    && list_all is_printing field then Some field else None
 
 -- The identification that a field is: six printing characters.
 unfoldable pub id_in : List ℕ → Option (List ℕ)
@@ -87,8 +91,8 @@ id_in field = if (length field == 6) && list_all is_printing field then Some fie
 abbrev pub bytes_in : List ℕ → Option (List ℕ)
 bytes_in field = result_ok (decode_of field)
 
--- The piece that a field spells: a hyphen is the empty piece, else it is in hexadecimal and has so many bytes at the
--- most.
+-- The piece that a field spells: a hyphen is the empty piece, else it is in hexadecimal and has so
+-- many bytes at the most.
 unfoldable pub piece_in : ℕ → List ℕ → Option (List ℕ)
 piece_in most [] = None
 piece_in most (byte ∷ bytes) =
@@ -109,7 +113,8 @@ mask_in field = bytes_in field >>= mask_of_bytes
 abbrev pub plain_texts : Texts
 plain_texts = record { maker = codes "BENCH"; product = codes "CCT"; software = codes "1"; build = codes "1" }
 
--- A coin acceptor of which a script says no more: its places have no values, and dots identify their coins.
+-- A coin acceptor of which a script says no more: its places have no values, and dots identify
+-- their coins.
 abbrev pub plain_acceptor : ℕ → DeviceBody
 plain_acceptor accepts = Acceptor accepts (replicate COIN_PLACES 0) (replicate COIN_PLACES (codes "......"))
 
@@ -120,10 +125,19 @@ plain_bills accepts = Bill accepts (replicate COIN_PLACES 0) (replicate COIN_PLA
 -- A device of which a script says no more.
 abbrev pub plain_device : ℕ → CheckKind → ℕ → DeviceBody → DeviceSetup
 plain_device addr check serial body =
-    record { addr = addr; kind = check; serial = serial; texts = plain_texts; named = false; body = body }
+    record {
+      addr = addr;
+      kind = check;
+      serial = serial;
+      texts = plain_texts;
+      named = false;
+      body =
+          body;
+    }
 
 -- `WORD A CHECK SERIAL ACCEPTS`: a device with an accept counter.
-abbrev pub counting_line : (DeviceSetup → SetupLine) → (ℕ → DeviceBody) → List (List ℕ) → Option SetupLine
+abbrev pub counting_line : (DeviceSetup → SetupLine) → (ℕ → DeviceBody) → List (List ℕ) →
+    Option SetupLine
 counting_line make plain (a ∷ c ∷ s ∷ n ∷ []) = do
   addr ← ranged 2 255 a
   check ← check_in c
@@ -169,7 +183,13 @@ texts_line (a ∷ m ∷ p ∷ s ∷ b ∷ []) = do
   product ← word_in p
   software ← word_in s
   build ← word_in b
-  Some (says.Named addr (record { maker = maker; product = product; software = software; build = build }))
+  Some (says.Named addr (record {
+    maker = maker;
+    product = product;
+    software = software;
+    build =
+        build;
+  }))
 texts_line fields = None
 
 -- A word alone on its line.
@@ -326,39 +346,48 @@ step_fields (word ∷ fields) =
 unfoldable pub step_line : List ℕ → Result Step LineKind
 step_line line = step_fields (slice_split is_space line)
 
--- A setup with one device more, or why there may not be one: the address is another's, or there are as many devices as
--- there may be.
+-- A setup with one device more, or why there may not be one: the address is another's, or there are
+-- as many devices as there may be.
 abbrev pub add_device : Setup → DeviceSetup → Result Setup LineKind
 add_device setup d =
-    if is_some (device_at setup.devices d.addr) || nat_le DEVICES (length setup.devices) then Err kind.Device
+    if is_some (device_at setup.devices d.addr)
+    || nat_le DEVICES (length setup.devices) then Err kind.Device
     else Ok (record { devices = setup.devices ++ d ∷ [] })
 
 -- A setup whose device at an address is changed.
 abbrev pub with_device : Setup → DeviceSetup → Setup
-with_device setup d = record { devices = map (λ e. if e.addr == d.addr then d else e) setup.devices }
+with_device setup d =
+    record { devices = map (λ e. if e.addr == d.addr then d else e) setup.devices }
 
--- A device whose place has a value and an identification, as a body made of all its values and identifications; or why it
--- can't have them: the place has a value already.
-abbrev pub placed : DeviceSetup → (List ℕ → List (List ℕ) → DeviceBody) → ℕ → ℕ → List ℕ → List ℕ → List (List ℕ) → Result DeviceSetup LineKind
+-- A device whose place has a value and an identification, as a body made of all its values and
+-- identifications; or why it can't have them: the place has a value already.
+abbrev pub placed : DeviceSetup → (List ℕ → List (List ℕ) → DeviceBody) → ℕ → ℕ → List ℕ → List ℕ →
+    List (List ℕ) → Result DeviceSetup LineKind
 placed d make place value id values ids =
     if slice_index values (place - 1) == 0
-    then Ok (record d { body = make (slice_set values (place - 1) value) (slice_set ids (place - 1) id) })
+    then Ok (record d {
+      body = make (slice_set values (place - 1) value)
+          (slice_set ids (place - 1) id);
+    })
     else Err kind.Again
 
--- An acceptor, of coins or of bills, whose place has a value and an identification, or why it can't have them: it is no
--- acceptor, or the place has a value already.
+-- An acceptor, of coins or of bills, whose place has a value and an identification, or why it can't
+-- have them: it is no acceptor, or the place has a value already.
 abbrev pub valued : DeviceSetup → ℕ → ℕ → List ℕ → DeviceBody → Result DeviceSetup LineKind
 valued d place value id (Acceptor accepts values ids) =
     placed d (λ vs is. Acceptor accepts vs is) place value id values ids
 valued d place value id (Hopper life worth) = Err kind.Device
-valued d place value id (Bill accepts values ids) = placed d (λ vs is. Bill accepts vs is) place value id values ids
+valued d place value id (Bill accepts values ids) =
+    placed d (λ vs is. Bill accepts vs is) place value id values ids
 
 -- A device that has these texts, or why it can't have them: it was given texts already.
 abbrev pub named : DeviceSetup → Texts → Result DeviceSetup LineKind
 named d texts = if d.named then Err kind.Again else Ok (record d { texts = texts; named = true })
 
--- A setup in which the device at an address is changed by this, or why it isn't: there is no such device.
-abbrev pub change_device : Setup → Option DeviceSetup → (DeviceSetup → Result DeviceSetup LineKind) → Result Setup LineKind
+-- A setup in which the device at an address is changed by this, or why it isn't: there is no such
+-- device.
+abbrev pub change_device : Setup → Option DeviceSetup →
+    (DeviceSetup → Result DeviceSetup LineKind) → Result Setup LineKind
 change_device setup None change = Err kind.Device
 change_device setup (Some d) change = changed_by setup (change d)
   where
@@ -371,6 +400,8 @@ unfoldable pub added : Setup → SetupLine → Result Setup LineKind
 added setup (says.Acceptor d) = add_device setup d
 added setup (says.Hopper d) = add_device setup d
 added setup (says.Bills d) = add_device setup d
-added setup (says.Value addr place value id) = change_device setup (device_at setup.devices addr) (λ d. valued d place value id d.body)
-added setup (says.Named addr texts) = change_device setup (device_at setup.devices addr) (λ d. named d texts)
+added setup (says.Value addr place value id) =
+    change_device setup (device_at setup.devices addr) (λ d. valued d place value id d.body)
+added setup (says.Named addr texts) =
+    change_device setup (device_at setup.devices addr) (λ d. named d texts)
 added setup says.Begin = Ok setup

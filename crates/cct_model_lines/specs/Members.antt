@@ -1,5 +1,6 @@
 -- What a set of addresses is to its callers, and the four words that keep it.
-use Rattle.std.specs.Prelude.{◌≡◌, ℕ, suc, zero, ◌+◌, ◌*◌, ◌/◌, ◌%◌, ◌^◌, ◌<◌, ◌==◌, Bool, true, false, List, [], ◌∷◌, length, take, drop, flat_map, slice_index_or}
+use Rattle.std.specs.Prelude.{◌≡◌, ℕ, suc, zero, ◌+◌, ◌*◌, ◌/◌, ◌%◌, ◌^◌, ◌<◌, ◌==◌, Bool, true}
+use Rattle.std.specs.Prelude.{false, List, [], ◌∷◌, length, take, drop, flat_map, slice_index_or}
 use Rattle.std.proofs.Common.{refl, arith}
 use Rattle.std.proofs.Math.Nat.{pow-suc}
 
@@ -61,5 +62,6 @@ words_back (a ∷ []) are = absurd (omega (arith, are.four))
 words_back (a ∷ b ∷ []) are = absurd (omega (arith, are.four))
 words_back (a ∷ b ∷ c ∷ []) are = absurd (omega (arith, are.four))
 words_back (a ∷ b ∷ c ∷ d ∷ []) are =
-    λ i. number_is 64 a (are.fit 0) i ∷ number_is 64 b (are.fit 1) i ∷ number_is 64 c (are.fit 2) i ∷ number_is 64 d (are.fit 3) i ∷ []
+    λ i. number_is 64 a (are.fit 0) i ∷ number_is 64 b (are.fit 1) i ∷ number_is 64 c (are.fit 2) i
+    ∷ number_is 64 d (are.fit 3) i ∷ []
 words_back (a ∷ b ∷ c ∷ d ∷ e ∷ words) are = absurd (omega (arith, are.four))

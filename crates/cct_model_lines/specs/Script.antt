@@ -1,5 +1,7 @@
--- What a script says: its setup, its steps, and the first line that is refused, with its kind (docs/SCRIPT.md).
-use Rattle.std.specs.Prelude.{◌≤◌, ℕ, ◌+◌, ◌==◌, ◌&&◌, nat_lt, Bool, true, false, List, [], ◌∷◌, length, if◌then◌else◌, Option, Some, None, Result, Ok, Err, ⊤}
+-- What a script says: its setup, its steps, and the first line that is refused, with its kind
+-- (docs/SCRIPT.md).
+use Rattle.std.specs.Prelude.{◌≤◌, ℕ, ◌+◌, ◌==◌, ◌&&◌, nat_lt, Bool, true, false, List, [], ◌∷◌}
+use Rattle.std.specs.Prelude.{length, if◌then◌else◌, Option, Some, None, Result, Ok, Err, ⊤}
 use Rattle.std.specs.List.{slice_split, before_first}
 use Rattle.cct_model_lines.specs.terms.coin.TheConstants.{COIN_PLACES, PATHS}
 use Rattle.cct_model_lines.specs.terms.request.TheConstants.{STACK_CODE}
@@ -59,12 +61,14 @@ read_setup_line setup (Err why) = refuses why
 read_setup_line setup (Ok says.Begin) = opens (at_steps setup)
 read_setup_line setup (Ok line) = opened (added setup line)
 
--- Where a step happens to a device, the setup has that device, and its family knows this; and where it tells a stock, that
--- device is a hopper.
+-- Where a step happens to a device, the setup has that device, and its family knows this; and where
+-- it shows a stock, that device is a hopper.
 abbrev pub is_known : Setup → Step → Bool
-is_known setup (step.Coin addr place) = known_there (happening.Coin place) (device_at setup.devices addr)
+is_known setup (step.Coin addr place) =
+    known_there (happening.Coin place) (device_at setup.devices addr)
 is_known setup (step.Alien addr) = known_there happening.Alien (device_at setup.devices addr)
-is_known setup (step.Bill addr place) = known_there (happening.Bill place) (device_at setup.devices addr)
+is_known setup (step.Bill addr place) =
+    known_there (happening.Bill place) (device_at setup.devices addr)
 is_known setup (step.Fall addr) = known_there happening.Fall (device_at setup.devices addr)
 is_known setup (step.Jam addr) = known_there happening.Jam (device_at setup.devices addr)
 is_known setup (step.Reset addr) = known_there happening.Reset (device_at setup.devices addr)
@@ -100,7 +104,8 @@ abbrev pub is_over : Stage → Bool
 is_over (at_end setup) = true
 is_over stage = false
 
--- A whole line with its number: a line after the end first, then too many lines, then too long a line, then its form.
+-- A whole line with its number: a line after the end first, then too many lines, then too long a
+-- line, then its form.
 abbrev pub read_line : ℕ → Stage → List ℕ → Read
 read_line number stage line =
     if is_over stage then refuses kind.Trailing
@@ -108,8 +113,8 @@ read_line number stage line =
     else if nat_lt most_bytes (length line) then refuses kind.Long
     else read_form stage line
 
--- Why an unfinished line is refused, if it is: a byte after the end; a byte too many lines; a byte too long; else the
--- input ends within it. Nothing after the end is no line.
+-- Why an unfinished line is refused, if it is: a byte after the end; a byte too many lines; a byte
+-- too long; else the input ends within it. Nothing after the end is no line.
 abbrev pub unfinished : ℕ → Stage → List ℕ → Option LineKind
 unfinished number stage rest =
     if is_over stage then (if nat_lt 0 (length rest) then Some kind.Trailing else None)
@@ -122,7 +127,8 @@ pub record Refusal : Type 0 where
   pub number : ℕ
   pub why : LineKind
 
--- What a script says: its setup, its steps up to its end or its first refused line, and that line if there is one.
+-- What a script says: its setup, its steps up to its end or its first refused line, and that line
+-- if there is one.
 pub record Script : Type 0 where
   pub setup : Setup
   pub steps : List Step
@@ -135,12 +141,14 @@ refusal_at number None = None
 
 -- A script that says no more steps: its end was read, or a line is refused.
 abbrev pub closed_script : ℕ → Setup → Option LineKind → Script
-closed_script number setup why = record { setup = setup; steps = []; refused = refusal_at number why }
+closed_script number setup why =
+    record { setup = setup; steps = []; refused = refusal_at number why }
 
 -- A script that begins with these steps.
 abbrev pub with_steps : List Step → Script → Script
 with_steps [] rest = rest
-with_steps (s ∷ steps) rest = record { setup = rest.setup; steps = s ∷ (with_steps steps rest).steps; refused = rest.refused }
+with_steps (s ∷ steps) rest =
+    record { setup = rest.setup; steps = s ∷ (with_steps steps rest).steps; refused = rest.refused }
 
 -- The stage after a line.
 abbrev pub stage_after : Stage → Read → Stage
@@ -157,7 +165,8 @@ goes_on number stage (refuses why) rest = closed_script number (setup_at stage) 
 -- What the lines from this number on say: whole lines, and last the bytes after the last line feed.
 abbrev pub script_from : ℕ → Stage → List (List ℕ) → Script
 script_from number stage [] = closed_script number (setup_at stage) (unfinished number stage [])
-script_from number stage (rest ∷ []) = closed_script number (setup_at stage) (unfinished number stage rest)
+script_from number stage (rest ∷ []) =
+    closed_script number (setup_at stage) (unfinished number stage rest)
 script_from number stage (line ∷ next ∷ parts) =
     goes_on number stage (read_line number stage line)
     (script_from (number + 1) (stage_after stage (read_line number stage line)) (next ∷ parts))

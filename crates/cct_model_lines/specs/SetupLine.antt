@@ -13,5 +13,6 @@ IsSetupLine (says.Bills d) = IsSound d × IsBill d.body
 IsSetupLine (says.Value addr place value id) =
     (2 ≤ addr) × (1 ≤ place) × (place ≤ COIN_PLACES) × (1 ≤ value) × (value ≤ 1000000) × IsId id
 IsSetupLine (says.Named addr texts) =
-    (2 ≤ addr) × IsWord texts.maker × IsWord texts.product × IsWord texts.software × IsWord texts.build
+    (2 ≤ addr) × IsWord texts.maker × IsWord texts.product × IsWord texts.software
+    × IsWord texts.build
 IsSetupLine says.Begin = ⊤

@@ -1,5 +1,7 @@
--- The table of the commands: where each goes, its word, what the fields after that spell, and the command of such numbers.
-use Rattle.std.specs.Prelude.{ℕ, ◌≤◌, ◌<◌, ◌^◌, List, [], ◌∷◌, if◌then◌else◌, Option, Some, None, bytes_eq, codes, ⊤}
+-- The table of the commands: where each goes, its word, what the fields after that spell, and the
+-- command of such numbers.
+use Rattle.std.specs.Prelude.{ℕ, ◌≤◌, ◌<◌, ◌^◌, List, [], ◌∷◌, if◌then◌else◌, Option, Some, None}
+use Rattle.std.specs.Prelude.{bytes_eq, codes, ⊤}
 use Rattle.cct_model_lines.specs.terms.coin.TheConstants.{COIN_PLACES, PATHS}
 use Rattle.cct_model_lines.specs.terms.request.TheConstants.{RETURN_CODE, STACK_CODE}
 use Rattle.cct_model_lines.specs.terms.wire.TheConstants.{BROADCAST, HOST}
@@ -8,8 +10,8 @@ use Rattle.cct_model_lines.specs.declared.command.Command.TheVariants as command
 use Rattle.cct_model_lines.specs.declared.shape.Field.{Field}
 use Rattle.cct_model_lines.specs.declared.shape.Field.TheVariants.{Nothing, Number, Mask}
 
--- A command as a line: its address, a scan being at 0 and a sale at 1; its word; what at most three fields after it spell;
--- and the command of the same word that has such numbers.
+-- A command as a line: its address, a scan being at 0 and a sale at 1; its word; what at most three
+-- fields after it spell; and the command of the same word that has such numbers.
 pub record Shape : Type 0 where
   pub address : ℕ
   pub word : List ℕ
@@ -88,13 +90,16 @@ shape_of (command.Vend id price) = record {
 -- One command of each word, with any numbers.
 abbrev pub commands : List Command
 commands =
-    command.Start 0 0 ∷ command.Round 0 ∷ command.Stop 0 ∷ command.Pay 0 0 0 ∷ command.Settle 0 ∷ command.Halt 0
-    ∷ command.Scan ∷ command.Ident 0 ∷ command.Path 0 0 0 ∷ command.Route 0 0 ∷ command.Vend 0 0 ∷ []
+    command.Start 0 0 ∷ command.Round 0 ∷ command.Stop 0 ∷ command.Pay 0 0 0 ∷ command.Settle 0
+    ∷ command.Halt 0
+    ∷ command.Scan ∷ command.Ident 0 ∷ command.Path 0 0 0 ∷ command.Route 0 0 ∷ command.Vend 0 0
+    ∷ []
 
 -- The shape of the first of these commands that has a word.
 abbrev pub shape_named : List Command → List ℕ → Option Shape
 shape_named [] word = None
-shape_named (c ∷ cs) word = if bytes_eq word (shape_of c).word then Some (shape_of c) else shape_named cs word
+shape_named (c ∷ cs) word =
+    if bytes_eq word (shape_of c).word then Some (shape_of c) else shape_named cs word
 
 -- What the fields of a command spell.
 abbrev pub fields_of : Command → Field × Field × Field

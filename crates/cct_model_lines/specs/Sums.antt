@@ -5,7 +5,8 @@ use Rattle.cct_model_lines.specs.declared.record.Record.{Record}
 use Rattle.cct_model_lines.specs.Effect.{EpochMove, OrderMove, Sale, effect}
 use Rattle.cct_model_lines.specs.Effect as move
 
--- Whether a record is one of an acceptor, which is an item; any other is one of an order or of a sale.
+-- Whether a record is one of an acceptor, which is an item; any other is one of an order or of a
+-- sale.
 abbrev pub is_item : Record → Bool
 is_item r = is_moved (effect r).epoch
   where

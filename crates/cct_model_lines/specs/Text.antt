@@ -1,5 +1,6 @@
 -- The text of a transcript: one line for each entry (docs/TRANSCRIPT.md).
-use Rattle.std.specs.Prelude.{ℕ, zero, suc, ◌+◌, ◌/◌, ◌%◌, ◌^◌, nat_lt, List, [], ◌∷◌, ◌++◌, map, flat_map, if◌then◌else◌, Option, Some, None, codes}
+use Rattle.std.specs.Prelude.{ℕ, zero, suc, ◌+◌, ◌/◌, ◌%◌, ◌^◌, nat_lt, List, [], ◌∷◌, ◌++◌, map}
+use Rattle.std.specs.Prelude.{flat_map, if◌then◌else◌, Option, Some, None, codes}
 use Rattle.std.specs.List.{join_with_byte, filter_map}
 use Rattle.hex.specs.Hex.{encode_lower}
 use Rattle.cct_model_lines.specs.terms.coin.Coin.{Coin}
@@ -29,10 +30,11 @@ use Rattle.cct_model_lines.specs.Shape.{shape_of}
 -- The last digits of a number: one, and so many more at most.
 abbrev pub last_digits : ℕ → ℕ → List ℕ
 last_digits zero n = (48 + n % 10) ∷ []
-last_digits (suc more) n = if nat_lt n 10 then (48 + n) ∷ [] else last_digits more (n / 10) ++ (48 + n % 10) ∷ []
+last_digits (suc more) n =
+    if nat_lt n 10 then (48 + n) ∷ [] else last_digits more (n / 10) ++ (48 + n % 10) ∷ []
 
--- A number in decimal, with all its digits: 64 at most below 10 ^ 64, and for each 10 ^ 64 in it no more than one
--- more.
+-- A number in decimal, with all its digits: 64 at most below 10 ^ 64, and for each 10 ^ 64 in it no
+-- more than one more.
 unfoldable pub number_text : ℕ → List ℕ
 number_text n = last_digits (n / 10 ^ 64 + 63) n
 
@@ -101,7 +103,8 @@ field_texts (Mask mask) = mask_field mask ∷ []
 -- The fields of a command: its word, and what its line spells after it.
 abbrev pub command_fields : Command → List (List ℕ)
 command_fields c =
-    (shape_of c).word ∷ field_texts (shape_of c).first ++ field_texts (shape_of c).second ++ field_texts (shape_of c).third
+    (shape_of c).word ∷ field_texts (shape_of c).first ++ field_texts (shape_of c).second
+    ++ field_texts (shape_of c).third
 
 -- The fields of the reason why a command is refused.
 abbrev pub reason_fields : CommandNo → List (List ℕ)

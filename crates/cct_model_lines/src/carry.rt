@@ -1,4 +1,5 @@
-//! What a host needs of all records before some of them: sums, the epochs that run and the orders that are open.
+//! What a host needs of all records before some of them: sums, the epochs that run and the orders
+//! that are open.
 ghost use Rattle.std.specs.Prelude.{◌≡◌, ◌<◌, ◌≤◌, [], ◌∷◌, ◌++◌, length, insert, remove};
 ghost use Rattle.cct_model_wire.specs.declared.device.TheConstants.{DEVICES};
 ghost use Rattle.cct_model_lines.specs.Carried.{empty_carry};
@@ -8,8 +9,8 @@ use arrayvec::ArrayVec;
 use std::alloc::AllocError;
 use std::marker::Model;
 
-/// An epoch that runs: its acceptor, its inhibit mask, the event counter of the last reading recorded in it, or 0, and
-/// the accept counter of the last record in it, below 2^24.
+/// An epoch that runs: its acceptor, its inhibit mask, the event counter of the last reading
+/// recorded in it, or 0, and the accept counter of the last record in it, below 2^24.
 #[derive(Clone, Copy, Debug, Default, PartialEq, Eq)]
 pub struct CarryEpoch {
     pub addr: u8,
@@ -18,8 +19,8 @@ pub struct CarryEpoch {
     pub accepts: u32,
 }
 
-/// An order that is open: its id, its hopper, how many coins it is for, and the life count of the hopper that was read
-/// before, below 2^24.
+/// An order that is open: its id, its hopper, how many coins it is for, and the life count of the
+/// hopper that was read before, below 2^24.
 #[derive(Clone, Copy, Debug, Default, PartialEq, Eq)]
 pub struct CarryOrder {
     pub id: u32,
@@ -156,8 +157,8 @@ impl CarryOrders {
     }
 }
 
-/// What a host needs of all records before some of them (`docs/JOURNAL.md`, "The carry"). Values are in units of the
-/// setup's values.
+/// What a host needs of all records before some of them (`docs/JOURNAL.md`, "The carry"). Values
+/// are in units of the setup's values.
 #[derive(Clone, Debug, Drop, PartialEq, Eq)]
 pub struct Carry {
     /// The greatest id of an order or of a sale, 0 where none was used.

@@ -15,7 +15,8 @@ pub const GREATEST_FIRST: u32 = 4_000_000_000;
 /// A command of the operator to the host.
 #[derive(Clone, Copy, Debug, PartialEq, Eq)]
 pub enum Command {
-    /// Let acceptor `addr`, of coins or of bills, accept the places whose bit in the inhibit mask is 1. Bit 0 is place 1.
+    /// Let acceptor `addr`, of coins or of bills, accept the places whose bit in the inhibit mask
+    /// is 1. Bit 0 is place 1.
     Start { addr: u8, mask: u16 },
     /// Read acceptor `addr`, and post what was accepted since the last reading.
     Round { addr: u8 },
@@ -31,15 +32,18 @@ pub enum Command {
     Scan,
     /// Ask device `addr` for all that it tells of itself.
     Ident { addr: u8 },
-    /// Let coins of a place, 1 to 16, of acceptor `addr` fall by a sorter path, 1 to 8; place 0 sets the default path.
+    /// Let coins of a place, 1 to 16, of acceptor `addr` fall by a sorter path, 1 to 8; place 0
+    /// sets the default path.
     Path { addr: u8, place: u8, path: u8 },
-    /// Send the bill that bill acceptor `addr` holds to the stacker, with way 1, or give it back, with way 0.
+    /// Send the bill that bill acceptor `addr` holds to the stacker, with way 1, or give it back,
+    /// with way 0.
     Route { addr: u8, way: u8 },
     /// Sell something at a price, 1 to 1,000,000,000. The sale has this id, which is not 0.
     Vend { id: u32, price: u32 },
 }
 
-/// Why a command is refused, by the first of these tests that holds. A refused command changes nothing.
+/// Why a command is refused, by the first of these tests that holds. A refused command changes
+/// nothing.
 #[derive(Clone, Copy, Debug, PartialEq, Eq, Error)]
 pub enum CommandNo {
     /// The setup has no device at the address.
@@ -75,8 +79,8 @@ pub enum CommandNo {
     /// So much is available, and that is less than what is wanted.
     #[error("only {have} is available")]
     Short { have: u64 },
-    /// The journal has `used` records; `held` more are held, for what running jobs may put and for each open order that
-    /// no job is to close; and `need` more find no room.
+    /// The journal has `used` records; `held` more are held, for what running jobs may put and for
+    /// each open order that no job is to close; and `need` more find no room.
     #[error("the journal has {used} records, {held} more are held, and {need} more find no room")]
     JournalFull { used: u32, held: u32, need: u32 },
 }
@@ -104,8 +108,8 @@ impl WireFault {
     }
 }
 
-/// Where in a put of a record the host's power is cut: the job at this address has made so many, 0 to 4, of the four
-/// disk calls of its put.
+/// Where in a put of a record the host's power is cut: the job at this address has made so many, 0
+/// to 4, of the four disk calls of its put.
 #[derive(Clone, Copy, Debug, PartialEq, Eq)]
 pub struct CrashAt {
     pub addr: u8,
@@ -129,18 +133,20 @@ pub enum Step {
     Reset { addr: u8 },
     /// The wire has this fault in the next exchange.
     Fault(WireFault),
-    /// The job at the address makes one attempt of one row: one exchange on the wire, or one record put.
+    /// The job at the address makes one attempt of one row: one exchange on the wire, or one record
+    /// put.
     Next { addr: u8 },
     /// The operator gives the host a command.
     Command(Command),
-    /// The host's power is cut and starts again; the bytes that were not synced then are told by `choice`.
+    /// The host's power is cut and starts again; the bytes that were not synced then are reported
+    /// by `choice`.
     Crash { at: Option<CrashAt>, choice: u64 },
     /// The operator reads the balance.
     Balance,
     /// The operator says that `count` coins are in hopper `addr`.
     Stock { addr: u8, count: u32 },
-    /// The operator begins a session of change: `amount`, 1 to 10,000, is to be paid by the hoppers, and its first payment
-    /// has the id `first`, 1 to 4,000,000,000.
+    /// The operator begins a session of change: `amount`, 1 to 10,000, is to be paid by the
+    /// hoppers, and its first payment has the id `first`, 1 to 4,000,000,000.
     Change { first: u32, amount: u32 },
     /// The operator lets the session of change go on.
     Serve,

@@ -3,8 +3,8 @@ ghost use Rattle.std.specs.Prelude.{◌≡◌, ℕ, ◌==◌, ◌&&◌, ◌||◌
 
 use std::marker::Model;
 
-/// A set of addresses, 0 to 255. Contracts see which address is a member, in rising order of the addresses, and the
-/// members as one list in that order, `addresses_in`.
+/// A set of addresses, 0 to 255. Contracts see which address is a member, in rising order of the
+/// addresses, and the members as one list in that order, `addresses_in`.
 #[derive(Clone, Copy, Debug, PartialEq, Eq)]
 pub struct DeviceSet {
     /// Address `a` is bit `a % 64` of word `a / 64`.
@@ -12,7 +12,8 @@ pub struct DeviceSet {
 }
 
 impl Model for DeviceSet {
-    ghost use Rattle.cct_model_lines.specs.Members.{AreWords, Members, set_in, words_back, words_of};
+    ghost use Rattle.cct_model_lines.specs.Members.{AreWords, Members, set_in, words_back};
+    ghost use Rattle.cct_model_lines.specs.Members.{words_of};
 
     ghost Value = { Members };
 
@@ -26,7 +27,8 @@ impl Model for DeviceSet {
 }
 
 impl DeviceSet {
-    ghost use Rattle.cct_model_lines.specs.DeviceSet.{addresses_in, all_addresses, first_address, has, is_address_in};
+    ghost use Rattle.cct_model_lines.specs.DeviceSet.{addresses_in, all_addresses, first_address};
+    ghost use Rattle.cct_model_lines.specs.DeviceSet.{has, is_address_in};
     ghost use Rattle.cct_model_lines.specs.DeviceSet.{with_address, without_address};
 
     /// No address.
@@ -40,7 +42,8 @@ impl DeviceSet {
 
     /// Adds an address, where it isn't in the set yet.
     pub fn insert(&mut self, addr: u8)
-        ensures one_more { (other : ℕ) → has self.new other ≡ ((other == addr) || has self.old other) }
+        ensures one_more { (other : ℕ) → has self.new other
+            ≡ ((other == addr) || has self.old other) }
         ensures whole { length self.new.members ≡ 256 }
         ensures placed { addresses_in self.new ≡ with_address addr (addresses_in self.old) }
     {
@@ -49,7 +52,8 @@ impl DeviceSet {
 
     /// Takes an address out, where it is in the set.
     pub fn remove(&mut self, addr: u8)
-        ensures one_less { (other : ℕ) → has self.new other ≡ (not (other == addr) && has self.old other) }
+        ensures one_less { (other : ℕ) → has self.new other
+            ≡ (not (other == addr) && has self.old other) }
         ensures whole { length self.new.members ≡ 256 }
         ensures left_out { addresses_in self.new ≡ without_address addr (addresses_in self.old) }
     {

@@ -35,7 +35,8 @@ pub enum End {
     Posted,
     /// A broken reading was put.
     Broke,
-    /// A coin was accepted while the acceptor was being read, so nothing was put: it has to be read again.
+    /// A coin was accepted while the acceptor was being read, so nothing was put: it has to be read
+    /// again.
     Moved,
     /// The epoch was ended.
     Stopped,
@@ -49,7 +50,8 @@ pub enum End {
     Listed(Listed),
     /// The device told all of itself.
     Told,
-    /// The sorter path of a coin place, or with place 0 the default path, was set, and was read back.
+    /// The sorter path of a coin place, or with place 0 the default path, was set, and was read
+    /// back.
     PathSet { place: u8, path: u8 },
     /// The bill acceptor stacked the bill that it held, or gave it back.
     Routed,
@@ -71,7 +73,7 @@ pub struct Totals {
 /// Why a line of a script is refused, by the first of these that holds.
 #[derive(Clone, Copy, Debug, PartialEq, Eq, Error)]
 pub enum LineKind {
-    /// A byte stands after the line `end`.
+    /// A byte is after the line `end`.
     #[error("a byte stands behind the end")]
     Trailing,
     /// A byte of a line past the limit of lines was read.
@@ -114,27 +116,29 @@ pub enum SumOf {
     Closed,
 }
 
-/// What a monitor says of the watched device at `addr`: `first` and `last` are the numbers of two taps, from 1. All three
-/// are of a span: two readings of an acceptor's credits with none between them, or two life counts of a hopper.
+/// What a monitor says of the watched device at `addr`: `first` and `last` are the numbers of two
+/// taps, from 1. All three are of a span: two readings of an acceptor's credits with none between
+/// them, or two life counts of a hopper.
 #[derive(Clone, Debug, Drop, PartialEq, Eq)]
 pub enum Said {
-    /// The acceptor accepted these coins between its two readings, oldest first: those among as many of the newest events
-    /// as the two event counters tell, at most five (ccTalk Generic Specification 4, part 2, header 229).
+    /// The acceptor accepted these coins between its two readings, oldest first: those among as
+    /// many of the newest events as the two event counters tell, at most five (ccTalk Generic
+    /// Specification 4, part 2, header 229).
     Sure {
         addr: u8,
         first: u32,
         last: u32,
         coins: Coins,
     },
-    /// Which coins the acceptor accepted between its two readings isn't sure: a reset or another inhibit mask may have
-    /// come between them, or more events than the credit buffer keeps.
+    /// Which coins the acceptor accepted between its two readings isn't sure: a reset or another
+    /// inhibit mask may have come between them, or more events than the credit buffer keeps.
     Doubt {
         addr: u8,
         first: u32,
         last: u32,
     },
-    /// So many coins fell out of the hopper between its two life counts, where fewer than 2^24 fell (ccTalk Generic
-    /// Specification 4, part 3, header 168).
+    /// So many coins fell out of the hopper between its two life counts, where fewer than 2^24 fell
+    /// (ccTalk Generic Specification 4, part 3, header 168).
     Fell {
         addr: u8,
         first: u32,
@@ -170,8 +174,8 @@ pub enum Entry {
         addr: u8,
         place: u8,
     },
-    /// An acceptor gave a coin of this place back, since it is inhibited; or a bill acceptor a bill, since it is inhibited or
-    /// another bill is held.
+    /// An acceptor gave a coin of this place back, since it is inhibited; or a bill acceptor a
+    /// bill, since it is inhibited or another bill is held.
     Inhibited {
         addr: u8,
         place: u8,
@@ -219,8 +223,8 @@ pub enum Entry {
         sent: Sent,
         heard: Piece,
     },
-    /// The exchange that this step made was damaged in a way that the promises don't allow for: bytes that a fault put
-    /// there are a message. It is the last entry of its step.
+    /// The exchange that this step made was damaged in a way that the promises don't allow for:
+    /// bytes that a fault put there are a message. It is the last entry of its step.
     Forged {
         addr: u8,
     },

@@ -1,6 +1,6 @@
-//! What a line is: the steps and commands of a script, the records of the host's journal and the entries of a transcript,
-//! and in `specs/` the grammar of a script, what a whole script says, the text of a transcript, and what a record adds to
-//! a sum.
+//! What a line is: the steps and commands of a script, the records of the host's journal and the
+//! entries of a transcript, and in `specs/` the grammar of a script, what a whole script says, the
+//! text of a transcript, and what a record adds to a sum.
 #![tactic(auto)]
 
 mod carry;

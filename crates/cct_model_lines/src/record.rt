@@ -5,19 +5,20 @@ ghost use Rattle.cct_model_lines.specs.Sums.{coins_lost, posts_of};
 use crate::{Coin, Coins, EVENTS};
 use std::alloc::AllocError;
 
-/// A record of the host's journal. A record is the post: the coins in it are those that the machine counts.
+/// A record of the host's journal. A record is the post: the coins in it are those that the machine
+/// counts.
 #[derive(Clone, Debug, Drop)]
 pub enum Record {
-    /// An epoch begins at acceptor `addr`: it is to accept the coin places of this inhibit mask. Until then it had
-    /// accepted so many coins, modulo 2^24.
+    /// An epoch begins at acceptor `addr`: it is to accept the coin places of this inhibit mask.
+    /// Until then it had accepted so many coins, modulo 2^24.
     Epoch {
         addr: u8,
         mask: u16,
         accepts: u32,
     },
-    /// A reading of acceptor `addr`: the event counter that was read, how many of the coins accepted since the last
-    /// record are lost, the accept counter that was read, and the coins that are posted, oldest first. The two numbers
-    /// of coins are below 2^24.
+    /// A reading of acceptor `addr`: the event counter that was read, how many of the coins
+    /// accepted since the last record are lost, the accept counter that was read, and the coins
+    /// that are posted, oldest first. The two numbers of coins are below 2^24.
     Reading {
         addr: u8,
         counter: u8,
@@ -25,9 +26,9 @@ pub enum Record {
         accepts: u32,
         posted: Coins,
     },
-    /// A reading that shows that acceptor `addr` was reset or isn't set as it was: the inhibit mask and the event
-    /// counter that were read, how many coins are lost, the accept counter that was read, and the coins that are posted,
-    /// oldest first. It ends the epoch.
+    /// A reading that shows that acceptor `addr` was reset or isn't set as it was: the inhibit mask
+    /// and the event counter that were read, how many coins are lost, the accept counter that was
+    /// read, and the coins that are posted, oldest first. It ends the epoch.
     Broken {
         addr: u8,
         mask_seen: u16,

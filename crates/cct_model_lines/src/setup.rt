@@ -11,7 +11,8 @@ pub enum SetupLine {
     Hopper(DeviceSetup),
     /// There is this bill acceptor.
     Bills(DeviceSetup),
-    /// The coin or the bill of a place, 1 to 16, of acceptor `addr` has this value, 1 to 1,000,000, and this identification.
+    /// The coin or the bill of a place, 1 to 16, of acceptor `addr` has this value, 1 to 1,000,000,
+    /// and this identification.
     Value {
         addr: u8,
         place: u8,

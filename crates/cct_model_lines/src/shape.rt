@@ -1,4 +1,4 @@
-//! The table of the commands: the address of each, its word, and what stands after it.
+//! The table of the commands: the address of each, its word, and what is after it.
 ghost use Rattle.std.specs.Prelude.{◌≡◌, ◌≤◌, length};
 ghost use Rattle.cct_model_lines.specs.Shape.{fields_of, shape_of};
 

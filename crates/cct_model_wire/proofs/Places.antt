@@ -1,4 +1,4 @@
--- The table of places tells the place of each device of a setup.
+-- The table of places shows the place of each device of a setup.
 use Rattle.std.proofs.Common.{◌≡◌, ℕ, zero, suc, ◌+◌, ◌<◌, ◌==◌, nat_lt, ◌≢◌, ◌⊎◌, inl, inr, eq-eqb, eqb-true, Bool, true, false, not, cond, List, [], ◌∷◌, ◌++◌, length, map, set, drop, get_or, replicate, Option, Some, None, refl, sym, ap, ◌∙◌, arith}
 use Rattle.std.specs.Prelude.{slice_get}
 use Rattle.std.specs.List.{position, position_or_len, refill}
@@ -55,7 +55,7 @@ unfolding places_of
 place_at ds addr within =
     get_or-map-range_with_len (λ a. position (is_at a) ds) 0 256 addr addr None within (omega arith)
 
--- a table that tells each place is the one of the devices
+-- a table that shows each place is the one of the devices
 pub table_is : (table : List (Option ℕ)) (ds : List DeviceSetup) → length table ≡ 256 →
     ((addr : ℕ) → addr < 256 → get_or table addr None ≡ position (is_at addr) ds) → table ≡ places_of ds
 unfolding places_of
@@ -124,7 +124,7 @@ places_renewed device ds =
     table_is (places_of ds) (map (renewed device) ds) (length_of ds)
     (λ addr within. place_at ds addr within ∙ sym (position_renewed device ds addr))
 
--- the device at an address stands at its place
+-- the device at an address is at its place
 pub found_there : (ds : List DeviceSetup) (addr i : ℕ) → position (is_at addr) ds ≡ Some i → slice_get ds i ≡ device_at ds addr
 found_there [] addr i at = absurd cc
 found_there (d ∷ ds) addr i at = by_test (is_at addr d) (position (is_at addr) ds) i refl (found_there ds addr) (sym (position_cons (is_at addr) d ds) ∙ at)
@@ -151,7 +151,7 @@ found_nowhere (d ∷ ds) addr none = by_test (is_at addr d) (position (is_at add
 pub refilled : (old new : List DeviceSetup) → length old ≡ length new → refill (length old) old new ≡ new
 refilled old new same = take_at new (drop (length new) old) (length old) (sym same)
 
--- the device that stands at the place of an address is the one there
+-- the device that is at the place of an address is the one there
 pub stands_there : (ds whole : List DeviceSetup) (addr i : ℕ) (d : DeviceSetup) → whole ≡ ds →
     position (is_at addr) ds ≡ Some i → d ≡ get_or whole i d → Some d ≡ device_at ds addr
 stands_there ds whole addr i d same at is =

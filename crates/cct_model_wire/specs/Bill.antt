@@ -1,7 +1,8 @@
--- A bill acceptor with an escrow, read off all that it met, newest first (ccTalk Generic Specification 4, part 3). Its
--- settings, its event counter and its buffer are those of a coin acceptor; which pair represents which event, and what header
--- 154 does, is this project's own.
-use Rattle.std.specs.Prelude.{ℕ, suc, ◌==◌, ◌&&◌, ◌||◌, Bool, true, List, [], ◌∷◌, if◌then◌else◌, Option, Some, None, is_none, is_some}
+-- A bill acceptor with an escrow, read off all that it met, newest first (ccTalk Generic
+-- Specification 4, part 3). Its settings, its event counter and its buffer are those of a coin
+-- acceptor; which pair represents which event, and what header 154 does, is this project's own.
+use Rattle.std.specs.Prelude.{ℕ, suc, ◌==◌, ◌&&◌, ◌||◌, Bool, true, List, [], ◌∷◌, if◌then◌else◌}
+use Rattle.std.specs.Prelude.{Option, Some, None, is_none, is_some}
 use Rattle.cct_model_wire.specs.declared.coin.Pair.{Pair}
 use Rattle.cct_model_wire.specs.declared.coin.Credits.{Credits}
 use Rattle.cct_model_wire.specs.declared.request.TheConstants.{RETURN_CODE, STACK_CODE}
@@ -16,7 +17,8 @@ use Rattle.cct_model_wire.specs.Acceptor.{accepts, counted, credits_in, inhibit_
 abbrev pub is_way : ℕ → Bool
 is_way way = (way == STACK_CODE) || (way == RETURN_CODE)
 
--- The bill in the escrow after one of a place was put in, which the inhibits let in or not: it is held if none was before.
+-- The bill in the escrow after one of a place was put in, which the inhibits let in or not: it is
+-- held if none was before.
 abbrev pub held_with : ℕ → Bool → Option ℕ → Option ℕ
 held_with place true None = Some place
 held_with place lets_in before = before
@@ -36,21 +38,24 @@ bill_held (jam ∷ past) = bill_held past
 bill_held (reset ∷ past) = None
 bill_held (heard asked ∷ past) = held_after asked (bill_held past)
 
--- Whether a bill of a place is held when it is put in: the inhibits let it in, and none is held before.
+-- Whether a bill of a place is held when it is put in: the inhibits let it in, and none is held
+-- before.
 abbrev pub holds : List Met → ℕ → Bool
 holds past place = accepts past place && is_none (bill_held past)
 
--- The place of the bill that bytes stack, which are heard beside what is held; none where they stack none.
+-- The place of the bill that bytes stack, which are heard beside what is held; none where they
+-- stack none.
 abbrev pub stacked_by : Option Request → Option ℕ → Option ℕ
 stacked_by (Some (RouteBill way)) held = if way == STACK_CODE then held else None
 stacked_by asked held = None
 
 -- The event of a bill that is put in: its place and 1 where it is held, else error 2.
 abbrev pub bill_event : List Met → ℕ → Pair
-bill_event past place = if holds past place then record { a = place; b = 1 } else record { a = 0; b = 2 }
+bill_event past place =
+    if holds past place then record { a = place; b = 1 } else record { a = 0; b = 2 }
 
--- The events with that of a held bill which is routed by a byte: its place and 0 where it is stacked, and error 1 where it
--- is given back. Another byte, or no bill, brings none.
+-- The events with that of a held bill which is routed by a byte: its place and 0 where it is
+-- stacked, and error 1 where it is given back. Another byte, or no bill, brings none.
 abbrev pub routed : ℕ → Option ℕ → List Pair → List Pair
 routed way None before = before
 routed way (Some place) before =
@@ -63,8 +68,8 @@ abbrev pub events_after : Option Request → Option ℕ → List Pair → List P
 events_after (Some (RouteBill way)) held before = routed way held before
 events_after asked held before = unless_reset asked [] before
 
--- The events of a bill acceptor since its last reset, newest first: one for each bill that was put in, and one for each that
--- was stacked or given back by a request.
+-- The events of a bill acceptor since its last reset, newest first: one for each bill that was put
+-- in, and one for each that was stacked or given back by a request.
 abbrev pub bill_events : List Met → List Pair
 bill_events [] = []
 bill_events (coin place ∷ past) = bill_event past place ∷ bill_events past
@@ -82,16 +87,20 @@ bills_of past = credits_in (bill_events past)
 abbrev pub stacked_bills : List Met → ℕ
 stacked_bills [] = 0
 stacked_bills (heard asked ∷ past) =
-    if is_some (stacked_by asked (bill_held past)) then suc (stacked_bills past) else stacked_bills past
+    if is_some (stacked_by asked (bill_held past)) then suc (stacked_bills past) else stacked_bills
+    past
 stacked_bills (what ∷ past) = stacked_bills past
 
--- The accept counter: the number at which it started, and one for each bill ever stacked, modulo 2 ^ 24.
+-- The accept counter: the number at which it started, and one for each bill ever stacked, modulo 2
+-- ^ 24.
 abbrev pub stack_count : ℕ → List Met → ℕ
 stack_count start past = counted start (stacked_bills past)
 
--- The reply of a bill acceptor that met all this to a request of those that only such devices answer, or none. Its accept
--- counter started at a number. A held bill can be routed, and nothing else.
+-- The reply of a bill acceptor that met all this to a request of those that only such devices
+-- answer, or none. Its accept counter started at a number. A held bill can be routed, and nothing
+-- else.
 unfoldable pub bill_reply : ℕ → List Met → Request → Option Reply
 bill_reply start past ReadBills = Some (reply.credits (bills_of past))
-bill_reply start past (RouteBill way) = Some (if is_some (bill_held past) && is_way way then reply.ack else reply.nak)
+bill_reply start past (RouteBill way) =
+    Some (if is_some (bill_held past) && is_way way then reply.ack else reply.nak)
 bill_reply start past q = inhibit_reply (stack_count start past) past q

@@ -1,5 +1,6 @@
 -- A device of a setup: what it is, and what it replies after all that it met.
-use Rattle.std.specs.Prelude.{ℕ, ◌-◌, ◌<◌, ◌≤◌, ◌≡◌, ◌^◌, Bool, List, length, Option, Some, None, codes, slice_index_or, ⊤}
+use Rattle.std.specs.Prelude.{ℕ, ◌-◌, ◌<◌, ◌≤◌, ◌≡◌, ◌^◌, Bool, List, length, Option, Some, None}
+use Rattle.std.specs.Prelude.{codes, slice_index_or, ⊤}
 use Rattle.std.specs.List.{All}
 use Rattle.std.specs.Option.{option_or}
 use Rattle.cct_model_wire.specs.declared.coin.TheConstants.{COIN_PLACES}
@@ -9,7 +10,10 @@ use Rattle.cct_model_wire.specs.declared.device.DeviceBody.TheVariants.{Acceptor
 use Rattle.cct_model_wire.specs.declared.device.DeviceSetup.{DeviceSetup}
 use Rattle.cct_model_wire.specs.declared.family.Family.TheVariants as family
 use Rattle.cct_model_wire.specs.declared.request.Request.{Request}
-use Rattle.cct_model_wire.specs.declared.request.Request.TheVariants.{SimplePoll, MakerId, Category, ProductCode, SerialNumber, SoftwareRevision, BuildCode, CommsRevision, ResetDevice}
+use Rattle.cct_model_wire.specs.declared.request.Request.TheVariants.{SimplePoll, MakerId, Category}
+use Rattle.cct_model_wire.specs.declared.request.Request.TheVariants.{ProductCode, SerialNumber}
+use Rattle.cct_model_wire.specs.declared.request.Request.TheVariants.{SoftwareRevision, BuildCode}
+use Rattle.cct_model_wire.specs.declared.request.Request.TheVariants.{CommsRevision, ResetDevice}
 use Rattle.cct_model_wire.specs.Reply.{Reply}
 use Rattle.cct_model_wire.specs.Reply as reply
 use Rattle.cct_model_wire.specs.Family.{family_of, is_same, takes_money}
@@ -33,10 +37,11 @@ IsId id = (length id ≡ 6) × All IsPrinting id
 -- An accept counter, and a value and an identification for each place, are in their ranges.
 abbrev pub AreSoundPlaces : ℕ → List ℕ → List (List ℕ) → Type 0
 AreSoundPlaces accepts values ids =
-    (accepts < 2 ^ 24) × All (λ value. value ≤ 1000000) values × All IsId ids × (length values ≡ COIN_PLACES) × (length ids ≡ COIN_PLACES)
+    (accepts < 2 ^ 24) × All (λ value. value ≤ 1000000) values × All IsId ids
+    × (length values ≡ COIN_PLACES) × (length ids ≡ COIN_PLACES)
 
--- The numbers and the identifications of a kind of device are in their ranges; an acceptor of coins or of bills has one of
--- each for each of its places.
+-- The numbers and the identifications of a kind of device are in their ranges; an acceptor of coins
+-- or of bills has one of each for each of its places.
 abbrev pub IsSoundBody : DeviceBody → Type 0
 IsSoundBody (Acceptor accepts values ids) = AreSoundPlaces accepts values ids
 IsSoundBody (Hopper life value) = (life < 2 ^ 24) × (1 ≤ value) × (value ≤ 1000000)
@@ -118,7 +123,8 @@ common_reply d CommsRevision = Some (reply.revision 1 4 0)
 common_reply d ResetDevice = Some reply.ack
 common_reply d q = None
 
--- The reply of a device with a serial number that met all this to a request that its kind alone answers, or none.
+-- The reply of a device with a serial number that met all this to a request that its kind alone
+-- answers, or none.
 abbrev pub own_reply : ℕ → DeviceBody → List Met → Request → Option Reply
 own_reply serial (Acceptor accepts values ids) past q = acceptor_reply accepts ids past q
 own_reply serial (Hopper life value) past q = hopper_reply serial life past q

@@ -1,5 +1,7 @@
--- One exchange on the wire: what the host sends, what a device makes of it, and what the host then hears.
-use Rattle.std.specs.Prelude.{ℕ, ◌==◌, ◌&&◌, nat_le, Bool, true, false, List, [], ◌∷◌, if◌then◌else◌, Option, Some, None, option_and_then, unwrap_or}
+-- One exchange on the wire: what the host sends, what a device makes of it, and what the host then
+-- hears.
+use Rattle.std.specs.Prelude.{ℕ, ◌==◌, ◌&&◌, nat_le, Bool, true, false, List, [], ◌∷◌}
+use Rattle.std.specs.Prelude.{if◌then◌else◌, Option, Some, None, option_and_then, unwrap_or}
 use Rattle.std.specs.Option.{option_or, option_map}
 use Rattle.cct_model_wire.specs.declared.wire.TheConstants.{BROADCAST, HOST}
 use Rattle.cct_model_wire.specs.declared.wire.CheckKind.{CheckKind}
@@ -44,39 +46,45 @@ asked_of addr m =
     else if m.to == BROADCAST then to_all (request_of m.header m.body)
     else None
 
--- What bytes ask of a device: nothing where they are no message under the device's check, or one for another.
+-- What bytes ask of a device: nothing where they are no message under the device's check, or one
+-- for another.
 unfoldable pub asks_of : DeviceSetup → List ℕ → Option Request
 asks_of d piece = option_and_then (asked_of d.addr) (message d.kind piece)
 
--- Whom a device answers: the source of the message that it heard, and the host where no source is named.
+-- Whom a device answers: the source of the message that it heard, and the host where no source is
+-- named.
 unfoldable pub asker : CheckKind → List ℕ → ℕ
 asker kind piece = unwrap_or (option_and_then (λ m. m.from) (message kind piece)) HOST
 
 -- The message by which a device gives a reply.
 abbrev pub replying : ℕ → ℕ → Reply → Message
-replying to addr y = record { to = to; from = Some addr; header = reply_header y; body = reply_data y }
+replying to addr y =
+    record { to = to; from = Some addr; header = reply_header y; body = reply_data y }
 
 -- The bytes with which a device gives a reply, under its check.
 abbrev pub reply_bytes : DeviceSetup → ℕ → Reply → List ℕ
 reply_bytes d to y = spelling d.kind (replying to d.addr y)
 
--- The bytes without a check with which a device at an address answers a request, or none: an address poll alone is
--- answered so, by the address.
+-- The bytes without a check with which a device at an address answers a request, or none: an
+-- address poll alone is answered so, by the address.
 abbrev pub bare_answer : ℕ → Request → Option (List ℕ)
 bare_answer addr AddressPoll = Some (addr ∷ [])
 bare_answer addr q = None
 
--- The bytes with which a device answers what it was asked, after all that it met, or none: it is silent where it was
--- asked nothing, or nothing that it knows.
+-- The bytes with which a device answers what it was asked, after all that it met, or none: it is
+-- silent where it was asked nothing, or nothing that it knows.
 abbrev pub answer_to : DeviceSetup → List Met → ℕ → Option Request → Option (List ℕ)
 answer_to d past to None = None
-answer_to d past to (Some q) = option_or (option_map (reply_bytes d to) (reply_of d past q)) (bare_answer d.addr q)
+answer_to d past to (Some q) =
+    option_or (option_map (reply_bytes d to) (reply_of d past q)) (bare_answer d.addr q)
 
--- The bytes with which a device that met all this answers what it hears, or none where it is silent.
+-- The bytes with which a device that met all this answers what it hears, or none where it is
+-- silent.
 abbrev pub answer : DeviceSetup → List Met → List ℕ → Option (List ℕ)
 answer d past piece = answer_to d past (asker d.kind piece) (asks_of d piece)
 
--- What follows the host's own echo in what it heard, or none where that doesn't begin with the echo.
+-- What follows the host's own echo in what it heard, or none where that doesn't begin with the
+-- echo.
 unfoldable pub after_echo : List ℕ → List ℕ → Option (List ℕ)
 after_echo [] heard = Some heard
 after_echo (s ∷ sent) [] = None
@@ -91,14 +99,16 @@ is_from addr (Some source) = source == addr
 abbrev pub is_for_host : ℕ → Message → Bool
 is_for_host addr m = (m.to == HOST) && is_from addr m.from
 
--- The reply that a message is: it goes to the host, comes from the asked address, and has header 0 and the number of
--- data bytes of the wanted form.
+-- The reply that a message is: it goes to the host, comes from the asked address, and has header 0
+-- and the number of data bytes of the wanted form.
 abbrev pub reply_from : ReplyForm → ℕ → Message → Option Reply
-reply_from form addr m = if is_for_host addr m && (m.header == 0) then reply_in form m.body else None
+reply_from form addr m =
+    if is_for_host addr m && (m.header == 0) then reply_in form m.body else None
 
 -- The wanted reply that the host got in an exchange with an address, or none.
 unfoldable pub got : CheckKind → ℕ → ReplyForm → List ℕ → List ℕ → Option Reply
-got kind addr form sent heard = option_and_then (λ piece. option_and_then (reply_from form addr) (message kind piece)) (after_echo sent heard)
+got kind addr form sent heard = option_and_then
+    (λ piece. option_and_then (reply_from form addr) (message kind piece)) (after_echo sent heard)
 
 -- Devices in rising order of address.
 abbrev pub put_by_address : DeviceSetup → List DeviceSetup → List DeviceSetup

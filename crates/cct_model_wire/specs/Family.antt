@@ -34,8 +34,9 @@ takes_money Acceptor = true
 takes_money Hopper = false
 takes_money Bill = true
 
--- Whether a family knows this, so that it can happen to a device of it: coins and other objects fall into an acceptor,
--- bills are put into a bill acceptor, coins fall out of a hopper or get stuck there, and any device is reset.
+-- Whether a family knows this, so that it can happen to a device of it: coins and other objects
+-- fall into an acceptor, bills are put into a bill acceptor, coins fall out of a hopper or get
+-- stuck there, and any device is reset.
 abbrev pub known_to : Happening → Family → Bool
 known_to (what.Coin place) family = is_same Acceptor family
 known_to what.Alien family = is_same Acceptor family

@@ -3,8 +3,9 @@ use Rattle.std.specs.Prelude.{ℕ, Option, Some}
 use Rattle.cct_model_wire.specs.declared.request.Request.{Request}
 use Rattle.cct_model_wire.specs.declared.request.Request.TheVariants.{ResetDevice}
 
--- A coin of a place fell in, or a bill of a place was put in; an object that is no coin fell in; a coin fell out of a
--- hopper, or stuck in it; the device was reset; or bytes were heard, which ask something of the device or nothing.
+-- A coin of a place fell in, or a bill of a place was put in; an object that is no coin fell in; a
+-- coin fell out of a hopper, or stuck in it; the device was reset; or bytes were heard, which ask
+-- something of the device or nothing.
 pub data Met : Type 0 where
   coin : (place : ℕ) → Met
   alien : Met

@@ -1,20 +1,25 @@
 -- A hopper, read off all that it met, newest first (ccTalk Generic Specification 4, part 3).
-use Rattle.std.specs.Prelude.{ℕ, suc, ◌+◌, ◌-◌, ◌%◌, ◌^◌, ◌==◌, ◌&&◌, ◌||◌, not, Bool, true, false, List, [], ◌∷◌, if◌then◌else◌, Option, Some, None}
+use Rattle.std.specs.Prelude.{ℕ, suc, ◌+◌, ◌-◌, ◌%◌, ◌^◌, ◌==◌, ◌&&◌, ◌||◌, not, Bool, true, false}
+use Rattle.std.specs.Prelude.{List, [], ◌∷◌, if◌then◌else◌, Option, Some, None}
 use Rattle.cct_model_wire.specs.declared.request.TheConstants.{ENABLE_CODE}
 use Rattle.cct_model_wire.specs.declared.request.Request.{Request}
-use Rattle.cct_model_wire.specs.declared.request.Request.TheVariants.{Enable, Dispense, CipherDispense, GetStatus, GetLife, StopNow, TestHopper, PumpRng, CipherKey}
+use Rattle.cct_model_wire.specs.declared.request.Request.TheVariants.{Enable, Dispense}
+use Rattle.cct_model_wire.specs.declared.request.Request.TheVariants.{CipherDispense, GetStatus}
+use Rattle.cct_model_wire.specs.declared.request.Request.TheVariants.{GetLife, StopNow, TestHopper}
+use Rattle.cct_model_wire.specs.declared.request.Request.TheVariants.{PumpRng, CipherKey}
 use Rattle.cct_model_wire.specs.Reply.{Reply}
 use Rattle.cct_model_wire.specs.Reply as reply
 use Rattle.cct_model_wire.specs.History.{Met, coin, alien, fall, jam, reset, heard, unless_reset}
 use Rattle.cct_model_wire.specs.Acceptor.{counter}
 
--- Whether a hopper may pay after bytes were heard: as they say where they enable or disable, and not after a
--- reset.
+-- Whether a hopper may pay after bytes were heard: as they say where they enable or disable, and
+-- not after a reset.
 abbrev pub enabled_by : Option Request → Bool → Bool
 enabled_by (Some (Enable code)) before = code == ENABLE_CODE
 enabled_by asked before = unless_reset asked false before
 
--- Whether a hopper may pay: the last request to enable it since the last reset had the code for that.
+-- Whether a hopper may pay: the last request to enable it since the last reset had the code for
+-- that.
 abbrev pub enabled : List Met → Bool
 enabled [] = false
 enabled (coin place ∷ past) = enabled past
@@ -24,13 +29,14 @@ enabled (jam ∷ past) = enabled past
 enabled (reset ∷ past) = false
 enabled (heard asked ∷ past) = enabled_by asked (enabled past)
 
--- A payout is how many coins a dispense request asked for that the hopper took, and what the hopper met since, newest
--- first.
+-- A payout is how many coins a dispense request asked for that the hopper took, and what the hopper
+-- met since, newest first.
 pub record Payout : Type 0 where
   pub count : ℕ
   pub since : List Met
 
--- Whether what was asked ends a payout: a stop does, and an enable request with another code than that which enables.
+-- Whether what was asked ends a payout: a stop does, and an enable request with another code than
+-- that which enables.
 abbrev pub stops : Option Request → Bool
 stops (Some StopNow) = true
 stops (Some (Enable code)) = not (code == ENABLE_CODE)
@@ -53,21 +59,25 @@ falls [] = 0
 falls (fall ∷ since) = suc (falls since)
 falls (m ∷ since) = falls since
 
--- How many coins of a payout are left to fall: none after it was ended, else its count less the falls since.
+-- How many coins of a payout are left to fall: none after it was ended, else its count less the
+-- falls since.
 abbrev pub left_of : ℕ → List Met → ℕ
 left_of count since = if is_broken since then 0 else count - falls since
 
 -- How many coins of a payout fell, which are those that came while some were left.
 abbrev pub paid_of : ℕ → List Met → ℕ
 paid_of count [] = 0
-paid_of count (fall ∷ since) = if left_of count since == 0 then paid_of count since else suc (paid_of count since)
+paid_of count (fall ∷ since) =
+    if left_of count since == 0 then paid_of count since else suc (paid_of count since)
 paid_of count (m ∷ since) = paid_of count since
 
--- How many coins of a payout were left when it was ended, and 0 where it wasn't ended while some were left.
+-- How many coins of a payout were left when it was ended, and 0 where it wasn't ended while some
+-- were left.
 abbrev pub unpaid_of : ℕ → List Met → ℕ
 unpaid_of count [] = 0
 unpaid_of count (m ∷ since) =
-    if is_breaker m && not (left_of count since == 0) then left_of count since else unpaid_of count since
+    if is_breaker m && not (left_of count since == 0) then left_of count since else unpaid_of count
+    since
 
 -- Whether a jam ended a payout while coins of it were left.
 abbrev pub jammed_in : ℕ → List Met → Bool
@@ -95,8 +105,9 @@ abbrev pub jammed : Option Payout → Bool
 jammed None = false
 jammed (Some last) = jammed_in last.count last.since
 
--- The number of coins for which a hopper takes what it is asked, or none. It takes a dispense request with its own serial
--- number and a count that isn't 0, where it may pay and no coin is left to fall.
+-- The number of coins for which a hopper takes what it is asked, or none. It takes a dispense
+-- request with its own serial number and a count that isn't 0, where it may pay and no coin is left
+-- to fall.
 abbrev pub taken_count : ℕ → Bool → ℕ → Option Request → Option ℕ
 taken_count own on remains (Some (Dispense serial count)) =
     if on && (remains == 0) && (serial == own) && not (count == 0) then Some count else None
@@ -107,7 +118,8 @@ abbrev pub with_met : Met → Option Payout → Option Payout
 with_met m None = None
 with_met m (Some last) = Some (record { count = last.count; since = m ∷ last.since })
 
--- The last payout after bytes were heard: a new one where the hopper took a dispense request, and none after a reset.
+-- The last payout after bytes were heard: a new one where the hopper took a dispense request, and
+-- none after a reset.
 abbrev pub payout_by : Option ℕ → Option Request → Option Payout → Option Payout
 payout_by (Some count) asked before = Some (record { count = count; since = [] })
 payout_by None asked before = unless_reset asked None (with_met (heard asked) before)
@@ -121,7 +133,8 @@ payout own (fall ∷ past) = with_met fall (payout own past)
 payout own (jam ∷ past) = with_met jam (payout own past)
 payout own (reset ∷ past) = None
 payout own (heard asked ∷ past) =
-    payout_by (taken_count own (enabled past) (left (payout own past)) asked) asked (payout own past)
+    payout_by (taken_count own (enabled past) (left (payout own past)) asked) asked
+    (payout own past)
 
 -- How many coins a hopper has left to pay. It is paying exactly where this isn't 0.
 abbrev pub remaining : ℕ → List Met → ℕ
@@ -131,7 +144,8 @@ remaining own past = left (payout own past)
 abbrev pub taken_of : ℕ → List Met → Option Request → Option ℕ
 taken_of own past asked = taken_count own (enabled past) (remaining own past) asked
 
--- How many coins were paid since the last dispense request that was taken, 0 before any since the last reset.
+-- How many coins were paid since the last dispense request that was taken, 0 before any since the
+-- last reset.
 abbrev pub last_paid : ℕ → List Met → ℕ
 last_paid own past = paid (payout own past)
 
@@ -143,8 +157,8 @@ last_unpaid own past = unpaid (payout own past)
 abbrev pub has_timeout : ℕ → List Met → Bool
 has_timeout own past = jammed (payout own past)
 
--- The number of dispense requests taken after bytes were heard: one more where the hopper took one, and none after a
--- reset.
+-- The number of dispense requests taken after bytes were heard: one more where the hopper took one,
+-- and none after a reset.
 abbrev pub payouts_by : Option ℕ → Option Request → ℕ → ℕ
 payouts_by (Some count) asked before = suc before
 payouts_by None asked before = unless_reset asked 0 before
@@ -159,8 +173,8 @@ payouts own (jam ∷ past) = payouts own past
 payouts own (reset ∷ past) = 0
 payouts own (heard asked ∷ past) = payouts_by (taken_of own past asked) asked (payouts own past)
 
--- Whether the test register was read, after bytes were heard: it is where they ask for it, and isn't after a
--- reset.
+-- Whether the test register was read, after bytes were heard: it is where they ask for it, and
+-- isn't after a reset.
 abbrev pub tested_by : Option Request → Bool → Bool
 tested_by (Some TestHopper) before = true
 tested_by asked before = unless_reset asked false before
@@ -175,12 +189,14 @@ is_tested (jam ∷ past) = is_tested past
 is_tested (reset ∷ past) = false
 is_tested (heard asked ∷ past) = tested_by asked (is_tested past)
 
--- How many coins a hopper ever paid, before resets too: a fall drops a coin exactly where some are left to fall.
+-- How many coins a hopper ever paid, before resets too: a fall drops a coin exactly where some are
+-- left to fall.
 abbrev pub dropped : ℕ → List Met → ℕ
 dropped own [] = 0
 dropped own (coin place ∷ past) = dropped own past
 dropped own (alien ∷ past) = dropped own past
-dropped own (fall ∷ past) = if remaining own past == 0 then dropped own past else suc (dropped own past)
+dropped own (fall ∷ past) =
+    if remaining own past == 0 then dropped own past else suc (dropped own past)
 dropped own (jam ∷ past) = dropped own past
 dropped own (reset ∷ past) = dropped own past
 dropped own (heard asked ∷ past) = dropped own past
@@ -192,10 +208,11 @@ life_count own start past = (start + dropped own past) % 2 ^ 24
 -- What header 166 reads: the event counter, and the coins remaining, last paid and last unpaid.
 abbrev pub status_of : ℕ → List Met → Reply
 status_of own past =
-    reply.status (counter (payouts own past)) (remaining own past) (last_paid own past) (last_unpaid own past)
+    reply.status (counter (payouts own past)) (remaining own past) (last_paid own past)
+    (last_unpaid own past)
 
--- The test register, which header 163 reads: bit 1 is the timeout, bit 6 that it wasn't read since power-up, and bit 7
--- that the hopper may not pay.
+-- The test register, which header 163 reads: bit 1 is the timeout, bit 6 that it wasn't read since
+-- power-up, and bit 7 that the hopper may not pay.
 abbrev pub register_of : ℕ → List Met → ℕ
 register_of own past =
     (if has_timeout own past then 2 ^ 1 else 0) + (if is_tested past then 0 else 2 ^ 6)
@@ -206,8 +223,9 @@ abbrev pub dispense_reply : Option ℕ → Reply
 dispense_reply (Some count) = reply.ack
 dispense_reply None = reply.nak
 
--- The reply of a hopper that met all this to a request of those that only hoppers answer, or none. It has its own
--- serial number, and its life count started at a number. What is under a cipher is refused.
+-- The reply of a hopper that met all this to a request of those that only hoppers answer, or none.
+-- It has its own serial number, and its life count started at a number. What is under a cipher is
+-- refused.
 unfoldable pub hopper_reply : ℕ → ℕ → List Met → Request → Option Reply
 hopper_reply own start past (Enable code) = Some reply.ack
 hopper_reply own start past (Dispense serial count) =

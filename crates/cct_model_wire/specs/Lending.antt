@@ -7,4 +7,5 @@ use Rattle.cct_model_wire.specs.contracts.wire.Bytes as bytes
 
 -- The bytes are those of the list that was lent, as it is last.
 abbrev pub LendsBytes : RattleType → MutBor (List ℕ) → MutBor (ArrayVec ℕ) → Fml
-LendsBytes most b r = Lends (bytes.the_row most) (array.the_row u8 most unit) b r (λ last. last.items)
+LendsBytes most b r =
+    Lends (bytes.the_row most) (array.the_row u8 most unit) b r (λ last. last.items)

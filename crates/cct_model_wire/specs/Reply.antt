@@ -1,5 +1,6 @@
 -- Replies as header and data bytes (ccTalk Generic Specification 4, parts 2 and 3).
-use Rattle.std.specs.Prelude.{ℕ, ◌/◌, ◌%◌, ◌<◌, ◌≤◌, ◌^◌, List, [], ◌∷◌, length, flat_map, Option, Some, None, ⊤}
+use Rattle.std.specs.Prelude.{ℕ, ◌/◌, ◌%◌, ◌<◌, ◌≤◌, ◌^◌, List, [], ◌∷◌, length, flat_map, Option}
+use Rattle.std.specs.Prelude.{Some, None, ⊤}
 use Rattle.cct_model_wire.specs.declared.coin.Pair.{Pair}
 use Rattle.cct_model_wire.specs.declared.coin.Credits.{Credits}
 use Rattle.cct_model_wire.specs.declared.request.Reply as code
@@ -75,7 +76,8 @@ reply_data (serial number) = three_bytes number
 reply_data (revision release major minor) = release ∷ major ∷ minor ∷ []
 reply_data (accepts count) = three_bytes count
 
--- The data bytes can say a reply: a text has at most 255 bytes, and a number of three bytes is below 2 ^ 24.
+-- The data bytes can say a reply: a text has at most 255 bytes, and a number of three bytes is
+-- below 2 ^ 24.
 abbrev pub IsSayable : Reply → Type 0
 IsSayable (text bytes) = length bytes ≤ 255
 IsSayable (serial number) = number < 2 ^ 24
@@ -119,11 +121,13 @@ credits_in (n ∷ a1 ∷ b1 ∷ a2 ∷ b2 ∷ a3 ∷ b3 ∷ a4 ∷ b4 ∷ a5 ∷
     Some (credits (record {
       counter = n;
       pairs =
-          record { a = a1; b = b1 } ∷ record { a = a2; b = b2 } ∷ record { a = a3; b = b3 } ∷ record { a = a4; b = b4 } ∷ record { a = a5; b = b5 } ∷ [];
+          record { a = a1; b = b1 } ∷ record { a = a2; b = b2 } ∷ record { a = a3; b = b3 }
+          ∷ record { a = a4; b = b4 } ∷ record { a = a5; b = b5 } ∷ [];
     }))
 credits_in body = None
 
--- The data bytes of a reply with header 0, read in the form that is wanted, or none where their number is wrong.
+-- The data bytes of a reply with header 0, read in the form that is wanted, or none where their
+-- number is wrong.
 unfoldable pub reply_in : ReplyForm → List ℕ → Option Reply
 reply_in form.Ack body = none_in ack body
 reply_in form.Credits body = credits_in body

@@ -1,7 +1,21 @@
 -- Requests as header and data bytes (ccTalk Generic Specification 4, parts 2 and 3).
-use Rattle.std.specs.Prelude.{ℕ, ◌+◌, ◌*◌, ◌/◌, ◌%◌, ◌==◌, List, [], ◌∷◌, ◌++◌, replicate, if◌then◌else◌, Option, Some, None}
+use Rattle.std.specs.Prelude.{ℕ, ◌+◌, ◌*◌, ◌/◌, ◌%◌, ◌==◌, List, [], ◌∷◌, ◌++◌, replicate}
+use Rattle.std.specs.Prelude.{if◌then◌else◌, Option, Some, None}
 use Rattle.cct_model_wire.specs.declared.request.Request.{Request}
-use Rattle.cct_model_wire.specs.declared.request.Request.TheVariants.{SimplePoll, AddressPoll, MakerId, Category, ProductCode, SerialNumber, SoftwareRevision, BuildCode, CommsRevision, ResetDevice, SetMask, GetMask, SetMaster, GetMaster, ReadCredits, SetPath, GetPath, SetDefault, GetDefault, CoinId, AcceptCount, ReadBills, RouteBill, Enable, Dispense, CipherDispense, GetStatus, GetLife, StopNow, TestHopper, PumpRng, CipherKey}
+use Rattle.cct_model_wire.specs.declared.request.Request.TheVariants.{SimplePoll, AddressPoll}
+use Rattle.cct_model_wire.specs.declared.request.Request.TheVariants.{MakerId, Category}
+use Rattle.cct_model_wire.specs.declared.request.Request.TheVariants.{ProductCode, SerialNumber}
+use Rattle.cct_model_wire.specs.declared.request.Request.TheVariants.{SoftwareRevision, BuildCode}
+use Rattle.cct_model_wire.specs.declared.request.Request.TheVariants.{CommsRevision, ResetDevice}
+use Rattle.cct_model_wire.specs.declared.request.Request.TheVariants.{SetMask, GetMask, SetMaster}
+use Rattle.cct_model_wire.specs.declared.request.Request.TheVariants.{GetMaster, ReadCredits}
+use Rattle.cct_model_wire.specs.declared.request.Request.TheVariants.{SetPath, GetPath, SetDefault}
+use Rattle.cct_model_wire.specs.declared.request.Request.TheVariants.{GetDefault, CoinId}
+use Rattle.cct_model_wire.specs.declared.request.Request.TheVariants.{AcceptCount, ReadBills}
+use Rattle.cct_model_wire.specs.declared.request.Request.TheVariants.{RouteBill, Enable, Dispense}
+use Rattle.cct_model_wire.specs.declared.request.Request.TheVariants.{CipherDispense, GetStatus}
+use Rattle.cct_model_wire.specs.declared.request.Request.TheVariants.{GetLife, StopNow, TestHopper}
+use Rattle.cct_model_wire.specs.declared.request.Request.TheVariants.{PumpRng, CipherKey}
 use Rattle.cct_model_wire.specs.declared.request.ReplyForm.{ReplyForm}
 use Rattle.cct_model_wire.specs.declared.request.ReplyForm.TheVariants as form
 
@@ -52,8 +66,8 @@ header_of TestHopper = 163
 header_of PumpRng = 161
 header_of CipherKey = 160
 
--- The data bytes with which a request is sent: those that say more than their number stand in its values, and the
--- bytes under a cipher are sent as zeros or not at all.
+-- The data bytes with which a request is sent: those that say more than their number stand in its
+-- values, and the bytes under a cipher are sent as zeros or not at all.
 unfoldable pub data_of : Request → List ℕ
 data_of (SetMask mask) = mask % 256 ∷ mask / 256 ∷ []
 data_of (SetMaster value) = value ∷ []
@@ -70,8 +84,11 @@ data_of _ = []
 -- The requests that have just these data bytes.
 unfoldable pub requests_with : List ℕ → List Request
 requests_with [] =
-    SimplePoll ∷ AddressPoll ∷ MakerId ∷ Category ∷ ProductCode ∷ SerialNumber ∷ SoftwareRevision ∷ BuildCode ∷ CommsRevision ∷ ResetDevice ∷ GetMask ∷ GetMaster ∷ ReadCredits ∷ GetDefault ∷ AcceptCount ∷ ReadBills ∷ GetStatus ∷ GetLife ∷ StopNow ∷ TestHopper ∷ []
-requests_with (byte ∷ []) = SetMaster byte ∷ GetPath byte ∷ SetDefault byte ∷ CoinId byte ∷ RouteBill byte ∷ Enable byte ∷ []
+    SimplePoll ∷ AddressPoll ∷ MakerId ∷ Category ∷ ProductCode ∷ SerialNumber ∷ SoftwareRevision
+    ∷ BuildCode ∷ CommsRevision ∷ ResetDevice ∷ GetMask ∷ GetMaster ∷ ReadCredits ∷ GetDefault
+    ∷ AcceptCount ∷ ReadBills ∷ GetStatus ∷ GetLife ∷ StopNow ∷ TestHopper ∷ []
+requests_with (byte ∷ []) = SetMaster byte ∷ GetPath byte ∷ SetDefault byte ∷ CoinId byte
+    ∷ RouteBill byte ∷ Enable byte ∷ []
 requests_with (first ∷ second ∷ []) = SetMask (from_two first second) ∷ SetPath first second ∷ []
 requests_with (low ∷ middle ∷ high ∷ count ∷ []) = Dispense (from_three low middle high) count ∷ []
 requests_with (c1 ∷ c2 ∷ c3 ∷ c4 ∷ c5 ∷ c6 ∷ c7 ∷ c8 ∷ c9 ∷ []) = CipherDispense ∷ []
@@ -86,8 +103,9 @@ abbrev pub with_header : ℕ → List Request → Option Request
 with_header header [] = None
 with_header header (q ∷ qs) = if header == header_of q then Some q else with_header header qs
 
--- The request that a header and data bytes are: of those with just these data bytes, and of those with any, the one
--- that has this header; none where the header or the number of data bytes isn't known.
+-- The request that a header and data bytes are: of those with just these data bytes, and of those
+-- with any, the one that has this header; none where the header or the number of data bytes isn't
+-- known.
 unfoldable pub request_of : ℕ → List ℕ → Option Request
 request_of header body = with_header header (open_requests ++ requests_with body)
 

@@ -1,10 +1,11 @@
--- The inhibits and the sorter paths of a coin acceptor, read off all settings since its last reset, newest first
--- (ccTalk Generic Specification 4, part 2).
-use Rattle.std.specs.Prelude.{ℕ, ◌-◌, ◌/◌, ◌%◌, ◌^◌, ◌==◌, nat_le, Bool, true, ◌&&◌, List, [], ◌∷◌, if◌then◌else◌, Option, Some, None, unwrap_or}
+-- The inhibits and the sorter paths of a coin acceptor, read off all settings since its last reset,
+-- newest first (ccTalk Generic Specification 4, part 2).
+use Rattle.std.specs.Prelude.{ℕ, ◌-◌, ◌/◌, ◌%◌, ◌^◌, ◌==◌, nat_le, Bool, true, ◌&&◌, List, [], ◌∷◌}
+use Rattle.std.specs.Prelude.{if◌then◌else◌, Option, Some, None, unwrap_or}
 use Rattle.cct_model_wire.specs.declared.coin.TheConstants.{COIN_PLACES, PATHS}
 
--- A setting was asked for: an inhibit mask, a byte of the master inhibit, the sorter path of a coin place, or the
--- default path; a path may be one that is refused.
+-- A setting was asked for: an inhibit mask, a byte of the master inhibit, the sorter path of a coin
+-- place, or the default path; a path may be one that is refused.
 pub data Setting : Type 0 where
   mask_set : (mask : ℕ) → Setting
   master_set : (value : ℕ) → Setting
@@ -27,7 +28,8 @@ mask_in (master_set value ∷ past) = mask_in past
 mask_in (path_set place path ∷ past) = mask_in past
 mask_in (default_set path ∷ past) = mask_in past
 
--- The acceptor is in normal operation where bit 0 of the last byte of the master inhibit is 1, or none was set.
+-- The acceptor is in normal operation where bit 0 of the last byte of the master inhibit is 1, or
+-- none was set.
 abbrev pub is_normal_in : List Setting → Bool
 is_normal_in [] = true
 is_normal_in (master_set value ∷ past) = value % 2 == 1
@@ -52,7 +54,8 @@ own_path_in (mask_set mask ∷ past) place = own_path_in past place
 own_path_in (master_set value ∷ past) place = own_path_in past place
 own_path_in (default_set path ∷ past) place = own_path_in past place
 
--- A coin of a place falls by the path that was set for its place, and by the default path where none was.
+-- A coin of a place falls by the path that was set for its place, and by the default path where
+-- none was.
 abbrev pub path_in : List Setting → ℕ → ℕ
 path_in past place = unwrap_or (own_path_in past place) (default_in past)
 
@@ -60,6 +63,7 @@ path_in past place = unwrap_or (own_path_in past place) (default_in past)
 unfoldable pub has_place : ℕ → ℕ → Bool
 has_place mask place = mask / 2 ^ (place - 1) % 2 == 1
 
--- A coin of a place is accepted where the mask has its place and the acceptor is in normal operation.
+-- A coin of a place is accepted where the mask has its place and the acceptor is in normal
+-- operation.
 abbrev pub accepts_in : List Setting → ℕ → Bool
 accepts_in past place = has_place (mask_in past) place && is_normal_in past

@@ -8,14 +8,15 @@ use std::marker::Model;
 /// The coin places of an acceptor, numbered from 1 (ccTalk Generic Specification 4, part 2).
 pub const COIN_PLACES: usize = 16;
 
-/// The sorter paths of an acceptor, numbered from 1 (ccTalk Generic Specification 4, part 2, header 210).
+/// The sorter paths of an acceptor, numbered from 1 (ccTalk Generic Specification 4, part 2, header
+/// 210).
 pub const PATHS: u8 = 8;
 
 /// The events that a credit buffer keeps (ccTalk Generic Specification 4, part 2, header 229).
 pub const EVENTS: usize = 5;
 
-/// A coin that an acceptor took: its coin place, 1 to 16, and the sorter path that it fell by, 1 to 8
-/// (ccTalk Generic Specification 4, part 2, header 229).
+/// A coin that an acceptor took: its coin place, 1 to 16, and the sorter path that it fell by, 1 to
+/// 8 (ccTalk Generic Specification 4, part 2, header 229).
 #[derive(Clone, Copy, Debug, Default, PartialEq, Eq)]
 pub struct Coin {
     pub place: u8,
@@ -32,16 +33,16 @@ pub fn has_place(mask: u16, place: u8) -> bool
     (mask >> (place - 1)) & 1 == 1
 }
 
-/// One event of the credit buffer, as header 229 reports it. Where `a` is 1 to 255, it is a credit of coin place `a`
-/// by sorter path `b`; where `a` is 0, `b` is an error code, and 0 for no event.
+/// One event of the credit buffer, as header 229 reports it. Where `a` is 1 to 255, it is a credit
+/// of coin place `a` by sorter path `b`; where `a` is 0, `b` is an error code, and 0 for no event.
 #[derive(Clone, Copy, Debug, Default, PartialEq, Eq)]
 pub struct Pair {
     pub a: u8,
     pub b: u8,
 }
 
-/// The answer to header 229: the event counter (0 after a reset, then 1 to 255, and 1 again) and the last five
-/// events, newest first.
+/// The answer to header 229: the event counter (0 after a reset, then 1 to 255, and 1 again) and
+/// the last five events, newest first.
 #[derive(Clone, Copy, Debug, PartialEq, Eq)]
 pub struct Credits {
     pub counter: u8,

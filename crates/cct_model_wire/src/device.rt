@@ -1,5 +1,6 @@
 //! The devices of a machine, as the setup lines of a script give them.
-ghost use Rattle.std.specs.Prelude.{◌≡◌, ◌<◌, ◌≤◌, ◌==◌, List, [], ◌∷◌, ◌++◌, length, map, if◌then◌else◌, IfSome};
+ghost use Rattle.std.specs.Prelude.{◌≡◌, ◌<◌, ◌≤◌, ◌==◌, List, [], ◌∷◌, ◌++◌, length, map};
+ghost use Rattle.std.specs.Prelude.{if◌then◌else◌, IfSome};
 ghost use Rattle.std.specs.List.{position};
 ghost use Rattle.std.specs.Option.{option_map};
 ghost use Rattle.cct_model_wire.specs.Device.{is_acceptor, is_bill, is_hopper, is_taker, value_at};
@@ -23,20 +24,23 @@ pub struct Texts {
 /// What kind of device it is, with what its kind needs.
 #[derive(Clone, Copy, Debug, PartialEq, Eq)]
 pub enum DeviceBody {
-    /// A coin acceptor. Its accept counter starts at `accepts`, below 2^24. For each coin place, place 1 first, it has
-    /// the value of its coin, 1 to 1,000,000 or 0 for none, and the six characters that identify it.
+    /// A coin acceptor. Its accept counter starts at `accepts`, below 2^24. For each coin place,
+    /// place 1 first, it has the value of its coin, 1 to 1,000,000 or 0 for none, and the six
+    /// characters that identify it.
     Acceptor {
         accepts: u32,
         values: [u32; COIN_PLACES],
         ids: [[u8; 6]; COIN_PLACES],
     },
-    /// A hopper. It has paid `life` coins before, modulo 2^24, and each of its coins has this value, 1 to 1,000,000.
+    /// A hopper. It has paid `life` coins before, modulo 2^24, and each of its coins has this
+    /// value, 1 to 1,000,000.
     Hopper {
         life: u32,
         value: u32,
     },
-    /// A bill acceptor. Its accept counter starts at `accepts`, below 2^24. For each bill place, place 1 first, it has
-    /// the value of its bill, 1 to 1,000,000 or 0 for none, and the six characters that identify it.
+    /// A bill acceptor. Its accept counter starts at `accepts`, below 2^24. For each bill place,
+    /// place 1 first, it has the value of its bill, 1 to 1,000,000 or 0 for none, and the six
+    /// characters that identify it.
     Bill {
         accepts: u32,
         values: [u32; COIN_PLACES],
@@ -94,7 +98,8 @@ impl DeviceBody {
         self.family().takes_money()
     }
 
-    /// The value of the coin or the bill of a place, 1 to 16, or 0 where it has none; a hopper has no place.
+    /// The value of the coin or the bill of a place, 1 to 16, or 0 where it has none; a hopper has
+    /// no place.
     pub fn value_at(&self, place: u8) -> u32
         requires low { 1 ≤ place }
         requires high { place ≤ COIN_PLACES }
@@ -109,8 +114,8 @@ impl DeviceBody {
     }
 }
 
-/// One device of a setup: its address, 2 to 255, its check, its serial number, below 2^24, and its texts, which a script
-/// says by a line of their own or not at all.
+/// One device of a setup: its address, 2 to 255, its check, its serial number, below 2^24, and its
+/// texts, which a script says by a line of their own or not at all.
 #[derive(Clone, Debug, Default, Drop, PartialEq, Eq)]
 pub struct DeviceSetup {
     pub addr: u8,
@@ -232,7 +237,8 @@ impl Devices {
 
 /// Puts a device in the place of each at its address.
 fn replace_in(devices: &mut [DeviceSetup], device: &DeviceSetup)
-    ensures { devices.new ≡ map (λ d. if d.addr == device.now.addr then device.now else d) devices.old }
+    ensures { devices.new ≡ map (λ d. if d.addr == device.now.addr then device.now else d)
+        devices.old }
 {
     for place in devices.iter_mut() {
         if place.addr == device.addr {

@@ -20,7 +20,8 @@ pub enum Happening {
     Reset,
 }
 
-/// A family of devices: they have the same requests of their own, and the same things happen to them.
+/// A family of devices: they have the same requests of their own, and the same things happen to
+/// them.
 #[derive(Clone, Copy, Debug, PartialEq, Eq)]
 pub enum Family {
     /// Coin acceptors (ccTalk Generic Specification 4, part 2).
@@ -32,7 +33,8 @@ pub enum Family {
 }
 
 impl Family {
-    /// Whether the family knows this, so that it can happen to a device of it. A place is not looked at.
+    /// Whether the family knows this, so that it can happen to a device of it. A place is not
+    /// looked at.
     pub fn knows(self, what: Happening) -> bool
         ensures { result ≡ known_to what self }
     {

@@ -1,5 +1,6 @@
-//! What a wire and a device are: the plain types that every crate shares, and in `specs/` the definitions that contracts
-//! cite of messages, requests, replies, what a device met, its settings, and one exchange.
+//! What a wire and a device are: the plain types that every crate shares, and in `specs/` the
+//! definitions that contracts cite of messages, requests, replies, what a device met, its settings,
+//! and one exchange.
 #![tactic(auto)]
 
 mod coin;

@@ -1,5 +1,5 @@
-//! What the host asks of a device, and what a device answers (ccTalk Generic Specification 4, parts 2 and 3). A number
-//! of several bytes goes low byte first.
+//! What the host asks of a device, and what a device answers (ccTalk Generic Specification 4, parts
+//! 2 and 3). A number of several bytes goes low byte first.
 
 use crate::Credits;
 
@@ -7,10 +7,12 @@ use crate::Credits;
 /// (ccTalk Generic Specification 4, part 3).
 pub const ENABLE_CODE: u8 = 165;
 
-/// The data byte with which header 154 gives a held bill back (ccTalk Generic Specification 4, part 3).
+/// The data byte with which header 154 gives a held bill back (ccTalk Generic Specification 4, part
+/// 3).
 pub const RETURN_CODE: u8 = 0;
 
-/// The data byte with which header 154 sends a held bill to the stacker (ccTalk Generic Specification 4, part 3).
+/// The data byte with which header 154 sends a held bill to the stacker (ccTalk Generic
+/// Specification 4, part 3).
 pub const STACK_CODE: u8 = 1;
 
 /// A request to a device. Where nothing is said, it has no data bytes.
@@ -18,7 +20,8 @@ pub const STACK_CODE: u8 = 1;
 pub enum Request {
     /// Header 254: is the device there?
     SimplePoll,
-    /// Header 253, to address 0: each device answers with its address, one bare byte without a check.
+    /// Header 253, to address 0: each device answers with its address, one bare byte without a
+    /// check.
     AddressPoll,
     /// Header 246: the text of the maker.
     MakerId,
@@ -40,7 +43,8 @@ pub enum Request {
     SetMask { mask: u16 },
     /// Header 230: the inhibit mask.
     GetMask,
-    /// Header 228, one data byte: normal operation where bit 0 is 1, else every coin or bill is inhibited.
+    /// Header 228, one data byte: normal operation where bit 0 is 1, else every coin or bill is
+    /// inhibited.
     SetMaster { value: u8 },
     /// Header 227: whether operation is normal.
     GetMaster,
@@ -64,7 +68,8 @@ pub enum Request {
     RouteBill { way: u8 },
     /// Header 164, one data byte: the hopper may pay where the byte is [`ENABLE_CODE`].
     Enable { code: u8 },
-    /// Header 167, four data bytes: pay so many coins, told to the hopper with this serial number, which is below 2^24.
+    /// Header 167, four data bytes: pay so many coins, told to the hopper with this serial number,
+    /// which is below 2^24.
     Dispense { serial: u32, count: u8 },
     /// Header 167 with nine data bytes, which are under a cipher.
     CipherDispense,
@@ -109,8 +114,8 @@ pub enum Reply<'a> {
     CoinId {
         id: [u8; 6],
     },
-    /// Four data bytes: the event counter of the hopper, and how many coins of its payout remain, were paid and stayed
-    /// unpaid.
+    /// Four data bytes: the event counter of the hopper, and how many coins of its payout remain,
+    /// were paid and stayed unpaid.
     Status {
         counter: u8,
         remaining: u8,

@@ -10,7 +10,8 @@ pub const HOST: u8 = 1;
 /// The address of all devices (ccTalk Generic Specification 4, part 1).
 pub const BROADCAST: u8 = 0;
 
-/// The most bytes of a message: five, and up to 255 data bytes (ccTalk Generic Specification 4, part 1).
+/// The most bytes of a message: five, and up to 255 data bytes (ccTalk Generic Specification 4,
+/// part 1).
 pub const MOST_SENT: usize = 260;
 
 /// The most bytes that the host hears in one exchange: an echo and what follows it.

@@ -54,7 +54,7 @@ others_pass to rest heard number (w ∷ ws) others =
     pass_more (tap_of (to ∷ rest) heard) number w ws (other_at to rest heard number w parts.0)
     (others_pass to rest heard number ws parts.1)
 
--- none stands where the test has no position
+-- none is where the test has no position
 none_before : (p : Watched → Bool) (xs : List Watched) →
     ((k : ℕ) (x : Watched) → k < length xs → p (get_or xs k x) ≡ false) → list_any p xs ≡ false
 none_before p [] fails = refl

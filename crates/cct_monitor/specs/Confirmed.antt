@@ -14,7 +14,8 @@ ends_window (Masked mask) = false
 ends_window Set = true
 ends_window Nothing = false
 
--- The window of a span among the taps after its last reading, newest first: those before the next reading or setting.
+-- The window of a span among the taps after its last reading, newest first: those before the next
+-- reading or setting.
 abbrev pub window : List Shown → List Shown
 window [] = []
 window (s ∷ after) = if list_any ends_window (s ∷ after) then window after else s ∷ after
@@ -26,8 +27,8 @@ has_mask (Masked mask) = not (mask == 0)
 has_mask Set = false
 has_mask Nothing = false
 
--- A span is confirmed: no setting stands between its readings, their event counters tell a whole, and a tap of its window
--- shows a mask other than 0.
+-- A span is confirmed: no setting is between its readings, their event counters tell a whole, and a
+-- tap of its window shows a mask other than 0.
 abbrev pub is_confirmed : Span → Bool
 is_confirmed span = is_whole span && list_any has_mask (window span.last.after)
 

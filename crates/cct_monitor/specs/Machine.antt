@@ -1,5 +1,6 @@
 -- What a monitor keeps of a watched device: of fixed size, however many taps came.
-use Rattle.std.specs.Prelude.{ℕ, suc, ◌==◌, ◌&&◌, not, Bool, true, false, List, [], ◌∷◌, ◌++◌, length, if◌then◌else◌, Option, Some, None}
+use Rattle.std.specs.Prelude.{ℕ, suc, ◌==◌, ◌&&◌, not, Bool, true, false, List, [], ◌∷◌, ◌++◌}
+use Rattle.std.specs.Prelude.{length, if◌then◌else◌, Option, Some, None}
 use Rattle.cct_model.specs.terms.coin.Credits.{Credits}
 use Rattle.cct_model.specs.terms.wire.CheckKind.{CheckKind}
 use Rattle.cct_model.specs.Reading.{distance, posted_of}
@@ -12,7 +13,8 @@ use Rattle.cct_monitor.specs.declared.acceptor.WaitingSpan.{WaitingSpan}
 use Rattle.cct_monitor.specs.declared.acceptor.AcceptorWatch.{AcceptorWatch}
 use Rattle.cct_monitor.specs.declared.hopper.LastLife.{LastLife}
 use Rattle.cct_monitor.specs.declared.watched.Kept.{Kept}
-use Rattle.cct_monitor.specs.declared.watched.Kept.TheVariants.{Acceptor, QuietAcceptor, Premises, Hopper, HopperPremises}
+use Rattle.cct_monitor.specs.declared.watched.Kept.TheVariants.{Acceptor, QuietAcceptor, Premises}
+use Rattle.cct_monitor.specs.declared.watched.Kept.TheVariants.{Hopper, HopperPremises}
 use Rattle.cct_monitor.specs.declared.watched.Watched.{Watched}
 use Rattle.cct_monitor.specs.declared.watched.Family.{Family}
 use Rattle.cct_monitor.specs.declared.watched.Heard.{Heard}
@@ -35,7 +37,8 @@ after_setting (Some r) = Some (record { number = r.number; counter = r.counter; 
 
 -- The last reading after a tap of a number.
 abbrev pub last_on : Shown → ℕ → Option LastReading → Option LastReading
-last_on (Read c) number found = Some (record { number = number; counter = c.counter; was_set = false })
+last_on (Read c) number found =
+    Some (record { number = number; counter = c.counter; was_set = false })
 last_on (Masked mask) number found = found
 last_on Set number found = after_setting found
 last_on Nothing number found = found
@@ -45,7 +48,12 @@ abbrev pub waiting_new : ℕ → Credits → Option LastReading → Option Waiti
 waiting_new number c None = None
 waiting_new number c (Some r) =
     if fits r c.counter
-    then Some (record { first = r.number; last = number; new_events = distance r.counter c.counter; credits = c })
+    then Some (record {
+      first = r.number;
+      last = number;
+      new_events = distance r.counter c.counter;
+      credits = c;
+    })
     else None
 
 -- The span that waits after a tap of a number.
@@ -57,7 +65,8 @@ waiting_on Nothing number kept = kept.waiting
 
 -- What is kept of an acceptor after a tap of a number.
 abbrev pub acceptor_on : Shown → ℕ → AcceptorWatch → AcceptorWatch
-acceptor_on s number kept = record { last = last_on s number kept.last; waiting = waiting_on s number kept }
+acceptor_on s number kept =
+    record { last = last_on s number kept.last; waiting = waiting_on s number kept }
 
 -- What is said where the span that waits is in doubt.
 abbrev pub doubt_waiting : ℕ → Option WaitingSpan → List Said
@@ -67,7 +76,8 @@ doubt_waiting addr (Some span) = Doubt addr span.first span.last ∷ []
 -- What is said where it is sure.
 abbrev pub sure_waiting : ℕ → Option WaitingSpan → List Said
 sure_waiting addr None = []
-sure_waiting addr (Some span) = Sure addr span.first span.last (posted_of span.new_events span.credits.pairs) ∷ []
+sure_waiting addr (Some span) =
+    Sure addr span.first span.last (posted_of span.new_events span.credits.pairs) ∷ []
 
 -- What is said where the span of a new reading doesn't wait.
 abbrev pub doubt_new : ℕ → ℕ → Credits → Option LastReading → List Said
@@ -76,8 +86,10 @@ doubt_new addr number c (Some r) = if fits r c.counter then [] else Doubt addr r
 
 -- What a tap of a number makes said of the acceptor at an address.
 abbrev pub acceptor_says : ℕ → Shown → ℕ → AcceptorWatch → List Said
-acceptor_says addr (Read c) number kept = doubt_waiting addr kept.waiting ++ doubt_new addr number c kept.last
-acceptor_says addr (Masked mask) number kept = if mask == 0 then [] else sure_waiting addr kept.waiting
+acceptor_says addr (Read c) number kept =
+    doubt_waiting addr kept.waiting ++ doubt_new addr number c kept.last
+acceptor_says addr (Masked mask) number kept =
+    if mask == 0 then [] else sure_waiting addr kept.waiting
 acceptor_says addr Set number kept = doubt_waiting addr kept.waiting
 acceptor_says addr Nothing number kept = []
 
@@ -90,10 +102,12 @@ abbrev pub acceptor_after : List Shown → AcceptorWatch
 acceptor_after [] = no_tap
 acceptor_after (s ∷ past) = acceptor_on s (suc (length past)) (acceptor_after past)
 
--- What is said of a new reading of an acceptor that is watched for resets alone, after the last one.
+-- What is said of a new reading of an acceptor that is watched for resets alone, after the last
+-- one.
 abbrev pub quiet_new : ℕ → ℕ → Credits → LastReading → Said
 quiet_new addr number c r =
-    if fits r c.counter then Quiet addr r.number number (posted_of (distance r.counter c.counter) c.pairs)
+    if fits r c.counter then Quiet addr r.number number
+    (posted_of (distance r.counter c.counter) c.pairs)
     else Doubt addr r.number number
 
 -- What a tap of a number makes said of it.
@@ -113,20 +127,26 @@ life_on None number found = found
 
 -- What is kept of a watched device after a tap of a number.
 abbrev pub kept_on : CheckKind → ℕ → Tap → ℕ → Kept → Kept
-kept_on kind addr tap number (Acceptor kept) = Acceptor (acceptor_on (shown kind addr tap) number kept)
+kept_on kind addr tap number (Acceptor kept) =
+    Acceptor (acceptor_on (shown kind addr tap) number kept)
 kept_on kind addr tap number (QuietAcceptor money last) =
     QuietAcceptor money (last_on (quiet_shown money kind addr tap) number last)
-kept_on kind addr tap number (Premises money known) = Premises money (known_on number (sign money kind addr tap) known)
+kept_on kind addr tap number (Premises money known) =
+    Premises money (known_on number (sign money kind addr tap) known)
 kept_on kind addr tap number (Hopper life) = Hopper (life_on (life_shown kind addr tap) number life)
-kept_on kind addr tap number (HopperPremises known) = HopperPremises (hopper_on number (deed kind addr tap) known)
+kept_on kind addr tap number (HopperPremises known) =
+    HopperPremises (hopper_on number (deed kind addr tap) known)
 
 -- What the tap makes said of it.
 abbrev pub says_by : CheckKind → ℕ → Tap → ℕ → Kept → List Said
 says_by kind addr tap number (Acceptor kept) = acceptor_says addr (shown kind addr tap) number kept
-says_by kind addr tap number (QuietAcceptor money last) = quiet_says addr (quiet_shown money kind addr tap) number last
-says_by kind addr tap number (Premises money known) = broken_by addr number (sign money kind addr tap) known
+says_by kind addr tap number (QuietAcceptor money last) =
+    quiet_says addr (quiet_shown money kind addr tap) number last
+says_by kind addr tap number (Premises money known) =
+    broken_by addr number (sign money kind addr tap) known
 says_by kind addr tap number (Hopper life) = fell_by addr number (life_shown kind addr tap) life
-says_by kind addr tap number (HopperPremises known) = hopper_broken_by addr number (deed kind addr tap) known
+says_by kind addr tap number (HopperPremises known) =
+    hopper_broken_by addr number (deed kind addr tap) known
 
 -- What is kept of a device of a family before any tap.
 abbrev pub kept_first : Family → Kept
@@ -150,7 +170,8 @@ heard_as w = record { addr = w.addr; kind = w.kind; family = family_of w.kept; t
 
 -- A watched device before any tap.
 abbrev pub new_watched : ℕ → CheckKind → Family → Watched
-new_watched addr kind fam = record { addr = addr; kind = kind; tally = no_tally; kept = kept_first fam }
+new_watched addr kind fam =
+    record { addr = addr; kind = kind; tally = no_tally; kept = kept_first fam }
 
 -- A watched device after a tap of a number.
 abbrev pub watched_on : Tap → ℕ → Watched → Watched

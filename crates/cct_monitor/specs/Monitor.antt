@@ -2,7 +2,8 @@
 use Rattle.std.specs.Prelude.{◌≡◌, ℕ, Bool, List, map, length}
 use Rattle.std.specs.List.{list_any}
 use Rattle.cct_monitor.specs.declared.watched.Kept.{Kept}
-use Rattle.cct_monitor.specs.declared.watched.Kept.TheVariants.{Acceptor, QuietAcceptor, Premises, Hopper, HopperPremises}
+use Rattle.cct_monitor.specs.declared.watched.Kept.TheVariants.{Acceptor, QuietAcceptor, Premises}
+use Rattle.cct_monitor.specs.declared.watched.Kept.TheVariants.{Hopper, HopperPremises}
 use Rattle.cct_monitor.specs.declared.watched.Family.{Family}
 use Rattle.cct_monitor.specs.declared.watched.Heard.{Heard}
 use Rattle.cct_monitor.specs.declared.watched.Family.TheVariants as family
@@ -14,7 +15,8 @@ use Rattle.cct_monitor.specs.Lives.{last_life}
 use Rattle.cct_monitor.specs.Machine.{acceptor_after, quiet_after}
 use Rattle.cct_monitor.specs.Tallies.{tally_of}
 use Rattle.cct_monitor.specs.Places.{has_addr}
-use Rattle.cct_monitor.specs.Watches.{Account, Came, accounts, deeds_of, lives_of, looks_of, quiet_looks_of, signs_of, taps_in}
+use Rattle.cct_monitor.specs.Watches.{Account, Came, accounts, deeds_of, lives_of, looks_of}
+use Rattle.cct_monitor.specs.Watches.{quiet_looks_of, signs_of, taps_in}
 
 -- How many taps came to a monitor.
 abbrev pub tap_count : Monitor → ℕ
@@ -54,8 +56,8 @@ heard_of a = record {
   tally = tally_of a.watch.family a.watch.kind a.watch.addr a.taps;
 }
 
--- A monitor represents all that came to it, newest first: it counted the taps, and keeps what it has to of each watched
--- device, in rising order of address.
+-- A monitor represents all that came to it, newest first: it counted the taps, and keeps what it
+-- has to of each watched device, in rising order of address.
 pub record StandsFor (monitor : Monitor) (past : List Came) : Type 0 where
   pub counted : tap_count monitor ≡ taps_in past
   pub devices : monitor.devices.items ≡ map watched_as (accounts past)

@@ -5,7 +5,8 @@ use Rattle.cct_audit_taps.specs.declared.said.Said.TheVariants.{Sure, Quiet, Dou
 use Rattle.cct_audit_taps.specs.declared.shown.Shown.{Shown}
 use Rattle.cct_monitor.specs.Spans.{Span, quiet_at, said_at}
 
--- All that is said of the acceptor at an address at taps that showed this, newest first; what is said first stands first.
+-- All that is said of the acceptor at an address at taps that showed this, newest first; what is
+-- said first stands first.
 abbrev pub all_said : ℕ → List Shown → List Said
 all_said addr [] = []
 all_said addr (s ∷ past) = all_said addr past ++ said_at addr s past
@@ -23,7 +24,8 @@ is_of first last (Doubt addr f l) = (f == first) && (l == last)
 is_of first last (Fell addr f l count) = false
 is_of first last (Broken addr premise f l) = false
 
--- It is said of a span of the acceptor at an address, whose readings are the taps of these two numbers.
+-- It is said of a span of the acceptor at an address, whose readings are the taps of these two
+-- numbers.
 abbrev pub is_of_at : ℕ → ℕ → ℕ → Said → Bool
 is_of_at addr first last (Sure a f l coins) = (a == addr) && ((f == first) && (l == last))
 is_of_at addr first last (Quiet a f l coins) = (a == addr) && ((f == first) && (l == last))

@@ -1,5 +1,6 @@
 -- What is said of an acceptor: the spans between its readings, and which of them are sure.
-use Rattle.std.specs.Prelude.{ℕ, suc, ◌==◌, ◌&&◌, ◌||◌, not, nat_le, Bool, true, false, List, [], ◌∷◌, ◌++◌, map, length, reverse, if◌then◌else◌, Option, Some, None}
+use Rattle.std.specs.Prelude.{ℕ, suc, ◌==◌, ◌&&◌, ◌||◌, not, nat_le, Bool, true, false, List, []}
+use Rattle.std.specs.Prelude.{◌∷◌, ◌++◌, map, length, reverse, if◌then◌else◌, Option, Some, None}
 use Rattle.std.specs.List.{filter, flat_map, list_any}
 use Rattle.cct_model.specs.terms.coin.TheConstants.{EVENTS}
 use Rattle.cct_model.specs.terms.coin.Coin.{Coin}
@@ -10,7 +11,8 @@ use Rattle.cct_audit_taps.specs.declared.shown.Shown.TheVariants.{Read, Masked, 
 use Rattle.cct_audit_taps.specs.declared.said.Said.{Said}
 use Rattle.cct_audit_taps.specs.declared.said.Said.TheVariants.{Sure, Quiet, Doubt}
 
--- A reading: its number among the taps, the credits that it shows, and what the taps after it showed, newest first.
+-- A reading: its number among the taps, the credits that it shows, and what the taps after it
+-- showed, newest first.
 pub record Reading : Type 0 where
   pub number : ℕ
   pub credits : Credits
@@ -35,7 +37,8 @@ last_reading [] = None
 last_reading (Read c ∷ past) = Some (new_reading (suc (length past)) c)
 last_reading (s ∷ past) = after_it s (last_reading past)
 
--- A span is two readings with none between them. After the first stands what the taps between them showed.
+-- A span is two readings with none between them. After the first stands what the taps between them
+-- showed.
 pub record Span : Type 0 where
   pub first : Reading
   pub last : Reading
@@ -52,31 +55,35 @@ goes_on s span = record { first = span.first; last = with_after s span.last }
 -- All spans that taps showed, newest first.
 abbrev pub spans : List Shown → List Span
 spans [] = []
-spans (s ∷ past) = spans_by s (last_reading past) (suc (length past)) ++ map (goes_on s) (spans past)
+spans (s ∷ past) =
+    spans_by s (last_reading past) (suc (length past)) ++ map (goes_on s) (spans past)
 
 -- A tap shows a setting.
 abbrev pub is_set : Shown → Bool
 is_set Set = true
 is_set s = false
 
--- Event counters tell a whole: the last isn't 0 unless the first is, and they tell no more events than the credit buffer
--- keeps.
+-- Event counters tell a whole: the last isn't 0 unless the first is, and they tell no more events
+-- than the credit buffer keeps.
 abbrev pub are_near : ℕ → ℕ → Bool
 are_near first last = (not (last == 0) || (first == 0)) && nat_le (distance first last) EVENTS
 
 -- No setting came between the readings of a span, and their event counters tell a whole.
 abbrev pub is_whole : Span → Bool
 is_whole span =
-    not (list_any is_set span.first.after) && are_near span.first.credits.counter span.last.credits.counter
+    not (list_any is_set span.first.after)
+    && are_near span.first.credits.counter span.last.credits.counter
 
--- A tap leaves the window of a span open, and confirms nothing: it is no reading, no setting, and shows no mask but 0.
+-- A tap leaves the window of a span open, and confirms nothing: it is no reading, no setting, and
+-- shows no mask but 0.
 abbrev pub leaves_open : Shown → Bool
 leaves_open (Read c) = false
 leaves_open (Masked mask) = mask == 0
 leaves_open Set = false
 leaves_open Nothing = true
 
--- A span waits to be said: it is whole, its window is open, and no tap of that showed a mask other than 0.
+-- A span waits to be said: it is whole, its window is open, and no tap of that showed a mask other
+-- than 0.
 abbrev pub waits : Span → Bool
 waits span = is_whole span && not (list_any (λ s. not (leaves_open s)) span.last.after)
 
@@ -84,10 +91,11 @@ waits span = is_whole span && not (list_any (λ s. not (leaves_open s)) span.las
 abbrev pub doubted : ℕ → Span → Said
 doubted addr span = Doubt addr span.first.number span.last.number
 
--- The coins of a span: those among the newest events of its last reading, as many as the event counters tell, oldest
--- first.
+-- The coins of a span: those among the newest events of its last reading, as many as the event
+-- counters tell, oldest first.
 abbrev pub coins_of : Span → List Coin
-coins_of span = posted_of (distance span.first.credits.counter span.last.credits.counter) span.last.credits.pairs
+coins_of span = posted_of (distance span.first.credits.counter span.last.credits.counter)
+    span.last.credits.pairs
 
 -- What is sure of a span.
 abbrev pub surely : ℕ → Span → Said
@@ -96,14 +104,15 @@ surely addr span = Sure addr span.first.number span.last.number (coins_of span)
 -- What is said at once of a span of an acceptor that is watched for resets alone.
 abbrev pub quietly : ℕ → Span → Said
 quietly addr span =
-    if is_whole span then Quiet addr span.first.number span.last.number (coins_of span) else doubted addr span
+    if is_whole span then Quiet addr span.first.number span.last.number (coins_of span) else doubted
+    addr span
 
 -- What a tap makes said of such an acceptor at an address after the taps before it, newest first.
 abbrev pub quiet_at : ℕ → Shown → List Shown → List Said
 quiet_at addr s past = map (quietly addr) (spans_by s (last_reading past) (suc (length past)))
 
--- What a tap makes said of a span that waits: it is sure where the tap shows a mask other than 0, and in doubt where the
--- tap ends its window.
+-- What a tap makes said of a span that waits: it is sure where the tap shows a mask other than 0,
+-- and in doubt where the tap ends its window.
 abbrev pub turned : ℕ → Shown → Span → List Said
 turned addr (Read c) span = doubted addr span ∷ []
 turned addr (Masked mask) span = if mask == 0 then [] else surely addr span ∷ []
@@ -114,7 +123,8 @@ turned addr Nothing span = []
 abbrev pub refused : ℕ → Span → List Said
 refused addr span = if is_whole span then [] else doubted addr span ∷ []
 
--- What a tap makes said of the acceptor at an address after the taps before it, newest first; the older span first.
+-- What a tap makes said of the acceptor at an address after the taps before it, newest first; the
+-- older span first.
 abbrev pub said_at : ℕ → Shown → List Shown → List Said
 said_at addr s past =
     flat_map (turned addr s) (reverse (filter waits (spans past)))

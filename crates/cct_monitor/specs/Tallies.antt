@@ -1,5 +1,6 @@
 -- How many taps were for a watched device, and what they showed.
-use Rattle.std.specs.Prelude.{ℕ, ◌+◌, min, Bool, true, false, List, [], ◌∷◌, if◌then◌else◌, Option, Some, None}
+use Rattle.std.specs.Prelude.{ℕ, ◌+◌, min, Bool, true, false, List, [], ◌∷◌, if◌then◌else◌, Option}
+use Rattle.std.specs.Prelude.{Some, None}
 use Rattle.cct_model.specs.terms.wire.CheckKind.{CheckKind}
 use Rattle.cct_audit_taps.specs.declared.shown.Shown.{Shown}
 use Rattle.cct_audit_taps.specs.declared.shown.Shown.TheVariants.{Read, Masked, Set, Nothing}
@@ -52,7 +53,8 @@ is_counted s = false
 abbrev pub one_more : Bool → ℕ → ℕ
 one_more more count = if more then min (count + 1) 4294967295 else count
 
--- A tally with one tap more: whether it was a message to the device, and whether it showed a reading or an inhibit mask.
+-- A tally with one tap more: whether it was a message to the device, and whether it showed a
+-- reading or an inhibit mask.
 abbrev pub tally_more : Bool → Bool → Bool → Tally → Tally
 tally_more to_it reading mask t = record {
   messages = one_more to_it t.messages;
@@ -63,12 +65,14 @@ tally_more to_it reading mask t = record {
 -- The tally of a device of a family after a tap.
 abbrev pub tally_by : Family → CheckKind → ℕ → Tap → Tally → Tally
 tally_by family.Acceptor kind addr tap t =
-    tally_more (is_message kind addr tap.sent) (is_reading (shown kind addr tap)) (is_masked (shown kind addr tap)) t
+    tally_more (is_message kind addr tap.sent) (is_reading (shown kind addr tap))
+    (is_masked (shown kind addr tap)) t
 tally_by (family.QuietAcceptor money) kind addr tap t =
     tally_more (is_message kind addr tap.sent) (is_reading (quiet_shown money kind addr tap))
     (is_masked (quiet_shown money kind addr tap)) t
 tally_by (family.Premises money) kind addr tap t =
-    tally_more (is_message kind addr tap.sent) (is_events (sign money kind addr tap)) (is_mask (sign money kind addr tap)) t
+    tally_more (is_message kind addr tap.sent) (is_events (sign money kind addr tap))
+    (is_mask (sign money kind addr tap)) t
 tally_by family.Hopper kind addr tap t =
     tally_more (is_message kind addr tap.sent) (is_life (life_shown kind addr tap)) false t
 tally_by family.HopperPremises kind addr tap t =

@@ -1,6 +1,7 @@
 //! What is kept of a watched acceptor: its last reading, and the span that waits to be said.
 ghost use Rattle.std.specs.Prelude.{◌≡◌, ◌+◌, ◌<◌, ◌≤◌, ◌++◌, [], None, length};
-ghost use Rattle.cct_monitor.specs.Machine.{acceptor_on, acceptor_says, after_setting, doubt_new, doubt_waiting, fits, no_tap, sure_waiting, waiting_new};
+ghost use Rattle.cct_monitor.specs.Machine.{acceptor_on, acceptor_says, after_setting, doubt_new};
+ghost use Rattle.cct_monitor.specs.Machine.{doubt_waiting, fits, no_tap, sure_waiting, waiting_new};
 ghost use Rattle.cct_monitor.specs.Spans.{are_near};
 ghost use Rattle.cct_audit_taps.specs.declared.shown.Shown.TheVariants.{Read};
 
@@ -128,16 +129,17 @@ pub(crate) fn after_setting(last: Option<LastReading>) -> Option<LastReading>
     }
 }
 
-/// Whether a new reading of this event counter makes with the last one a span that can be sure: no setting came between
-/// them, the counter isn't back at 0, and it tells no more events than the credit buffer keeps.
+/// Whether a new reading of this event counter makes with the last one a span that can be sure: no
+/// setting came between them, the counter isn't back at 0, and it shows no more events than the
+/// credit buffer keeps.
 pub(crate) fn fits(last: &LastReading, counter: u8) -> bool
     ensures { result ≡ fits last.now counter }
 {
     !last.was_set && are_near(last.counter, counter)
 }
 
-/// Whether two event counters tell all events between their readings: the later one isn't back at 0, and they tell no more
-/// than the credit buffer keeps.
+/// Whether two event counters tell all events between their readings: the later one isn't back at
+/// 0, and they tell no more than the credit buffer keeps.
 fn are_near(first: u8, last: u8) -> bool
     ensures { result ≡ are_near first last }
 {

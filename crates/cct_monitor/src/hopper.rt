@@ -1,4 +1,5 @@
-//! What is kept of a watched hopper: its last life count (ccTalk Generic Specification 4, part 3, header 168).
+//! What is kept of a watched hopper: its last life count (ccTalk Generic Specification 4, part 3,
+//! header 168).
 ghost use Rattle.std.specs.Prelude.{◌≡◌, []};
 ghost use Rattle.cct_monitor.specs.Lives.{fell_by};
 

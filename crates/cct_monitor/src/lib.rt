@@ -1,6 +1,6 @@
-//! A monitor of any host's wire: it takes each exchange as a logger of the wire saw it, and says which coins or bills a
-//! watched acceptor accepted between two readings of its events, and how many coins fell out of a watched hopper. It knows
-//! nothing of the host.
+//! A monitor of any host's wire: it takes each exchange as a logger of the wire saw it, and says
+//! which coins or bills a watched acceptor accepted between two readings of its events, and how
+//! many coins fell out of a watched hopper. It knows nothing of the host.
 #![tactic(auto)]
 
 mod acceptor;

@@ -1,8 +1,10 @@
 //! The monitor.
-ghost use Rattle.std.specs.Prelude.{◌≡◌, ◌+◌, ◌-◌, ◌^◌, ◌<◌, ◌==◌, ◌||◌, ℕ, true, false, List, [], ◌∷◌, map, slice_get};
+ghost use Rattle.std.specs.Prelude.{◌≡◌, ◌+◌, ◌-◌, ◌^◌, ◌<◌, ◌==◌, ◌||◌, ℕ, true, false, List, []};
+ghost use Rattle.std.specs.Prelude.{◌∷◌, map, slice_get};
 ghost use Rattle.cct_monitor.specs.Places.{are_apart};
 ghost use Rattle.cct_audit_taps.specs.Taps.{tap_of};
-ghost use Rattle.cct_monitor.specs.Watches.{Came, Watch, accounts, finally_of_all, made_tap, made_watch, said_of_all};
+ghost use Rattle.cct_monitor.specs.Watches.{Came, Watch, accounts, finally_of_all, made_tap};
+ghost use Rattle.cct_monitor.specs.Watches.{made_watch, said_of_all};
 
 use crate::places::{WATCHED, finish_devices, has_device, heard_at, put_device, tap_devices};
 use crate::watched::{Family, Heard, Watched};
@@ -10,10 +12,11 @@ use arrayvec::ArrayVec;
 use cct_audit_taps::Said;
 use cct_model::CheckKind;
 
-/// A monitor of a wire, whoever is its host. It takes no memory, and keeps as much after each tap as before it.
+/// A monitor of a wire, whoever is its host. It takes no memory, and keeps as much after each tap
+/// as before it.
 ///
-/// A contract tells it by all that came to it, newest first: the devices that it was to watch, and the taps. A device is
-/// watched from the next tap on.
+/// A contract shows it by all that came to it, newest first: the devices that it was to watch, and
+/// the taps. A device is watched from the next tap on.
 #[derive(Debug, Drop)]
 pub struct Monitor {
     taps: u32,
@@ -22,7 +25,8 @@ pub struct Monitor {
 }
 
 impl Monitor {
-    ghost use Rattle.cct_monitor.specs.Monitor.{StandsFor, heard_of, is_watched, tap_count, watch_count};
+    ghost use Rattle.cct_monitor.specs.Monitor.{StandsFor, heard_of, is_watched, tap_count};
+    ghost use Rattle.cct_monitor.specs.Monitor.{watch_count};
 
     /// A monitor that watches no device.
     pub fn new() -> Monitor
@@ -37,14 +41,15 @@ impl Monitor {
         }
     }
 
-    /// Watches the device at an address from the next tap on, by the check of its messages and its family. There must be
-    /// room, and the address must be new.
+    /// Watches the device at an address from the next tap on, by the check of its messages and its
+    /// family. There must be room, and the address must be new.
     pub fn watch(&mut self, addr: u8, kind: CheckKind, family: Family)
         requires room { watch_count self.old < WATCHED }
         requires new_address { is_watched self.old addr ≡ false }
         ensures taps { tap_count self.new ≡ tap_count self.old }
         ensures devices { watch_count self.new ≡ watch_count self.old + 1 }
-        ensures addresses { (other : ℕ) → is_watched self.new other ≡ ((addr == other) || is_watched self.old other) }
+        ensures addresses { (other : ℕ) → is_watched self.new other
+            ≡ ((addr == other) || is_watched self.old other) }
         ensures stands { (past : List Came) → StandsFor self.old past
             → StandsFor self.new (made_watch (record { addr = addr; kind = kind; family = family }) ∷ past) }
     {
@@ -65,10 +70,11 @@ impl Monitor {
         self.devices.len()
     }
 
-    /// What is told of the watched device of a place, from 0 and in rising order of address: how many taps were for it. None
-    /// where there is none.
+    /// What is told of the watched device of a place, from 0 and in rising order of address: how
+    /// many taps were for it. None where there is none.
     pub fn heard(&self, place: usize) -> Option<Heard>
-        ensures { (past : List Came) → StandsFor self.now past → result ≡ slice_get (map heard_of (accounts past)) place }
+        ensures { (past : List Came) → StandsFor self.now past → result
+            ≡ slice_get (map heard_of (accounts past)) place }
     {
         heard_at(self.devices.as_slice(), place)
     }
@@ -80,9 +86,9 @@ impl Monitor {
         has_device(self.devices.as_slice(), addr)
     }
 
-    /// Takes a tap: what was sent, and all that was then heard, the echo first. What it makes said takes the place of what
-    /// the report holds; that is at most two, the older span first. Taps are numbered from 1, whether they are for a
-    /// watched device or not.
+    /// Takes a tap: what was sent, and all that was then heard, the echo first. What it makes said
+    /// takes the place of what the report holds; that is at most two, the older span first. Taps
+    /// are numbered from 1, whether they are for a watched device or not.
     pub fn tap(&mut self, sent: &[u8], heard: &[u8], report: &mut ArrayVec<Said, 4>)
         requires few { tap_count self.old < 2 ^ 32 - 1 }
         ensures taps { tap_count self.new ≡ tap_count self.old + 1 }
@@ -98,11 +104,12 @@ impl Monitor {
         tap_devices(&mut self.devices, self.taps, sent, heard, report);
     }
 
-    /// Ends the taps: what is then said takes the place of what the report holds. Of each acceptor whose last span still
-    /// waits, that span is in doubt, in rising order of address.
+    /// Ends the taps: what is then said takes the place of what the report holds. Of each acceptor
+    /// whose last span still waits, that span is in doubt, in rising order of address.
     pub fn finish(&mut self, report: &mut ArrayVec<Said, WATCHED>)
         ensures same { self.new ≡ self.old }
-        ensures says { (past : List Came) → StandsFor self.old past → report.new.items ≡ finally_of_all past }
+        ensures says { (past : List Came) → StandsFor self.old past → report.new.items
+            ≡ finally_of_all past }
     {
         report.clear();
         finish_devices(self.devices.as_slice(), report);

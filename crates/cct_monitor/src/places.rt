@@ -1,5 +1,6 @@
 //! The watched devices by their places, in rising order of address.
-ghost use Rattle.std.specs.Prelude.{◌≡◌, ◌<◌, ◌≤◌, [], true, length, map, slice_get, slice_index_or, slice_set, IfSome};
+ghost use Rattle.std.specs.Prelude.{◌≡◌, ◌<◌, ◌≤◌, [], true, length, map, slice_get};
+ghost use Rattle.std.specs.Prelude.{slice_index_or, slice_set, IfSome};
 ghost use Rattle.std.specs.List.{flat_map, list_any, position, position_or_len};
 ghost use Rattle.cct_monitor.specs.Machine.{ends_on, heard_as, says_on, watched_on};
 ghost use Rattle.cct_monitor.specs.Places.{are_apart, has_addr, is_behind, put_watched};
@@ -22,7 +23,8 @@ pub(crate) fn put_device(devices: &mut ArrayVec<Watched, WATCHED>, device: Watch
     devices.insert(place, device);
 }
 
-/// Takes a tap of a number, and reports what it makes said: the device that it is for alone changes.
+/// Takes a tap of a number, and reports what it makes said: the device that it is for alone
+/// changes.
 pub(crate) fn tap_devices(
     devices: &mut ArrayVec<Watched, WATCHED>,
     number: u32,
@@ -32,7 +34,8 @@ pub(crate) fn tap_devices(
 )
     requires apart { are_apart devices.old.items ≡ true }
     requires empty { report.old.items ≡ [] }
-    ensures kept { devices.new.items ≡ map (watched_on (tap_of sent.now heard.now) number) devices.old.items }
+    ensures kept { devices.new.items ≡ map (watched_on (tap_of sent.now heard.now) number)
+        devices.old.items }
     ensures says { report.new.items
         ≡ flat_map (says_on (tap_of sent.now heard.now) number) devices.old.items }
 {

@@ -1,5 +1,6 @@
-//! What is kept of an acceptor that is watched for resets alone: its last reading. It is taken to reset only where the taps show
-//! it, so each span is known at once, and no inhibit mask has to be asked for.
+//! What is kept of an acceptor that is watched for resets alone: its last reading. It is taken to
+//! reset only where the taps show it, so each span is known at once, and no inhibit mask has to be
+//! asked for.
 ghost use Rattle.std.specs.Prelude.{◌≡◌, []};
 ghost use Rattle.cct_monitor.specs.Machine.{last_on, quiet_new, quiet_says};
 

@@ -1,15 +1,18 @@
 //! How many taps were for a watched device, and what they showed.
 ghost use Rattle.std.specs.Prelude.{◌≡◌, false};
-ghost use Rattle.cct_monitor.specs.Tallies.{is_counted, is_events, is_life, is_mask, is_masked, is_reading, no_tally, one_more, tally_more};
+ghost use Rattle.cct_monitor.specs.Tallies.{is_counted, is_events, is_life, is_mask, is_masked};
+ghost use Rattle.cct_monitor.specs.Tallies.{is_reading, no_tally, one_more, tally_more};
 
 use cct_audit_taps::{Deed, Shown, Sign};
 
-/// How many taps were for a watched device, and what they showed. Each number stands still at its type's end.
+/// How many taps were for a watched device, and what they showed. Each number stands still at its
+/// type's end.
 #[derive(Clone, Copy, Debug, PartialEq, Eq)]
 pub struct Tally {
     /// Taps in which a message was sent to it, under its check.
     pub messages: u32,
-    /// Taps that showed a reading of its credits (header 229, or 159 of a bill acceptor), or the life count (168) of a hopper.
+    /// Taps that showed a reading of its credits (header 229, or 159 of a bill acceptor), or the
+    /// life count (168) of a hopper.
     pub readings: u32,
     /// Taps that showed its inhibit mask (230); of a hopper none.
     pub masks: u32,
@@ -41,7 +44,8 @@ impl Tally {
         self.more(is_message, is_events(sign), is_mask(sign))
     }
 
-    /// The tally of a hopper after a tap: whether it was a message to it, and the life count that it showed.
+    /// The tally of a hopper after a tap: whether it was a message to it, and the life count that
+    /// it showed.
     pub(crate) fn after_life(self, is_message: bool, count: Option<u32>) -> Tally
         ensures { result ≡ tally_more is_message (is_life count) false self }
     {

@@ -1,6 +1,7 @@
 //! What is kept of a watched device.
 ghost use Rattle.std.specs.Prelude.{◌≡◌, ◌+◌, ◌<◌, ◌≤◌, ◌++◌, [], length};
-ghost use Rattle.cct_monitor.specs.Machine.{ends_on, family_of, heard_as, kept_first, life_on, new_watched, says_on, watched_on};
+ghost use Rattle.cct_monitor.specs.Machine.{ends_on, family_of, heard_as, kept_first, life_on};
+ghost use Rattle.cct_monitor.specs.Machine.{new_watched, says_on, watched_on};
 ghost use Rattle.cct_audit_taps.specs.Taps.{tap_of};
 
 use crate::acceptor::{AcceptorWatch, LastReading};
@@ -19,14 +20,14 @@ use cct_model::CheckKind;
 pub enum Family {
     /// An acceptor of coins. Its spans are sure where its inhibit mask shows that it didn't reset.
     Acceptor,
-    /// An acceptor of this money that is taken to reset only where the taps show it: it is asked to, or its event counter falls to
-    /// 0.
+    /// An acceptor of this money that is taken to reset only where the taps show it: it is asked
+    /// to, or its event counter falls to 0.
     QuietAcceptor(Money),
-    /// An acceptor of this money of which it is told what it isn't as it is taken to be.
+    /// An acceptor of this money of which it is reported what it isn't as it is taken to be.
     Premises(Money),
     /// A hopper.
     Hopper,
-    /// A hopper of which it is told what it isn't as it is taken to be.
+    /// A hopper of which it is reported what it isn't as it is taken to be.
     HopperPremises,
 }
 

@@ -4,7 +4,9 @@ use Rattle.cct_model_wire.specs.declared.request.Request.{Request}
 use Rattle.cct_model_wire.specs.declared.request.Request.TheVariants.{Dispense}
 use Rattle.cct_model_wire.specs.declared.request.ReplyForm.{ReplyForm}
 use Rattle.cct_model_wire.specs.declared.request.ReplyForm.TheVariants as form
-use Rattle.cct_model_wire.specs.Reply.{Reply, ack, nak, busy, credits, mask, master, path, coin_id, status, life, remaining, register, text, serial, revision, accepts}
+use Rattle.cct_model_wire.specs.Reply.{Reply, ack, nak, busy, credits, mask, master, path, coin_id}
+use Rattle.cct_model_wire.specs.Reply.{status, life, remaining, register, text, serial, revision}
+use Rattle.cct_model_wire.specs.Reply.{accepts}
 
 -- The serial number of a dispense request fits its three bytes.
 abbrev pub FitsItsBytes : Request → Type 0
@@ -29,7 +31,8 @@ form_shown (serial number) = Some form.Serial
 form_shown (revision release major minor) = Some form.Revision
 form_shown (accepts count) = Some form.Accepts
 
--- A reply has the parts that each value of the code has: five events with a counter, and six characters of a coin.
+-- A reply has the parts that each value of the code has: five events with a counter, and six
+-- characters of a coin.
 abbrev pub IsWhole : Reply → Type 0
 IsWhole (credits read) = length read.pairs ≡ 5
 IsWhole (coin_id characters) = length characters ≡ 6

@@ -1,5 +1,6 @@
 -- What the host makes of a message that may be the reply that it wants.
-use Rattle.std.specs.Prelude.{◌≡◌, ◌==◌, ◌&&◌, ⊤, ℕ, [], length, if◌then◌else◌, Option, Some, None, IsTrue}
+use Rattle.std.specs.Prelude.{◌≡◌, ◌==◌, ◌&&◌, ⊤, ℕ, [], length, if◌then◌else◌, Option, Some, None}
+use Rattle.std.specs.Prelude.{IsTrue}
 use Rattle.cct_model_wire.specs.declared.request.Reply as code
 use Rattle.cct_model_wire.specs.declared.request.Reply.TheVariants as shown
 use Rattle.cct_model_wire.specs.declared.request.ReplyForm.{ReplyForm}
@@ -9,16 +10,18 @@ use Rattle.cct_model_wire.specs.Exchange.{is_for_host, reply_from}
 use Rattle.cct_msg.specs.declared.reply_reading.NotWanted.{NotWanted}
 use Rattle.cct_msg.specs.declared.reply_reading.NotWanted.TheVariants.{Nak, Busy, Other}
 
--- A message is for the host, comes from an address or from nobody named, and is this header without data.
+-- A message is for the host, comes from an address or from nobody named, and is this header without
+-- data.
 abbrev pub IsBare : ℕ → ℕ → Message → Type 0
 IsBare addr header m = IsTrue (is_for_host addr m) × (m.header ≡ header) × (m.body ≡ [])
 
--- What a message without data says by its header, where it is not the wanted reply: 5 refuses, and 6 is busy.
+-- What a message without data says by its header, where it is not the wanted reply: 5 refuses, and
+-- 6 is busy.
 abbrev pub said_by : ℕ → NotWanted
 said_by header = if header == 5 then Nak else if header == 6 then Busy else Other
 
--- Why a message is not the wanted reply: it refuses or is busy where it is for the host, comes from the asked address or
--- from nobody named, and has no data; all else is another message.
+-- Why a message is not the wanted reply: it refuses or is busy where it is for the host, comes from
+-- the asked address or from nobody named, and has no data; all else is another message.
 abbrev pub why_unwanted : ℕ → Message → NotWanted
 why_unwanted addr m = if is_for_host addr m && (length m.body == 0) then said_by m.header else Other
 

@@ -1,6 +1,6 @@
-//! The headers of messages (ccTalk Generic Specification 4, part 3, and part 2 for a coin acceptor's and a hopper's).
-//! Of the replies, `NAK` refuses, `BUSY` is of a device that can't act now, and `REPLY` is any other. `DISPENSE` has
-//! four data bytes, or nine under a cipher.
+//! The headers of messages (ccTalk Generic Specification 4, part 3, and part 2 for a coin
+//! acceptor's and a hopper's). Of the replies, `NAK` refuses, `BUSY` is of a device that can't act
+//! now, and `REPLY` is any other. `DISPENSE` has four data bytes, or nine under a cipher.
 
 pub(crate) const REPLY: u8 = 0;
 

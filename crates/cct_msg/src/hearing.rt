@@ -1,4 +1,5 @@
-//! What a message that is heard asks of the device at an address, and what the host hears of a device.
+//! What a message that is heard asks of the device at an address, and what the host hears of a
+//! device.
 ghost use Rattle.std.specs.Prelude.{◌≡◌};
 ghost use Rattle.std.specs.Option.{option_map};
 ghost use Rattle.cct_frame.specs.Frame.{message_of};
@@ -11,7 +12,8 @@ use cct_frame::FrameView;
 use cct_model_wire::{BROADCAST, CheckKind, Reply, ReplyForm, Request};
 use cct_wire::{Heard, hear};
 
-/// What a message asks of the device at an address, whoever sent it: nothing where it is for another, or is no request.
+/// What a message asks of the device at an address, whoever sent it: nothing where it is for
+/// another, or is no request.
 pub fn asked_of(address: u8, view: &FrameView<'_>) -> Option<Request>
     ensures { result ≡ asked_of address (message_of view.now) }
 {
@@ -44,8 +46,8 @@ fn to_all(request: Option<Request>) -> Option<Request>
     }
 }
 
-/// The reply in the form that the host wants from an address under a check, in what it heard after what it sent, or
-/// `None` where that is no such reply after the echo.
+/// The reply in the form that the host wants from an address under a check, in what it heard after
+/// what it sent, or `None` where that is no such reply after the echo.
 #[tactic(auto, unfolding(cct_model_wire::specs::Exchange::got))]
 pub fn wanted_reply<'h>(
     kind: CheckKind,

@@ -1,5 +1,5 @@
-//! The requests and replies of ccTalk (Generic Specification 4, parts 2 and 3), written into messages and read from
-//! them, without a copy of a text and without memory of their own.
+//! The requests and replies of ccTalk (Generic Specification 4, parts 2 and 3), written into
+//! messages and read from them, without a copy of a text and without memory of their own.
 #![tactic(auto)]
 
 mod header;

@@ -21,24 +21,24 @@ pub enum NotWanted {
     /// The asked device can't act on the request now: header 6 without data.
     #[error("the device is busy")]
     Busy,
-    /// The message is for another address than the host's, names another source than the asked address, has another
-    /// header, or has another number of data bytes than the wanted form.
+    /// The message is for another address than the host's, names another source than the asked
+    /// address, has another header, or has another number of data bytes than the wanted form.
     #[error("the message is not the reply that is wanted")]
     Other,
 }
 
-/// Reads a message as the reply of the form that the host wants from the address `from` (ccTalk Generic Specification 4,
-/// parts 2 and 3). Under the CRC a message names no source, and whatever is for the host counts as from there. The bytes
-/// of a text stay where they are in the message.
+/// Reads a message as the reply of the form that the host wants from the address `from` (ccTalk
+/// Generic Specification 4, parts 2 and 3). Under the CRC a message names no source, and whatever
+/// is for the host counts as from there. The bytes of a text stay where they are in the message.
 pub fn read_reply<'a>(
     form: ReplyForm,
     from: u8,
     view: &FrameView<'a>,
 ) -> Result<Reply<'a>, NotWanted>
-    // the reply:
-    // It goes to the host, comes from the asked address or from nobody named, has header 0 and as many data bytes as
-    // the form.
-    ensures wanted { IfOk result (λ y. reply_from form from (message_of view.now) ≡ Some (reply_shown y)) }
+    // the reply: It goes to the host, comes from the asked address or from nobody named, has header
+    // 0 and as many data bytes as the form.
+    ensures wanted { IfOk result (λ y. reply_from form from (message_of view.now)
+        ≡ Some (reply_shown y)) }
     ensures in_place { IfOk result (λ y. TextLiesAt view.now.body.ref_ptr y) }
     ensures no_reason { OnOk result (reason_in form from (message_of view.now) ≡ None) }
 
@@ -46,7 +46,7 @@ pub fn read_reply<'a>(
     ensures unwanted { OnErr result (reply_from form from (message_of view.now) ≡ None) }
     ensures reason { IfErr result (λ why. reason_in form from (message_of view.now) ≡ Some why) }
 
-    // when each reason is told
+    // when each reason is reported
     ensures nak { (result ≡ Err NotWanted.Nak) ↔ IsBare from 5 (message_of view.now) }
     ensures busy { (result ≡ Err NotWanted.Busy) ↔ IsBare from 6 (message_of view.now) }
     // Every other message, also one of another device.

@@ -11,8 +11,8 @@ use arrayvec::ArrayVec;
 use cct_frame::write;
 use cct_model_wire::{CheckKind, Credits, MOST_SENT, Reply};
 
-/// Writes a reply of the device at address `from` to the address `to` in the place of what `out` holds (ccTalk Generic
-/// Specification 4, parts 2 and 3).
+/// Writes a reply of the device at address `from` to the address `to` in the place of what `out`
+/// holds (ccTalk Generic Specification 4, parts 2 and 3).
 #[tactic(auto, unfolding(cct_model_wire::specs::Reply::reply_data))]
 pub fn encode_reply(
     kind: CheckKind,

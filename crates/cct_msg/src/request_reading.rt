@@ -7,8 +7,9 @@ use crate::number::from_three;
 use cct_frame::FrameView;
 use cct_model_wire::Request;
 
-/// The request that a message asks, whoever it is for and whoever sent it, or `None` where its header, or the number of
-/// its data bytes, is that of no request (ccTalk Generic Specification 4, parts 2 and 3).
+/// The request that a message asks, whoever it is for and whoever sent it, or `None` where its
+/// header, or the number of its data bytes, is that of no request (ccTalk Generic Specification 4,
+/// parts 2 and 3).
 #[tactic(auto, unfolding(cct_model_wire::specs::Request::request_of, cct_model_wire::specs::Request::requests_with))]
 pub fn read_request(view: &FrameView<'_>) -> Option<Request>
     ensures { result ≡ request_of view.now.header view.now.body.now }

@@ -9,9 +9,10 @@ use arrayvec::ArrayVec;
 use cct_frame::write;
 use cct_model_wire::{CheckKind, HOST, MOST_SENT, Request};
 
-/// Writes a request from the host, address 1, to the address `to` in the place of what `out` holds (ccTalk Generic
-/// Specification 4, part 3, and part 2 for a coin acceptor's and a hopper's). Of the serial number of a
-/// [`Request::Dispense`] the three low bytes are written, and a [`Request::CipherDispense`] goes out with nine zeros.
+/// Writes a request from the host, address 1, to the address `to` in the place of what `out` holds
+/// (ccTalk Generic Specification 4, part 3, and part 2 for a coin acceptor's and a hopper's). Of
+/// the serial number of a [`Request::Dispense`] the three low bytes are written, and a
+/// [`Request::CipherDispense`] goes out with nine zeros.
 #[tactic(auto, unfolding(cct_model_wire::specs::Exchange::ask))]
 pub fn encode_request(kind: CheckKind, to: u8, request: &Request, out: &mut ArrayVec<u8, MOST_SENT>)
     ensures { out.new.items ≡ ask kind to request.now }

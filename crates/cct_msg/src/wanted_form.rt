@@ -4,8 +4,8 @@ ghost use Rattle.cct_model_wire.specs.Request.{form_of};
 
 use cct_model_wire::{ReplyForm, Request};
 
-/// The form of the reply that a request wants, where it wants one of header 0 in a message (ccTalk Generic Specification
-/// 4, parts 2 and 3).
+/// The form of the reply that a request wants, where it wants one of header 0 in a message (ccTalk
+/// Generic Specification 4, parts 2 and 3).
 #[tactic(auto, unfolding(cct_model_wire::specs::Request::form_of))]
 pub fn form_of(request: Request) -> Option<ReplyForm>
     ensures { result ≡ form_of request }

@@ -1,4 +1,5 @@
-//! Orders of coins at a hopper: the ticket by which an order is dispensed once, and the record that closes an order.
+//! Orders of coins at a hopper: the ticket by which an order is dispensed once, and the record that
+//! closes an order.
 #![tactic(auto)]
 
 mod closing;

@@ -3,8 +3,8 @@ ghost use Rattle.std.specs.Prelude.{◌≡◌};
 
 use cct_model::OpenOrder;
 
-/// Lets a hopper dispense the coins of an order once: the hopper's serial number and the count of the order. It can't be
-/// copied, and what holds it has to spend it.
+/// Lets a hopper dispense the coins of an order once: the hopper's serial number and the count of
+/// the order. It can't be copied, and what holds it has to spend it.
 #[derive(Debug)]
 pub struct DispenseTicket {
     serial: u32,

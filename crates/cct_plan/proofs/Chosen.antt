@@ -77,7 +77,7 @@ module _ (t : Tray) (ts : List Tray) (later : ℕ → ℕ) (a n : ℕ) (rest : (
       other_in_all : (other : List ℕ) → IsFewest (t ∷ ts) a other → sum other ≡ n
       other_in_all other is = omega (arith, is.fewest (c ∷ cs) fewest_with.plan, in_all, least.lower other is.plan)
 
-      -- With the same first count, what stands after that is fewest too.
+      -- With the same first count, what is after that is fewest too.
       fewest_behind : (os : List ℕ) → IsPlan ts (a - c * t.value) os → sum (c ∷ os) ≡ n → IsFewest ts (a - c * t.value) os
       fewest_behind os plan is = record {
         plan = plan;

@@ -7,7 +7,7 @@ use Rattle.cct_plan.specs.Certificate.{Asked}
 use Rattle.cct_plan.specs.Row.{IsLeast, least_in, Tells, asked_in, TellsAsked}
 use Rattle.cct_plan.proofs.Stepping.{sum-cons}
 
--- The whole table tells the least number of all trays.
+-- The whole table shows the least number of all trays.
 pub whole : (cells : List ℕ) (trays : List Tray) (amount : ℕ) → Tells cells trays (length trays) amount
     → IsLeast trays amount (least_in cells (length trays) amount)
 whole cells trays amount tells =
@@ -36,7 +36,7 @@ module _ (trays : List Tray) (amount n : ℕ) (few : length trays ≤ 32) (least
         | inr some ↦ omega (arith, fewer some.0 some.1, some.2)
       ]
 
--- What was asked is told by the trays and the amount.
+-- What was asked is reported by the trays and the amount.
 pub asked_parts : (kept trays : List Tray) (o : Option ℕ) (amount : ℕ) → asked_in kept o ≡ Some (record { trays = trays; amount = amount })
     → (o ≡ Some amount) × (kept ≡ trays)
 asked_parts kept trays None amount is = absurd (cc)

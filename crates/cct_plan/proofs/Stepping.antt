@@ -12,7 +12,7 @@ pub plan_with : (t : Tray) (ts : List Tray) (a c : ℕ) (cs : List ℕ) → c �
     → IsPlan ts (a - c * t.value) cs → IsPlan (t ∷ ts) a (c ∷ cs)
 plan_with t ts a c cs few fits behind = record { within = (few, behind.within); pays = omega (arith, behind.pays) }
 
--- Behind the first count of a plan stands a plan of what it leaves.
+-- After the first count of a plan stands a plan of what it leaves.
 pub plan_behind : (t : Tray) (ts : List Tray) (a c : ℕ) (cs : List ℕ) → IsPlan (t ∷ ts) a (c ∷ cs)
     → (c ≤ most_of t) × (c * t.value ≤ a) × IsPlan ts (a - c * t.value) cs
 plan_behind t ts a c cs plan = (plan.within.0, omega (arith, plan.pays), record { within = plan.within.1; pays = omega (arith, plan.pays) })

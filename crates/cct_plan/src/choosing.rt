@@ -1,5 +1,6 @@
 //! Reading the chosen plan off the table.
-ghost use Rattle.std.specs.Prelude.{◌≡◌, ◌≢◌, ℕ, ◌+◌, ◌-◌, ◌*◌, ◌<◌, ◌≤◌, ◌↔◌, IsTrue, List, [], length};
+ghost use Rattle.std.specs.Prelude.{◌≡◌, ◌≢◌, ℕ, ◌+◌, ◌-◌, ◌*◌, ◌<◌, ◌≤◌, ◌↔◌, IsTrue, List, []};
+ghost use Rattle.std.specs.Prelude.{length};
 ghost use Rattle.std.specs.Bool.{OnTrue, OnFalse};
 ghost use Rattle.cct_model.specs.Plan.{IsChosen, HasNoPlan, NoneFewer};
 ghost use Rattle.cct_plan.specs.Row.{least_in, Tells, IsLeast, IsGreatest, Meets, IsMet};
@@ -9,8 +10,8 @@ use crate::tray::{TRAYS, most, worth};
 use arrayvec::ArrayVec;
 use cct_model::Tray;
 
-/// Fills the table for these trays and this amount, and sets the counts to the chosen plan, or to none where there is no
-/// plan. The answer is whether there is one.
+/// Fills the table for these trays and this amount, and sets the counts to the chosen plan, or to
+/// none where there is no plan. The answer is whether there is one.
 pub(crate) fn set_out(
     cells: &mut [u16],
     trays: &[Tray],
@@ -33,7 +34,7 @@ pub(crate) fn set_out(
     true
 }
 
-/// Whether no plan has fewer coins than this, by a table that tells the least number.
+/// Whether no plan has fewer coins than this, by a table that shows the least number.
 pub(crate) fn has_none_fewer(cells: &[u16], trays: &[Tray], amount: usize, count: u32) -> bool
     requires rows { length trays.now * ROW ≤ length cells.now }
     requires within { amount < ROW }
@@ -48,7 +49,8 @@ pub(crate) fn has_none_fewer(cells: &[u16], trays: &[Tray], amount: usize, count
     count <= least as u32
 }
 
-/// Sets the counts to the chosen plan of this amount, by a table that tells the least numbers of coins of these trays.
+/// Sets the counts to the chosen plan of this amount, by a table that shows the least numbers of
+/// coins of these trays.
 fn choose(cells: &[u16], trays: &[Tray], amount: usize, counts: &mut ArrayVec<u8, TRAYS>)
     requires rows { length trays.now * ROW ≤ length cells.now }
     requires within { amount < ROW }
@@ -74,7 +76,8 @@ fn choose(cells: &[u16], trays: &[Tray], amount: usize, counts: &mut ArrayVec<u8
     }
 }
 
-/// The greatest count of a tray by which this least number of coins is met, over so many later trays.
+/// The greatest count of a tray by which this least number of coins is met, over so many later
+/// trays.
 fn greatest(cells: &[u16], later: usize, tray: &Tray, amount: usize, least: usize) -> usize
     requires rows { later * ROW ≤ length cells.now }
     requires within { amount < ROW }
@@ -88,7 +91,8 @@ fn greatest(cells: &[u16], later: usize, tray: &Tray, amount: usize, least: usiz
     count
 }
 
-/// Whether so many coins of a tray, and the least number for what they leave, are this least number of coins.
+/// Whether so many coins of a tray, and the least number for what they leave, are this least number
+/// of coins.
 fn meets(
     cells: &[u16],
     later: usize,

@@ -9,7 +9,7 @@ use cct_model::Tray;
 /// The amounts of a row: 0 to 10,000.
 pub(crate) const ROW: usize = 10_001;
 
-/// What stands in the table where there is no plan. A plan has 32 times 255 coins at most.
+/// What is in the table where there is no plan. A plan has 32 times 255 coins at most.
 pub(crate) const FAR: u16 = 65_535;
 
 /// Fills the table for these trays and each amount up to this one, from the last tray to the first.
@@ -52,7 +52,8 @@ fn add_row(cells: &mut [u16], many: usize, amount: usize, tray: &Tray)
 fn begin(cells: &mut [u16], many: usize, amount: usize)
     requires rows { many * ROW + ROW ≤ length cells.old }
     requires within { amount < ROW }
-    ensures begun { (a : ℕ) → a ≤ amount → slice_index cells.new (many * ROW + a) ≡ least_in cells.old many a }
+    ensures begun { (a : ℕ) → a ≤ amount → slice_index cells.new (many * ROW + a)
+        ≡ least_in cells.old many a }
     ensures before { (i : ℕ) → i < many * ROW → slice_index cells.new i ≡ slice_index cells.old i }
 {
     for a in 0..amount + 1 {
@@ -60,7 +61,8 @@ fn begin(cells: &mut [u16], many: usize, amount: usize)
     }
 }
 
-/// Lets any number of a tray's coins be taken: by 1, 2, 4 and so on of them at once, and the rest of them at last.
+/// Lets any number of a tray's coins be taken: by 1, 2, 4 and so on of them at once, and the rest
+/// of them at last.
 fn fill(cells: &mut [u16], base: usize, amount: usize, tray: &Tray)
     requires { base + amount < length cells.old }
     ensures least { (a : ℕ) → a ≤ amount → IsLeastUpTo (most_of tray.now) tray.now.value
@@ -80,7 +82,8 @@ fn fill(cells: &mut [u16], base: usize, amount: usize, tray: &Tray)
 fn widen(cells: &mut [u16], base: usize, amount: usize, step: usize, more: usize)
     requires room { base + amount < length cells.old }
     requires few { more ≤ 255 }
-    ensures within { (a : ℕ) → a ≤ amount → slice_index cells.new (base + a) ≡ wider cells.old base step more a }
+    ensures within { (a : ℕ) → a ≤ amount → slice_index cells.new (base + a)
+        ≡ wider cells.old base step more a }
     ensures before { (i : ℕ) → i < base → slice_index cells.new i ≡ slice_index cells.old i }
 {
     let mut a = amount + 1;

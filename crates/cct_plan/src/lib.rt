@@ -1,5 +1,5 @@
-//! The fewest coins: how many coins of each tray pay an amount. `Table::plan` tells it, and the table then is the
-//! certificate that no plan has fewer coins: `Table::proves` reads it off.
+//! The fewest coins: how many coins of each tray pay an amount. `Table::plan` shows it, and the
+//! table then is the certificate that no plan has fewer coins: `Table::proves` reads it off.
 #![tactic(auto)]
 
 mod choosing;

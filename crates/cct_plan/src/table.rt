@@ -13,16 +13,18 @@ use cct_model::Tray;
 use std::alloc::{AllocError, Global};
 use std::marker::Model;
 
-/// A table of least numbers of coins: for each suffix of the trays of the plan that was asked last, and for each amount
-/// up to the asked one, the least number of coins that pays it. So it is the certificate of that plan.
+/// A table of least numbers of coins: for each suffix of the trays of the plan that was asked last,
+/// and for each amount up to the asked one, the least number of coins that pays it. So it is the
+/// certificate of that plan.
 ///
 /// A contract sees what a table was asked last, or nothing where it is new.
 #[derive(Drop)]
 pub struct Table {
     trays: ArrayVec<Tray, TRAYS>,
     amount: Option<u32>,
-    /// Row by row: that of the last tray first, and `ROW` amounts in each. It is empty until a plan is asked, so that a
-    /// table that is never asked costs no time, and no page of memory is touched for it.
+    /// Row by row: that of the last tray first, and `ROW` amounts in each. It is empty until a plan
+    /// is asked, so that a table that is never asked costs no time, and no page of memory is
+    /// touched for it.
     least: Vec<u16>,
 }
 
@@ -42,7 +44,8 @@ impl Model for Table {
 }
 
 impl Table {
-    /// A table that was asked nothing yet. This takes all memory that it ever has: room for 32 trays and each amount.
+    /// A table that was asked nothing yet. This takes all memory that it ever has: room for 32
+    /// trays and each amount.
     ///
     /// Fails only where there is no memory for them.
     pub fn new(alloc: Global) -> Result<Table, AllocError>
@@ -55,12 +58,13 @@ impl Table {
         })
     }
 
-    /// Whether coins of these trays can pay an amount exactly, and how: `counts` is then the chosen plan, one count for
-    /// each tray in their order, at most its stock and at most 255. It has as few coins as any plan; of those it is the
-    /// one with the greatest count at the first tray, then at the second, and so on. Where there is no plan `counts` is
-    /// empty.
+    /// Whether coins of these trays can pay an amount exactly, and how: `counts` is then the chosen
+    /// plan, one count for each tray in their order, at most its stock and at most 255. It has as
+    /// few coins as any plan; of those it is the one with the greatest count at the first tray,
+    /// then at the second, and so on. Where there is no plan `counts` is empty.
     ///
-    /// This takes no memory, and time that grows with the trays times the amount, whatever their stocks.
+    /// This takes no memory, and time that grows with the trays times the amount, whatever their
+    /// stocks.
     pub fn plan(&mut self, trays: &[Tray], amount: u32, counts: &mut ArrayVec<u8, TRAYS>) -> bool
         requires few { length trays.now ≤ TRAYS }
         requires within { amount ≤ GREATEST_AMOUNT }
@@ -74,9 +78,10 @@ impl Table {
         set_out(&mut self.least, trays, amount as usize, counts)
     }
 
-    /// Whether this table shows that no plan has fewer than `count` coins: it was last asked for these trays and this
-    /// amount, and there is none. So it is `false` for each number above that of the plan, and for a new table; where
-    /// there is no plan at all, no plan has fewer than any number.
+    /// Whether this table shows that no plan has fewer than `count` coins: it was last asked for
+    /// these trays and this amount, and there is none. So it is `false` for each number above that
+    /// of the plan, and for a new table; where there is no plan at all, no plan has fewer than any
+    /// number.
     pub fn proves(&self, trays: &[Tray], amount: u32, count: u32) -> bool
         requires few { length trays.now ≤ TRAYS }
         requires within { amount ≤ GREATEST_AMOUNT }

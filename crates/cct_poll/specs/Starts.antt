@@ -25,36 +25,39 @@ use Rattle.cct_host.specs.Starting.{HasReplayed, HasResumed}
 use Rattle.cct_poll.specs.declared.refusal.PollNo.{PollNo}
 use Rattle.cct_poll.specs.declared.refusal.PollNo.TheVariants as no
 
--- A journal is made on a part, or it was found there: a carry of so many records, and the rest after them, oldest first.
+-- A journal is made on a part, or it was found there: a carry of so many records, and the rest
+-- after them, oldest first.
 pub data Begun : Type 0 where
   made : Begun
   found : (base : ℕ) (c : Carry) (rest : List Record) → Begun
 
--- What the part held: one on which a journal is made has room for it, and no byte but 0; and one on which it was found has
--- just these records, and isn't blank.
+-- What the part held: one on which a journal is made has room for it, and no byte but 0; and one on
+-- which it was found has just these records, and isn't blank.
 abbrev pub Held : List ℕ → Begun → Type 0
 Held part made = (least_size ≤ length part) × IsBlank part
 Held part (found base c rest) = HasFrom part base c rest × (IsBlank part → ⊥)
 
--- What the part may hold while the calls are made that are noted at first: what it held; and where a journal is made, none,
--- or one without a record.
+-- What the part may hold while the calls are made that are noted at first: what it held; and where
+-- a journal is made, none, or one without a record.
 abbrev pub MayHold : List ℕ → Begun → List ℕ → Type 0
 MayHold part made image = IsCreated part image
 MayHold part (found base c rest) image = image ≡ part
 
--- The records that the part held, newest first: none, where a journal is made; else those for which its bytes stand, each of
--- which follows those before it.
+-- The records that the part held, newest first: none, where a journal is made; else those for which
+-- its bytes stand, each of which follows those before it.
 abbrev pub HeldRecords : Setup → List ℕ → Begun → List Record → Type 0
 HeldRecords setup part made before = before ≡ []
 HeldRecords setup part (found base c rest) before =
     images.StandsFor (carry_of setup) part (reverse before) × (all_follow setup before ≡ true)
 
--- Why no host is started over a part: it is too short; it has a byte that isn't 0, and no journal; a record of its journal
--- can't be read, or its carry or a record doesn't follow under this setup.
+-- Why no host is started over a part: it is too short; it has a byte that isn't 0, and no journal;
+-- a record of its journal can't be read, or its carry or a record doesn't follow under this setup.
 abbrev pub RefusesStart : Setup → List ℕ → PollNo → Type 0
 RefusesStart setup part no.Small = length part < least_size
-RefusesStart setup part no.Alien = (least_size ≤ length part) × ((at : ℕ) × IsFirstByteFrom 0 part at) × IsAlien part
-RefusesStart setup part (no.BadRecord index) = IsBadAt part index ⊎ ((many : ℕ) × FindsBad setup part many index)
+RefusesStart setup part no.Alien =
+    (least_size ≤ length part) × ((at : ℕ) × IsFirstByteFrom 0 part at) × IsAlien part
+RefusesStart setup part (no.BadRecord index) =
+    IsBadAt part index ⊎ ((many : ℕ) × FindsBad setup part many index)
 RefusesStart setup part no.Disk = ⊤
 
 -- The disk over a part, with no call noted.
@@ -65,15 +68,18 @@ module _ {D : Type 0} {g : Ghosts D} where
   -- A journal was found on a disk, which was only read.
   pub record WasFound (journal : Journal D g) (disk : D) : Type 0 where
     pub finds : Finds g.seen disk (journals.disk_of journal) (journals.place_of journal)
-    pub settles : (of : List Record → Carry) (before : List Record) → Settled of g.honest g.seen g.may_leave disk before
+    pub settles : (of : List Record → Carry) (before : List Record) →
+        Settled of g.honest g.seen g.may_leave disk before
         → journals.JournalStands of journal before
-    pub reads : OnlyReads g.size g.honest g.seen g.may_leave g.moment g.left_since g.cuts disk (journals.disk_of journal)
+    pub reads : OnlyReads g.size g.honest g.seen g.may_leave g.moment g.left_since g.cuts disk
+        (journals.disk_of journal)
 
   -- A journal was made on a disk, once it was read.
   pub record WasMade (journal : Journal D g) (disk : D) : Type 0 where
     pub read : D
     pub reads : OnlyReads g.size g.honest g.seen g.may_leave g.moment g.left_since g.cuts disk read
-    pub creates : Creates g.size g.honest g.seen g.may_leave read (journals.disk_of journal) (journals.place_of journal)
+    pub creates : Creates g.size g.honest g.seen g.may_leave read (journals.disk_of journal)
+        (journals.place_of journal)
     pub moments : (image : List ℕ) → Holds g.honest g.seen g.may_leave read image
         → LeavesOnly g.moment g.left_since read (journals.disk_of journal) (IsCreated image)
 

@@ -11,8 +11,9 @@ use cct_edge::Failed;
 use cct_host::Host;
 use cct_model::Entry;
 
-/// The host makes its next attempt at an address: it sends this piece, and hears this, or it puts a record, where neither is.
-/// False where it sent something else, or a put failed: then the host is over.
+/// The host makes its next attempt at an address: it sends this piece, and hears this, or it puts a
+/// record, where neither is. False where it sent something else, or a put failed: then the host is
+/// over.
 pub(crate) fn advance(
     host: &mut Host<'_, QueueDisk>,
     addr: u8,
@@ -25,7 +26,8 @@ pub(crate) fn advance(
     requires whole { has_failed host.old ≡ false }
     ensures setup { setup_of host.new ≡ setup_of host.old }
     ensures whole { result ≡ true → has_failed host.new ≡ false }
-    ensures steps { result ≡ true → Steps piece.now heard.now addr host.old host.new report.new.items }
+    ensures steps { result ≡ true → Steps piece.now heard.now addr host.old host.new
+        report.new.items }
 {
     let mut link = Canned::new(heard);
     match host.next(addr, &mut link, report) {

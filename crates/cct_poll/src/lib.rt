@@ -1,4 +1,5 @@
-//! A host that is asked what it wants: what its caller is to send, to keep on his part, and to take; it calls nothing.
+//! A host that is asked what it wants: what its caller is to send, to keep on his part, and to
+//! take; it calls nothing.
 #![tactic(auto)]
 
 mod advance;

@@ -1,5 +1,6 @@
 //! The host, step by step.
-ghost use Rattle.std.specs.Prelude.{◌≡◌, ◌<◌, ◌≤◌, ◌+◌, ℕ, [], false, true, length, IfErr, IfOk, IsTrue, ◌↔◌, ◌⊎◌, OnOk, List, Some, None, reverse, slice_get};
+ghost use Rattle.std.specs.Prelude.{◌≡◌, ◌<◌, ◌≤◌, ◌+◌, ℕ, [], false, true, length, IfErr, IfOk};
+ghost use Rattle.std.specs.Prelude.{IsTrue, ◌↔◌, ◌⊎◌, OnOk, List, Some, None, reverse, slice_get};
 ghost use Rattle.std.specs.Option.{option_map};
 ghost use Rattle.cct_host.specs.Host.{StandsFor, disk_of, has_failed, setup_of};
 ghost use Rattle.cct_journal.specs.Journal as journals;
@@ -39,9 +40,9 @@ pub enum Ask {
     Over,
 }
 
-/// A host whose caller has the wire, and the part that keeps its journal. It calls nothing. Nothing is sent and no entry is
-/// told while a call on the part is noted: so what is told as put stands on the part, where the caller makes the calls in
-/// their order.
+/// A host whose caller has the wire, and the part that keeps its journal. It calls nothing. Nothing
+/// is sent and no entry is told while a call on the part is noted: so what is reported as put is on
+/// the part, where the caller makes the calls in their order.
 #[derive(Drop)]
 pub struct Poll<'s> {
     host: Host<'s, QueueDisk>,
@@ -50,7 +51,7 @@ pub struct Poll<'s> {
     told: usize,
     /// So many of the noted calls were made.
     made: usize,
-    /// The address at which the piece is sent of which it isn't told yet what was heard.
+    /// The address at which the piece is sent of which it isn't reported yet what was heard.
     asked: Option<u8>,
     piece: ArrayVec<u8, MOST_SENT>,
     over: bool,
@@ -58,13 +59,16 @@ pub struct Poll<'s> {
 }
 
 impl<'s> Poll<'s> {
-    /// A host over what a part holds: the journal that is there, or a new one where each byte is 0. The calls that make a new
-    /// one are the first that are to be made. Nothing is to be made where none is started.
+    /// A host over what a part holds: the journal that is there, or a new one where each byte is 0.
+    /// The calls that make a new one are the first that are to be made. Nothing is to be made where
+    /// none is started.
     pub fn start(setup: &'s Setup, part: Vec<u8>) -> Result<Poll<'s>, PollNo>
         requires sound { IsSoundSetup setup.now }
         ensures setup { IfOk result (λ poll. setup_of poll.host ≡ setup.now) }
-        ensures begins { IfOk result (λ poll. (poll.over ≡ false) × (poll.asked ≡ None) × (poll.report.items ≡ [])) }
-        // It begins with the records that the part holds. A journal is made only where no byte but 0 is.
+        ensures begins { IfOk result (λ poll. (poll.over ≡ false) × (poll.asked ≡ None)
+            × (poll.report.items ≡ [])) }
+        // It begins with the records that the part holds. A journal is made only where no byte but
+        // 0 is.
         ensures starts { IfOk result (λ poll. Starts setup.now part.items poll.host) }
         ensures refused { IfErr result (RefusesStart setup.now part.items) }
     {
@@ -122,7 +126,8 @@ impl<'s> Poll<'s> {
     /// The call that is to be made on the part, where [`Poll::ask`] says so.
     pub fn call(&self) -> Option<Call<'_>>
         // The first that is noted, and that isn't done yet.
-        ensures { option_map act_of result ≡ slice_get (reverse (disk_of self.now.host).calls) self.now.made }
+        ensures { option_map act_of result
+            ≡ slice_get (reverse (disk_of self.now.host).calls) self.now.made }
     {
         self.host.disk().call(self.made)
     }
@@ -142,7 +147,8 @@ impl<'s> Poll<'s> {
         self.piece.as_slice()
     }
 
-    /// A command of the operator, of which one entry is to be taken: it is taken, or refused for the first reason that holds.
+    /// A command of the operator, of which one entry is to be taken: it is taken, or refused for
+    /// the first reason that holds.
     pub fn command(&mut self, command: &Command) -> Result<(), NotNow>
         ensures settled { OnOk result ((disk_of self.old.host).calls ≡ []) }
         ensures setup { setup_of self.new.host ≡ setup_of self.old.host }
@@ -165,14 +171,16 @@ impl<'s> Poll<'s> {
         Ok(())
     }
 
-    /// This was heard after the piece was sent, its echo first where the line gives one; no bytes where nothing came.
+    /// This was heard after the piece was sent, its echo first where the line gives one; no bytes
+    /// where nothing came.
     pub fn heard(&mut self, bytes: &[u8]) -> Result<(), NotNow>
         requires few { length bytes.now ≤ MOST_HEARD }
         ensures settled { OnOk result ((disk_of self.old.host).calls ≡ []) }
         ensures setup { setup_of self.new.host ≡ setup_of self.old.host }
         // A reply is heard once, after a piece that was sent.
         ensures once { OnOk result (self.new.asked ≡ None) }
-        // One attempt of the host at the address, which sent that piece and heard these bytes, whatever happened before.
+        // One attempt of the host at the address, which sent that piece and heard these bytes,
+        // whatever happened before.
         ensures steps { OnOk result ((addr : ℕ) × (self.old.asked ≡ Some addr) × (self.new.over ≡ false
             → Steps self.old.piece.items bytes.now addr self.old.host self.new.host self.new.report.items)) }
     {
@@ -215,7 +223,8 @@ impl<'s> Poll<'s> {
     /// The caller made the call, and it was done.
     pub fn done(&mut self) -> Result<(), NotNow>
         ensures setup { setup_of self.new.host ≡ setup_of self.old.host }
-        ensures stands { (past : List Entry) → StandsFor self.old.host past → StandsFor self.new.host past }
+        ensures stands { (past : List Entry) → StandsFor self.old.host past →
+            StandsFor self.new.host past }
         ensures over { self.new.over ≡ self.old.over }
         // The next one is due; after the last one none is noted any more.
         ensures next { OnOk result (((self.old.made + 1 < length (disk_of self.old.host).calls)
@@ -235,7 +244,7 @@ impl<'s> Poll<'s> {
         Ok(())
     }
 
-    /// A call failed, or the caller can't tell whether it was done: the host is over.
+    /// A call failed, or the caller can't say whether it was done: the host is over.
     pub fn lost(&mut self)
         ensures { self.new.over ≡ true }
     {
@@ -279,7 +288,8 @@ impl<'s> Poll<'s> {
 /// The journal on a part, or a new one where each byte is 0.
 fn journal_on(part: Vec<u8>) -> Result<Journal<QueueDisk>, PollNo>
     ensures whole { IfOk result (λ journal. journals.has_failed journal ≡ false) }
-    ensures opens { IfOk result (λ journal. WasFound journal (untouched part.items) ⊎ WasMade journal (untouched part.items)) }
+    ensures opens { IfOk result (λ journal. WasFound journal (untouched part.items)
+        ⊎ WasMade journal (untouched part.items)) }
     ensures refused { IfErr result (λ why. (setup : Setup) → RefusesStart setup part.items why) }
 {
     match Journal::reopen(QueueDisk::new(part)) {

@@ -1,5 +1,6 @@
-//! The program: it tries whether the devices on a line keep what is relied on of them (`cct_probe_plan`). A setup file names the
-//! devices. The port is a terminal that is set up already, which no other process may use meanwhile. No journal is used.
+//! The program: it tries whether the devices on a line keep what is relied on of them
+//! (`cct_probe_plan`). A setup file names the devices. The port is a terminal that is set up
+//! already, which no other process may use meanwhile. No journal is used.
 #![tactic(auto)]
 
 mod ending;
@@ -21,7 +22,8 @@ use std::fs::{File, Files};
 use std::io;
 use std::process::ExitCode;
 
-/// How many silent reads stand before a message, after a whole reply: so a reply that comes twice isn't taken for the next one.
+/// How many silent reads stand before a message, after a whole reply: so a reply that comes twice
+/// isn't taken for the next one.
 const GAP: u16 = 1;
 
 fn main(rt: HostRuntime) -> ExitCode {
@@ -51,8 +53,8 @@ fn obey(rt: &HostRuntime, words: &[String]) -> u8 {
     }
 }
 
-/// The exit status of what was done. Where it wasn't, the last line is written, and standard error says why, if it didn't
-/// say yet what is wrong with a line.
+/// The exit status of what was done. Where it wasn't, the last line is written, and standard error
+/// says why, if it didn't say yet what is wrong with a line.
 fn told(rt: &HostRuntime, done: Result<u8, Cause>) -> u8 {
     let cause = match done {
         Ok(code) => return code,
@@ -103,8 +105,8 @@ fn setup_of<R: Files + Eprint>(rt: &R, path: &str) -> Result<Setup, Cause> {
     }
 }
 
-/// The port of the line. Standard error says first how it is to be set up, since a read of one that isn't may never come
-/// back.
+/// The port of the line. Standard error says first how it is to be set up, since a read of one that
+/// isn't may never come back.
 fn open_port<'r>(rt: &'r HostRuntime, words: Words<'r>) -> Result<Port<Terminal<'r>>, Cause> {
     let setting = Setting(words.port);
     let _ = eprintln!(rt;

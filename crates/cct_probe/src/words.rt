@@ -10,7 +10,8 @@ static ECHOES: [&str; 2] = ["yes", "no"];
 const ABOUT: &str =
     "Try whether the devices on a serial line keep what is relied on (docs/PROBE.md)";
 
-/// What `--version` says: the version of the program, and that of the lines that it writes (`docs/PROBE.md`).
+/// What `--version` says: the version of the program, and that of the lines that it writes
+/// (`docs/PROBE.md`).
 const VERSION: &str = "1.0.0 protocol 1";
 
 /// What is said below the list of the words.
@@ -40,8 +41,8 @@ pub(crate) struct Words<'w> {
     pub(crate) is_quiet: bool,
 }
 
-/// Reads the words of the command line, without the program's name. The parser's error says why there are none, or has the
-/// help or the version that was asked for.
+/// Reads the words of the command line, without the program's name. The parser's error says why
+/// there are none, or has the help or the version that was asked for.
 pub(crate) fn read_words<'w>(
     alloc: Global,
     words: &'w [String],

@@ -42,5 +42,6 @@ all_said (this ∷ steps) = said_in this ++ all_said steps
 abbrev pub closing : Ending → DeviceBody → List Trial → List Say
 closing this body [] = []
 closing this body (trial ∷ trials) =
-    if closes this trial.part && is_for trial.who body then all_said trial.steps.now ++ closing this body trials
+    if closes this trial.part && is_for trial.who body then all_said trial.steps.now
+    ++ closing this body trials
     else closing this body trials

@@ -1,5 +1,7 @@
 -- The bytes of what is sent for a row of the plan.
-use Rattle.std.specs.Prelude.{◌≡◌, ◌⊎◌, ◌^◌, ℕ, ◌+◌, ◌-◌, ◌%◌, ◌/◌, ◌==◌, not, Bool, true, false, List, [], ◌∷◌, ◌++◌, take, if◌then◌else◌, Option, Some, None, position, slice_index}
+use Rattle.std.specs.Prelude.{◌≡◌, ◌⊎◌, ◌^◌, ℕ, ◌+◌, ◌-◌, ◌%◌, ◌/◌, ◌==◌, not, Bool, true, false}
+use Rattle.std.specs.Prelude.{List, [], ◌∷◌, ◌++◌, take, if◌then◌else◌, Option, Some, None}
+use Rattle.std.specs.Prelude.{position, slice_index}
 use Rattle.cct_model_wire.specs.declared.wire.CheckKind.{CheckKind}
 use Rattle.cct_model_wire.specs.declared.wire.CheckKind.TheVariants.{Simple, Crc}
 use Rattle.cct_model_wire.specs.declared.wire.TheConstants.{HOST}
@@ -28,7 +30,8 @@ place_at (Some at) = at % 16 + 1
 abbrev pub first_place : List ℕ → ℕ
 first_place values = place_at (position (λ value. not (value == 0)) values)
 
--- The lowest place of a device with a value: the place that is tried. Where none has, it is place 1.
+-- The lowest place of a device with a value: the place that is tried. Where none has, it is place
+-- 1.
 abbrev pub tried_place : DeviceBody → ℕ
 tried_place (body.Acceptor accepts values ids) = first_place values
 tried_place (body.Bill accepts values ids) = first_place values
@@ -40,7 +43,8 @@ place_of round = round % 16 + 1
 
 -- The mask of a place alone, low byte first.
 abbrev pub mask_of : ℕ → List ℕ
-mask_of place = slice_index MASKS ((place - 1) % 16) % 256 ∷ slice_index MASKS ((place - 1) % 16) / 256 ∷ []
+mask_of place =
+    slice_index MASKS ((place - 1) % 16) % 256 ∷ slice_index MASKS ((place - 1) % 16) / 256 ∷ []
 
 -- The serial number of the setup, or the one after it.
 abbrev pub serial_of : DeviceSetup → Bool → ℕ
@@ -73,7 +77,8 @@ data_of d round (ask.Dispense coins is_own) = three_bytes (serial_of d is_own) +
 
 -- The bytes of a message to a device.
 unfoldable pub asking : DeviceSetup → ℕ → Ask → List ℕ
-asking d round q = spelling d.kind (record { to = d.addr; from = Some HOST; header = header_of d.body q; body = data_of d round q })
+asking d round q = spelling d.kind (record
+    { to = d.addr; from = Some HOST; header = header_of d.body q; body = data_of d round q })
 
 -- A poll of an address (header 254).
 abbrev pub poll : CheckKind → ℕ → List ℕ
@@ -86,7 +91,8 @@ other Crc = Simple
 
 -- Bytes with another last byte: one higher.
 abbrev pub IsDamaged : List ℕ → List ℕ → Type 0
-IsDamaged whole sent = (front : List ℕ) × (last : ℕ) × (whole ≡ front ++ last ∷ []) × (sent ≡ front ++ (last + 1) % 256 ∷ [])
+IsDamaged whole sent = (front : List ℕ) × (last : ℕ) × (whole ≡ front ++ last ∷ [])
+    × (sent ≡ front ++ (last + 1) % 256 ∷ [])
 
 -- What a poll is that nobody may answer: of the device under its check, but for one thing.
 abbrev pub IsOdd : Odd → Setup → DeviceSetup → ℕ → List ℕ → Type 0
@@ -94,7 +100,8 @@ IsOdd odd.OtherCheck setup d round sent = sent ≡ poll (other d.kind) d.addr
 IsOdd odd.Damaged setup d round sent = IsDamaged (poll d.kind d.addr) sent
 IsOdd odd.Cut setup d round sent = sent ≡ take (round % 4 + 1) (poll d.kind d.addr)
 IsOdd odd.Noise setup d round sent = sent ≡ 85 ∷ poll d.kind d.addr
-IsOdd odd.Nobody setup d round sent = (addr : ℕ) × ((device_at setup.devices addr ≡ None) ⊎ (addr ≡ 255)) × (sent ≡ poll d.kind addr)
+IsOdd odd.Nobody setup d round sent =
+    (addr : ℕ) × ((device_at setup.devices addr ≡ None) ⊎ (addr ≡ 255)) × (sent ≡ poll d.kind addr)
 
 -- What is sent for a row at a device.
 abbrev pub IsSaid : Say → Setup → DeviceSetup → ℕ → List ℕ → Type 0

@@ -1,4 +1,4 @@
--- The words by which premises are told.
+-- The words by which premises are reported.
 use Rattle.std.specs.Prelude.{ℕ, List, codes}
 use Rattle.cct_probe_plan.specs.declared.premise.Common.{Common}
 use Rattle.cct_probe_plan.specs.declared.premise.Common.TheVariants as common

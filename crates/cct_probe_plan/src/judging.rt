@@ -73,7 +73,7 @@ fn shown_by(want: Want, turn: Turn<'_>, memory: &mut Memory, rest: &[u8]) -> Sho
     }
 }
 
-/// What it shows that this isn't told: right, if the setup has no bill of that place.
+/// What it shows that this isn't reported: right, if the setup has no bill of that place.
 fn untold(told: Told, turn: Turn<'_>, shown: Shown) -> Shown
     ensures none { BreaksNone shown → BreaksNone result }
     ensures names { (tried : Premise) → NamesTried tried shown → NamesTried tried result }
@@ -146,7 +146,8 @@ fn is_refused(turn: Turn<'_>, rest: &[u8]) -> bool {
     }
 }
 
-/// One of two equal messages, which may be a reply that comes twice or those of two devices: one trial tells. Else all bytes.
+/// One of two equal messages, which may be a reply that comes twice or those of two devices: one
+/// trial tells. Else all bytes.
 fn single<'h>(turn: Turn<'_>, rest: &'h [u8]) -> &'h [u8] {
     let (first, second) = match rest {
         [_, many, ..] => halves(rest, usize::from(*many) + 5),
@@ -159,8 +160,8 @@ fn single<'h>(turn: Turn<'_>, rest: &'h [u8]) -> &'h [u8] {
     }
 }
 
-/// Which premise is broken where bytes aren't one message. Once more the same message is a reply that comes twice, and another
-/// one is that of another device.
+/// Which premise is broken where bytes aren't one message. Once more the same message is a reply
+/// that comes twice, and another one is that of another device.
 fn malformed(turn: Turn<'_>, rest: &[u8]) -> Premise
     ensures { IsOfEach result }
 {

@@ -1,5 +1,6 @@
-//! Trials of devices on a line against what is relied on of them: one table says what is asked, what has to come, and which
-//! premise it serves (`docs/PROBE.md`); what is sent for a row of it, and what is made of what is heard then.
+//! Trials of devices on a line against what is relied on of them: one table says what is asked,
+//! what has to come, and which premise it serves (`docs/PROBE.md`); what is sent for a row of it,
+//! and what is made of what is heard then.
 #![tactic(auto)]
 
 mod judging;

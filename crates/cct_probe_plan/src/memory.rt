@@ -21,7 +21,7 @@ pub struct Memory {
 }
 
 impl Memory {
-    /// Nothing is kept, and a silent read stands before each message.
+    /// Nothing is kept, and a silent read is before each message.
     pub fn new() -> Memory {
         Memory {
             gap: 1,

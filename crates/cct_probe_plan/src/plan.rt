@@ -6,8 +6,8 @@ ghost use Rattle.cct_probe_plan.specs.declared.plan.Ending.TheVariants as ending
 use crate::premise::Premise;
 use cct_model_lines::DeviceBody;
 
-/// One trial: it asks its steps one after the other, in so many rounds. It ends with the first that shows a premise broken, or
-/// that isn't answered.
+/// One trial: it asks its steps one after the other, in so many rounds. It ends with the first that
+/// shows a premise broken, or that isn't answered.
 #[derive(Clone, Copy)]
 pub struct Trial {
     pub name: &'static [u8],
@@ -24,7 +24,7 @@ pub struct Trial {
 pub enum Part {
     /// At each device that it is for.
     Device,
-    /// So too, and how long its answers took is told.
+    /// So too, and how long its answers took is reported.
     Timed,
     /// Once, for the line.
     Line,
@@ -175,7 +175,7 @@ pub enum Odd {
     Damaged,
     /// Only its first bytes, one more in each round.
     Cut,
-    /// Behind a byte of noise.
+    /// After a byte of noise.
     Noise,
     /// To the lowest address from 2 on that the setup doesn't have.
     Nobody,
@@ -194,7 +194,8 @@ pub enum Want {
     NobodyElse,
     /// A reply with these data.
     Reply(Expected),
-    /// A reply that tells this. Not each device knows the question: where nothing comes, or a refusal, nothing is shown.
+    /// A reply that shows this. Not each device knows the question: where nothing comes, or a
+    /// refusal, nothing is shown.
     IfTold(Told),
     /// An acknowledgement, by which the device shows that it hears again.
     Well,

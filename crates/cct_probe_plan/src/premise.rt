@@ -1,5 +1,5 @@
-//! What is relied on of devices. Each premise stands as a definition in `cct_model_wire` or `cct_laws_live_port`; what rests on it is one of
-//! the promises.
+//! What is relied on of devices. Each premise stands as a definition in `cct_model_wire` or
+//! `cct_laws_live_port`; what rests on it is one of the promises.
 
 ghost use Rattle.std.specs.Prelude.{◌≡◌, ◌≤◌, length};
 ghost use Rattle.cct_probe_plan.specs.Words.{common_word, hopper_word, premise_word, taker_word};
@@ -15,7 +15,7 @@ pub enum Promise {
     Disk,
 }
 
-/// The promises, in the order in which they are told.
+/// The promises, in the order in which they are reported.
 pub static PROMISES: [Promise; 3] = [Promise::Coins, Promise::Orders, Promise::Disk];
 
 /// What is relied on of a device, or of a line.
@@ -42,11 +42,13 @@ pub enum Common {
     Once,
     /// No second device is at its address (`asked_of` of `Exchange`).
     Alone,
-    /// A reply is one message to the host, of the wanted form (`got` of `Exchange`, `reply_in` of `Reply`).
+    /// A reply is one message to the host, of the wanted form (`got` of `Exchange`, `reply_in` of
+    /// `Reply`).
     Form,
     /// What is no message under its check asks nothing of it (`message` of `Message`).
     Check,
-    /// Nor does a message that is cut off, or that stands after noise; the next one does (`asks_of` of `Exchange`).
+    /// Nor does a message that is cut off, or that is after noise; the next one does (`asks_of` of
+    /// `Exchange`).
     Cut,
     /// A header that isn't known asks nothing (`request_of` of `Request`).
     Unknown,
@@ -74,17 +76,21 @@ pub enum OfTaker {
     Master,
     /// Each mask is read back as it was set (`mask_in` of `Setting`).
     Mask,
-    /// What the inhibits let in is accepted, and nothing else (`accepts`, `coin_event` of `Acceptor`).
+    /// What the inhibits let in is accepted, and nothing else (`accepts`, `coin_event` of
+    /// `Acceptor`).
     Accepts,
-    /// Each event is counted, and the last five are told (`counter`, `last_five` of `Acceptor`).
+    /// Each event is counted, and the last five are reported (`counter`, `last_five` of
+    /// `Acceptor`).
     Events,
     /// The event counter goes from 255 to 1 (`counter` of `Acceptor`).
     Wrap,
-    /// The accept counter rises with each accepted coin, and outlives a reset (`accept_count` of `Acceptor`).
+    /// The accept counter rises with each accepted coin, and outlives a reset (`accept_count` of
+    /// `Acceptor`).
     Count,
     /// A power cut is a reset (`Met.reset` of `History`).
     Power,
-    /// The coins or bills of its places are the setup's (`id_at` of `Acceptor`; `ids` of `DeviceBody`).
+    /// The coins or bills of its places are the setup's (`id_at` of `Acceptor`; `ids` of
+    /// `DeviceBody`).
     Places,
     /// A held bill goes where it is routed, once (`bill_held`, `stacked_by` of `Bill`).
     Route,
@@ -112,7 +118,7 @@ pub enum OfHopper {
 }
 
 impl Premise {
-    /// The word by which it is told.
+    /// The word by which it is reported.
     pub fn word(self) -> &'static [u8]
         ensures word { result.now ≡ premise_word self }
         ensures short { length result.now ≤ 10 }
@@ -176,7 +182,8 @@ impl Common {
         }
     }
 
-    /// Whether promises rest on it. Where a device doesn't answer, or in another form, its job ends without an answer.
+    /// Whether promises rest on it. Where a device doesn't answer, or in another form, its job ends
+    /// without an answer.
     fn carries(self) -> bool {
         !matches!(self, Common::Answers | Common::Form | Common::Unknown)
     }

@@ -1,6 +1,7 @@
 //! Whose turn it is: a device, in a round of a trial.
 ghost use Rattle.std.specs.Prelude.{◌≡◌, ◌==◌, not, position};
-ghost use Rattle.cct_probe_plan.specs.Saying.{first_place, mask_of, place_at, place_of, tried_place};
+ghost use Rattle.cct_probe_plan.specs.Saying.{first_place, mask_of, place_at, place_of};
+ghost use Rattle.cct_probe_plan.specs.Saying.{tried_place};
 
 use crate::premise::Premise;
 use cct_model_lines::{COIN_PLACES, DeviceBody, DeviceSetup};
@@ -36,7 +37,8 @@ impl<'s> Turn<'s> {
     }
 }
 
-/// The lowest place of a device with a value: the place that is tried. Where none has, it is place 1.
+/// The lowest place of a device with a value: the place that is tried. Where none has, it is place
+/// 1.
 pub fn tried_place(body: &DeviceBody) -> u8
     ensures { result ≡ tried_place body.now }
 {

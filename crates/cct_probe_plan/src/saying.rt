@@ -2,7 +2,8 @@
 ghost use Rattle.std.specs.Prelude.{◌≡◌, ◌⊎◌, ◌%◌, ◌+◌, ◌∷◌, [], ◌++◌, None, length, take};
 ghost use Rattle.cct_model_wire.specs.Exchange.{device_at};
 ghost use Rattle.cct_model_wire.specs.Request.{three_bytes};
-ghost use Rattle.cct_probe_plan.specs.Saying.{IsDamaged, IsOdd, IsSaid, asking, data_of, header_of, other, poll, serial_of};
+ghost use Rattle.cct_probe_plan.specs.Saying.{IsDamaged, IsOdd, IsSaid, asking, data_of, header_of};
+ghost use Rattle.cct_probe_plan.specs.Saying.{other, poll, serial_of};
 
 use crate::plan::{Ask, Odd, Say};
 use crate::round::{Turn, mask_of, place_of, tried_place};
@@ -13,7 +14,7 @@ use cct_model_lines::{CheckKind, DeviceBody, DeviceSetup, HOST, MOST_SENT, Setup
 /// The header of a poll.
 const POLL: u8 = 254;
 
-/// A byte that stands before a message and is none.
+/// A byte that is before a message and is none.
 const NOISE: u8 = 85;
 
 /// Writes what is sent in the place of what `sent` holds.

@@ -1,4 +1,5 @@
-//! The plan: one table of trials. Each names the premise that it serves; which definition that is stands at the premise.
+//! The plan: one table of trials. Each names the premise that it serves; which definition that is
+//! is at the premise.
 
 use crate::plan::{
     Act, Ask, Counted, Expected, Need, Newest, Odd, Part, Say, Step, Told, Trial, Want, Who,

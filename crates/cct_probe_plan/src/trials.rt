@@ -10,13 +10,17 @@ ghost use Rattle.cct_probe_plan.specs.declared.plan.Say.TheVariants as say;
 use crate::plan::Trial;
 use crate::table::TRIALS;
 
-/// The trials of the table, in their order. After each of them an acceptor of coins or of bills gets mask 0, and at the end
-/// master inhibit and mask 0; a hopper is disabled.
+/// The trials of the table, in their order. After each of them an acceptor of coins or of bills
+/// gets mask 0, and at the end master inhibit and mask 0; a hopper is disabled.
 pub fn all_trials() -> &'static [Trial]
-    ensures closes_takers { (body : DeviceBody) → is_taker body ≡ true → closing ending.Trial body result.now ≡ say.Ask (Two 231 0 0) ∷ [] }
-    ensures leaves_takers { (body : DeviceBody) → is_taker body ≡ true → closing ending.Run body result.now ≡ say.Ask (One 228 0) ∷ say.Ask (Two 231 0 0) ∷ [] }
-    ensures closes_hoppers { (body : DeviceBody) → is_hopper body ≡ true → closing ending.Trial body result.now ≡ say.Ask (One 164 0) ∷ [] }
-    ensures leaves_hoppers { (body : DeviceBody) → is_hopper body ≡ true → closing ending.Run body result.now ≡ say.Ask (One 164 0) ∷ [] }
+    ensures closes_takers { (body : DeviceBody) → is_taker body ≡ true →
+        closing ending.Trial body result.now ≡ say.Ask (Two 231 0 0) ∷ [] }
+    ensures leaves_takers { (body : DeviceBody) → is_taker body ≡ true →
+        closing ending.Run body result.now ≡ say.Ask (One 228 0) ∷ say.Ask (Two 231 0 0) ∷ [] }
+    ensures closes_hoppers { (body : DeviceBody) → is_hopper body ≡ true →
+        closing ending.Trial body result.now ≡ say.Ask (One 164 0) ∷ [] }
+    ensures leaves_hoppers { (body : DeviceBody) → is_hopper body ≡ true →
+        closing ending.Run body result.now ≡ say.Ask (One 164 0) ∷ [] }
 {
     &TRIALS
 }

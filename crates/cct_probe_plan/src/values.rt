@@ -85,7 +85,8 @@ fn fits_coin(device: &DeviceSetup, place: u8, data: &[u8]) -> Fits {
     }
 }
 
-/// The identification of a bill, where the setup has one: the setup leaves out the last character, the letter of the issue.
+/// The identification of a bill, where the setup has one: the setup leaves out the last character,
+/// the letter of the issue.
 fn fits_bill(device: &DeviceSetup, place: u8, data: &[u8]) -> Fits {
     match (id_at(&device.body, place), data) {
         (Some(id), [front @ .., _]) => same(&id, front),

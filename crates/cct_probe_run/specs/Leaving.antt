@@ -17,32 +17,39 @@ abbrev pub OrderNone : List Say → Type 0
 OrderNone [] = ⊤
 OrderNone (said ∷ more) = IsNoOrder said × OrderNone more
 
-module _ {L K : Type 0} (reads : L → Option (List ℕ) → L → Type 0) (writes : L → List ℕ → Result (Unit {0}) Failed → L → Type 0)
+module _ {L K : Type 0} (reads : L → Option (List ℕ) → L → Type 0)
+    (writes : L → List ℕ → Result (Unit {0}) Failed → L → Type 0)
     (puts : K → List ℕ → Result (Unit {0}) Failed → K → Type 0) (setup : Setup) where
   -- This was sent to a device, by one exchange of the port.
-  pub record Sent (device : DeviceSetup) (round : ℕ) (said : Say) (before after : Bench L K) : Type 0 where
+  pub record Sent (device : DeviceSetup) (round : ℕ) (said : Say) (before after : Bench L K) : Type
+      0 where
     pub bytes : IsSaid said setup device round after.sent.items
     pub gap : ℕ
-    pub gives : Gives reads writes (with_gap gap before.port) after.sent.items after.heard.items after.port
+    pub gives : Gives reads writes (with_gap gap before.port) after.sent.items after.heard.items
+        after.port
     pub out : after.out ≡ before.out
 
-  -- Nothing was sent: it was only listened, and lines were told.
+  -- Nothing was sent: it was only listened, and lines were reported.
   abbrev pub Rests : Bench L K → Bench L K → Type 0
   Rests before after = Plays reads writes puts setup [] before after
 
   -- All of these were sent to a device, one after the other, and nothing else to anybody.
   abbrev pub Sends : DeviceSetup → ℕ → List Say → Bench L K → Bench L K → Type 0
   Sends device round [] before after = Rests before after
-  Sends device round (said ∷ more) before after = (mid : Bench L K) × (next : Bench L K) × Rests before mid
+  Sends device round (said ∷ more) before after =
+      (mid : Bench L K) × (next : Bench L K) × Rests before mid
       × Sent device round said mid next × Sends device round more next after
 
-  -- Each of these devices in turn was sent all that a plan has for its end, where that orders no coins, and nothing else was sent.
+  -- Each of these devices in turn was sent all that a plan has for its end, where that orders no
+  -- coins, and nothing else was sent.
   abbrev pub Leaves : List Trial → List DeviceSetup → Bench L K → Bench L K → Type 0
   Leaves trials [] before after = Rests before after
   Leaves trials (device ∷ devices) before after = (next : Bench L K)
-      × (OrderNone (closing ending.Run device.body trials) → Sends device 0 (closing ending.Run device.body trials) before next)
+      × (OrderNone (closing ending.Run device.body trials) →
+      Sends device 0 (closing ending.Run device.body trials) before next)
       × Leaves trials devices next after
 
   -- After all else each device was left.
   abbrev pub EndsLeft : List Trial → Bench L K → Bench L K → Type 0
-  EndsLeft trials first last = (mid : Bench L K) × Plays reads writes puts setup trials first mid × Leaves trials setup.devices mid last
+  EndsLeft trials first last = (mid : Bench L K) × Plays reads writes puts setup trials first mid
+      × Leaves trials setup.devices mid last

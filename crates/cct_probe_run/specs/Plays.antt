@@ -1,6 +1,8 @@
--- What was done on a line with the devices of a setup by a plan of trials: each exchange is one of its rows, coins are ordered with
--- leave alone, and what tells a premise broken names a trial that may show it, and tells the last exchange, which is a row of it.
-use Rattle.std.specs.Prelude.{◌≡◌, ◌⊎◌, ℕ, ◌+◌, ◌≤◌, ◌==◌, Bool, true, false, List, [], ◌∷◌, ◌++◌, length, codes, Option, Result}
+-- What was done on a line with the devices of a setup by a plan of trials: each exchange is one of
+-- its rows, coins are ordered with leave alone, and what shows a premise broken names a trial that
+-- may show it, and shows the last exchange, which is a row of it.
+use Rattle.std.specs.Prelude.{◌≡◌, ◌⊎◌, ℕ, ◌+◌, ◌≤◌, ◌==◌, Bool, true, false, List, [], ◌∷◌, ◌++◌}
+use Rattle.std.specs.Prelude.{length, codes, Option, Result}
 use Rattle.std.specs.List.{Contains}
 use Rattle.cct_edge.specs.declared.fault.Failed.{Failed}
 use Rattle.cct_model_wire.specs.declared.device.DeviceSetup.{DeviceSetup}
@@ -88,14 +90,17 @@ IsOther word = Begun word × (length word ≤ 20)
 -- The line of an exchange.
 abbrev pub wire_text : ℕ → List ℕ → List ℕ → List ℕ
 wire_text addr sent heard =
-    119 ∷ 105 ∷ 114 ∷ 101 ∷ 32 ∷ number_text addr ++ 32 ∷ piece_field sent ++ 32 ∷ piece_field heard ++ 10 ∷ []
+    119 ∷ 105 ∷ 114 ∷ 101 ∷ 32 ∷ number_text addr ++ 32 ∷ piece_field sent ++ 32 ∷ piece_field heard
+    ++ 10 ∷ []
 
--- The line that tells a premise of a device broken, by a trial.
+-- The line that shows a premise of a device broken, by a trial.
 abbrev pub broken_text : ℕ → Premise → List ℕ → List ℕ
 broken_text addr this name = codes "broken " ++ number_text addr ++ 32 ∷ premise_word this ++ 32 ∷ name ++ 10 ∷ []
 
--- Bytes were sent for a row of these trials at a device of the setup, where this premise was tried or any exchange may show it.
-pub record Shows (setup : Setup) (trials : List Trial) (tried this : Premise) (sent : List ℕ) : Type 0 where
+-- Bytes were sent for a row of these trials at a device of the setup, where this premise was tried
+-- or any exchange may show it.
+pub record Shows (setup : Setup) (trials : List Trial) (tried this : Premise) (sent : List ℕ) : Type
+    0 where
   pub device : DeviceSetup
   pub there : Contains setup.devices device
   pub round : ℕ
@@ -104,31 +109,38 @@ pub record Shows (setup : Setup) (trials : List Trial) (tried this : Premise) (s
   pub bytes : IsSaid said setup device round sent
   pub premise : IsTried tried this
 
--- Bytes tell a premise broken: they name a trial of the plan that may show it, and end with an exchange, which is a row of this trial.
-pub record TellsBroken (setup : Setup) (trials : List Trial) (piece sent heard : List ℕ) : Type 0 where
-  pub trial : Trial
-  pub of_plan : Contains trials trial
-  pub addr : ℕ
-  pub this : Premise
-  pub shows : Shows setup (trial ∷ []) trial.premise this sent
-  pub front : List ℕ
-  pub text : piece ≡ front ++ wire_text addr sent heard
-  pub names : length trial.name.now ≤ MOST_NAME → front ≡ broken_text addr this trial.name.now
+-- Bytes tell a premise broken: they name a trial of the plan that may show it, and end with an
+-- exchange, which is a row of this trial.
+pub record TellsBroken (setup : Setup) (trials : List Trial) (piece sent heard : List ℕ) : Type 0
+  where
+    pub trial : Trial
+    pub of_plan : Contains trials trial
+    pub addr : ℕ
+    pub this : Premise
+    pub shows : Shows setup (trial ∷ []) trial.premise this sent
+    pub front : List ℕ
+    pub text : piece ≡ front ++ wire_text addr sent heard
+    pub names : length trial.name.now ≤ MOST_NAME → front ≡ broken_text addr this trial.name.now
 
-module _ {L K : Type 0} (reads : L → Option (List ℕ) → L → Type 0) (writes : L → List ℕ → Result (Unit {0}) Failed → L → Type 0) (setup : Setup) where
+module _ {L K : Type 0} (reads : L → Option (List ℕ) → L → Type 0)
+    (writes : L → List ℕ → Result (Unit {0}) Failed → L → Type 0) (setup : Setup) where
   -- One exchange was made with a device, in a round.
-  pub record Given (device : DeviceSetup) (round : ℕ) (said : Say) (before after : Bench L K) : Type 0 where
+  pub record Given (device : DeviceSetup) (round : ℕ) (said : Say) (before after : Bench L K) : Type
+      0 where
     pub bytes : IsSaid said setup device round after.sent.items
     pub gap : ℕ
-    pub gives : Gives reads writes (with_gap gap before.port) after.sent.items after.heard.items after.port
+    pub gives : Gives reads writes (with_gap gap before.port) after.sent.items after.heard.items
+        after.port
     pub asked : after.asked ≡ before.asked
     pub leave : after.leave ≡ before.leave
     pub out : after.out ≡ before.out
 
-module _ {L K : Type 0} (reads : L → Option (List ℕ) → L → Type 0) (writes : L → List ℕ → Result (Unit {0}) Failed → L → Type 0)
-    (puts : K → List ℕ → Result (Unit {0}) Failed → K → Type 0) (setup : Setup) (trials : List Trial) where
-  -- One exchange was made: it is a row of the plan at a device of the setup, and the coins that it orders are counted. The count
-  -- is never above the leave, as each bench has it.
+module _ {L K : Type 0} (reads : L → Option (List ℕ) → L → Type 0)
+    (writes : L → List ℕ → Result (Unit {0}) Failed → L → Type 0)
+    (puts : K → List ℕ → Result (Unit {0}) Failed → K → Type 0) (setup : Setup)
+    (trials : List Trial) where
+  -- One exchange was made: it is a row of the plan at a device of the setup, and the coins that it
+  -- orders are counted. The count is never above the leave, as each bench has it.
   pub record Exchanges (before : Bench L K) (said : Say) (after : Bench L K) : Type 0 where
     pub of_plan : IsOfPlan trials said
     pub device : DeviceSetup
@@ -136,18 +148,20 @@ module _ {L K : Type 0} (reads : L → Option (List ℕ) → L → Type 0) (writ
     pub round : ℕ
     pub bytes : IsSaid said setup device round after.sent.items
     pub gap : ℕ
-    pub gives : Gives reads writes (with_gap gap before.port) after.sent.items after.heard.items after.port
+    pub gives : Gives reads writes (with_gap gap before.port) after.sent.items after.heard.items
+        after.port
     pub counted : after.asked ≡ before.asked + coins_of said
     pub no_empty : IsNoEmptyOrder said
     pub leave : after.leave ≡ before.leave
     pub out : after.out ≡ before.out
 
-  -- Something was put: if it begins as a line `broken` does, it tells the last exchange.
+  -- Something was put: if it begins as a line `broken` does, it shows the last exchange.
   pub record Tells (before after : Bench L K) : Type 0 where
     pub piece : List ℕ
     pub result : Result (Unit {0}) Failed
     pub put : puts before.out piece result after.out
-    pub shows : begins_broken piece ≡ true → TellsBroken setup trials piece before.sent.items before.heard.items
+    pub shows : begins_broken piece ≡ true →
+        TellsBroken setup trials piece before.sent.items before.heard.items
     pub port : after.port ≡ before.port
     pub sent : after.sent.items ≡ before.sent.items
     pub heard : after.heard.items ≡ before.heard.items
@@ -157,7 +171,8 @@ module _ {L K : Type 0} (reads : L → Option (List ℕ) → L → Type 0) (writ
   -- Exchanges and lines, one after the other.
   pub data Plays (first : Bench L K) : Bench L K → Type 0 where
     not_begun : Plays first first
-    exchanged : (bench next : Bench L K) (said : Say) → Plays first bench → Exchanges bench said next → Plays first next
+    exchanged : (bench next : Bench L K) (said : Say) → Plays first bench →
+        Exchanges bench said next → Plays first next
     told : (bench next : Bench L K) → Plays first bench → Tells bench next → Plays first next
 
   -- How many coins were ordered.
@@ -172,8 +187,8 @@ module _ {L K : Type 0} (reads : L → Option (List ℕ) → L → Type 0) (writ
   OrdersNone (exchanged bench next said before one) = OrdersNone before × IsNoOrder said
   OrdersNone (told bench next before one) = OrdersNone before
 
-  -- From a bench that ordered none yet, never more coins than the leave are ordered; and without leave nothing that was sent
-  -- orders coins.
+  -- From a bench that ordered none yet, never more coins than the leave are ordered; and without
+  -- leave nothing that was sent orders coins.
   abbrev pub OrdersWithinLeave : Type 0
   OrdersWithinLeave = (first last : Bench L K) (played : Plays first last) → first.asked ≡ 0
       → (ordered played ≤ first.leave.coins) × (first.leave.coins ≡ 0 → OrdersNone played)

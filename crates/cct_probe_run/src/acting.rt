@@ -49,8 +49,11 @@ pub(crate) fn act<L: Line, K: Sink, S: Source>(
 ) -> Result<Done, Stop>
     requires of_plan { IsStep plan.trials.now step }
     requires there { Contains plan.setup.now.devices turn.device.now }
-    ensures plays { (first : Bench L K) → Plays L.reads L.writes K.puts plan.entry.setup.now plan.entry.trials.now first bench.old → Plays L.reads L.writes K.puts plan.entry.setup.now plan.entry.trials.now first bench.new }
-    ensures shows { (trials : List Trial) → IsStep trials step → IfOk result (ShowsIf plan.entry.setup.now trials turn.entry.premise bench.new.sent.items) }
+    ensures plays { (first : Bench L K) →
+        Plays L.reads L.writes K.puts plan.entry.setup.now plan.entry.trials.now first bench.old →
+        Plays L.reads L.writes K.puts plan.entry.setup.now plan.entry.trials.now first bench.new }
+    ensures shows { (trials : List Trial) → IsStep trials step →
+        IfOk result (ShowsIf plan.entry.setup.now trials turn.entry.premise bench.new.sent.items) }
 {
     match step {
         Step::Asks { say, want } => ask(bench, plan, turn, memory, say, want),
@@ -59,7 +62,7 @@ pub(crate) fn act<L: Line, K: Sink, S: Source>(
     }
 }
 
-/// Makes one exchange, and tells what it shows.
+/// Makes one exchange, and says what it shows.
 fn ask<L: Line, K: Sink>(
     bench: &mut Bench<L, K>,
     plan: Plan<'_>,
@@ -70,8 +73,11 @@ fn ask<L: Line, K: Sink>(
 ) -> Result<Done, Stop>
     requires of_plan { IsOfPlan plan.trials.now say }
     requires there { Contains plan.setup.now.devices turn.device.now }
-    ensures plays { (first : Bench L K) → Plays L.reads L.writes K.puts plan.entry.setup.now plan.entry.trials.now first bench.old → Plays L.reads L.writes K.puts plan.entry.setup.now plan.entry.trials.now first bench.new }
-    ensures shows { (trials : List Trial) → IsOfPlan trials say → IfOk result (ShowsIf plan.entry.setup.now trials turn.entry.premise bench.new.sent.items) }
+    ensures plays { (first : Bench L K) →
+        Plays L.reads L.writes K.puts plan.entry.setup.now plan.entry.trials.now first bench.old →
+        Plays L.reads L.writes K.puts plan.entry.setup.now plan.entry.trials.now first bench.new }
+    ensures shows { (trials : List Trial) → IsOfPlan trials say →
+        IfOk result (ShowsIf plan.entry.setup.now trials turn.entry.premise bench.new.sent.items) }
 {
     match bench.exchange(plan, say, turn) {
         Exchanged::Heard => judged(bench, plan, turn, memory, want),
@@ -80,7 +86,7 @@ fn ask<L: Line, K: Sink>(
     }
 }
 
-/// Tells what the last exchange shows.
+/// Says what the last exchange shows.
 fn judged<L: Line, K: Sink>(
     bench: &mut Bench<L, K>,
     plan: Plan<'_>,
@@ -89,8 +95,12 @@ fn judged<L: Line, K: Sink>(
     want: Want,
 ) -> Result<Done, Stop>
     requires there { Contains plan.setup.now.devices turn.device.now }
-    ensures plays { (first : Bench L K) → Plays L.reads L.writes K.puts plan.entry.setup.now plan.entry.trials.now first bench.old → Plays L.reads L.writes K.puts plan.entry.setup.now plan.entry.trials.now first bench.new }
-    ensures shows { (trials : List Trial) (say : Say) → IsOfPlan trials say → IsSaid say plan.entry.setup.now turn.entry.device.now turn.entry.round bench.old.sent.items → IfOk result (ShowsIf plan.entry.setup.now trials turn.entry.premise bench.new.sent.items) }
+    ensures plays { (first : Bench L K) →
+        Plays L.reads L.writes K.puts plan.entry.setup.now plan.entry.trials.now first bench.old →
+        Plays L.reads L.writes K.puts plan.entry.setup.now plan.entry.trials.now first bench.new }
+    ensures shows { (trials : List Trial) (say : Say) → IsOfPlan trials say →
+        IsSaid say plan.entry.setup.now turn.entry.device.now turn.entry.round bench.old.sent.items →
+        IfOk result (ShowsIf plan.entry.setup.now trials turn.entry.premise bench.new.sent.items) }
 {
     match judge(want, turn, memory, bench.sent(), bench.heard()) {
         Shown::Right => {
@@ -113,7 +123,8 @@ fn judged<L: Line, K: Sink>(
     }
 }
 
-/// Listens once more where no answer came: whether it comes late. If it doesn't, this is what came of the step.
+/// Listens once more where no answer came: whether it comes late. If it doesn't, this is what came
+/// of the step.
 fn listen<L: Line, K: Sink>(
     bench: &mut Bench<L, K>,
     plan: Plan<'_>,
@@ -122,8 +133,11 @@ fn listen<L: Line, K: Sink>(
 ) -> Result<Done, Stop>
     requires there { Contains plan.setup.now.devices turn.device.now }
     requires names { NamesIf turn.premise silent }
-    ensures plays { (first : Bench L K) → Plays L.reads L.writes K.puts plan.entry.setup.now plan.entry.trials.now first bench.old → Plays L.reads L.writes K.puts plan.entry.setup.now plan.entry.trials.now first bench.new }
-    ensures shows { (trials : List Trial) → IfOk result (ShowsIf plan.entry.setup.now trials turn.entry.premise bench.new.sent.items) }
+    ensures plays { (first : Bench L K) →
+        Plays L.reads L.writes K.puts plan.entry.setup.now plan.entry.trials.now first bench.old →
+        Plays L.reads L.writes K.puts plan.entry.setup.now plan.entry.trials.now first bench.new }
+    ensures shows { (trials : List Trial) →
+        IfOk result (ShowsIf plan.entry.setup.now trials turn.entry.premise bench.new.sent.items) }
 {
     match bench.exchange(plan, Say::Nothing { at_once: true }, turn) {
         Exchanged::Heard if bench.heard().is_empty() => Ok(silent),
@@ -141,8 +155,11 @@ fn wait<L: Line, K: Sink>(
 ) -> Result<Done, Stop>
     requires of_plan { IsOfPlan plan.trials.now (say.Ask (ask.Plain 166)) }
     requires there { Contains plan.setup.now.devices turn.device.now }
-    ensures plays { (first : Bench L K) → Plays L.reads L.writes K.puts plan.entry.setup.now plan.entry.trials.now first bench.old → Plays L.reads L.writes K.puts plan.entry.setup.now plan.entry.trials.now first bench.new }
-    ensures shows { (trials : List Trial) → IfOk result (ShowsIf plan.entry.setup.now trials turn.entry.premise bench.new.sent.items) }
+    ensures plays { (first : Bench L K) →
+        Plays L.reads L.writes K.puts plan.entry.setup.now plan.entry.trials.now first bench.old →
+        Plays L.reads L.writes K.puts plan.entry.setup.now plan.entry.trials.now first bench.new }
+    ensures shows { (trials : List Trial) →
+        IfOk result (ShowsIf plan.entry.setup.now trials turn.entry.premise bench.new.sent.items) }
 {
     let say = Say::Ask(Ask::Plain { header: STATUS });
     let turn = turn.slow();
@@ -168,7 +185,7 @@ fn wait<L: Line, K: Sink>(
     Ok(Done::Untried(Why::Silent))
 }
 
-/// Whether a status that was heard tells no coin left to pay: its second data byte is 0.
+/// Whether a status that was heard shows no coin left to pay: its second data byte is 0.
 fn has_paid(sent: &[u8], heard: &[u8]) -> bool {
     match heard.get(sent.len()..) {
         Some([_, 4, _, 0, _, 0, ..]) => true,
@@ -183,8 +200,11 @@ fn prompt<L: Line, K: Sink, S: Source>(
     turn: Turn<'_>,
     act: Act,
 ) -> Result<Done, Stop>
-    ensures plays { (setup : Setup) (trials : List Trial) (first : Bench L K) → Plays L.reads L.writes K.puts setup trials first bench.old → Plays L.reads L.writes K.puts setup trials first bench.new }
-    ensures shows { (setup : Setup) (trials : List Trial) → IfOk result (ShowsIf setup trials turn.entry.premise bench.new.sent.items) }
+    ensures plays { (setup : Setup) (trials : List Trial) (first : Bench L K) →
+        Plays L.reads L.writes K.puts setup trials first bench.old →
+        Plays L.reads L.writes K.puts setup trials first bench.new }
+    ensures shows { (setup : Setup) (trials : List Trial) →
+        IfOk result (ShowsIf setup trials turn.entry.premise bench.new.sent.items) }
 {
     let body = &turn.device.body;
     bench.tell(&prompt_of(act, turn.told, body.is_bill(), tried_place(body)))?;

@@ -1,4 +1,5 @@
-//! A line with the devices of a setup, on which nothing is sent but rows of a plan, and no coin is ordered without leave.
+//! A line with the devices of a setup, on which nothing is sent but rows of a plan, and no coin is
+//! ordered without leave.
 
 ghost use Rattle.std.specs.Prelude.{◌≡◌, ◌≤◌};
 
@@ -56,7 +57,7 @@ pub struct Plan<'s> {
     pub trials: &'s [Trial],
 }
 
-/// The line, and where is told what comes.
+/// The line, and where is reported what comes.
 #[derive(Drop)]
 pub struct Bench<L, K> {
     pub(crate) port: Port<L>,

@@ -37,7 +37,7 @@ pub(crate) enum Why {
 }
 
 impl Why {
-    /// The word by which it is told.
+    /// The word by which it is reported.
     pub(crate) fn word(self) -> &'static [u8] {
         match self {
             Why::Absent => b"absent",

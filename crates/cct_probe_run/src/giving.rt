@@ -6,7 +6,8 @@ ghost use Rattle.cct_probe_plan.specs.declared.plan.Trial.{Trial};
 ghost use Rattle.cct_probe_plan.specs.Saying.{IsSaid};
 ghost use Rattle.cct_probe_run.specs.declared.bench.Exchanged.TheVariants.{Heard};
 ghost use Rattle.cct_probe_run.specs.Leaving.{Sent};
-ghost use Rattle.cct_probe_run.specs.Plays.{Begun, Given, IsNoEmptyOrder, IsNoOrder, IsOfPlan, Plays, Shows, coins_of};
+ghost use Rattle.cct_probe_run.specs.Plays.{Begun, Given, IsNoEmptyOrder, IsNoOrder, IsOfPlan};
+ghost use Rattle.cct_probe_run.specs.Plays.{Plays, Shows, coins_of};
 ghost use Rattle.cct_probe_run.specs.declared.bench.Bench.{Bench};
 
 use crate::bench::{Bench, Exchanged, Plan, Stop};
@@ -22,9 +23,13 @@ impl<L: Line, K: Sink> Bench<L, K> {
     pub(crate) fn exchange(&mut self, plan: Plan<'_>, say: Say, turn: Turn<'_>) -> Exchanged
         requires of_plan { IsOfPlan plan.trials.now say }
         requires there { Contains plan.setup.now.devices turn.device.now }
-        ensures plays { (first : Bench L K) → Plays L.reads L.writes K.puts plan.entry.setup.now plan.entry.trials.now first self.old → Plays L.reads L.writes K.puts plan.entry.setup.now plan.entry.trials.now first self.new }
-        ensures bytes { result ≡ Heard → IsSaid say plan.entry.setup.now turn.entry.device.now turn.entry.round self.new.sent.items }
-        ensures sent { IsNoOrder say → Sent L.reads L.writes K.puts plan.entry.setup.now turn.entry.device.now turn.entry.round say self.old self.new }
+        ensures plays { (first : Bench L K) →
+            Plays L.reads L.writes K.puts plan.entry.setup.now plan.entry.trials.now first self.old →
+            Plays L.reads L.writes K.puts plan.entry.setup.now plan.entry.trials.now first self.new }
+        ensures bytes { result ≡ Heard → IsSaid say plan.entry.setup.now turn.entry.device.now
+            turn.entry.round self.new.sent.items }
+        ensures sent { IsNoOrder say → Sent L.reads L.writes K.puts plan.entry.setup.now
+            turn.entry.device.now turn.entry.round say self.old self.new }
     {
         let coins = coins_of(say);
         if !is_order(say) {
@@ -39,7 +44,8 @@ impl<L: Line, K: Sink> Bench<L, K> {
 
     /// Makes one exchange with a device.
     fn give(&mut self, plan: Plan<'_>, say: Say, turn: Turn<'_>) -> Exchanged
-        ensures gives { Given L.reads L.writes plan.entry.setup.now turn.entry.device.now turn.entry.round say self.old self.new }
+        ensures gives { Given L.reads L.writes plan.entry.setup.now turn.entry.device.now
+            turn.entry.round say self.old self.new }
     {
         write_say(say, plan.setup, turn, &mut self.sent);
         self.port.set_gap(gap_before(say, turn));
@@ -52,10 +58,12 @@ impl<L: Line, K: Sink> Bench<L, K> {
         }
     }
 
-    /// Tells a line that tells no premise broken, by one put.
+    /// Tells a line that shows no premise broken, by one put.
     pub(crate) fn tell(&mut self, line: &TextLine) -> Result<(), Stop>
         requires other { Begun line.now }
-        ensures plays { (setup : Setup) (trials : List Trial) (first : Bench L K) → Plays L.reads L.writes K.puts setup trials first self.old → Plays L.reads L.writes K.puts setup trials first self.new }
+        ensures plays { (setup : Setup) (trials : List Trial) (first : Bench L K) →
+            Plays L.reads L.writes K.puts setup trials first self.old →
+            Plays L.reads L.writes K.puts setup trials first self.new }
     {
         self.out.put(line.as_slice())?;
         Ok(())
@@ -63,7 +71,9 @@ impl<L: Line, K: Sink> Bench<L, K> {
 
     /// Tells the last exchange.
     pub(crate) fn tell_wire(&mut self, addr: u8) -> Result<(), Stop>
-        ensures plays { (setup : Setup) (trials : List Trial) (first : Bench L K) → Plays L.reads L.writes K.puts setup trials first self.old → Plays L.reads L.writes K.puts setup trials first self.new }
+        ensures plays { (setup : Setup) (trials : List Trial) (first : Bench L K) →
+            Plays L.reads L.writes K.puts setup trials first self.old →
+            Plays L.reads L.writes K.puts setup trials first self.new }
     {
         if self.leave.is_quiet {
             return Ok(());
@@ -81,14 +91,17 @@ impl<L: Line, K: Sink> Bench<L, K> {
         line
     }
 
-    /// Tells that the last exchange shows a premise broken, by one put.
+    /// Says that the last exchange shows a premise broken, by one put.
     pub(crate) fn tell_broken(
         &mut self,
         addr: u8,
         premise: Premise,
         trial: &Trial,
     ) -> Result<(), Stop>
-        ensures plays { (setup : Setup) (trials : List Trial) (first : Bench L K) → Contains trials trial.now → Shows setup (trial.now ∷ []) trial.now.premise premise self.old.sent.items → Plays L.reads L.writes K.puts setup trials first self.old → Plays L.reads L.writes K.puts setup trials first self.new }
+        ensures plays { (setup : Setup) (trials : List Trial) (first : Bench L K) →
+            Contains trials trial.now → Shows setup (trial.now ∷ []) trial.now.premise premise
+            self.old.sent.items → Plays L.reads L.writes K.puts setup trials first self.old →
+            Plays L.reads L.writes K.puts setup trials first self.new }
     {
         let mut line = TextLine::new();
         begin_broken(&mut line, addr, premise, trial.name);

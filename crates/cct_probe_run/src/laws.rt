@@ -7,7 +7,9 @@ ghost use Rattle.cct_probe_run.specs.Plays.{OrdersWithinLeave};
 use cct_edge::Sink;
 use cct_live_port::Line;
 
-/// Never more coins than the leave are ordered in all, and without leave no dispense is sent. A law: its body is empty.
+/// Never more coins than the leave are ordered in all, and without leave no dispense is sent. A
+/// law: its body is empty.
 pub fn coins_are_ordered_within_leave<L: Line, K: Sink>()
-    ensures { (setup : Setup) (trials : List Trial) → OrdersWithinLeave L.reads L.writes K.puts setup trials }
+    ensures { (setup : Setup) (trials : List Trial) →
+        OrdersWithinLeave L.reads L.writes K.puts setup trials }
 {}

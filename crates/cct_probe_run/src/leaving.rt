@@ -17,8 +17,11 @@ use cct_probe_plan::{Ending, Say, Step, Trial, Turn};
 
 /// Leaves each device as it may stay, whatever it answers.
 pub(crate) fn leave<L: Line, K: Sink>(bench: &mut Bench<L, K>, plan: Plan<'_>) -> Result<(), Stop>
-    ensures plays { (first : Bench L K) → Plays L.reads L.writes K.puts plan.entry.setup.now plan.entry.trials.now first bench.old → Plays L.reads L.writes K.puts plan.entry.setup.now plan.entry.trials.now first bench.new }
-    ensures leaves { Leaves L.reads L.writes K.puts plan.entry.setup.now plan.entry.trials.now plan.entry.setup.now.devices bench.old bench.new }
+    ensures plays { (first : Bench L K) →
+        Plays L.reads L.writes K.puts plan.entry.setup.now plan.entry.trials.now first bench.old →
+        Plays L.reads L.writes K.puts plan.entry.setup.now plan.entry.trials.now first bench.new }
+    ensures leaves { Leaves L.reads L.writes K.puts plan.entry.setup.now plan.entry.trials.now
+        plan.entry.setup.now.devices bench.old bench.new }
 {
     leave_each(bench, plan, plan.setup.devices.as_slice())
 }
@@ -29,9 +32,13 @@ fn leave_each<L: Line, K: Sink>(
     plan: Plan<'_>,
     devices: &[DeviceSetup],
 ) -> Result<(), Stop>
-    requires there { (device : DeviceSetup) → Contains devices.now device → Contains plan.setup.now.devices device }
-    ensures plays { (first : Bench L K) → Plays L.reads L.writes K.puts plan.entry.setup.now plan.entry.trials.now first bench.old → Plays L.reads L.writes K.puts plan.entry.setup.now plan.entry.trials.now first bench.new }
-    ensures leaves { Leaves L.reads L.writes K.puts plan.entry.setup.now plan.entry.trials.now devices.now bench.old bench.new }
+    requires there { (device : DeviceSetup) → Contains devices.now device →
+        Contains plan.setup.now.devices device }
+    ensures plays { (first : Bench L K) →
+        Plays L.reads L.writes K.puts plan.entry.setup.now plan.entry.trials.now first bench.old →
+        Plays L.reads L.writes K.puts plan.entry.setup.now plan.entry.trials.now first bench.new }
+    ensures leaves { Leaves L.reads L.writes K.puts plan.entry.setup.now plan.entry.trials.now
+        devices.now bench.old bench.new }
 {
     match devices {
         [] => Ok(()),
@@ -60,8 +67,12 @@ pub(crate) fn close<L: Line, K: Sink>(
     gap: u16,
 ) -> Result<(), Stop>
     requires there { Contains plan.setup.now.devices device.now }
-    ensures plays { (first : Bench L K) → Plays L.reads L.writes K.puts plan.entry.setup.now plan.entry.trials.now first bench.old → Plays L.reads L.writes K.puts plan.entry.setup.now plan.entry.trials.now first bench.new }
-    ensures sends { OrderNone (closing ending device.now.body plan.entry.trials.now) → Sends L.reads L.writes K.puts plan.entry.setup.now device.now 0 (closing ending device.now.body plan.entry.trials.now) bench.old bench.new }
+    ensures plays { (first : Bench L K) →
+        Plays L.reads L.writes K.puts plan.entry.setup.now plan.entry.trials.now first bench.old →
+        Plays L.reads L.writes K.puts plan.entry.setup.now plan.entry.trials.now first bench.new }
+    ensures sends { OrderNone (closing ending device.now.body plan.entry.trials.now) →
+        Sends L.reads L.writes K.puts plan.entry.setup.now device.now 0
+        (closing ending device.now.body plan.entry.trials.now) bench.old bench.new }
 {
     close_all(bench, plan, device, ending, gap, plan.trials)
 }
@@ -75,10 +86,15 @@ fn close_all<L: Line, K: Sink>(
     gap: u16,
     trials: &[Trial],
 ) -> Result<(), Stop>
-    requires of_plan { (trial : Trial) → Contains trials.now trial → Contains plan.trials.now trial }
+    requires of_plan { (trial : Trial) → Contains trials.now trial →
+        Contains plan.trials.now trial }
     requires there { Contains plan.setup.now.devices device.now }
-    ensures plays { (first : Bench L K) → Plays L.reads L.writes K.puts plan.entry.setup.now plan.entry.trials.now first bench.old → Plays L.reads L.writes K.puts plan.entry.setup.now plan.entry.trials.now first bench.new }
-    ensures sends { OrderNone (closing ending device.now.body trials.now) → Sends L.reads L.writes K.puts plan.entry.setup.now device.now 0 (closing ending device.now.body trials.now) bench.old bench.new }
+    ensures plays { (first : Bench L K) →
+        Plays L.reads L.writes K.puts plan.entry.setup.now plan.entry.trials.now first bench.old →
+        Plays L.reads L.writes K.puts plan.entry.setup.now plan.entry.trials.now first bench.new }
+    ensures sends { OrderNone (closing ending device.now.body trials.now) →
+        Sends L.reads L.writes K.puts plan.entry.setup.now device.now 0
+        (closing ending device.now.body trials.now) bench.old bench.new }
 {
     match trials {
         [] => Ok(()),
@@ -104,8 +120,12 @@ fn close_by<L: Line, K: Sink>(
 ) -> Result<(), Stop>
     requires of_plan { Contains plan.trials.now trial.now }
     requires there { Contains plan.setup.now.devices device.now }
-    ensures plays { (first : Bench L K) → Plays L.reads L.writes K.puts plan.entry.setup.now plan.entry.trials.now first bench.old → Plays L.reads L.writes K.puts plan.entry.setup.now plan.entry.trials.now first bench.new }
-    ensures sends { OrderNone (all_said trial.now.steps.now) → Sends L.reads L.writes K.puts plan.entry.setup.now device.now 0 (all_said trial.now.steps.now) bench.old bench.new }
+    ensures plays { (first : Bench L K) →
+        Plays L.reads L.writes K.puts plan.entry.setup.now plan.entry.trials.now first bench.old →
+        Plays L.reads L.writes K.puts plan.entry.setup.now plan.entry.trials.now first bench.new }
+    ensures sends { OrderNone (all_said trial.now.steps.now) →
+        Sends L.reads L.writes K.puts plan.entry.setup.now device.now 0 (all_said trial.now.steps.now)
+        bench.old bench.new }
 {
     let turn = Turn {
         device,
@@ -126,8 +146,12 @@ fn close_steps<L: Line, K: Sink>(
 ) -> Result<(), Stop>
     requires of_plan { (this : Step) → Contains steps.now this → IsStep plan.trials.now this }
     requires there { Contains plan.setup.now.devices turn.device.now }
-    ensures plays { (first : Bench L K) → Plays L.reads L.writes K.puts plan.entry.setup.now plan.entry.trials.now first bench.old → Plays L.reads L.writes K.puts plan.entry.setup.now plan.entry.trials.now first bench.new }
-    ensures sends { OrderNone (all_said steps.now) → Sends L.reads L.writes K.puts plan.entry.setup.now turn.entry.device.now turn.entry.round (all_said steps.now) bench.old bench.new }
+    ensures plays { (first : Bench L K) →
+        Plays L.reads L.writes K.puts plan.entry.setup.now plan.entry.trials.now first bench.old →
+        Plays L.reads L.writes K.puts plan.entry.setup.now plan.entry.trials.now first bench.new }
+    ensures sends { OrderNone (all_said steps.now) →
+        Sends L.reads L.writes K.puts plan.entry.setup.now turn.entry.device.now turn.entry.round
+        (all_said steps.now) bench.old bench.new }
 {
     match steps {
         [] => Ok(()),
@@ -148,8 +172,12 @@ fn close_step<L: Line, K: Sink>(
 ) -> Result<(), Stop>
     requires of_plan { IsStep plan.trials.now step }
     requires there { Contains plan.setup.now.devices turn.device.now }
-    ensures plays { (first : Bench L K) → Plays L.reads L.writes K.puts plan.entry.setup.now plan.entry.trials.now first bench.old → Plays L.reads L.writes K.puts plan.entry.setup.now plan.entry.trials.now first bench.new }
-    ensures sends { OrderNone (said_in step) → Sends L.reads L.writes K.puts plan.entry.setup.now turn.entry.device.now turn.entry.round (said_in step) bench.old bench.new }
+    ensures plays { (first : Bench L K) →
+        Plays L.reads L.writes K.puts plan.entry.setup.now plan.entry.trials.now first bench.old →
+        Plays L.reads L.writes K.puts plan.entry.setup.now plan.entry.trials.now first bench.new }
+    ensures sends { OrderNone (said_in step) →
+        Sends L.reads L.writes K.puts plan.entry.setup.now turn.entry.device.now turn.entry.round
+        (said_in step) bench.old bench.new }
 {
     match step {
         Step::Asks { say, .. } => close_once(bench, plan, turn, say),
@@ -158,7 +186,8 @@ fn close_step<L: Line, K: Sink>(
     }
 }
 
-/// Makes one exchange, whatever comes. Where nothing comes it listens once more, so that a late reply isn't heard in the next.
+/// Makes one exchange, whatever comes. Where nothing comes it listens once more, so that a late
+/// reply isn't heard in the next.
 fn close_once<L: Line, K: Sink>(
     bench: &mut Bench<L, K>,
     plan: Plan<'_>,
@@ -167,8 +196,11 @@ fn close_once<L: Line, K: Sink>(
 ) -> Result<(), Stop>
     requires of_plan { IsOfPlan plan.trials.now say }
     requires there { Contains plan.setup.now.devices turn.device.now }
-    ensures plays { (first : Bench L K) → Plays L.reads L.writes K.puts plan.entry.setup.now plan.entry.trials.now first bench.old → Plays L.reads L.writes K.puts plan.entry.setup.now plan.entry.trials.now first bench.new }
-    ensures sends { IsNoOrder say → Sends L.reads L.writes K.puts plan.entry.setup.now turn.entry.device.now turn.entry.round (say ∷ []) bench.old bench.new }
+    ensures plays { (first : Bench L K) →
+        Plays L.reads L.writes K.puts plan.entry.setup.now plan.entry.trials.now first bench.old →
+        Plays L.reads L.writes K.puts plan.entry.setup.now plan.entry.trials.now first bench.new }
+    ensures sends { IsNoOrder say → Sends L.reads L.writes K.puts plan.entry.setup.now
+        turn.entry.device.now turn.entry.round (say ∷ []) bench.old bench.new }
 {
     if bench.exchange(plan, say, turn) == Exchanged::Fault {
         return Err(Stop::PortFault);
@@ -183,7 +215,9 @@ fn tell_closed<L: Line, K: Sink>(
     turn: Turn<'_>,
 ) -> Result<(), Stop>
     requires there { Contains plan.setup.now.devices turn.device.now }
-    ensures rests { (first : Bench L K) → Rests L.reads L.writes K.puts plan.entry.setup.now first bench.old → Rests L.reads L.writes K.puts plan.entry.setup.now first bench.new }
+    ensures rests { (first : Bench L K) →
+        Rests L.reads L.writes K.puts plan.entry.setup.now first bench.old →
+        Rests L.reads L.writes K.puts plan.entry.setup.now first bench.new }
 {
     let put = bench.tell_wire(turn.told);
     if bench.heard().len() > bench.sent().len() {

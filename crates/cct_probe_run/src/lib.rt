@@ -1,5 +1,6 @@
-//! Trials of the devices on a line (`cct_probe_plan`): what is sent is of the plan alone, no coin is ordered without leave, and each
-//! premise that is told broken comes with the exchange that shows it.
+//! Trials of the devices on a line (`cct_probe_plan`): what is sent is of the plan alone, no coin
+//! is ordered without leave, and each premise that is reported broken comes with the exchange that
+//! shows it.
 #![tactic(auto)]
 
 mod acting;

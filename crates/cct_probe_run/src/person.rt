@@ -27,7 +27,8 @@ impl<S: Source> Person<S> {
         }
     }
 
-    /// Whether the next line says that it is done. Any other skips it, and at the end of the source nobody is asked any more.
+    /// Whether the next line says that it is done. Any other skips it, and at the end of the source
+    /// nobody is asked any more.
     pub(crate) fn has_done(&mut self) -> bool {
         if self.is_gone {
             return false;

@@ -32,17 +32,22 @@ pub enum Ended {
     NothingHeard,
 }
 
-/// Does the trials of the plan at each device of the setup, one after the other, then those of the line; and tells
-/// which promises hold. However that ends, each device is left at last as it may stay.
+/// Does the trials of the plan at each device of the setup, one after the other, then those of the
+/// line; and tells which promises hold. However that ends, each device is left at last as it may
+/// stay.
 pub fn run<L: Line, K: Sink, S: Source, C: Clock>(
     bench: &mut Bench<L, K>,
     plan: Plan<'_>,
     person: &mut Person<S>,
     clock: &mut C,
 ) -> Result<Ended, Stop>
-    ensures plays { (first : Bench L K) → Plays L.reads L.writes K.puts plan.entry.setup.now plan.entry.trials.now first bench.old → Plays L.reads L.writes K.puts plan.entry.setup.now plan.entry.trials.now first bench.new }
-    // At last each device is sent what the plan has for its end, also where the port fails, and nothing else to anybody.
-    ensures leaves { EndsLeft L.reads L.writes K.puts plan.entry.setup.now plan.entry.trials.now bench.old bench.new }
+    ensures plays { (first : Bench L K) →
+        Plays L.reads L.writes K.puts plan.entry.setup.now plan.entry.trials.now first bench.old →
+        Plays L.reads L.writes K.puts plan.entry.setup.now plan.entry.trials.now first bench.new }
+    // At last each device is sent what the plan has for its end, also where the port fails, and
+    // nothing else to anybody.
+    ensures leaves { EndsLeft L.reads L.writes K.puts plan.entry.setup.now plan.entry.trials.now
+        bench.old bench.new }
 {
     let ended = try_all(bench, plan, person, clock);
     match leave(bench, plan) {
@@ -59,14 +64,16 @@ fn ended_or(stop: Stop, ended: Result<Ended, Stop>) -> Result<Ended, Stop> {
     }
 }
 
-/// Does all trials, and tells which promises hold.
+/// Does all trials, and says which promises hold.
 fn try_all<L: Line, K: Sink, S: Source, C: Clock>(
     bench: &mut Bench<L, K>,
     plan: Plan<'_>,
     person: &mut Person<S>,
     clock: &mut C,
 ) -> Result<Ended, Stop>
-    ensures plays { (first : Bench L K) → Plays L.reads L.writes K.puts plan.entry.setup.now plan.entry.trials.now first bench.old → Plays L.reads L.writes K.puts plan.entry.setup.now plan.entry.trials.now first bench.new }
+    ensures plays { (first : Bench L K) →
+        Plays L.reads L.writes K.puts plan.entry.setup.now plan.entry.trials.now first bench.old →
+        Plays L.reads L.writes K.puts plan.entry.setup.now plan.entry.trials.now first bench.new }
 {
     let mut findings = Findings::new();
     let mut is_heard = false;
@@ -99,7 +106,9 @@ fn run_device<L: Line, K: Sink, S: Source, C: Clock>(
     device: &DeviceSetup,
 ) -> Result<bool, Stop>
     requires there { Contains plan.setup.now.devices device.now }
-    ensures plays { (first : Bench L K) → Plays L.reads L.writes K.puts plan.entry.setup.now plan.entry.trials.now first bench.old → Plays L.reads L.writes K.puts plan.entry.setup.now plan.entry.trials.now first bench.new }
+    ensures plays { (first : Bench L K) →
+        Plays L.reads L.writes K.puts plan.entry.setup.now plan.entry.trials.now first bench.old →
+        Plays L.reads L.writes K.puts plan.entry.setup.now plan.entry.trials.now first bench.new }
 {
     let mut memory = Memory::new();
     let mut is_there = true;
@@ -134,7 +143,8 @@ fn run_device<L: Line, K: Sink, S: Source, C: Clock>(
     Ok(is_there)
 }
 
-/// How many silent reads stand before each message to a device from now on: one where a reply may come late or twice.
+/// How many silent reads stand before each message to a device from now on: one where a reply may
+/// come late or twice.
 fn gap_after(findings: &Findings, addr: u8) -> u16 {
     if findings.is_broken(addr, ALONE)
         || findings.is_broken(addr, ONCE)
@@ -172,7 +182,9 @@ fn run_line<L: Line, K: Sink, S: Source, C: Clock>(
     device: &DeviceSetup,
 ) -> Result<(), Stop>
     requires there { Contains plan.setup.now.devices device.now }
-    ensures plays { (first : Bench L K) → Plays L.reads L.writes K.puts plan.entry.setup.now plan.entry.trials.now first bench.old → Plays L.reads L.writes K.puts plan.entry.setup.now plan.entry.trials.now first bench.new }
+    ensures plays { (first : Bench L K) →
+        Plays L.reads L.writes K.puts plan.entry.setup.now plan.entry.trials.now first bench.old →
+        Plays L.reads L.writes K.puts plan.entry.setup.now plan.entry.trials.now first bench.new }
 {
     let mut memory = Memory::new();
     for trial in plan.trials {

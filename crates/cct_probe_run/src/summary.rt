@@ -13,13 +13,16 @@ use cct_live_port::Line;
 use cct_model_lines::DeviceSetup;
 use cct_probe_plan::{Memory, PROMISES, Promise};
 
-/// Tells what was found of each premise at a device that no trial showed broken; that of those was told at once.
+/// Says what was found of each premise at a device that no trial showed broken; that of those was
+/// reported at once.
 pub(crate) fn tell_device<L: Line, K: Sink>(
     bench: &mut Bench<L, K>,
     findings: &Findings,
     addr: u8,
 ) -> Result<(), Stop>
-    ensures plays { (setup : Setup) (trials : List Trial) (first : Bench L K) → Plays L.reads L.writes K.puts setup trials first bench.old → Plays L.reads L.writes K.puts setup trials first bench.new }
+    ensures plays { (setup : Setup) (trials : List Trial) (first : Bench L K) →
+        Plays L.reads L.writes K.puts setup trials first bench.old →
+        Plays L.reads L.writes K.puts setup trials first bench.new }
 {
     for found in findings.as_slice() {
         if found.addr == addr {
@@ -29,9 +32,11 @@ pub(crate) fn tell_device<L: Line, K: Sink>(
     Ok(())
 }
 
-/// Tells what was found of a premise.
+/// Says what was found of a premise.
 fn tell_finding<L: Line, K: Sink>(bench: &mut Bench<L, K>, found: Finding) -> Result<(), Stop>
-    ensures plays { (setup : Setup) (trials : List Trial) (first : Bench L K) → Plays L.reads L.writes K.puts setup trials first bench.old → Plays L.reads L.writes K.puts setup trials first bench.new }
+    ensures plays { (setup : Setup) (trials : List Trial) (first : Bench L K) →
+        Plays L.reads L.writes K.puts setup trials first bench.old →
+        Plays L.reads L.writes K.puts setup trials first bench.new }
 {
     let word = found.premise.word();
     match found.standing {
@@ -43,13 +48,15 @@ fn tell_finding<L: Line, K: Sink>(bench: &mut Bench<L, K>, found: Finding) -> Re
     }
 }
 
-/// Tells how many coins fell into a device, or out of it.
+/// Says how many coins fell into a device, or out of it.
 pub(crate) fn tell_coins<L: Line, K: Sink>(
     bench: &mut Bench<L, K>,
     device: &DeviceSetup,
     memory: &Memory,
 ) -> Result<(), Stop>
-    ensures plays { (setup : Setup) (trials : List Trial) (first : Bench L K) → Plays L.reads L.writes K.puts setup trials first bench.old → Plays L.reads L.writes K.puts setup trials first bench.new }
+    ensures plays { (setup : Setup) (trials : List Trial) (first : Bench L K) →
+        Plays L.reads L.writes K.puts setup trials first bench.old →
+        Plays L.reads L.writes K.puts setup trials first bench.new }
 {
     let (first, last) = match (memory.first, memory.last) {
         (Some(first), Some(last)) => (first, last),
@@ -64,12 +71,14 @@ pub(crate) fn tell_coins<L: Line, K: Sink>(
     bench.tell(&numbers_of(word, device.addr, &[u64::from(many)]))
 }
 
-/// Tells which promises hold with these devices, and which don't and why.
+/// Says which promises hold with these devices, and which don't and why.
 pub(crate) fn tell_promises<L: Line, K: Sink>(
     bench: &mut Bench<L, K>,
     findings: &Findings,
 ) -> Result<(), Stop>
-    ensures plays { (setup : Setup) (trials : List Trial) (first : Bench L K) → Plays L.reads L.writes K.puts setup trials first bench.old → Plays L.reads L.writes K.puts setup trials first bench.new }
+    ensures plays { (setup : Setup) (trials : List Trial) (first : Bench L K) →
+        Plays L.reads L.writes K.puts setup trials first bench.old →
+        Plays L.reads L.writes K.puts setup trials first bench.new }
 {
     for promise in PROMISES {
         let are_broken = tell_each(bench, findings, promise, true)?;
@@ -80,14 +89,17 @@ pub(crate) fn tell_promises<L: Line, K: Sink>(
     Ok(())
 }
 
-/// Tells each premise of a promise that is broken, or each that wasn't tried, and answers whether there is one.
+/// Tells each premise of a promise that is broken, or each that wasn't tried, and answers whether
+/// there is one.
 fn tell_each<L: Line, K: Sink>(
     bench: &mut Bench<L, K>,
     findings: &Findings,
     promise: Promise,
     is_broken: bool,
 ) -> Result<bool, Stop>
-    ensures plays { (setup : Setup) (trials : List Trial) (first : Bench L K) → Plays L.reads L.writes K.puts setup trials first bench.old → Plays L.reads L.writes K.puts setup trials first bench.new }
+    ensures plays { (setup : Setup) (trials : List Trial) (first : Bench L K) →
+        Plays L.reads L.writes K.puts setup trials first bench.old →
+        Plays L.reads L.writes K.puts setup trials first bench.new }
 {
     let word: &[u8] = if is_broken { b"fails" } else { b"open" };
     let mut is_any = false;

@@ -1,4 +1,4 @@
-//! The lines that are told.
+//! The lines that are reported.
 ghost use Rattle.std.specs.Prelude.{◌≡◌, ◌≤◌, ◌+◌, ◌*◌, ◌∷◌, ◌++◌, length};
 ghost use Rattle.cct_model_lines.specs.Text.{piece_field};
 ghost use Rattle.cct_model_wire.specs.declared.wire.TheConstants.{MOST_HEARD, MOST_SENT};
@@ -11,7 +11,7 @@ use cct_text::TextLine;
 /// The most bytes before the exchange in a line `broken`.
 const MOST_FRONT: usize = 1000;
 
-/// The most bytes of a trial's name that is told there.
+/// The most bytes of a trial's name that is reported there.
 const MOST_NAME: usize = 100;
 
 /// Adds bytes, if there is room.
@@ -141,7 +141,7 @@ fn promise_word(promise: Promise) -> &'static [u8] {
     }
 }
 
-/// The front of what tells that a premise is broken: a line, in the place of what the line holds.
+/// The front of what says that a premise is broken: a line, in the place of what the line holds.
 pub(crate) fn begin_broken(line: &mut TextLine, addr: u8, premise: Premise, name: &[u8])
     ensures names { length name.now ≤ MOST_NAME → line.new ≡ broken_text addr premise name.now }
     ensures short { length line.new ≤ MOST_FRONT }

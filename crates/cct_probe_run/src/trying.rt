@@ -42,7 +42,8 @@ fn lacks<L: Line, K: Sink>(bench: &Bench<L, K>, need: Need) -> Option<Why> {
     }
 }
 
-/// Does a trial at a device, tells what it shows, and notes it. It answers whether the device answered.
+/// Does a trial at a device, says what it shows, and notes it. It answers whether the device
+/// answered.
 pub(crate) fn try_out<L: Line, K: Sink, S: Source, C: Clock>(
     bench: &mut Bench<L, K>,
     plan: Plan<'_>,
@@ -56,7 +57,9 @@ pub(crate) fn try_out<L: Line, K: Sink, S: Source, C: Clock>(
 ) -> Result<bool, Stop>
     requires of_plan { Contains plan.trials.now trial.now }
     requires there { Contains plan.setup.now.devices device.now }
-    ensures plays { (first : Bench L K) → Plays L.reads L.writes K.puts plan.entry.setup.now plan.entry.trials.now first bench.old → Plays L.reads L.writes K.puts plan.entry.setup.now plan.entry.trials.now first bench.new }
+    ensures plays { (first : Bench L K) →
+        Plays L.reads L.writes K.puts plan.entry.setup.now plan.entry.trials.now first bench.old →
+        Plays L.reads L.writes K.puts plan.entry.setup.now plan.entry.trials.now first bench.new }
 {
     if let Some(why) = lacks(bench, trial.need) {
         findings.note(told, trial.premise, Standing::Untried(why))?;
@@ -67,13 +70,15 @@ pub(crate) fn try_out<L: Line, K: Sink, S: Source, C: Clock>(
     conclude(bench, plan, findings, told, trial, done)
 }
 
-/// Tells that a trial begins.
+/// Says that a trial begins.
 fn tell_begin<L: Line, K: Sink>(
     bench: &mut Bench<L, K>,
     told: u8,
     trial: &Trial,
 ) -> Result<(), Stop>
-    ensures plays { (setup : Setup) (trials : List Trial) (first : Bench L K) → Plays L.reads L.writes K.puts setup trials first bench.old → Plays L.reads L.writes K.puts setup trials first bench.new }
+    ensures plays { (setup : Setup) (trials : List Trial) (first : Bench L K) →
+        Plays L.reads L.writes K.puts setup trials first bench.old →
+        Plays L.reads L.writes K.puts setup trials first bench.new }
 {
     bench.tell(&line_of(b"trial", told, &[trial.name]))?;
     if let Need::Coins(coins) = trial.need {
@@ -95,8 +100,11 @@ fn go<L: Line, K: Sink, S: Source, C: Clock>(
 ) -> Result<Done, Stop>
     requires of_plan { Contains plan.trials.now trial.now }
     requires there { Contains plan.setup.now.devices device.now }
-    ensures plays { (first : Bench L K) → Plays L.reads L.writes K.puts plan.entry.setup.now plan.entry.trials.now first bench.old → Plays L.reads L.writes K.puts plan.entry.setup.now plan.entry.trials.now first bench.new }
-    ensures shows { IfOk result (ShowsIf plan.entry.setup.now (trial.now ∷ []) trial.now.premise bench.new.sent.items) }
+    ensures plays { (first : Bench L K) →
+        Plays L.reads L.writes K.puts plan.entry.setup.now plan.entry.trials.now first bench.old →
+        Plays L.reads L.writes K.puts plan.entry.setup.now plan.entry.trials.now first bench.new }
+    ensures shows { IfOk result (ShowsIf plan.entry.setup.now (trial.now ∷ []) trial.now.premise
+        bench.new.sent.items) }
 {
     let mut spans = Spans {
         longest: 0,
@@ -139,7 +147,9 @@ fn take_span(spans: &mut Spans, span: u64) {
 
 /// Tells the longest span and the mean one.
 fn tell_spans<L: Line, K: Sink>(bench: &mut Bench<L, K>, told: u8, spans: Spans) -> Result<(), Stop>
-    ensures plays { (setup : Setup) (trials : List Trial) (first : Bench L K) → Plays L.reads L.writes K.puts setup trials first bench.old → Plays L.reads L.writes K.puts setup trials first bench.new }
+    ensures plays { (setup : Setup) (trials : List Trial) (first : Bench L K) →
+        Plays L.reads L.writes K.puts setup trials first bench.old →
+        Plays L.reads L.writes K.puts setup trials first bench.new }
 {
     let mean = if spans.many == 0 {
         0
@@ -160,8 +170,11 @@ fn go_round<L: Line, K: Sink, S: Source>(
 ) -> Result<Done, Stop>
     requires of_plan { Contains plan.trials.now trial.now }
     requires there { Contains plan.setup.now.devices turn.device.now }
-    ensures plays { (first : Bench L K) → Plays L.reads L.writes K.puts plan.entry.setup.now plan.entry.trials.now first bench.old → Plays L.reads L.writes K.puts plan.entry.setup.now plan.entry.trials.now first bench.new }
-    ensures shows { IfOk result (ShowsIf plan.entry.setup.now (trial.now ∷ []) turn.entry.premise bench.new.sent.items) }
+    ensures plays { (first : Bench L K) →
+        Plays L.reads L.writes K.puts plan.entry.setup.now plan.entry.trials.now first bench.old →
+        Plays L.reads L.writes K.puts plan.entry.setup.now plan.entry.trials.now first bench.new }
+    ensures shows { IfOk result (ShowsIf plan.entry.setup.now (trial.now ∷ []) turn.entry.premise
+        bench.new.sent.items) }
 {
     for step in trial.steps {
         let done = act(bench, plan, person, turn, memory, *step)?;
@@ -182,8 +195,11 @@ fn conclude<L: Line, K: Sink>(
     done: Done,
 ) -> Result<bool, Stop>
     requires of_plan { Contains plan.trials.now trial.now }
-    requires shows { ShowsIf plan.setup.now (trial.now ∷ []) trial.now.premise bench.old.sent.items done }
-    ensures plays { (first : Bench L K) → Plays L.reads L.writes K.puts plan.entry.setup.now plan.entry.trials.now first bench.old → Plays L.reads L.writes K.puts plan.entry.setup.now plan.entry.trials.now first bench.new }
+    requires shows { ShowsIf plan.setup.now (trial.now ∷ []) trial.now.premise bench.old.sent.items
+        done }
+    ensures plays { (first : Bench L K) →
+        Plays L.reads L.writes K.puts plan.entry.setup.now plan.entry.trials.now first bench.old →
+        Plays L.reads L.writes K.puts plan.entry.setup.now plan.entry.trials.now first bench.new }
 {
     match done {
         Done::On => findings.note(told, trial.premise, Standing::Kept)?,

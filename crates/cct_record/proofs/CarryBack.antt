@@ -1,4 +1,4 @@
--- What stands at the places of the fields of bodies is the carry that they spell.
+-- What is at the places of the fields of bodies is the carry that they spell.
 use Rattle.std.proofs.Common.{◌≡◌, ℕ, ◌*◌, ◌^◌, ◌<◌, ◌≤◌, List, [], ◌∷◌, ◌++◌, length, map, refl, sym, ◌∙◌, ap, subst, Some, arith}
 use Rattle.std.specs.Prelude.{All}
 use Rattle.std.proofs.lemmas.List.Elements.{All-head, All-tail}
@@ -119,7 +119,7 @@ refused_short many bodies few none =
     λ c spells. none c spells.rightly.epochs_few spells.rightly.orders_few
     (ap carry_read (sym spells.spelt) ∙ carry_back many c few spells.rightly)
 
--- Nor do those that don't spell what stands in them.
+-- Nor do those that don't spell what is in them.
 pub refused_carry : (many : ℕ) (bodies : List (List ℕ)) (at : Carry) → many < 2 ^ 32 → carry_read bodies ≡ Some at
     → (SpellsCarry many at bodies → ⊥) → SpellsNone many bodies
 refused_carry many bodies at few is not_spelt =

@@ -1,4 +1,4 @@
--- What stands at the places of the fields of a body is the record that it spells.
+-- What is at the places of the fields of a body is the record that it spells.
 use Rattle.std.proofs.Common.{◌≡◌, ℕ, ◌^◌, ◌<◌, ◌≤◌, List, [], ◌∷◌, length, refl, ◌∙◌, ap, subst, Some, None, arith}
 use Rattle.std.proofs.lemmas.Nat.{from_le_bytes-to_le_bytes_2, from_le_bytes-to_le_bytes_4}
 use Rattle.cct_model_lines.specs.terms.coin.Coin.{Coin}
@@ -80,7 +80,7 @@ refused_unknown body unknown = record {
       cc;
 }
 
--- Nor does one that doesn't spell what stands in it.
+-- Nor does one that doesn't spell what is in it.
 pub refused_other : (body : List ℕ) (at : Record) → record_at body ≡ Some at → (Spells at body → ⊥) → IsRefused body
 refused_other body at is not_spelt = record {
   none = λ r fits spelt.

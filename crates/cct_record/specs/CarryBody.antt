@@ -13,12 +13,14 @@ use Rattle.cct_record.specs.Fields.{four_at, three_at, two_at}
 -- The body of the last id and of three sums of value.
 unfoldable pub first_sums : Carry → List ℕ
 first_sums c =
-    filled ((9 ∷ to_le_bytes w32 c.last_id) ++ to_le_bytes w64 c.value ++ to_le_bytes w64 c.paid_value
+    filled ((9 ∷ to_le_bytes w32 c.last_id) ++ to_le_bytes w64 c.value
+    ++ to_le_bytes w64 c.paid_value
     ++ to_le_bytes w64 c.odd_value)
 
 -- The body of three sums of numbers.
 unfoldable pub second_sums : Carry → List ℕ
-second_sums c = filled ((10 ∷ to_le_bytes w64 c.posted) ++ to_le_bytes w64 c.lost ++ to_le_bytes w64 c.paid)
+second_sums c =
+    filled ((10 ∷ to_le_bytes w64 c.posted) ++ to_le_bytes w64 c.lost ++ to_le_bytes w64 c.paid)
 
 -- The body of two more.
 unfoldable pub third_sums : Carry → List ℕ
@@ -34,7 +36,8 @@ order_body o = filled ((5 ∷ o.addr ∷ to_le_bytes w32 o.id) ++ o.count ∷ th
 
 -- The bodies of a carry: three of sums, then its epochs, then its orders.
 abbrev pub bodies_of : Carry → List (List ℕ)
-bodies_of c = first_sums c ∷ second_sums c ∷ third_sums c ∷ (map epoch_body c.epochs ++ map order_body c.orders)
+bodies_of c = first_sums c ∷ second_sums c ∷ third_sums c
+    ∷ (map epoch_body c.epochs ++ map order_body c.orders)
 
 -- Bodies spell a carry that may be that of so many records.
 pub record SpellsCarry (many : ℕ) (c : Carry) (bodies : List (List ℕ)) : Type 0 where
@@ -48,8 +51,10 @@ SpellsNone many bodies = (c : Carry) → SpellsCarry many c bodies → ⊥
 -- The number of the eight bytes from a place on.
 abbrev pub eight_at : List ℕ → ℕ → ℕ
 eight_at body at =
-    from_le_bytes w64 (slice_index body at ∷ slice_index body (at + 1) ∷ slice_index body (at + 2) ∷ slice_index body
-    (at + 3) ∷ slice_index body (at + 4) ∷ slice_index body (at + 5) ∷ slice_index body (at + 6) ∷ slice_index body
+    from_le_bytes w64 (slice_index body at ∷ slice_index body (at + 1) ∷ slice_index body (at + 2)
+    ∷ slice_index body
+    (at + 3) ∷ slice_index body (at + 4) ∷ slice_index body (at + 5) ∷ slice_index body (at + 6)
+    ∷ slice_index body
     (at + 7) ∷ [])
 
 -- The epoch whose fields stand in a body.
@@ -73,12 +78,14 @@ order_read body = record {
 -- The epochs of the first bodies, of the kind of an epoch.
 abbrev pub epochs_read : List (List ℕ) → List CarryEpoch
 epochs_read [] = []
-epochs_read (body ∷ bodies) = if slice_index body 0 == 12 then epoch_read body ∷ epochs_read bodies else []
+epochs_read (body ∷ bodies) =
+    if slice_index body 0 == 12 then epoch_read body ∷ epochs_read bodies else []
 
 -- The orders of those after them.
 abbrev pub orders_read : List (List ℕ) → List CarryOrder
 orders_read [] = []
-orders_read (body ∷ bodies) = if slice_index body 0 == 12 then orders_read bodies else map order_read (body ∷ bodies)
+orders_read (body ∷ bodies) =
+    if slice_index body 0 == 12 then orders_read bodies else map order_read (body ∷ bodies)
 
 -- The carry whose numbers stand in bodies, whether or not they spell one.
 unfoldable pub carry_read : List (List ℕ) → Option Carry

@@ -14,7 +14,8 @@ old_epoch_body e = filled ((12 ∷ e.addr ∷ to_le_bytes w16 e.mask) ++ e.count
 -- The bodies of a carry: those of today, but for its epochs.
 abbrev pub old_bodies_of : Carry → List (List ℕ)
 old_bodies_of c =
-    first_sums c ∷ second_sums c ∷ third_sums c ∷ (map old_epoch_body c.epochs ++ map order_body c.orders)
+    first_sums c ∷ second_sums c ∷ third_sums c
+    ∷ (map old_epoch_body c.epochs ++ map order_body c.orders)
 
 -- The accept counter of an epoch is 0, as no old body has one.
 abbrev pub IsOldEpoch : CarryEpoch → Type 0

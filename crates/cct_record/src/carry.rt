@@ -2,15 +2,16 @@
 ghost use Rattle.std.specs.Prelude.{◌≡◌, ℕ, ◌+◌, ◌≤◌, ◌++◌, length, map};
 ghost use Rattle.arrayvec.specs.ArrayVec.{array_vec_len};
 ghost use Rattle.cct_model_lines.specs.Carried.{IsRightly};
-ghost use Rattle.cct_record.specs.CarryBody.{bodies_of, epoch_body, first_sums, order_body, second_sums, third_sums};
+ghost use Rattle.cct_record.specs.CarryBody.{bodies_of, epoch_body, first_sums, order_body};
+ghost use Rattle.cct_record.specs.CarryBody.{second_sums, third_sums};
 
 use crate::kind::{BODIES, BODY, FIRST_SUMS, OPENED, RUNNING, SECOND_SUMS, THIRD_SUMS};
 use crate::writing::{add, add_id, filled_up, three_bytes};
 use arrayvec::ArrayVec;
 use cct_model_lines::{Carry, CarryEpoch, CarryOrder};
 
-/// Puts the bodies of a carry in the place of what was in `bodies`: three of sums, then one for each epoch and one for
-/// each order (`docs/JOURNAL.md`, "The carry").
+/// Puts the bodies of a carry in the place of what was in `bodies`: three of sums, then one for
+/// each epoch and one for each order (`docs/JOURNAL.md`, "The carry").
 ///
 /// The carry has to be one that some number of records may have.
 pub fn encode_carry(carry: &Carry, bodies: &mut ArrayVec<[u8; 31], 35>)

@@ -1,8 +1,12 @@
 //! Bodies are read as the carry that they spell.
-ghost use Rattle.std.specs.Prelude.{◌≡◌, ℕ, ◌+◌, ◌≤◌, ◌↔◌, All, IfNone, IfSome, IsTrue, drop, length, map, take};
-ghost use Rattle.cct_model_lines.specs.Carried.{AreSmall, EpochFits, IsBelow, IsRightly, OrderFits, Rise, addr_of_epoch, addr_of_order};
+ghost use Rattle.std.specs.Prelude.{◌≡◌, ℕ, ◌+◌, ◌≤◌, ◌↔◌, All, IfNone, IfSome, IsTrue, drop};
+ghost use Rattle.std.specs.Prelude.{length, map, take};
+ghost use Rattle.cct_model_lines.specs.Carried.{AreSmall, EpochFits, IsBelow, IsRightly, OrderFits};
+ghost use Rattle.cct_model_lines.specs.Carried.{Rise, addr_of_epoch, addr_of_order};
 ghost use Rattle.cct_model_lines.specs.declared.carry.Carry.{Carry};
-ghost use Rattle.cct_record.specs.CarryBody.{SpellsCarry, SpellsNone, bodies_of, carry_read, eight_at, epoch_read, epochs_read, order_read, orders_read};
+ghost use Rattle.cct_record.specs.CarryBody.{SpellsCarry, SpellsNone, bodies_of, carry_read};
+ghost use Rattle.cct_record.specs.CarryBody.{eight_at, epoch_read, epochs_read, order_read};
+ghost use Rattle.cct_record.specs.CarryBody.{orders_read};
 ghost use Rattle.cct_record.specs.CarryTests.{EntriesFit};
 
 use crate::encode_carry;
@@ -11,8 +15,9 @@ use crate::reading::{four_at, three_at, two_at};
 use arrayvec::ArrayVec;
 use cct_model_lines::{Carry, CarryEpoch, CarryEpochs, CarryOrder, CarryOrders, DEVICES};
 
-/// The carry of `base` records that bodies spell (`docs/JOURNAL.md`, "The carry"), or none where they spell none: they
-/// aren't the bodies of a carry in their order, or no carry of so many records has these numbers.
+/// The carry of `base` records that bodies spell (`docs/JOURNAL.md`, "The carry"), or none where
+/// they spell none: they aren't the bodies of a carry in their order, or no carry of so many
+/// records has these numbers.
 #[tactic(auto, using(crate::proofs::CarryBack::refused_short, crate::proofs::CarryBack::refused_carry))]
 pub fn read_carry(base: u32, bodies: &[[u8; 31]]) -> Option<Carry>
     ensures spelt { IfSome result (λ c. SpellsCarry base c bodies.now) }
@@ -97,7 +102,8 @@ fn orders_above(addr: u8, orders: &[CarryOrder]) -> bool
     }
 }
 
-/// Whether a carry has at most 32 epochs and orders together, and at most as many as there are records.
+/// Whether a carry has at most 32 epochs and orders together, and at most as many as there are
+/// records.
 fn are_few(base: u32, carry: &Carry) -> bool
     ensures { IsTrue result ↔ ((length carry.now.epochs + length carry.now.orders ≤ 32)
         × (length carry.now.epochs + length carry.now.orders ≤ base)) }
@@ -137,8 +143,8 @@ fn are_at_most(most: u64, sums: &[u64]) -> bool
     sums.iter().all(|sum| *sum <= most)
 }
 
-/// The carry whose numbers stand in bodies, or none where there are fewer than three bodies, or more epochs or orders
-/// than devices.
+/// The carry whose numbers stand in bodies, or none where there are fewer than three bodies, or
+/// more epochs or orders than devices.
 #[tactic(auto, unfolding(crate::specs::CarryBody::carry_read))]
 fn carry_at(bodies: &[[u8; BODY]]) -> Option<Carry>
     ensures stands { IfSome result (λ c. carry_read bodies.now ≡ Some c) }
@@ -167,11 +173,15 @@ fn carry_at(bodies: &[[u8; BODY]]) -> Option<Carry>
     }
 }
 
-/// The epochs and the orders that stand in bodies, or none where there are more of either than devices.
+/// The epochs and the orders that stand in bodies, or none where there are more of either than
+/// devices.
 fn entries_at(bodies: &[[u8; BODY]]) -> Option<(CarryEpochs, CarryOrders)>
-    ensures epochs { IfSome result (λ entries. (entries.0 ≡ epochs_read bodies.now) × All EpochFits entries.0) }
-    ensures orders { IfSome result (λ entries. (entries.1 ≡ orders_read bodies.now) × All OrderFits entries.1) }
-    ensures none { IfNone result (length (epochs_read bodies.now) ≤ DEVICES → length (orders_read bodies.now) ≤ DEVICES → ⊥) }
+    ensures epochs { IfSome result (λ entries. (entries.0 ≡ epochs_read bodies.now)
+        × All EpochFits entries.0) }
+    ensures orders { IfSome result (λ entries. (entries.1 ≡ orders_read bodies.now)
+        × All OrderFits entries.1) }
+    ensures none { IfNone result (length (epochs_read bodies.now) ≤ DEVICES →
+        length (orders_read bodies.now) ≤ DEVICES → ⊥) }
 {
     let (epochs, orders) = bodies.split_at(epoch_count(bodies));
     if DEVICES < epochs.len() || DEVICES < orders.len() {

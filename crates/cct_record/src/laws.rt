@@ -23,7 +23,8 @@ pub fn bodies_spell_one_carry()
 
 /// No two records have the same old body.
 pub fn an_old_body_spells_one_record()
-    ensures { (x : Record) (y : Record) (body : List ℕ) → OldSpells x body → OldSpells y body → x ≡ y }
+    ensures { (x : Record) (y : Record) (body : List ℕ) → OldSpells x body → OldSpells y body → x
+        ≡ y }
 {}
 
 /// No two carries have the same old bodies.

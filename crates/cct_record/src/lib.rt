@@ -1,5 +1,5 @@
-//! The records of the host's journal as bodies of 31 bytes, and a carry as some of them: one spelling for each, both
-//! ways (`docs/JOURNAL.md`).
+//! The records of the host's journal as bodies of 31 bytes, and a carry as some of them: one
+//! spelling for each, both ways (`docs/JOURNAL.md`).
 #![tactic(auto)]
 
 mod carry;

@@ -9,11 +9,12 @@ use crate::{read, read_carry};
 use arrayvec::ArrayVec;
 use cct_model_lines::{Carry, Record};
 
-/// The record that a body of a journal of version 1 or 2 spells (`docs/JOURNAL.md`, "Old bodies"), or none where no
-/// record is spelt so: the kind isn't known, more than five coins are said, a coin has the coin place 0, or a byte after
-/// the fields isn't 0.
+/// The record that a body of a journal of version 1 or 2 spells (`docs/JOURNAL.md`, "Old bodies"),
+/// or none where no record is spelt so: the kind isn't known, more than five coins are said, a coin
+/// has the coin place 0, or a byte after the fields isn't 0.
 ///
-/// Both versions spelt records alike. The accept counter is 0, and so is the number of coins that a broken epoch lost.
+/// Both versions spelt records alike. The accept counter is 0, and so is the number of coins that a
+/// broken epoch lost.
 pub fn read_old(version: u8, bytes: &[u8; 31]) -> Option<Record>
     requires from_1 { 1 ≤ version }
     requires to_2 { version ≤ 2 }
@@ -24,9 +25,9 @@ pub fn read_old(version: u8, bytes: &[u8; 31]) -> Option<Record>
     read(&today(bytes)?)
 }
 
-/// The carry of `base` records that the bodies of a journal of version 2 spell (`docs/JOURNAL.md`, "Old bodies"), or
-/// none where they spell none: they aren't the bodies of a carry in their order, or no carry of so many records has these
-/// numbers. The accept counters of its epochs are 0.
+/// The carry of `base` records that the bodies of a journal of version 2 spell (`docs/JOURNAL.md`,
+/// "Old bodies"), or none where they spell none: they aren't the bodies of a carry in their order,
+/// or no carry of so many records has these numbers. The accept counters of its epochs are 0.
 pub fn read_old_carry(base: u32, bodies: &[[u8; 31]]) -> Option<Carry>
     ensures spelt { IfSome result (λ c. OldSpellsCarry base c bodies.now) }
     // Only bodies that spell no carry of so many records.

@@ -7,8 +7,9 @@ use crate::encode;
 use crate::kind::{BODY, BROKEN, CLOSED, COUNTS, EPOCH, EPOCH_END, ODD, OPENED, READING, SOLD};
 use cct_model_lines::{Coin, Coins, EVENTS, Record};
 
-/// The record that a body spells (`docs/JOURNAL.md`, "The body of a record"), or none where no record is spelt so: the
-/// kind isn't known, more than five coins are said, a coin has the coin place 0, or a byte after the fields isn't 0.
+/// The record that a body spells (`docs/JOURNAL.md`, "The body of a record"), or none where no
+/// record is spelt so: the kind isn't known, more than five coins are said, a coin has the coin
+/// place 0, or a byte after the fields isn't 0.
 #[tactic(auto, using(crate::proofs::Spellings::refused_unknown, crate::proofs::Spellings::refused_other))]
 pub fn read(bytes: &[u8; 31]) -> Option<Record>
     ensures spelt { IfSome result (λ r. Spells r bytes.now) }
@@ -65,7 +66,7 @@ fn are_placed(coins: &Coins) -> bool
     coins.as_slice().iter().all(|coin| 1 <= coin.place)
 }
 
-/// What stands in a body at the places of the fields of its kind, or none where the kind isn't known.
+/// What is in a body at the places of the fields of its kind, or none where the kind isn't known.
 #[tactic(auto, unfolding(crate::specs::Fields::record_at))]
 fn record_at(bytes: &[u8; BODY]) -> Option<Record>
     ensures { result ≡ record_at bytes.now }

@@ -3,20 +3,23 @@ ghost use Rattle.std.specs.Prelude.{◌≡◌, ◌+◌, ◌-◌, ◌≤◌, ◌+
 ghost use Rattle.std.specs.Int.{to_le_bytes, w32};
 ghost use Rattle.arrayvec.specs.ArrayVec.{array_vec_len};
 ghost use Rattle.cct_model_lines.specs.Request.{three_bytes};
-ghost use Rattle.cct_record.specs.Body.{Encodable, FitsBytes, InRange, body_of, coin_fields, coins_fields, fields_of};
+ghost use Rattle.cct_record.specs.Body.{Encodable, FitsBytes, InRange, body_of, coin_fields};
+ghost use Rattle.cct_record.specs.Body.{coins_fields, fields_of};
 
 use crate::kind::{BODY, BROKEN, CLOSED, EPOCH, EPOCH_END, ODD, OPENED, READING, SOLD};
 use arrayvec::ArrayVec;
 use cct_model_lines::{Coin, Coins, EVENTS, Record};
 
-/// The body of a record: its kind and its fields, filled up with 0 (`docs/JOURNAL.md`, "The body of a record").
+/// The body of a record: its kind and its fields, filled up with 0 (`docs/JOURNAL.md`, "The body of
+/// a record").
 ///
-/// Life counts, accept counters and numbers of lost coins have to be below 2^24, and the coin places of posted coins at
-/// least 1.
+/// Life counts, accept counters and numbers of lost coins have to be below 2^24, and the coin
+/// places of posted coins at least 1.
 #[tactic(auto, unfolding(crate::specs::Body::body_of))]
 pub fn encode(entry: &Record) -> [u8; 31]
     requires { Encodable entry.now }
-    // Exactly one body for each record; a record without sense, such as an order of 0 coins, has one too.
+    // Exactly one body for each record; a record without sense, such as an order of 0 coins, has
+    // one too.
     ensures body { result ≡ body_of entry.now }
     ensures in_range { InRange entry.now }
 {

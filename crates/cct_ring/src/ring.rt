@@ -8,12 +8,13 @@ use cct_model_wire::{Credits, EVENTS, Pair};
 use circular_buffer::HeapCircularBuffer;
 use std::alloc::{AllocError, Global};
 
-/// What stands in a place for which there is no event yet.
+/// What is in a place for which there is no event yet.
 const NO_EVENT: Pair = Pair { a: 0, b: 0 };
 
 /// The credit buffer of a coin acceptor: the event counter, and the last five events, newest first.
 ///
-/// A contract tells a buffer by the list of all events put into it since it was made or cleared, newest first.
+/// A contract shows a buffer by the list of all events put into it since it was made or cleared,
+/// newest first.
 #[derive(Debug, Drop)]
 pub struct CreditRing {
     counter: u8,
@@ -24,7 +25,8 @@ pub struct CreditRing {
 impl CreditRing {
     ghost use Rattle.cct_ring.specs.Ring.{Holds};
 
-    /// A credit buffer without events. This takes all memory that it ever has: room for five events.
+    /// A credit buffer without events. This takes all memory that it ever has: room for five
+    /// events.
     ///
     /// Fails only where there is no memory for them.
     pub fn new(alloc: Global) -> Result<CreditRing, AllocError>
@@ -34,10 +36,11 @@ impl CreditRing {
         Ok(CreditRing { counter: 0, newest })
     }
 
-    /// Puts in an event: the counter rises, from 255 to 1, and of six events the oldest is forgotten. This can't be
-    /// refused, and takes no memory.
+    /// Puts in an event: the counter rises, from 255 to 1, and of six events the oldest is
+    /// forgotten. This can't be refused, and takes no memory.
     pub fn push(&mut self, pair: Pair)
-        ensures one_more { (pushed : List Pair) → Holds self.old pushed → Holds self.new (pair ∷ pushed) }
+        ensures one_more { (pushed : List Pair) → Holds self.old pushed →
+            Holds self.new (pair ∷ pushed) }
     {
         self.counter = self.counter.checked_add(1).unwrap_or(1);
         self.newest.push_front(pair);
@@ -51,8 +54,8 @@ impl CreditRing {
         self.newest.clear();
     }
 
-    /// What header 229 reads: the event counter, which is 0 before the first event, then 1 to 255, and 1 again; and
-    /// the last five events, newest first, filled up with (0, 0).
+    /// What header 229 reads: the event counter, which is 0 before the first event, then 1 to 255,
+    /// and 1 again; and the last five events, newest first, filled up with (0, 0).
     pub fn reading(&self) -> Credits
         ensures credits { (pushed : List Pair) → Holds self.now pushed →
             result ≡ record { counter = counter (length pushed); pairs = last_five pushed } }

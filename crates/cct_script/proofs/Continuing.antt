@@ -233,13 +233,13 @@ module _ {Stage Read Script : Type 0} {k : Kind Stage Read Script} (l : Lawful k
   cut_closes number stage held left going none short end few =
       closed_at_end number stage (Some kind.Cut) held left none end (cut_rest number (k.is_over stage) held going short few)
 
-  -- nothing stands after the end
+  -- nothing is after the end
   end_closes : (number : ℕ) (stage : Stage) (held : List ℕ) (left : Option (List ℕ)) → k.is_over stage ≡ true → held ≡ []
       → IsAtEnd left → IsClosedIn k number stage None left held
   end_closes number stage [] left over none end = closed_at_end number stage None [] left refl end (rw over refl)
   end_closes number stage (byte ∷ bytes) left over none end = cc none
 
-  -- what an answer tells a script that hasn't ended: a line that it may have, or that it stops
+  -- what an answer shows a script that hasn't ended: a line that it may have, or that it stops
   abbrev pub Reads : Standing → Standing → Option (List ℕ) → Option (List ℕ) → ℕ → Stage → Result (List ℕ) ScriptStop
       → Type 0
   Reads old new left_before left number stage (Ok line) =

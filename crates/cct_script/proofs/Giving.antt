@@ -20,7 +20,7 @@ nowhere p xs fails (Some i) e =
 pub line_within : (held : List ℕ) (len : ℕ) → position is_line_feed held ≡ Some len → len < length held
 line_within held len e = (position-Some is_line_feed held len 0 e).0
 
--- no line feed stands before the first one
+-- no line feed is before the first one
 pub line_alone : (held : List ℕ) (len : ℕ) → position is_line_feed held ≡ Some len →
     position is_line_feed (take len held) ≡ None
 line_alone held len e =

@@ -1,5 +1,7 @@
--- What a line of a capture says: the devices that a monitor is to watch, and what a logger of the wire heard.
-use Rattle.std.specs.Prelude.{◌≤◌, ℕ, Bool, true, false, List, [], ◌∷◌, length, if◌then◌else◌, Option, Some, None, Result, Ok, Err, codes, bytes_eq, ⊤}
+-- What a line of a capture says: the devices that a monitor is to watch, and what a logger of the
+-- wire heard.
+use Rattle.std.specs.Prelude.{◌≤◌, ℕ, Bool, true, false, List, [], ◌∷◌, length, if◌then◌else◌}
+use Rattle.std.specs.Prelude.{Option, Some, None, Result, Ok, Err, codes, bytes_eq, ⊤}
 use Rattle.std.specs.Option.{ok_or}
 use Rattle.std.specs.List.{slice_split}
 use Rattle.cct_model_lines.specs.terms.wire.TheConstants.{MOST_HEARD, MOST_SENT}
@@ -59,7 +61,8 @@ tap_word word fields =
 -- Its fields, the first one its word.
 abbrev pub capture_fields : Bool → List (List ℕ) → Result CaptureLine LineKind
 capture_fields begun [] = Err kind.Word
-capture_fields begun (word ∷ fields) = if begun then tap_word word fields else watch_word word fields
+capture_fields begun (word ∷ fields) =
+    if begun then tap_word word fields else watch_word word fields
 
 -- What a line says, without its line feed, before or after `begin`; or why it is refused.
 unfoldable pub capture_line : Bool → List ℕ → Result CaptureLine LineKind
@@ -68,5 +71,6 @@ capture_line begun line = capture_fields begun (slice_split is_space line)
 -- The numbers of a line are in their ranges.
 abbrev pub IsCaptureLine : CaptureLine → Type 0
 IsCaptureLine (says.Watch addr check acceptor) = 2 ≤ addr
-IsCaptureLine (says.Tap sent heard) = (1 ≤ length sent) × (length sent ≤ MOST_SENT) × (length heard ≤ MOST_HEARD)
+IsCaptureLine (says.Tap sent heard) =
+    (1 ≤ length sent) × (length sent ≤ MOST_SENT) × (length heard ≤ MOST_HEARD)
 IsCaptureLine line = ⊤

@@ -1,5 +1,6 @@
 -- What a reader of endless lines gives.
-use Rattle.std.specs.Prelude.{◌≡◌, ℕ, ◌+◌, ◌<◌, ◌≤◌, Bool, true, false, List, [], ◌∷◌, ◌++◌, length, Option, Result, Ok, Err, take, drop, ⊤}
+use Rattle.std.specs.Prelude.{◌≡◌, ℕ, ◌+◌, ◌<◌, ◌≤◌, Bool, true, false, List, [], ◌∷◌, ◌++◌, length}
+use Rattle.std.specs.Prelude.{Option, Result, Ok, Err, take, drop, ⊤}
 use Rattle.std.specs.List.{All}
 use Rattle.std.specs.Io.KnownBytes.{IsAtEnd}
 use Rattle.cct_model_lines.specs.Script.{is_line_feed, most_bytes}
@@ -13,7 +14,8 @@ use Rattle.cct_script.specs.declared.lines.LinesNo.{LinesNo}
 use Rattle.cct_script.specs.declared.lines.LinesNo.TheVariants as no
 use Rattle.cct_script.specs.Window.{Fills}
 
--- What comes next in an input: a line that isn't too long, one that is, the end within a line, or the end.
+-- What comes next in an input: a line that isn't too long, one that is, the end within a line, or
+-- the end.
 pub data Given : Type 0 where
   text : (line : List ℕ) → Given
   long : Given
@@ -24,27 +26,33 @@ pub data Given : Type 0 where
 abbrev pub IsOneLine : List ℕ → Type 0
 IsOneLine line = All (λ byte. is_line_feed byte ≡ false) line
 
--- The bytes up to and with the first line feed are given up, and the others are left; or there is none, and all are.
+-- The bytes up to and with the first line feed are given up, and the others are left; or there is
+-- none, and all are.
 abbrev pub DropsLine : List ℕ → List ℕ → Bool → Type 0
 DropsLine old new true = (line : List ℕ) × IsOneLine line × (old ≡ line ++ 10 ∷ new)
 DropsLine old new false = IsOneLine old × (new ≡ [])
 
--- What comes next after the bytes held, and what is held then. A line ends with its line feed, and has 1,200 bytes at most
--- or is too long. The input was cut within one, or ended after one. Or the source failed, or a line goes on for so long,
--- and nothing is said of what is held.
-abbrev pub GivesNext : List ℕ → List ℕ → Option (List ℕ) → Option (List ℕ) → Result Given LinesNo → Type 0
+-- What comes next after the bytes held, and what is held then. A line ends with its line feed, and
+-- has 1,200 bytes at most or is too long. The input was cut within one, or ended after one. Or the
+-- source failed, or a line goes on for so long, and nothing is said of what is held.
+abbrev pub GivesNext : List ℕ → List ℕ → Option (List ℕ) → Option (List ℕ) → Result Given LinesNo →
+    Type 0
 GivesNext held kept left_before left (Ok (text line)) =
     (length line ≤ most_bytes) × IsOneLine line × Fills held (line ++ 10 ∷ kept) left_before left
 GivesNext held kept left_before left (Ok long) =
-    (line : List ℕ) × (most_bytes < length line) × IsOneLine line × Fills held (line ++ 10 ∷ kept) left_before left
+    (line : List ℕ) × (most_bytes < length line) × IsOneLine line
+    × Fills held (line ++ 10 ∷ kept) left_before left
 GivesNext held kept left_before left (Ok cut) =
-    (line : List ℕ) × (1 ≤ length line) × IsOneLine line × Fills held line left_before left × (kept ≡ [])
+    (line : List ℕ) × (1 ≤ length line) × IsOneLine line × Fills held line left_before left
+    × (kept ≡ [])
     × IsAtEnd left
-GivesNext held kept left_before left (Ok ended) = Fills held [] left_before left × (kept ≡ []) × IsAtEnd left
+GivesNext held kept left_before left (Ok ended) =
+    Fills held [] left_before left × (kept ≡ []) × IsAtEnd left
 GivesNext held kept left_before left (Err no.Read) =
     (line : List ℕ) × IsOneLine line × Fills held line left_before left
 GivesNext held kept left_before left (Err why) =
-    (line : List ℕ) × (most_bytes + MOST_PASSED < length line) × IsOneLine line × Fills held line left_before left
+    (line : List ℕ) × (most_bytes + MOST_PASSED < length line) × IsOneLine line
+    × Fills held line left_before left
 
 -- What was found in the bytes held.
 abbrev pub found_given : List ℕ → Result Found LinesNo → Result Given LinesNo

@@ -20,6 +20,7 @@ read_into (Some done) new = Some new
 read_into None new = None
 
 -- What was read into a room is what the grammar says, and where that is something, it is in range.
-pub record Sets {T : Type 0} (result : Option (Unit {0})) (new : T) (said : Option T) (InRange : T → Type 0) : Type 0 where
+pub record Sets {T : Type 0} (result : Option (Unit {0})) (new : T) (said : Option T)
+    (InRange : T → Type 0) : Type 0 where
   pub reads : read_into result new ≡ said
   pub ranged : IfSome result (λ done. InRange new)

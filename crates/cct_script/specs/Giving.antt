@@ -1,5 +1,6 @@
 -- What a reader of lines gives.
-use Rattle.std.specs.Prelude.{◌≡◌, ℕ, ◌+◌, suc, ◌<◌, ◌≤◌, List, [], ◌∷◌, ◌++◌, length, Option, Some, None, Result}
+use Rattle.std.specs.Prelude.{◌≡◌, ℕ, ◌+◌, suc, ◌<◌, ◌≤◌, List, [], ◌∷◌, ◌++◌, length, Option, Some}
+use Rattle.std.specs.Prelude.{None, Result}
 use Rattle.std.specs.Prelude.{take, drop, Ok, Err}
 use Rattle.std.specs.List.{position}
 use Rattle.std.specs.Io.KnownBytes.{IsAtEnd}
@@ -26,21 +27,26 @@ abbrev pub Waits : Standing → Standing → Option (List ℕ) → Option (List 
 Waits old new left_before left = (new.given ≡ old.given) × Fills old.held new.held left_before left
 
 -- The next line, none at the end of the input, or why there is no line to give.
-abbrev pub Gives : Standing → Standing → Option (List ℕ) → Option (List ℕ) → Result (Option (List ℕ)) LinesNo → Type 0
+abbrev pub Gives : Standing → Standing → Option (List ℕ) → Option (List ℕ) →
+    Result (Option (List ℕ)) LinesNo → Type 0
 Gives old new left_before left (Ok (Some line)) =
     (old.given < most_lines) × (new.given ≡ suc old.given) × (length line ≤ most_bytes)
     × (position is_line_feed line ≡ None) × Fills old.held (line ++ 10 ∷ new.held) left_before left
-Gives old new left_before left (Ok None) = Waits old new left_before left × (new.held ≡ []) × IsAtEnd left
+Gives old new left_before left (Ok None) =
+    Waits old new left_before left × (new.held ≡ []) × IsAtEnd left
 Gives old new left_before left (Err no.TooMany) =
     Waits old new left_before left × (most_lines ≤ old.given) × (1 ≤ length new.held)
 Gives old new left_before left (Err no.Long) =
-    Waits old new left_before left × (old.given < most_lines) × (position is_line_feed new.held ≡ None)
+    Waits old new left_before left × (old.given < most_lines)
+    × (position is_line_feed new.held ≡ None)
     × (length new.held ≡ MOST_LINE + 1)
 Gives old new left_before left (Err no.Cut) =
-    Waits old new left_before left × (old.given < most_lines) × (position is_line_feed new.held ≡ None)
+    Waits old new left_before left × (old.given < most_lines)
+    × (position is_line_feed new.held ≡ None)
     × (1 ≤ length new.held) × (length new.held < MOST_LINE + 1) × IsAtEnd left
 Gives old new left_before left (Err no.Read) =
-    Waits old new left_before left × (position is_line_feed new.held ≡ None) × (most_lines ≤ old.given → new.held ≡ [])
+    Waits old new left_before left × (position is_line_feed new.held ≡ None)
+    × (most_lines ≤ old.given → new.held ≡ [])
 
 -- The bytes that an answer gives.
 abbrev pub line_given : Result Line LinesNo → Result (Option (List ℕ)) LinesNo

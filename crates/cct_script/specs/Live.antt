@@ -1,5 +1,6 @@
 -- What a line says to a host on a real line.
-use Rattle.std.specs.Prelude.{ℕ, List, [], ◌∷◌, if◌then◌else◌, Option, None, Result, Ok, Err, codes, bytes_eq, ⊤, ◌≤◌}
+use Rattle.std.specs.Prelude.{ℕ, List, [], ◌∷◌, if◌then◌else◌, Option, None, Result, Ok, Err, codes}
+use Rattle.std.specs.Prelude.{bytes_eq, ⊤, ◌≤◌}
 use Rattle.std.specs.Option.{ok_or, option_map}
 use Rattle.std.specs.List.{slice_split}
 use Rattle.cct_model_lines.specs.declared.command.TheConstants.{GREATEST_AMOUNT}
@@ -12,18 +13,18 @@ use Rattle.cct_model_lines.specs.Script.{IsCommand}
 use Rattle.cct_script.specs.declared.live.LiveLine.{LiveLine}
 use Rattle.cct_script.specs.declared.live.LiveLine.TheVariants as says
 
--- What stands after the word `do`: an address.
+-- What is after the word `do`: an address.
 abbrev pub do_form : List (List ℕ) → Option LiveLine
 do_form (a ∷ []) = option_map says.Do (address_in a)
 do_form fields = None
 
--- What stands after the word `order`: the number of an order, as a payment has it.
+-- What is after the word `order`: the number of an order, as a payment has it.
 abbrev pub order_form : List (List ℕ) → Option LiveLine
 order_form (i ∷ []) = option_map says.Order (ranged 1 4294967295 i)
 order_form fields = None
 
--- A step line of a script that a host on a real line knows: a command, `next`, `balance`, a line of the operator's desk or
--- `end`.
+-- A step line of a script that a host on a real line knows: a command, `next`, `balance`, a line of
+-- the operator's desk or `end`.
 abbrev pub of_step : Result Step LineKind → Result LiveLine LineKind
 of_step (Ok (step.Command c)) = Ok (says.Command c)
 of_step (Ok (step.Next addr)) = Ok (says.Next addr)
@@ -53,7 +54,8 @@ live_fields (word ∷ fields) line = live_word word fields line
 unfoldable pub live_line : List ℕ → Result LiveLine LineKind
 live_line line = live_fields (slice_split is_space line) line
 
--- The numbers of a command are in their ranges, as the number of an order and what a session is to begin with are.
+-- The numbers of a command are in their ranges, as the number of an order and what a session is to
+-- begin with are.
 abbrev pub IsTold : LiveLine → Type 0
 IsTold (says.Command c) = IsCommand c
 IsTold (says.Order id) = (1 ≤ id) × (id ≤ 4294967295)

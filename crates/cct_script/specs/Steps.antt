@@ -1,4 +1,5 @@
--- The words of step lines in groups of a few: what stands after none of a group's words, the next group says.
+-- The words of step lines in groups of a few: what is after none of a group's words, the next group
+-- says.
 use Rattle.std.specs.Prelude.{◌≡◌, ℕ, List, if◌then◌else◌, Option, None, Result, Ok, Err}
 use Rattle.std.specs.Prelude.{OnOk, codes, bytes_eq}
 use Rattle.std.specs.Option.{ok_or, option_map}
@@ -8,7 +9,8 @@ use Rattle.cct_model_lines.specs.declared.command.Step.TheVariants as step
 use Rattle.cct_model_lines.specs.declared.command.WireFault.TheVariants as fault
 use Rattle.cct_model_lines.specs.declared.entry.LineKind.{LineKind}
 use Rattle.cct_model_lines.specs.declared.entry.LineKind.TheVariants as kind
-use Rattle.cct_model_lines.specs.Grammar.{alone, change_step, crash_step, fault_step, path_step, pay_step, piece_in, place_step}
+use Rattle.cct_model_lines.specs.Grammar.{alone, change_step, crash_step, fault_step, path_step}
+use Rattle.cct_model_lines.specs.Grammar.{pay_step, piece_in, place_step}
 use Rattle.cct_model_lines.specs.Grammar.{route_step, start_step, step_at, stock_step, vend_step}
 use Rattle.cct_model_lines.specs.terms.wire.TheConstants.{MOST_HEARD, MOST_SENT}
 use Rattle.cct_model_lines.specs.Script.{IsInRange}
@@ -18,12 +20,15 @@ abbrev pub said_into : Result (Unit {0}) LineKind → Step → Result Step LineK
 said_into (Ok done) s = Ok s
 said_into (Err why) s = Err why
 
--- The answer and the step in its room are what the grammar says, and a step that is said is in range.
-pub record ReadsInto (result : Result (Unit {0}) LineKind) (s : Step) (said : Result Step LineKind) : Type 0 where
+-- The answer and the step in its room are what the grammar says, and a step that is said is in
+-- range.
+pub record ReadsInto (result : Result (Unit {0}) LineKind) (s : Step) (said : Result Step LineKind)
+    : Type 0 where
   pub reads : said_into result s ≡ said
   pub ranged : OnOk result (IsInRange s)
 
--- A wire fault with the bytes that a field spells in the place of its own; of any other step there is none.
+-- A wire fault with the bytes that a field spells in the place of its own; of any other step there
+-- is none.
 abbrev pub with_bytes : Step → List ℕ → Option Step
 with_bytes (step.Fault (fault.DevicesHear old)) field =
     option_map (λ bytes. step.Fault (fault.DevicesHear bytes)) (piece_in MOST_SENT field)

@@ -12,9 +12,10 @@ use cct_model_lines::{
 };
 use std::alloc::AllocError;
 
-/// Adds to a setup what a setup line says, `Begin` nothing. `Device` where the address of a new device is another's,
-/// where the setup has `DEVICES` devices, where a value is for no acceptor, or where texts are for no device; `Again` where
-/// the place has a value, or the device was given texts. Nothing is changed then.
+/// Adds to a setup what a setup line says, `Begin` nothing. `Device` where the address of a new
+/// device is another's, where the setup has `DEVICES` devices, where a value is for no acceptor, or
+/// where texts are for no device; `Again` where the place has a value, or the device was given
+/// texts. Nothing is changed then.
 #[tactic(auto, unfolding(cct_model_lines::specs::Grammar::added))]
 pub fn add(setup: &mut Setup, line: &SetupLine) -> Result<(), LineKind>
     requires { IsSetupLine line.now }
@@ -118,7 +119,8 @@ fn give_value(device: &mut DeviceSetup, place: u8, value: u32, id: [u8; 6]) -> R
     }
 }
 
-/// Puts a value and an identification at a place of those of all places, where the place has no value.
+/// Puts a value and an identification at a place of those of all places, where the place has no
+/// value.
 fn put_at(
     place: u8,
     value: u32,

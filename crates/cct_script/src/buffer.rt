@@ -1,6 +1,8 @@
 //! The lines of a script, taken from its source however many bytes it gives at a time.
-ghost use Rattle.std.specs.Prelude.{◌≡◌, ◌≢◌, ℕ, ◌+◌, ◌<◌, ◌≤◌, List, [], ◌∷◌, ◌++◌, ◌-◌, length, take, drop};
-ghost use Rattle.std.specs.Prelude.{position, slice_range, IfOk, IsErr, MatchResult, OnErr, None, Ok, Err};
+ghost use Rattle.std.specs.Prelude.{◌≡◌, ◌≢◌, ℕ, ◌+◌, ◌<◌, ◌≤◌, List, [], ◌∷◌, ◌++◌, ◌-◌, length};
+ghost use Rattle.std.specs.Prelude.{take, drop};
+ghost use Rattle.std.specs.Prelude.{position, slice_range, IfOk, IsErr, MatchResult, OnErr, None};
+ghost use Rattle.std.specs.Prelude.{Ok, Err};
 ghost use Rattle.std.specs.Io.KnownBytes.{Consumes, Keeps, IsAtEnd};
 ghost use Rattle.cct_edge.specs.Bytes.{Serves};
 ghost use Rattle.cct_model_lines.specs.Script.{is_line_feed};
@@ -74,7 +76,7 @@ impl LineBuffer {
         self.start += count;
     }
 
-    /// Takes more bytes from the source into all the room that is left, and tells how many.
+    /// Takes more bytes from the source into all the room that is left, and says how many.
     pub(crate) fn fill<S: Source>(&mut self, source: &mut S) -> Result<usize, Failed>
         requires { length self.old < ROOM }
         // the bytes held

@@ -1,6 +1,7 @@
 //! The lines of a capture (`docs/AUDIT.md`).
 ghost use Rattle.std.specs.Prelude.{◌≡◌, ◌≤◌, length, IfOk, MatchOption};
-ghost use Rattle.cct_script.specs.Capture.{IsCaptureLine, acceptor_in, capture_line, sent_in, tap_form, tap_word, watch_form, watch_word};
+ghost use Rattle.cct_script.specs.Capture.{IsCaptureLine, acceptor_in, capture_line, sent_in};
+ghost use Rattle.cct_script.specs.Capture.{tap_form, tap_word, watch_form, watch_word};
 ghost use Rattle.cct_script.specs.Fields.{Reads, fields_after};
 
 use crate::fields::{alone, first_field, three, two};
@@ -23,7 +24,8 @@ const HOPPER: &[u8] = b"hopper";
 /// What a line of a capture says.
 #[derive(Debug, Drop)]
 pub enum CaptureLine {
-    /// `watch A CHECK KIND`: an acceptor of coins or a hopper is at the address, 2 to 255, with this check.
+    /// `watch A CHECK KIND`: an acceptor of coins or a hopper is at the address, 2 to 255, with
+    /// this check.
     Watch {
         addr: u8,
         kind: CheckKind,
@@ -31,7 +33,8 @@ pub enum CaptureLine {
     },
     /// `begin`: all devices are named, and the taps follow.
     Begin,
-    /// `tap SENT HEARD`: one exchange. A host sent these bytes, one at least; then the logger heard these, the echo first.
+    /// `tap SENT HEARD`: one exchange. A host sent these bytes, one at least; then the logger heard
+    /// these, the echo first.
     Tap {
         sent: Sent,
         heard: Piece,
@@ -40,9 +43,10 @@ pub enum CaptureLine {
     End,
 }
 
-/// What a line of a capture says, without its line feed: `watch` or `begin` before the line `begin`, and after it, where
-/// `begun` is true, `tap` or `end`. `Word` where the first field is no word of these, else `Form` where the line isn't in a
-/// form of its word. A line so read may still name an address again, or one device too many; the caller has to tell.
+/// What a line of a capture says, without its line feed: `watch` or `begin` before the line
+/// `begin`, and after it, where `begun` is true, `tap` or `end`. `Word` where the first field is no
+/// word of these, else `Form` where the line isn't in a form of its word. A line so read may still
+/// name an address again, or one device too many; the caller has to tell.
 #[tactic(auto, unfolding(crate::specs::Capture::capture_line))]
 pub fn read_capture_line(begun: bool, line: &[u8]) -> Result<CaptureLine, LineKind>
     ensures reads { result ≡ capture_line begun line.now }
@@ -120,9 +124,11 @@ fn tap_form(rest: Option<&[u8]>) -> Option<CaptureLine>
     Some(CaptureLine::Tap { sent, heard })
 }
 
-/// What was sent, as a field spells it: 1 to 260 bytes in hexadecimal of either case, two digits a byte.
+/// What was sent, as a field spells it: 1 to 260 bytes in hexadecimal of either case, two digits a
+/// byte.
 fn sent_in(field: &[u8]) -> Option<Sent>
-    ensures { Reads result (sent_in field.now) (λ sent. (1 ≤ length sent) × (length sent ≤ MOST_SENT)) }
+    ensures { Reads result (sent_in field.now)
+        (λ sent. (1 ≤ length sent) × (length sent ≤ MOST_SENT)) }
 {
     let piece = piece_in(MOST_SENT, field)?;
     match piece.as_slice() {

@@ -37,8 +37,8 @@ enum Found {
     End,
 }
 
-/// The lines of an input, one after another, however many they are: a line that is too long is passed over. Only one
-/// line's worth of bytes is held.
+/// The lines of an input, one after another, however many they are: a line that is too long is
+/// passed over. Only one line's worth of bytes is held.
 #[derive(Drop)]
 pub struct EndlessLines {
     buffer: LineBuffer,
@@ -85,11 +85,12 @@ impl EndlessLines {
         }
     }
 
-    /// What comes next: a line, one that is too long, the end within a line, or the end. It takes from the source only while
-    /// it holds no line feed.
+    /// What comes next: a line, one that is too long, the end within a line, or the end. It takes
+    /// from the source only while it holds no line feed.
     ///
-    /// `Read` comes where the source failed, and `Long` where a line is so long that it isn't passed over either: 1,048,576
-    /// bytes or more. After either of them the reader isn't asked again.
+    /// `Read` comes where the source failed, and `Long` where a line is so long that it isn't
+    /// passed over either: 1,048,576 bytes or more. After either of them the reader isn't asked
+    /// again.
     pub fn line<S: Source>(&mut self, source: &mut S) -> Result<NextLine<'_>, LinesNo>
         // Each line once, in order and whole, and each end exactly where it is.
         ensures* gives { sem 𝓛 (follows_so the_row the_row self.entry.ghost_name none (λ _ _. ⊤)
@@ -108,9 +109,10 @@ impl EndlessLines {
 }
 
 impl LineBuffer {
-    ghost use Rattle.cct_script.specs.Endless.{DropsLine, EndsWith, GivesNext, IsNoText, IsOneLine, found_given};
+    ghost use Rattle.cct_script.specs.Endless.{DropsLine, EndsWith, GivesNext, IsNoText, IsOneLine};
+    ghost use Rattle.cct_script.specs.Endless.{found_given};
 
-    /// Gives up the bytes that are left at the end of the input, and tells whether there were any.
+    /// Gives up the bytes that are left at the end of the input, and says whether there were any.
     fn end(&mut self) -> Found
         ensures all { self.new ≡ [] }
         ensures cut { EndsWith self.old result }
@@ -120,7 +122,8 @@ impl LineBuffer {
         if len == 0 { Found::End } else { Found::Cut }
     }
 
-    /// Gives up the bytes held up to and with the first line feed, and tells whether there is one; else all of them.
+    /// Gives up the bytes held up to and with the first line feed, and says whether there is one;
+    /// else all of them.
     fn drop_line(&mut self) -> bool
         ensures { DropsLine self.old self.new result }
     {

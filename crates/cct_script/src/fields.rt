@@ -6,7 +6,7 @@ ghost use Rattle.cct_script.specs.Fields.{fields_after};
 
 use crate::bytes::place_of;
 
-/// The first field of a line, and what stands after its space, if there is one.
+/// The first field of a line, and what is after its space, if there is one.
 pub(crate) fn first_field(line: &[u8]) -> (&[u8], Option<&[u8]>)
     ensures { slice_split is_space line.now ≡ result.0.now ∷ fields_after result.1 }
 {

@@ -1,6 +1,7 @@
-//! The whole script reader: the lines of a script, taken from its source however many bytes it gives at a time; what each
-//! line says, or why it is refused; and what a setup line adds to a setup (`docs/SCRIPT.md`). Numbers in decimal and
-//! pieces in hexadecimal are read by calls of their own, which serve whoever reads other lines too.
+//! The whole script reader: the lines of a script, taken from its source however many bytes it
+//! gives at a time; what each line says, or why it is refused; and what a setup line adds to a
+//! setup (`docs/SCRIPT.md`). Numbers in decimal and pieces in hexadecimal are read by calls of
+//! their own, which serve whoever reads other lines too.
 #![tactic(auto)]
 
 mod adding;

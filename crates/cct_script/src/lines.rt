@@ -1,5 +1,6 @@
 //! The lines of a script, one after another.
-ghost use Rattle.std.specs.Prelude.{◌≡◌, ◌≢◌, ◌≤◌, ◌<◌, [], drop, length, position, None, Err, IfOk, IfSome};
+ghost use Rattle.std.specs.Prelude.{◌≡◌, ◌≢◌, ◌≤◌, ◌<◌, [], drop, length, position, None, Err};
+ghost use Rattle.std.specs.Prelude.{IfOk, IfSome};
 ghost use Rattle.cct_edge.specs.Bytes.{Serves};
 ghost use Rattle.cct_model_lines.specs.Script.{is_line_feed};
 
@@ -34,7 +35,8 @@ pub enum LinesNo {
     TooMany,
 }
 
-/// The lines of a script: the bytes that were taken and not yet given, one line's worth, and how many lines were given.
+/// The lines of a script: the bytes that were taken and not yet given, one line's worth, and how
+/// many lines were given.
 #[derive(Drop)]
 pub struct Lines {
     buffer: LineBuffer,
@@ -63,14 +65,15 @@ impl Lines {
         }
     }
 
-    /// Finds the next line, and tells how many of the bytes at the front of the buffer it has.
+    /// Finds the next line, and says how many of the bytes at the front of the buffer it has.
     #[inline(always)]
     fn find<S: Source>(&mut self, source: &mut S) -> Result<Option<usize>, LinesNo>
         ensures gives { Gives (standing_of self.old) (standing_of self.new)
             (S.left source.old) (S.left source.new) (line_in self.new.buffer result) }
         ensures fits { IfOk result (λ found. IfSome found (λ len. len ≤ length self.new.buffer)) }
         ensures serves { Serves S.left S.faults source.old source.new (result ≡ Err LinesNo.Read) }
-        ensures still { position is_line_feed (standing_of self.old).held ≢ None → source.new ≡ source.old }
+        ensures still { position is_line_feed (standing_of self.old).held ≢ None → source.new
+            ≡ source.old }
         ensures takes { TakesForLine S.takes S.left (standing_of self.old).held source.old
             (standing_of self.new).held source.new (line_in self.new.buffer result) }
     {
@@ -129,15 +132,17 @@ impl Lines {
         }
     }
 
-    /// The next line, or the end of the input. It takes from the source only while it holds no line feed.
+    /// The next line, or the end of the input. It takes from the source only while it holds no line
+    /// feed.
     ///
-    /// `TooMany` comes exactly where 1,048,576 lines were given and a byte follows; else `Long` exactly where the next
-    /// 1,201 bytes have no line feed; else `Cut` exactly where the input ends after one or more bytes without a line
-    /// feed. What was taken stays held after a refusal.
+    /// `TooMany` comes exactly where 1,048,576 lines were given and a byte follows; else `Long`
+    /// exactly where the next 1,201 bytes have no line feed; else `Cut` exactly where the input
+    /// ends after one or more bytes without a line feed. What was taken stays held after a refusal.
     #[inline(always)]
     pub fn line<S: Source>(&mut self, source: &mut S) -> Result<Line<'_>, LinesNo>
-        // Each line once, in order and whole, and each end exactly where it is. Bytes are taken only while those held
-        // have no line feed, each time into all the room that is left, and none after a take that failed.
+        // Each line once, in order and whole, and each end exactly where it is. Bytes are taken
+        // only while those held have no line feed, each time into all the room that is left, and
+        // none after a take that failed.
         ensures* gives { sem 𝓛 (follows_so the_row the_row self.entry.ghost_name none (λ _ _. ⊤)
             (λ new. Gives (standing_of self.old) (standing_of new)
             (S.left source.old) (S.left source.new) (line_given result)
@@ -145,7 +150,8 @@ impl Lines {
             (standing_of new).held source.new (line_given result))) }
         ensures serves { Serves S.left S.faults source.old source.new (result ≡ Err LinesNo.Read) }
         // While a whole line is held, nothing is taken.
-        ensures still { position is_line_feed (standing_of self.old).held ≢ None → source.new ≡ source.old }
+        ensures still { position is_line_feed (standing_of self.old).held ≢ None → source.new
+            ≡ source.old }
     {
         match self.find(source) {
             Ok(Some(len)) => Ok(Line::Text(&self.buffer.held()[..len])),

@@ -29,11 +29,11 @@ pub enum LiveLine {
     Do { addr: u8 },
     /// `poll`: each acceptor whose epoch runs is read out, and each other job makes one attempt.
     Poll,
-    /// `balance`: what the operator has is told.
+    /// `balance`: what the operator has is reported.
     Balance,
-    /// `status`: how each device stands is told.
+    /// `status`: how each device stands is reported.
     Status,
-    /// `order ID`: what is known of the order with this number is told.
+    /// `order ID`: what is known of the order with this number is reported.
     Order { id: u32 },
     /// `stock A COUNT`: the operator counted the coins of a hopper.
     Stock { addr: u8, count: u32 },
@@ -45,9 +45,10 @@ pub enum LiveLine {
     End,
 }
 
-/// What a line says to a host on a real line, without its line feed: a command, `next`, `balance`, `stock`, `change`, `serve`
-/// or `end` as in a script, or `do A`, `poll`, `status` or `order ID`. `Word` where the first field is no word of these, a bench's `coin` or `crash` among them;
-/// else `Form` where the line isn't in a form of its word.
+/// What a line says to a host on a real line, without its line feed: a command, `next`, `balance`,
+/// `stock`, `change`, `serve` or `end` as in a script, or `do A`, `poll`, `status` or `order ID`.
+/// `Word` where the first field is no word of these, a bench's `coin` or `crash` among them; else
+/// `Form` where the line isn't in a form of its word.
 #[tactic(auto, unfolding(crate::specs::Live::live_line))]
 pub fn read_live_line(line: &[u8]) -> Result<LiveLine, LineKind>
     ensures reads { result ≡ live_line line.now }
@@ -63,7 +64,7 @@ pub fn read_live_line(line: &[u8]) -> Result<LiveLine, LineKind>
     }
 }
 
-/// What stands after `do`: an address alone.
+/// What is after `do`: an address alone.
 #[tactic(auto, using(crate::proofs::Forms::no_do))]
 fn read_do(rest: Option<&[u8]>) -> Result<LiveLine, LineKind>
     ensures reads { result ≡ ok_or (do_form (fields_after rest.entry)) LineKind.Form }
@@ -76,7 +77,7 @@ fn read_do(rest: Option<&[u8]>) -> Result<LiveLine, LineKind>
     Ok(LiveLine::Do { addr })
 }
 
-/// What stands after `order`: the number of an order alone, 1 to 4294967295, as `pay` has it.
+/// What is after `order`: the number of an order alone, 1 to 4294967295, as `pay` has it.
 #[tactic(auto, using(crate::proofs::Forms::no_order))]
 fn read_order(rest: Option<&[u8]>) -> Result<LiveLine, LineKind>
     ensures reads { result ≡ ok_or (order_form (fields_after rest.entry)) LineKind.Form }

@@ -16,14 +16,15 @@ pub enum SetupNo {
     /// The source failed.
     #[error("the setup can't be read")]
     Read,
-    /// The line of this number, counted from 1, is refused: it says nothing, adds nothing that can be, is too long, is cut
-    /// off by the end of the text, or comes after 1,048,576 others.
+    /// The line of this number, counted from 1, is refused: it says nothing, adds nothing that can
+    /// be, is too long, is cut off by the end of the text, or comes after 1,048,576 others.
     #[error("line {number} of the setup is refused: {kind}")]
     Line { number: u32, kind: LineKind },
 }
 
-/// Reads the setup that a text says by its setup lines (`docs/SCRIPT.md`): those up to `begin`, or all where none is
-/// `begin`. Of what follows `begin` nothing is looked at. A text without a line is a setup without a device.
+/// Reads the setup that a text says by its setup lines (`docs/SCRIPT.md`): those up to `begin`, or
+/// all where none is `begin`. Of what follows `begin` nothing is looked at. A text without a line
+/// is a setup without a device.
 pub fn read_setup<S: Source>(source: &mut S) -> Result<Setup, SetupNo>
     ensures sound { IfOk result IsSoundSetup }
     // `Read` comes only where the source failed.
@@ -48,7 +49,7 @@ pub fn read_setup<S: Source>(source: &mut S) -> Result<Setup, SetupNo>
     Ok(setup)
 }
 
-/// Takes a line into the setup, and tells whether another may follow.
+/// Takes a line into the setup, and says whether another may follow.
 fn take_line(setup: &mut Setup, line: &[u8]) -> Result<bool, LineKind>
     ensures { IsSoundSetup setup.old → IsSoundSetup setup.new }
 {

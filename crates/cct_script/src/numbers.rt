@@ -8,7 +8,8 @@ ghost use Rattle.cct_script.specs.Fields.{Reads};
 /// `None` where the field spells no number that way, or one below `least` or above `most`.
 #[tactic(auto, unfolding(cct_model_lines::specs::Grammar::ranged))]
 pub fn ranged(least: u64, most: u64, field: &[u8]) -> Option<u64>
-    ensures { Reads result (ranged least most field.now) (λ number. (least ≤ number) × (number ≤ most)) }
+    ensures { Reads result (ranged least most field.now)
+        (λ number. (least ≤ number) × (number ≤ most)) }
 {
     let number = number_in(field, most)?;
     if number < least {
@@ -49,14 +50,16 @@ fn digits_in(digits: &[u8], most: u64) -> Option<u64>
 
 /// The number of one byte, from `least` up to `most`, that a field spells.
 pub(crate) fn ranged_u8(least: u8, most: u8, field: &[u8]) -> Option<u8>
-    ensures { Reads result (ranged least most field.now) (λ number. (least ≤ number) × (number ≤ most)) }
+    ensures { Reads result (ranged least most field.now)
+        (λ number. (least ≤ number) × (number ≤ most)) }
 {
     Some(ranged(u64::from(least), u64::from(most), field)? as u8)
 }
 
 /// The number of four bytes, from `least` up to `most`, that a field spells.
 pub(crate) fn ranged_u32(least: u32, most: u32, field: &[u8]) -> Option<u32>
-    ensures { Reads result (ranged least most field.now) (λ number. (least ≤ number) × (number ≤ most)) }
+    ensures { Reads result (ranged least most field.now)
+        (λ number. (least ≤ number) × (number ≤ most)) }
 {
     Some(ranged(u64::from(least), u64::from(most), field)? as u32)
 }

@@ -5,8 +5,10 @@ ghost use Rattle.cct_model_lines.specs.SetupLine.{IsSetupLine};
 ghost use Rattle.cct_model_lines.specs.declared.setup.SetupLine.{SetupLine};
 ghost use Rattle.cct_model_lines.specs.terms.device.DeviceBody.{DeviceBody};
 ghost use Rattle.cct_model_lines.specs.terms.device.DeviceSetup.{DeviceSetup};
-ghost use Rattle.cct_model_lines.specs.Grammar.{ranged, three_byte_in, plain_texts, plain_acceptor, plain_bills, plain_device};
-ghost use Rattle.cct_model_lines.specs.Grammar.{counting_line, acceptor_line, bills_line, hopper_line, value_line, texts_line, setup_line};
+ghost use Rattle.cct_model_lines.specs.Grammar.{ranged, three_byte_in, plain_texts, plain_acceptor};
+ghost use Rattle.cct_model_lines.specs.Grammar.{plain_bills, plain_device};
+ghost use Rattle.cct_model_lines.specs.Grammar.{counting_line, acceptor_line, bills_line};
+ghost use Rattle.cct_model_lines.specs.Grammar.{hopper_line, value_line, texts_line, setup_line};
 ghost use Rattle.cct_script.specs.Fields.{Reads, fields_after};
 
 use crate::fields::{alone, first_field, five, four};
@@ -119,7 +121,8 @@ fn counting_line(rest: Option<&[u8]>) -> Option<Counting>
         (λ said. (make : DeviceSetup → SetupLine) → (plain : ℕ → DeviceBody) →
         counting_line make plain (fields_after rest.entry)
         ≡ Some (make (plain_device said.addr said.check said.serial (plain said.accepts)))) }
-    ensures ranged { IfSome result (λ said. (2 ≤ said.addr) × (said.serial < 2 ^ 24) × (said.accepts < 2 ^ 24)) }
+    ensures ranged { IfSome result (λ said. (2 ≤ said.addr) × (said.serial < 2 ^ 24)
+        × (said.accepts < 2 ^ 24)) }
 {
     let (addr, check, serial, accepts) = four(rest)?;
     Some(Counting {
@@ -211,12 +214,13 @@ fn texts_line(rest: Option<&[u8]>) -> Option<SetupLine>
     Some(SetupLine::Named { addr, texts })
 }
 
-/// What a setup line says, without its line feed. `Word` where the first field is no word of a setup line, else `Form`
-/// where the line isn't in a form of its word.
+/// What a setup line says, without its line feed. `Word` where the first field is no word of a
+/// setup line, else `Form` where the line isn't in a form of its word.
 #[tactic(auto, unfolding(cct_model_lines::specs::Grammar::setup_line))]
 pub fn read_setup_line(line: &[u8]) -> Result<SetupLine, LineKind>
     ensures value { result ≡ setup_line line.now }
-    // What it says is in its ranges: each address is 2 to 255, and a hopper's line has a hopper's body.
+    // What it says is in its ranges: each address is 2 to 255, and a hopper's line has a hopper's
+    // body.
     ensures said { IfOk result IsSetupLine }
 {
     let (word, rest) = first_field(line);

@@ -4,7 +4,8 @@ ghost use Rattle.cct_model_lines.specs.Grammar.{step_line};
 ghost use Rattle.cct_model_lines.specs.Script.{IsInRange};
 ghost use Rattle.cct_model_lines.specs.declared.command.Step.TheVariants as steps;
 ghost use Rattle.cct_script.specs.Fields.{fields_after};
-ghost use Rattle.cct_script.specs.Steps.{ReadsInto, desk_step, device_step, epoch_step, next_step, order_step, other_step};
+ghost use Rattle.cct_script.specs.Steps.{ReadsInto, desk_step, device_step, epoch_step, next_step};
+ghost use Rattle.cct_script.specs.Steps.{order_step, other_step};
 
 use crate::fields::first_field;
 use crate::step_fields::{
@@ -61,8 +62,8 @@ const SERVE: &[u8] = b"serve";
 
 const END: &[u8] = b"end";
 
-/// Puts into `step` what the word of a step line says that is `next`: the next attempt of a job; or another word. Most
-/// lines have this one, so it is looked for first.
+/// Puts into `step` what the word of a step line says that is `next`: the next attempt of a job; or
+/// another word. Most lines have this one, so it is looked for first.
 #[tactic(auto, unfolding(crate::specs::Steps::next_step))]
 fn next_step(word: &[u8], rest: Option<&[u8]>, step: &mut Step) -> Result<(), LineKind>
     ensures { ReadsInto result step.new (next_step word.now (fields_after rest.entry)) }
@@ -76,8 +77,8 @@ fn next_step(word: &[u8], rest: Option<&[u8]>, step: &mut Step) -> Result<(), Li
     }
 }
 
-/// Puts into `step` what the word of a step line says that is `coin`, `alien`, `bill`, `fall`, `jam` or `reset`: what
-/// happens to a device; or another word.
+/// Puts into `step` what the word of a step line says that is `coin`, `alien`, `bill`, `fall`,
+/// `jam` or `reset`: what happens to a device; or another word.
 #[tactic(auto, unfolding(crate::specs::Steps::device_step))]
 fn device_step(word: &[u8], rest: Option<&[u8]>, step: &mut Step) -> Result<(), LineKind>
     ensures { ReadsInto result step.new (device_step word.now (fields_after rest.entry)) }
@@ -94,8 +95,8 @@ fn device_step(word: &[u8], rest: Option<&[u8]>, step: &mut Step) -> Result<(), 
     Ok(())
 }
 
-/// Puts into `step` what the word of a step line says that is `fault`, `start`, `round` or `stop`: what is wrong on the
-/// wire, or a command of an epoch; or another word.
+/// Puts into `step` what the word of a step line says that is `fault`, `start`, `round` or `stop`:
+/// what is wrong on the wire, or a command of an epoch; or another word.
 #[tactic(auto, unfolding(crate::specs::Steps::epoch_step))]
 fn epoch_step(word: &[u8], rest: Option<&[u8]>, step: &mut Step) -> Result<(), LineKind>
     ensures { ReadsInto result step.new (epoch_step word.now (fields_after rest.entry)) }
@@ -110,7 +111,8 @@ fn epoch_step(word: &[u8], rest: Option<&[u8]>, step: &mut Step) -> Result<(), L
     Ok(())
 }
 
-/// Makes a step a `next`. A step is wide, and most are a `next`: where one stands already, only its address is set.
+/// Makes a step a `next`. A step is wide, and most are a `next`: where one stands already, only its
+/// address is set.
 fn set_next(addr: u8, step: &mut Step)
     ensures { step.new ≡ steps.Next addr }
 {
@@ -120,8 +122,8 @@ fn set_next(addr: u8, step: &mut Step)
     }
 }
 
-/// Puts into `step` what the word of a step line says that is `settle`, `halt`, `ident`, `pay` or `scan`: a command to a
-/// hopper, or one that asks of devices; or another word.
+/// Puts into `step` what the word of a step line says that is `settle`, `halt`, `ident`, `pay` or
+/// `scan`: a command to a hopper, or one that asks of devices; or another word.
 #[tactic(auto, unfolding(crate::specs::Steps::order_step))]
 fn order_step(word: &[u8], rest: Option<&[u8]>, step: &mut Step) -> Result<(), LineKind>
     ensures { ReadsInto result step.new (order_step word.now (fields_after rest.entry)) }
@@ -140,8 +142,8 @@ fn order_step(word: &[u8], rest: Option<&[u8]>, step: &mut Step) -> Result<(), L
     Ok(())
 }
 
-/// Puts into `step` what the word of a step line says that is `path`, `route`, `vend` or `crash`: another command, or a
-/// power cut; or another word.
+/// Puts into `step` what the word of a step line says that is `path`, `route`, `vend` or `crash`:
+/// another command, or a power cut; or another word.
 #[tactic(auto, unfolding(crate::specs::Steps::other_step))]
 fn other_step(word: &[u8], rest: Option<&[u8]>, step: &mut Step) -> Result<(), LineKind>
     ensures { ReadsInto result step.new (other_step word.now (fields_after rest.entry)) }
@@ -156,8 +158,9 @@ fn other_step(word: &[u8], rest: Option<&[u8]>, step: &mut Step) -> Result<(), L
     Ok(())
 }
 
-/// Puts into `step` what the word of a step line says that is `balance`, `stock`, `change`, `serve` or `end`: what the
-/// operator reads, says of a stock or wants of a session of change, or the end; any other word is none.
+/// Puts into `step` what the word of a step line says that is `balance`, `stock`, `change`, `serve`
+/// or `end`: what the operator reads, says of a stock or wants of a session of change, or the end;
+/// any other word is none.
 #[tactic(auto, unfolding(crate::specs::Steps::desk_step))]
 fn desk_step(word: &[u8], rest: Option<&[u8]>, step: &mut Step) -> Result<(), LineKind>
     ensures { ReadsInto result step.new (desk_step word.now (fields_after rest.entry)) }
@@ -182,8 +185,9 @@ fn desk_step(word: &[u8], rest: Option<&[u8]>, step: &mut Step) -> Result<(), Li
     Ok(())
 }
 
-/// Reads what a step line says, without its line feed, into the room for a step. `Word` where the first field is no word
-/// of a step line, else `Form` where the line isn't in a form of its word; then anything may stand in the room.
+/// Reads what a step line says, without its line feed, into the room for a step. `Word` where the
+/// first field is no word of a step line, else `Form` where the line isn't in a form of its word;
+/// then anything may stand in the room.
 pub fn read_step_into(line: &[u8], step: &mut Step) -> Result<(), LineKind>
     ensures reads { MatchResult result
         (λ _. step_line line.now ≡ Ok step.new)
@@ -194,8 +198,8 @@ pub fn read_step_into(line: &[u8], step: &mut Step) -> Result<(), LineKind>
     next_step(word, rest, step)
 }
 
-/// What a step line says, without its line feed. `Word` where the first field is no word of a step line, else `Form`
-/// where the line isn't in a form of its word.
+/// What a step line says, without its line feed. `Word` where the first field is no word of a step
+/// line, else `Form` where the line isn't in a form of its word.
 pub fn read_step_line(line: &[u8]) -> Result<Step, LineKind>
     ensures reads { MatchResult result
         (λ s. step_line line.now ≡ Ok s)

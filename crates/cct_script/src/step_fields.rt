@@ -1,9 +1,11 @@
-//! What stands after the words of step lines (`docs/SCRIPT.md`), read into the room for a step.
+//! What is after the words of step lines (`docs/SCRIPT.md`), read into the room for a step.
 ghost use Rattle.std.specs.Prelude.{◌≡◌, ◌≤◌, ℕ, Some, None, IfSome, MatchOption, MatchResult};
 ghost use Rattle.cct_model_lines.specs.declared.command.Step.{Step};
 ghost use Rattle.cct_model_lines.specs.declared.command.Step.TheVariants as steps;
-ghost use Rattle.cct_model_lines.specs.Grammar.{address_in, alone, choice_in, place_step, step_at, fault_step, start_step};
-ghost use Rattle.cct_model_lines.specs.Grammar.{pay_step, path_step, route_step, vend_step, stock_step, change_step, crash_step};
+ghost use Rattle.cct_model_lines.specs.Grammar.{address_in, alone, choice_in, place_step, step_at};
+ghost use Rattle.cct_model_lines.specs.Grammar.{fault_step, start_step};
+ghost use Rattle.cct_model_lines.specs.Grammar.{pay_step, path_step, route_step, vend_step};
+ghost use Rattle.cct_model_lines.specs.Grammar.{stock_step, change_step, crash_step};
 ghost use Rattle.cct_model_lines.specs.Script.{IsInRange};
 ghost use Rattle.cct_script.specs.Fields.{Sets, fields_after};
 ghost use Rattle.cct_script.specs.Steps.{with_bytes};
@@ -112,7 +114,8 @@ pub(crate) fn fault_into(rest: Option<&[u8]>, step: &mut Step) -> Option<()>
     bytes_into(piece, step)
 }
 
-/// Reads the bytes that a field spells into their place in a wire fault. Any other step has no place for them.
+/// Reads the bytes that a field spells into their place in a wire fault. Any other step has no
+/// place for them.
 fn bytes_into(field: &[u8], step: &mut Step) -> Option<()>
     ensures { Sets result step.new (with_bytes step.old field.now) IsInRange }
 {

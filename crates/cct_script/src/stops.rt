@@ -1,5 +1,5 @@
-//! What the answers of the reader of lines are to a script of any kind: its next line, its end, or why it is read no
-//! further.
+//! What the answers of the reader of lines are to a script of any kind: its next line, its end, or
+//! why it is read no further.
 ghost use Rattle.std.specs.Prelude.{◌≡◌};
 ghost use Rattle.cct_script.specs.Giving.{line_given};
 ghost use Rattle.cct_script.specs.Scripts.{before_end, behind_end, read_of};

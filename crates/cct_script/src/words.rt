@@ -2,7 +2,8 @@
 ghost use Rattle.std.specs.Prelude.{◌≡◌, ◌≤◌, length, IsTrue};
 ghost use Rattle.std.specs.List.{list_all, All};
 ghost use Rattle.cct_model_lines.specs.Device.{IsPrinting, IsWord, IsId};
-ghost use Rattle.cct_model_lines.specs.Grammar.{is_printing, check_in, word_in, id_in, piece_in, mask_in};
+ghost use Rattle.cct_model_lines.specs.Grammar.{is_printing, check_in, word_in, id_in, piece_in};
+ghost use Rattle.cct_model_lines.specs.Grammar.{mask_in};
 ghost use Rattle.cct_script.specs.Fields.{Reads, Sets};
 
 use cct_model_lines::{CheckKind, MOST_HEARD, MOST_NAME, Name, Piece};
@@ -69,8 +70,9 @@ pub(crate) fn id_in(field: &[u8]) -> Option<[u8; 6]>
     Some(id)
 }
 
-/// Reads the piece of up to `most` bytes that a field spells into the room for a piece: a hyphen is the empty piece, else
-/// it is in hexadecimal of either case, two digits a byte. Where the field spells none, anything may stand in the room.
+/// Reads the piece of up to `most` bytes that a field spells into the room for a piece: a hyphen is
+/// the empty piece, else it is in hexadecimal of either case, two digits a byte. Where the field
+/// spells none, anything may stand in the room.
 #[tactic(auto, unfolding(cct_model_lines::specs::Grammar::piece_in))]
 pub(crate) fn piece_into(most: usize, field: &[u8], piece: &mut Piece) -> Option<()>
     requires { most ≤ MOST_HEARD }
@@ -90,8 +92,8 @@ pub(crate) fn piece_into(most: usize, field: &[u8], piece: &mut Piece) -> Option
     Some(())
 }
 
-/// The piece of up to `most` bytes that a field spells: a hyphen is the empty piece, else it is in hexadecimal of
-/// either case, two digits a byte.
+/// The piece of up to `most` bytes that a field spells: a hyphen is the empty piece, else it is in
+/// hexadecimal of either case, two digits a byte.
 pub fn piece_in(most: usize, field: &[u8]) -> Option<Piece>
     requires { most ≤ MOST_HEARD }
     ensures { Reads result (piece_in most field.now) (λ piece. length piece ≤ most) }
@@ -101,8 +103,8 @@ pub fn piece_in(most: usize, field: &[u8]) -> Option<Piece>
     Some(piece)
 }
 
-/// The inhibit mask that a field spells, bit 0 for coin place 1: four hexadecimal digits of either case, not all 0
-/// (ccTalk Generic Specification 4, part 2, header 231).
+/// The inhibit mask that a field spells, bit 0 for coin place 1: four hexadecimal digits of either
+/// case, not all 0 (ccTalk Generic Specification 4, part 2, header 231).
 #[tactic(auto, using(crate::proofs::Masks::mask_refused), unfolding(cct_model_lines::specs::Grammar::mask_in))]
 pub(crate) fn mask_in(field: &[u8]) -> Option<u16>
     ensures { Reads result (mask_in field.now) (λ mask. 1 ≤ mask) }

@@ -1,4 +1,4 @@
--- The first line that is told is the one at which a run ends.
+-- The first line that is reported is the one at which a run ends.
 use Rattle.std.proofs.Common.{◌≡◌, ℕ, ◌+◌, Bool, true, false, List, [], ◌∷◌, Option, Some, None, length, refl, subst}
 use Rattle.std.specs.List.{slice_split}
 use Rattle.std.specs.Prelude.{if◌then◌else◌, nat_lt}

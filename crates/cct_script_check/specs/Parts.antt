@@ -45,7 +45,8 @@ pub record Takes (mark : Mark) (old new : Setup) (result : Looked) : Type 0 wher
   pub found : mark ≡ mark_as result new
   pub keeps : Keeps result old new
 
--- Which lines stand after a line that was looked at, where these stood before, or none at the script's end.
+-- Which lines stand after a line that was looked at, where these stood before, or none at the
+-- script's end.
 abbrev pub part_by : Part → Looked → Option Part
 part_by before (looked.Goes next) = Some next
 part_by before looked.Ends = None

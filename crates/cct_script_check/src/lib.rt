@@ -1,4 +1,5 @@
-//! A script is proofread: it is read to its end, and each line of it that is refused is told. Nothing is played.
+//! A script is proofread: it is read to its end, and each line of it that is refused is reported.
+//! Nothing is played.
 #![tactic(auto)]
 
 mod knowing;

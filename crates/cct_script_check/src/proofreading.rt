@@ -22,7 +22,7 @@ use cct_text::{TextLine, write_entry};
 pub enum ProofEnd {
     /// No line of it is refused.
     Clean,
-    /// Each line that is refused was told.
+    /// Each line that is refused was reported.
     Told,
     /// Reading failed.
     Unread,
@@ -30,9 +30,10 @@ pub enum ProofEnd {
     Unwritten,
 }
 
-/// Reads a script to its end, and writes a line for each line of it that is refused, as a run writes it. A refused line is
-/// left out, and the lines after it are read as if it weren't there; only its number is counted. A line too long, the
-/// first one after `end` and the first one too many are told last: the script is read no further.
+/// Reads a script to its end, and writes a line for each line of it that is refused, as a run
+/// writes it. A refused line is left out, and the lines after it are read as if it weren't there;
+/// only its number is counted. A line too long, the first one after `end` and the first one too
+/// many are reported last: the script is read no further.
 pub fn proofread<S: Source, K: Sink>(script: &mut S, out: &mut K, line: &mut TextLine) -> ProofEnd
     ensures told { OfBytes (S.left script.old) (λ bytes. Proofread bytes result (S.left script.new)
         (λ lines answer. Writes K.written K.puts out.old lines answer out.new)) }
@@ -46,7 +47,7 @@ pub fn proofread<S: Source, K: Sink>(script: &mut S, out: &mut K, line: &mut Tex
     look_all(&mut lines, &mut setup, script, out, line)
 }
 
-/// Reads all lines of a script, and tells those that are refused.
+/// Reads all lines of a script, and shows those that are refused.
 fn look_all<S: Source, K: Sink>(
     lines: &mut Lines,
     setup: &mut Setup,

@@ -12,8 +12,8 @@ use cct_edge::Source;
 use cct_model_lines::{Setup, Step};
 use cct_script::{Lines, ScriptStop, before_end};
 
-/// Reads the next line of a script that hasn't ended, and takes it into the setup; or tells why the script is read no
-/// further.
+/// Reads the next line of a script that hasn't ended, and takes it into the setup; or says why the
+/// script is read no further.
 pub(crate) fn look_on<S: Source>(
     lines: &mut Lines,
     part: Part,

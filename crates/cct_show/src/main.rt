@@ -1,5 +1,5 @@
-//! The program: shows a transcript, or the lines of a bus logger, to people (`docs/SHOW.md`). The word of the command
-//! line names the form.
+//! The program: shows a transcript, or the lines of a bus logger, to people (`docs/SHOW.md`). The
+//! word of the command line names the form.
 #![tactic(auto)]
 
 mod refused;
@@ -24,7 +24,8 @@ enum Form {
     Text,
     /// `csv` or `json`: each line as a row of named columns.
     Rows(RowForm),
-    /// `svg`, or `svg FROM TO`: a sequence picture of all lines, or of those from one number to another.
+    /// `svg`, or `svg FROM TO`: a sequence picture of all lines, or of those from one number to
+    /// another.
     Picture(Part),
     /// `html`: a page for a browser.
     Page,
@@ -112,7 +113,8 @@ fn whole_form(word: &str) -> Option<Form> {
     }
 }
 
-/// The form of a part that three words name: the first line, counted from 1, and the last one, which isn't before it.
+/// The form of a part that three words name: the first line, counted from 1, and the last one,
+/// which isn't before it.
 fn part_form(word: &str, from: &str, to: &str) -> Option<Form> {
     let from = from.parse::<u64>().ok()?;
     let to = to.parse::<u64>().ok()?;

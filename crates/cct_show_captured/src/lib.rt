@@ -1,5 +1,6 @@
-//! What is said of a log and of the capture that is made of it: which devices are watched, how many exchanges are messages,
-//! which lines aren't understood, and what is taken for granted (`docs/SHOW.md`).
+//! What is said of a log and of the capture that is made of it: which devices are watched, how many
+//! exchanges are messages, which lines aren't understood, and what is taken for granted
+//! (`docs/SHOW.md`).
 #![tactic(auto)]
 
 mod note;

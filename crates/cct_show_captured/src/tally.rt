@@ -4,8 +4,8 @@ use cct_frame::read;
 use cct_model_lines::{CheckKind, HOST};
 use std::fmt;
 
-/// How many exchanges a capture has, and under which checks the host's bytes in them are messages: under one, both or
-/// none.
+/// How many exchanges a capture has, and under which checks the host's bytes in them are messages:
+/// under one, both or none.
 #[derive(Clone, Copy)]
 pub struct Tally {
     taps: u64,

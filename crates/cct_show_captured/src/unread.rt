@@ -4,7 +4,7 @@ use arrayvec::ArrayVec;
 use std::fmt;
 use std::fmt::Write;
 
-/// How many of them are told by their numbers.
+/// How many of them are reported by their numbers.
 const MOST_TOLD: usize = 12;
 
 /// The words of a capture's lines without an exchange.
@@ -43,11 +43,12 @@ impl Unread {
         self.read = self.read.saturating_add(1);
     }
 
-    /// Counts the last line as one that wasn't understood, unless it is empty, or one that a capture has.
+    /// Counts the last line as one that wasn't understood, unless it is empty, or one that a
+    /// capture has.
     pub fn pass_over(&mut self, line: &[u8]) {
         if !is_other_line(line) {
             self.count = self.count.saturating_add(1);
-            // The first ones are told.
+            // The first ones are reported.
             let _ = self.first.try_push(self.line);
         }
     }

@@ -8,8 +8,8 @@ use std::fmt;
 /// The least address of a device (ccTalk Generic Specification 4, part 1).
 const LEAST_ADDRESS: u8 = 2;
 
-/// The headers by which a host asks an acceptor for its events, and for its inhibit mask (ccTalk Generic Specification 4,
-/// part 2).
+/// The headers by which a host asks an acceptor for its events, and for its inhibit mask (ccTalk
+/// Generic Specification 4, part 2).
 const READ_EVENTS: u8 = 229;
 
 const ASK_MASK: u8 = 230;
@@ -56,8 +56,8 @@ impl Watch {
         self.has_mask || !matches!(self.kind, WatchKind::Acceptor)
     }
 
-    /// Why it is watched as `quiet`, if it is: an acceptor that is asked for its events and never for its mask, which alone
-    /// would show a reset that the host didn't ask for.
+    /// Why it is watched as `quiet`, if it is: an acceptor that is asked for its events and never
+    /// for its mask, which alone would show a reset that the host didn't ask for.
     pub fn quiet(&self) -> Option<Quiet> {
         if self.is_settled() || self.readings == 0 {
             None

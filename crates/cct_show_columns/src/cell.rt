@@ -5,7 +5,8 @@ use crate::form::NONE;
 use crate::row::{Line, Row};
 use std::fmt;
 
-/// The place of the destination in a message, under either check (ccTalk Generic Specification 4, part 1).
+/// The place of the destination in a message, under either check (ccTalk Generic Specification 4,
+/// part 1).
 const DESTINATION: usize = 0;
 
 /// The place of the header.
@@ -22,7 +23,7 @@ pub(crate) enum Cell<'l> {
     Count(u64),
     /// Millionths of a second, as seconds.
     Seconds(u64),
-    /// A number as it stands in the line.
+    /// A number as it is in the line.
     Number(&'l str),
     Text(&'l str),
     /// Coins, joined by commas; empty where there are none.

@@ -17,7 +17,8 @@ impl fmt::Display for CsvHeading {
     }
 }
 
-/// A line as a row, with its line feed. A column that the line hasn't, or has no value in, is empty.
+/// A line as a row, with its line feed. A column that the line hasn't, or has no value in, is
+/// empty.
 #[derive(Clone, Copy)]
 pub struct CsvRow<'l>(pub Line<'l>);
 
@@ -33,7 +34,7 @@ impl fmt::Display for CsvRow<'_> {
     }
 }
 
-/// Writes what stands in a column.
+/// Writes what is in a column.
 fn write_cell<W: fmt::Write>(cell: Cell<'_>, f: &mut fmt::Formatter<W>) -> fmt::Result {
     match cell {
         Cell::Nothing | Cell::Empty => Ok(()),
@@ -45,7 +46,8 @@ fn write_cell<W: fmt::Write>(cell: Cell<'_>, f: &mut fmt::Formatter<W>) -> fmt::
     }
 }
 
-/// Writes a text, between quotes where it has anything but printing characters of ASCII, a comma or a quote.
+/// Writes a text, between quotes where it has anything but printing characters of ASCII, a comma or
+/// a quote.
 fn write_text<W: fmt::Write>(text: &str, f: &mut fmt::Formatter<W>) -> fmt::Result {
     if text.bytes().all(is_plain) {
         f.write_str(text)

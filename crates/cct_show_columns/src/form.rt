@@ -1,9 +1,10 @@
 //! The forms of lines, as they stand in the tables, and which form a line has.
 //!
-//! A row of a table is a form, a bar, and what a line of this form says; nothing stands after the bar where `cct_show_words`
-//! says it. A form is what stands in the line, field by field: a word, the name of a column in braces, or a name with `..`
-//! after it in braces, whose value is all that is left of the line. What a form says names columns in braces too, and `(s)`
-//! is an `s` unless the number before it is 1.
+//! A row of a table is a form, a bar, and what a line of this form says; nothing is after the bar
+//! where `cct_show_words` says it. A form is what is in the line, field by field: a word, the name
+//! of a column in braces, or a name with `..` after it in braces, whose value is all that is left
+//! of the line. What a form says names columns in braces too, and `(s)` is an `s` unless the number
+//! before it is 1.
 
 use crate::column::{ColumnKind, kind_of};
 use crate::row::Row;
@@ -29,7 +30,7 @@ enum Token {
     Left(&'static str),
 }
 
-/// The first field of a text, and what stands after its space, if there is one.
+/// The first field of a text, and what is after its space, if there is one.
 pub(crate) fn first_field(text: &str) -> (&str, Option<&str>) {
     match text.split_once(' ') {
         Some((field, rest)) => (field, Some(rest)),
@@ -100,7 +101,7 @@ fn token_in(text: &'static str) -> Token {
     }
 }
 
-/// The name that stands in braces.
+/// The name that is in braces.
 fn name_in(text: &'static str) -> Option<&'static str> {
     text.strip_prefix('{')?.strip_suffix('}')
 }

@@ -6,7 +6,8 @@ use crate::quoted::{Quoting, write_quoted, write_said};
 use crate::row::Line;
 use std::fmt;
 
-/// A line as an object, with its line feed. A column that the line hasn't is left out, and one that has no value is null.
+/// A line as an object, with its line feed. A column that the line hasn't is left out, and one that
+/// has no value is null.
 #[derive(Clone, Copy)]
 pub struct JsonRow<'l>(pub Line<'l>);
 
@@ -70,7 +71,7 @@ fn write_devices<W: fmt::Write>(list: &str, f: &mut fmt::Formatter<W>) -> fmt::R
     f.write_str("]")
 }
 
-/// Writes what stands between two values.
+/// Writes what is between two values.
 fn write_comma<W: fmt::Write>(is_first: bool, f: &mut fmt::Formatter<W>) -> fmt::Result {
     f.write_str(if is_first { "" } else { "," })
 }

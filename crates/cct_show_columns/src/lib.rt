@@ -1,5 +1,5 @@
-//! The lines that the programs write, field by field: which columns each has, and what it says in words (`docs/SHOW.md`).
-//! A line becomes a row of CSV (RFC 4180), or an object of JSON (RFC 8259).
+//! The lines that the programs write, field by field: which columns each has, and what it says in
+//! words (`docs/SHOW.md`). A line becomes a row of CSV (RFC 4180), or an object of JSON (RFC 8259).
 #![tactic(auto)]
 
 mod cell;

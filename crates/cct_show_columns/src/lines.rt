@@ -1,8 +1,9 @@
-//! The lines that the programs write, in alphabetical order (`docs/TRANSCRIPT.md`, `docs/LIVE.md`, `docs/PROBE.md`), but for
-//! those that have a record or a command after their first word; and the lines of a setup and of a capture
-//! (`docs/SCRIPT.md`, `docs/AUDIT.md`). `form` says how a table is read.
+//! The lines that the programs write, in alphabetical order (`docs/TRANSCRIPT.md`, `docs/LIVE.md`,
+//! `docs/PROBE.md`), but for those that have a record or a command after their first word; and the
+//! lines of a setup and of a capture (`docs/SCRIPT.md`, `docs/AUDIT.md`). `form` says how a table
+//! is read.
 
-/// The table in which a line stands, if it stands in one.
+/// The table in which a line stands, if it is in one.
 pub(crate) fn lines_with(line: &str) -> &'static str {
     match line.as_bytes() {
         [b'a'..=b'c', ..] => A_TO_C,

@@ -1,5 +1,5 @@
-//! The parts that several lines have (`docs/TRANSCRIPT.md`, `docs/SCRIPT.md`): records, commands and reasons. `form` says how
-//! a table is read.
+//! The parts that several lines have (`docs/TRANSCRIPT.md`, `docs/SCRIPT.md`): records, commands
+//! and reasons. `form` says how a table is read.
 
 /// The records.
 pub(crate) const RECORDS: &str = "\

@@ -2,7 +2,7 @@
 
 use std::fmt;
 
-/// What stands before each line of what a line says.
+/// What is before each line of what a line says.
 const INDENT: &str = "    ";
 
 /// How a text is written between quotes.

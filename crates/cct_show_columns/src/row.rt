@@ -23,7 +23,8 @@ pub struct Row<'l> {
     /// The word that tells forms with this first word apart; empty where there is none.
     pub(crate) what: &'l str,
     pub(crate) values: ArrayVec<Value<'l>, MOST_VALUES>,
-    /// What the line says, with the names of columns for values; empty where `cct_show_words` says it.
+    /// What the line says, with the names of columns for values; empty where `cct_show_words` says
+    /// it.
     pub(crate) says: &'static str,
 }
 
@@ -32,7 +33,7 @@ pub struct Row<'l> {
 pub struct Line<'r> {
     /// The number of the line, from 1.
     pub number: u64,
-    /// The time that stands before it, as it stands there.
+    /// The time that is before it, as it is there.
     pub time: &'r str,
     /// That time in millionths of a second, without its date.
     pub micros: Option<u64>,
@@ -56,8 +57,8 @@ impl Rows {
         Rows { is_load: false }
     }
 
-    /// The row of the next line, without its line feed and a time before it. A line in no form that is known has its first
-    /// word, and as `rest` what stands after it.
+    /// The row of the next line, without its line feed and a time before it. A line in no form that
+    /// is known has its first word, and as `rest` what is after it.
     pub fn read<'l>(&mut self, line: &'l str) -> Row<'l> {
         let (kind, rest) = first_field(line);
         let sum = if self.is_load {
@@ -132,7 +133,8 @@ impl<'l> Row<'l> {
         }
     }
 
-    /// Reads what stands after the first word of a line that has a record or a command there, and tells whether it has.
+    /// Reads what is after the first word of a line that has a record or a command there, and says
+    /// whether it has.
     fn read_parts(&mut self, rest: Option<&'l str>) -> bool {
         let Some(rest) = rest else {
             return false;
@@ -146,7 +148,7 @@ impl<'l> Row<'l> {
         }
     }
 
-    /// Reads a text that is a form of a table to its end, and tells whether it is.
+    /// Reads a text that is a form of a table to its end, and says whether it is.
     fn read_part(&mut self, table: &'static str, text: &'l str) -> bool {
         match form_in(table, text, true) {
             Some(form) => {
@@ -157,7 +159,7 @@ impl<'l> Row<'l> {
         }
     }
 
-    /// Reads the index and the record of a report's line, and tells whether it has them.
+    /// Reads the index and the record of a report's line, and says whether it has them.
     fn read_listing(&mut self, text: &'l str) -> bool {
         match first_field(text) {
             (index, Some(record)) if is_number(index) => {
@@ -171,7 +173,7 @@ impl<'l> Row<'l> {
         }
     }
 
-    /// Reads a command and the reason for which it is refused, and tells whether they are there.
+    /// Reads a command and the reason for which it is refused, and says whether they are there.
     fn read_refusal(&mut self, text: &'l str) -> bool {
         match refusal_in(text) {
             Some(

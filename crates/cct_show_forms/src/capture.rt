@@ -62,8 +62,9 @@ struct Capture<'k, 'n, K, H, N> {
     tally: Tally,
 }
 
-/// Writes the capture of all exchanges of a source, with these devices to be watched; `held`, in which nothing is held, is for
-/// lines that wait. It notes which exchanges and how many other lines are left out.
+/// Writes the capture of all exchanges of a source, with these devices to be watched; `held`, in
+/// which nothing is held, is for lines that wait. It notes which exchanges and how many other lines
+/// are left out.
 pub fn write_capture<S: Source, K: Sink, H: Held, N: Sink>(
     watches: Watches,
     held: H,
@@ -112,7 +113,8 @@ impl<K: Sink, H: Held, N: Sink> Capture<'_, '_, K, H, N> {
         self.close()
     }
 
-    /// Says which lines weren't understood, which acceptors are watched as `quiet`, and how many taps there are.
+    /// Says which lines weren't understood, which acceptors are watched as `quiet`, and how many
+    /// taps there are.
     fn tell_end(&mut self) {
         // Nothing more can be done where a note can't be written, here and below.
         let _ = self.lines.tell(&mut self.notes);
@@ -174,7 +176,8 @@ impl<K: Sink, H: Held, N: Sink> Capture<'_, '_, K, H, N> {
         self.close()
     }
 
-    /// Says once that a message for the host is logged as sent: the log's ways may be others than they are taken for.
+    /// Says once that a message for the host is logged as sent: the log's ways may be others than
+    /// they are taken for.
     fn doubt_way(&mut self, sent: &[u8]) {
         if !self.has_told_way && sent.first() == Some(&HOST) && is_message(sent) {
             self.has_told_way = true;
@@ -200,7 +203,8 @@ impl<K: Sink, H: Held, N: Sink> Capture<'_, '_, K, H, N> {
         Ok(())
     }
 
-    /// Adds bytes that were heard. Where nothing was sent before, they are of an exchange without that.
+    /// Adds bytes that were heard. Where nothing was sent before, they are of an exchange without
+    /// that.
     fn hear(&mut self, bytes: &[u8]) {
         let line = self.lines.line;
         let exchange = self.last.get_or_insert(Exchange {
@@ -214,7 +218,8 @@ impl<K: Sink, H: Held, N: Sink> Capture<'_, '_, K, H, N> {
         }
     }
 
-    /// Takes bytes of which the log doesn't tell which way they went. A message for the host was heard, and so was an echo.
+    /// Takes bytes of which the log doesn't say which way they went. A message for the host was
+    /// heard, and so was an echo.
     fn either(&mut self, bytes: &[u8]) -> Result<(), Stop> {
         match bytes {
             [HOST, ..] => self.hear(bytes),
@@ -253,8 +258,8 @@ impl<K: Sink, H: Held, N: Sink> Capture<'_, '_, K, H, N> {
         }
     }
 
-    /// Learns from an exchange whether the log has the echo: none where the first reply that is a message by itself doesn't
-    /// begin with it.
+    /// Learns from an exchange whether the log has the echo: none where the first reply that is a
+    /// message by itself doesn't begin with it.
     fn learn(&mut self, exchange: &Exchange) {
         let heard = exchange.heard.as_slice();
         if heard.starts_with(exchange.sent.as_slice()) {
@@ -264,7 +269,8 @@ impl<K: Sink, H: Held, N: Sink> Capture<'_, '_, K, H, N> {
         }
     }
 
-    /// Writes the line of an exchange; where the log has no echo, what was sent stands before what was heard.
+    /// Writes the line of an exchange; where the log has no echo, what was sent is before what was
+    /// heard.
     fn write_tap(&mut self, exchange: &Exchange, has_echo: bool) -> Result<(), Stop> {
         let sent = exchange.sent.as_slice();
         let heard = exchange.heard.as_slice();

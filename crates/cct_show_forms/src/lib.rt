@@ -1,5 +1,5 @@
-//! The forms in which the lines of a transcript, a capture or a bus log are shown (`docs/SHOW.md`): from a source to a sink, with
-//! notes on a log to another one.
+//! The forms in which the lines of a transcript, a capture or a bus log are shown (`docs/SHOW.md`):
+//! from a source to a sink, with notes on a log to another one.
 #![tactic(auto)]
 
 mod capture;

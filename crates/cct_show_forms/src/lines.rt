@@ -10,7 +10,8 @@ const CHUNK: usize = 4096;
 
 /// What takes the lines of the input.
 pub(crate) trait LineSink {
-    /// A whole line, without its line feed: at most as many bytes as a line of a transcript may have with it.
+    /// A whole line, without its line feed: at most as many bytes as a line of a transcript may
+    /// have with it.
     fn line(&mut self, line: &[u8]) -> Result<(), Stop>;
 
     /// The next bytes of a longer line.
@@ -28,7 +29,8 @@ struct Line {
     is_long: bool,
 }
 
-/// Gives all lines of a source to `sink`, whatever bytes they have. The last one may be without line feed.
+/// Gives all lines of a source to `sink`, whatever bytes they have. The last one may be without
+/// line feed.
 pub(crate) fn read_lines<S: Source, L: LineSink>(source: &mut S, sink: &mut L) -> Result<(), Stop> {
     let mut line = Line {
         bytes: ArrayVec::new(),

@@ -42,7 +42,7 @@ pub(crate) struct Log {
     is_waiting: bool,
     /// Whether the last thing said is a request, and the one before it had no reply.
     pub(crate) tells_no_reply: bool,
-    /// Whether the last line is the first one that tells that the log has no echo.
+    /// Whether the last line is the first one that says that the log has no echo.
     pub(crate) tells_no_echo: bool,
     /// The number of the last line among the taps of a capture, from 1, where it is one.
     pub(crate) tap: Option<u64>,
@@ -73,8 +73,8 @@ impl Log {
         }
     }
 
-    /// Reads the next line, if it is one of a log; [`next`](Log::next) then takes what it says. A log is text, so a line with a
-    /// zero byte is none.
+    /// Reads the next line, if it is one of a log; [`next`](Log::next) then takes what it says. A
+    /// log is text, so a line with a zero byte is none.
     pub(crate) fn read<'l>(&mut self, line: &'l [u8]) -> Option<LogLine<'l>> {
         if line.contains(&0) {
             return None;
@@ -87,7 +87,7 @@ impl Log {
         self.reader.end();
     }
 
-    /// Takes the next thing that the last line says, and tells whether there was one.
+    /// Takes the next thing that the last line says, and says whether there was one.
     pub(crate) fn next(&mut self) -> bool {
         match self.reader.next_said() {
             Some(said) => {
@@ -114,7 +114,8 @@ impl Log {
         }
     }
 
-    /// The time from the line before to this one, in millionths of a second, where both have one and it isn't negative.
+    /// The time from the line before to this one, in millionths of a second, where both have one
+    /// and it isn't negative.
     pub(crate) fn since(&mut self, time: &Time<'_>) -> Option<u64> {
         let before = self.micros;
         self.micros = Some(time.micros);
@@ -132,8 +133,8 @@ impl Log {
         self.tells_no_reply = false;
     }
 
-    /// An exchange of one line. Where that has the echo alone, a reply may come in a later one, but where it says that nothing was
-    /// heard.
+    /// An exchange of one line. Where that has the echo alone, a reply may come in a later one, but
+    /// where it says that nothing was heard.
     fn exchange(&mut self, sent: &[u8], heard: &[u8]) {
         self.ask(sent);
         self.hear(heard);
@@ -199,8 +200,9 @@ impl Log {
         self.half == Half::Sent && self.echoes != Echoes::None && self.sent.as_slice() == bytes
     }
 
-    /// Keeps what was heard after what was sent, with its echo first. A log in which no reply begins with its echo has
-    /// none: that is told by the first reply that is a message by itself.
+    /// Keeps what was heard after what was sent, with its echo first. A log in which no reply
+    /// begins with its echo has none: that is reported by the first reply that is a message by
+    /// itself.
     fn hear(&mut self, bytes: &[u8]) {
         if bytes.starts_with(self.sent.as_slice()) {
             self.echoes = Echoes::There;

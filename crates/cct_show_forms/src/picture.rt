@@ -1,4 +1,5 @@
-//! The forms `svg` and `html`: a sequence picture of all lines, or of a part; and a page for a browser.
+//! The forms `svg` and `html`: a sequence picture of all lines, or of a part; and a page for a
+//! browser.
 
 use crate::lines::{LineSink, read_lines};
 use crate::log::{Half, Log, MOST_SAID, copy};
@@ -152,7 +153,7 @@ impl Marks {
         Ok(())
     }
 
-    /// Counts one more line, and tells whether it is of the part.
+    /// Counts one more line, and says whether it is of the part.
     fn count_line(&mut self) -> bool {
         self.count = self.count.saturating_add(1);
         self.is_of_part()
@@ -209,7 +210,8 @@ impl Marks {
         }
     }
 
-    /// Takes what is said of the log itself. A message that was cut off ends the wait for a reply to the one before it.
+    /// Takes what is said of the log itself. A message that was cut off ends the wait for a reply
+    /// to the one before it.
     fn noted(&mut self, place: Place, note: Note) -> Result<(), AllocError> {
         if let Note::Cut(_) = note {
             self.settle()?;
@@ -263,7 +265,8 @@ impl Marks {
         });
     }
 
-    /// Takes a line that is no exchange and no entry. While a request waits for its reply it is kept, to stand below them.
+    /// Takes a line that is no exchange and no entry. While a request waits for its reply it is
+    /// kept, to stand below them.
     fn note(&mut self, place: Place, line: &[u8]) -> Result<(), AllocError> {
         let Some(waiting) = &mut self.waiting else {
             return self.other(place, line, None);
@@ -285,7 +288,7 @@ impl Marks {
         Ok(())
     }
 
-    /// Takes the exchange that ends at a place, and whose request stands at another, or nowhere.
+    /// Takes the exchange that ends at a place, and whose request is at another, or nowhere.
     fn heard(&mut self, place: Place, request: Option<Place>) -> Result<(), AllocError> {
         let mut sent = LogBytes::new();
         copy(&mut sent, self.log.sent.as_slice());
@@ -317,7 +320,8 @@ impl Marks {
         self.tell_notes(&waiting)
     }
 
-    /// Takes an exchange from one place to another, of the job at an address, where that is told.
+    /// Takes an exchange from one place to another, of the job at an address, where that is
+    /// reported.
     fn exchange(
         &mut self,
         first: Place,
@@ -374,7 +378,8 @@ impl Marks {
         Ok(())
     }
 
-    /// Learns what an entry tells of its device; and where a route ended adds what became of the bill.
+    /// Learns what an entry tells of its device; and where a route ended adds what became of the
+    /// bill.
     fn learn(&mut self, place: Place, entry: &Entry) -> Result<(), AllocError> {
         if let Some((addr, kind)) = kind_told(entry) {
             self.picture.learn(addr, kind);
@@ -399,8 +404,8 @@ impl Marks {
         Ok(())
     }
 
-    /// The words for the time of a line, if it has one: the time, and how long it is after the line before, where that has one
-    /// too.
+    /// The words for the time of a line, if it has one: the time, and how long it is after the line
+    /// before, where that has one too.
     fn time_label(&mut self, time: &Option<Time<'_>>) -> Label {
         let Some(time) = time else {
             return Label::empty();

@@ -147,7 +147,8 @@ fn said_of(row: &Row<'_>, line: &str) -> ArrayString<MOST_WORDS> {
     said
 }
 
-/// Writes what a tap of a capture says, as the line of an exchange with its fields does; nothing of another line.
+/// Writes what a tap of a capture says, as the line of an exchange with its fields does; nothing of
+/// another line.
 fn write_tap<W: Write>(line: &str, said: &mut W) -> fmt::Result {
     let Some(fields) = line.strip_prefix("tap ") else {
         return Ok(());

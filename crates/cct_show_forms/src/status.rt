@@ -4,7 +4,8 @@ use cct_edge::Failed;
 use std::alloc::AllocError;
 use std::fmt;
 
-/// Why a form stops before its end. A sink's failure and a formatter's, which is a sink's too, are writing.
+/// Why a form stops before its end. A sink's failure and a formatter's, which is a sink's too, are
+/// writing.
 #[derive(Clone, Copy)]
 pub enum Stop {
     /// Reading failed.

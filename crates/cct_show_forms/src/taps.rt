@@ -38,8 +38,9 @@ impl Held for Page<'_> {
     }
 }
 
-/// The lines of a capture. The lines `watch` stand first, and how a device is watched hangs on what it is asked later: so the
-/// lines `tap` are held until that is settled for each device, or to the end.
+/// The lines of a capture. The lines `watch` stand first, and how a device is watched hangs on what
+/// it is asked later: so the lines `tap` are held until that is settled for each device, or to the
+/// end.
 #[derive(Drop)]
 pub(crate) struct Taps<'k, K, H> {
     out: PutBuffer<'k, K>,

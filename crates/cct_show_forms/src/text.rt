@@ -26,7 +26,8 @@ struct Text<'k, K> {
     is_transcript: bool,
 }
 
-/// Shows all lines of a source, each with what it says by one put. Of a log it notes which lines weren't understood.
+/// Shows all lines of a source, each with what it says by one put. Of a log it notes which lines
+/// weren't understood.
 pub fn show_text<S: Source, K: Sink, N: Sink>(
     source: &mut S,
     out: &mut K,
@@ -62,7 +63,7 @@ impl<K: Sink> Text<'_, K> {
         Ok(())
     }
 
-    /// Tells what a line of a bus log says, and its time.
+    /// Says what a line of a bus log says, and its time.
     fn tell_logged(&mut self, logged: &LogLine<'_>) -> Result<(), Stop> {
         if let Some(time) = &logged.time {
             self.tell_time(time)?;
@@ -70,7 +71,7 @@ impl<K: Sink> Text<'_, K> {
         self.tell_said()
     }
 
-    /// Tells what the last line says.
+    /// Says what the last line says.
     fn tell_said(&mut self) -> Result<(), Stop> {
         for _ in 0..MOST_SAID {
             if !self.log.next() {
@@ -87,7 +88,7 @@ impl<K: Sink> Text<'_, K> {
         Ok(())
     }
 
-    /// Tells what the last line shows of an exchange.
+    /// Says what the last line shows of an exchange.
     fn tell_exchange(&mut self) -> Result<(), Stop> {
         if let Some(tap) = self.log.tap {
             write!(self.out, "    tap {tap}\n")?;
@@ -112,7 +113,7 @@ impl<K: Sink> Text<'_, K> {
         Ok(())
     }
 
-    /// Tells how long after the line before a line with a time is, where that has one too.
+    /// Says how long after the line before a line with a time is, where that has one too.
     fn tell_time(&mut self, time: &Time<'_>) -> Result<(), Stop> {
         if let Some(micros) = self.log.since(time) {
             let seconds = micros / 1_000_000;

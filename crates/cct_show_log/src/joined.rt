@@ -6,8 +6,8 @@ use cct_show_log_line::{
     is_good, unfinished, wanted_len,
 };
 
-/// The headers whose replies are bare addresses: an address poll, and an address clash (ccTalk Generic Specification 4,
-/// part 2).
+/// The headers whose replies are bare addresses: an address poll, and an address clash (ccTalk
+/// Generic Specification 4, part 2).
 const ADDRESS_POLL: u8 = 253;
 
 const ADDRESS_CLASH: u8 = 252;
@@ -17,21 +17,24 @@ const ADDRESS_CLASH: u8 = 252;
 pub enum Said {
     /// What was sent, and what was then heard.
     Exchange { sent: LogBytes, heard: LogBytes },
-    /// The same as a capture has it (`docs/SCRIPT.md`): what was heard begins with the echo, where that was heard.
+    /// The same as a capture has it (`docs/SCRIPT.md`): what was heard begins with the echo, where
+    /// that was heard.
     Tap { sent: LogBytes, heard: LogBytes },
     /// What was sent.
     Sent(LogBytes),
     /// What was heard.
     Heard(LogBytes),
-    /// Bytes of which the log doesn't tell which way they went.
+    /// Bytes of which the log doesn't say which way they went.
     Either(LogBytes),
-    /// So many bytes of a message, which a later line may end, and has then so many, as far as they tell it.
+    /// So many bytes of a message, which a later line may end, and has then so many, as far as they
+    /// tell it.
     Part { count: usize, len: Option<usize> },
     /// What was heard in lines before, and no line ended.
     Late(LogBytes),
     /// So many bytes, of this line and of those before, that are no part of a message.
     Stray(usize),
-    /// So many bytes of lines before that began a message which the host may have sent, and no line ended.
+    /// So many bytes of lines before that began a message which the host may have sent, and no line
+    /// ended.
     Cut(usize),
     /// What was taken for granted to read the line.
     Guessed(Guess),
@@ -53,19 +56,19 @@ pub(crate) struct Joined {
     sent: LogBytes,
     /// Of what it hears.
     heard: LogBytes,
-    /// Of which no line tells the way.
+    /// Of which no line shows the way.
     free: LogBytes,
     /// What was sent last, and whether anything was heard after it.
     asked: LogBytes,
     is_answered: bool,
-    /// Whether the last bytes of which no line tells the way were a good message.
+    /// Whether the last bytes of which no line shows the way were a good message.
     is_synced: bool,
     /// Whether such a message was in more than one line, so that the lines are no exchanges.
     is_stream: bool,
     /// Whether the bytes of the last line don't follow those before it.
     is_anew: bool,
-    /// Whether a line said that bytes were sent. Before that its word for what was heard tells nothing: a logger that listens
-    /// on the one wire of the bus has that word in each line.
+    /// Whether a line said that bytes were sent. Before that its word for what was heard shows
+    /// nothing: a logger that listens on the one wire of the bus has that word in each line.
     has_sent: bool,
     todo: Option<Todo>,
 }
@@ -150,7 +153,8 @@ impl Joined {
         self.break_free()
     }
 
-    /// Gives up the first of the bytes of which no line tells the way: up to the next good message, or that one.
+    /// Gives up the first of the bytes of which no line shows the way: up to the next good message,
+    /// or that one.
     fn break_free(&mut self) -> Option<Said> {
         let free = self.free.take();
         let len = match first_message(free.as_slice()) {
@@ -233,7 +237,8 @@ impl Joined {
         }
     }
 
-    /// Takes bytes that lines sent one after the other, and that are no good message together: one of them didn't end it.
+    /// Takes bytes that lines sent one after the other, and that are no good message together: one
+    /// of them didn't end it.
     fn unsure(&mut self, whole: LogBytes) -> Option<Said> {
         match before_good(whole.as_slice()) {
             Some(skipped) => {
@@ -272,7 +277,8 @@ impl Joined {
         Some(part)
     }
 
-    /// Takes bytes of which no line tells the way: messages are told apart by their lengths, and by their checksums.
+    /// Takes bytes of which no line shows the way: messages are told apart by their lengths, and by
+    /// their checksums.
     fn take_free(&mut self, bytes: LogBytes) -> Option<Said> {
         let is_other = !self.sent.is_empty() || !self.heard.is_empty();
         let whole = put_behind(&self.free, bytes.as_slice());
@@ -293,7 +299,8 @@ impl Joined {
         }
     }
 
-    /// Takes a good message, and what stands after it: where it begins an exchange, with all that is heard of that.
+    /// Takes a good message, and what is after it: where it begins an exchange, with all that is
+    /// heard of that.
     fn good(&mut self, message: &[u8], rest: &[u8], is_joined: bool) -> Option<Said> {
         self.is_synced = true;
         self.is_stream |= is_joined;
@@ -319,7 +326,7 @@ impl Joined {
         self.again(None, tail, Some(said))
     }
 
-    /// Takes a message of a line by itself that is damaged, and what stands after it.
+    /// Takes a message of a line by itself that is damaged, and what is after it.
     fn damaged(&mut self, message: &[u8], rest: &[u8]) -> Said {
         if rest.is_empty() {
             return Said::Either(bytes_of(message));
@@ -328,12 +335,13 @@ impl Joined {
         exchange(message, rest)
     }
 
-    /// Whether a message of a line by itself may be taken for a damaged one, by what stands after it.
+    /// Whether a message of a line by itself may be taken for a damaged one, by what is after it.
     fn may_be_damaged(&self, rest: &[u8]) -> bool {
         !self.is_stream && (are_whole(rest) || rest.is_empty() && self.is_synced)
     }
 
-    /// Takes bytes that begin with no good message, though it has its length: the next good one begins later.
+    /// Takes bytes that begin with no good message, though it has its length: the next good one
+    /// begins later.
     fn bad(&mut self, whole: &[u8]) -> Option<Said> {
         self.is_synced = false;
         match before_good(whole) {
@@ -352,7 +360,8 @@ impl Joined {
         self.again(None, after, Some(said))
     }
 
-    /// Holds bytes that begin a message, unless there is a good one among them that isn't looked for.
+    /// Holds bytes that begin a message, unless there is a good one among them that isn't looked
+    /// for.
     fn begun(&mut self, whole: LogBytes) -> Option<Said> {
         if !self.is_synced
             && let Some(skipped) = before_good(whole.as_slice())
@@ -405,7 +414,8 @@ fn is_bare(message: &[u8]) -> bool {
     )
 }
 
-/// The bytes of some that are heard after a message: its echo, and good messages to the host; and the others.
+/// The bytes of some that are heard after a message: its echo, and good messages to the host; and
+/// the others.
 fn heard_after<'b>(message: &[u8], bytes: &'b [u8]) -> (&'b [u8], &'b [u8]) {
     let mut rest = bytes.strip_prefix(message).unwrap_or(bytes);
     for _ in bytes {

@@ -1,4 +1,5 @@
-//! The messages of bus logs as people have them (`docs/SHOW.md`): one may take several lines, and a line may have several.
+//! The messages of bus logs as people have them (`docs/SHOW.md`): one may take several lines, and a
+//! line may have several.
 #![tactic(auto)]
 
 mod joined;

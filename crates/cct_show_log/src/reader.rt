@@ -9,7 +9,7 @@ const ORDER_MARK: &[u8] = b"\xef\xbb\xbf";
 /// What a line of a log is, apart from what it says.
 #[derive(Clone, Copy)]
 pub struct LogLine<'l> {
-    /// The time that stands before the bytes.
+    /// The time that is before the bytes.
     pub time: Option<Time<'l>>,
     /// Whether there are bytes; else it says something of those in the lines below, or nothing.
     pub has_bytes: bool,
@@ -31,8 +31,8 @@ impl LogReader {
         }
     }
 
-    /// Reads the next line, without its line feed; [`next_said`](LogReader::next_said) then tells what it says, piece by
-    /// piece. `None` for a line that isn't understood, which says nothing.
+    /// Reads the next line, without its line feed; [`next_said`](LogReader::next_said) then says
+    /// what it says, piece by piece. `None` for a line that isn't understood, which says nothing.
     pub fn read<'l>(&mut self, line: &'l [u8]) -> Option<LogLine<'l>> {
         let line = line.strip_prefix(ORDER_MARK).unwrap_or(line);
         let Some((has, time)) = read_has(line, &mut self.habit) else {
@@ -50,7 +50,7 @@ impl LogReader {
         Some(LogLine { time, has_bytes })
     }
 
-    /// The log is over: [`next_said`](LogReader::next_said) then tells what stayed without an end.
+    /// The log is over: [`next_said`](LogReader::next_said) then says what stayed without an end.
     pub fn end(&mut self) {
         self.joined.end();
     }

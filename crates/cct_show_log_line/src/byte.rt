@@ -32,7 +32,8 @@ pub fn bytes_of(slice: &[u8]) -> LogBytes {
     bytes
 }
 
-/// Adds the bytes that a word spells. Where it spells none, or there is no room, nothing is added, and the answer is false.
+/// Adds the bytes that a word spells. Where it spells none, or there is no room, nothing is added,
+/// and the answer is false.
 pub(crate) fn add_word(bytes: &mut LogBytes, word: &[u8], base: Base) -> bool {
     if let Base::Decimal = base {
         return match decimal_in(word) {
@@ -74,7 +75,8 @@ fn decimal_in(word: &[u8]) -> Option<u8> {
     Some(number)
 }
 
-/// The digits of a word in hexadecimal of either case, two for each byte, without a mark of the base.
+/// The digits of a word in hexadecimal of either case, two for each byte, without a mark of the
+/// base.
 pub(crate) fn hex_in(word: &[u8]) -> Option<&[u8]> {
     let digits = match word {
         [b'0', b'x' | b'X', digits @ ..] | [b'&', b'H' | b'h', digits @ ..] | [b'$', digits @ ..] =>
@@ -91,7 +93,8 @@ pub(crate) fn hex_in(word: &[u8]) -> Option<&[u8]> {
     }
 }
 
-/// A word without angle brackets, one or two, around the bytes of a line, of which it has the first, the last or all.
+/// A word without angle brackets, one or two, around the bytes of a line, of which it has the
+/// first, the last or all.
 pub(crate) fn without_angles(word: &[u8]) -> &[u8] {
     let mut word = word;
     for _ in 0..2 {

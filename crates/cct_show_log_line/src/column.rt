@@ -3,9 +3,9 @@
 use crate::byte::Base;
 use crate::run::run_in;
 
-/// The place at which the column of characters begins in a line: between strokes or angle brackets, after two spaces. Where
-/// there is none, the end of the line. Its characters may look like the words of a log. `offset` is where the last line of a
-/// dump ended.
+/// The place at which the column of characters begins in a line: between strokes or angle brackets,
+/// after two spaces. Where there is none, the end of the line. Its characters may look like the
+/// words of a log. `offset` is where the last line of a dump ended.
 pub(crate) fn column_at(line: &[u8], offset: Option<u64>) -> usize {
     let opens = match line.trim_ascii_end().last() {
         Some(b'|') => b"  |".as_slice(),
@@ -26,7 +26,8 @@ pub(crate) fn column_at(line: &[u8], offset: Option<u64>) -> usize {
     }
 }
 
-/// Whether the rest of a line is a column of the characters that these bytes are, with a mark for each that doesn't print.
+/// Whether the rest of a line is a column of the characters that these bytes are, with a mark for
+/// each that doesn't print.
 pub(crate) fn is_column(rest: &[u8], bytes: &[u8]) -> bool {
     let text = rest.trim_ascii();
     let text = match text {

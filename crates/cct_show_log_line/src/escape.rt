@@ -2,8 +2,8 @@
 
 use crate::byte::{LogBytes, value_of};
 
-/// The bytes of the first text of a line with an escape in it. `None` where there is none, or it isn't there whole. Outside
-/// quotes an escape is one of digits.
+/// The bytes of the first text of a line with an escape in it. `None` where there is none, or it
+/// isn't there whole. Outside quotes an escape is one of digits.
 pub(crate) fn escaped_in(line: &[u8]) -> Option<LogBytes> {
     let escape = line.iter().position(|byte| *byte == b'\\')?;
     let (before, _) = line.split_at_checked(escape)?;
@@ -29,7 +29,8 @@ fn digit_escapes(text: &[u8]) -> Option<&[u8]> {
     }
 }
 
-/// The bytes of a text up to its end mark, and what stands after that. Only a space may be left out at the end of a line.
+/// The bytes of a text up to its end mark, and what is after that. Only a space may be left out at
+/// the end of a line.
 fn unescaped(text: &[u8], end: u8) -> Option<(LogBytes, &[u8])> {
     let mut bytes = LogBytes::new();
     let mut rest = text;
@@ -55,7 +56,7 @@ fn unescaped(text: &[u8], end: u8) -> Option<(LogBytes, &[u8])> {
     }
 }
 
-/// The byte of an escape, without its backslash, and what stands after it.
+/// The byte of an escape, without its backslash, and what is after it.
 fn escape_in(text: &[u8]) -> Option<(u8, &[u8])> {
     match text {
         [b'x', b'{', high, low, b'}', rest @ ..]
@@ -69,7 +70,7 @@ fn escape_in(text: &[u8]) -> Option<(u8, &[u8])> {
     }
 }
 
-/// The byte of up to three octal digits, and what stands after them.
+/// The byte of up to three octal digits, and what is after them.
 fn octal_in(text: &[u8]) -> Option<(u8, &[u8])> {
     let mut number = 0u8;
     let mut rest = text;

@@ -1,4 +1,4 @@
-//! What stands in a log without being bytes: words of no weight, offsets, the heads of columns.
+//! What is in a log without being bytes: words of no weight, offsets, the heads of columns.
 
 use crate::byte::{Base, is_hex};
 use crate::name::is_among;
@@ -16,8 +16,8 @@ const COLUMN_NAMES: &[u8] =
 /// Names of columns that say that their numbers are decimal.
 const DECIMAL_NAMES: &[u8] = b"dec decimal";
 
-/// Whether a word says nothing of the bytes after it: a time, a number, marks, a key with its value, or one of a few
-/// names.
+/// Whether a word says nothing of the bytes after it: a time, a number, marks, a key with its
+/// value, or one of a few names.
 pub(crate) fn is_known(word: &[u8]) -> bool {
     let name = word.strip_suffix(b":").unwrap_or(word);
     let name = match name {
@@ -43,7 +43,8 @@ pub(crate) fn is_remark(word: &[u8]) -> bool {
     word.starts_with(b"#") || word.starts_with(b"//") || word.starts_with(b"--")
 }
 
-/// The offset that the first word of a line of a dump is, where it is one; `expected` is where the last line ended.
+/// The offset that the first word of a line of a dump is, where it is one; `expected` is where the
+/// last line ended.
 pub(crate) fn offset_in(line: &[u8], word: &Word<'_>, expected: Option<u64>) -> Option<u64> {
     let digits = word.text.strip_suffix(b":").unwrap_or(word.text);
     if digits.len() < 4 || digits.len() > 8 || !is_hex(digits) {
@@ -82,8 +83,8 @@ fn number_of(digits: &[u8], base: u64) -> Option<u64> {
     Some(number)
 }
 
-/// Whether a line is the head of columns, and how they say that bytes are written, where they do. Without two names of
-/// columns it is none.
+/// Whether a line is the head of columns, and how they say that bytes are written, where they do.
+/// Without two names of columns it is none.
 pub(crate) fn head_in(line: &[u8]) -> Option<Option<Base>> {
     let mut names = 0u32;
     let mut base = None;
@@ -103,8 +104,8 @@ pub(crate) fn head_in(line: &[u8]) -> Option<Option<Base>> {
     if names >= 2 { Some(base) } else { None }
 }
 
-/// Whether a line has only marks, as between the parts of a log; an asterisk alone represents lines that a dump leaves
-/// out.
+/// Whether a line has only marks, as between the parts of a log; an asterisk alone represents lines
+/// that a dump leaves out.
 pub(crate) fn is_rule(line: &[u8]) -> bool {
     let text = line.trim_ascii();
     text != b"*".as_slice() && !text.iter().any(|byte| byte.is_ascii_alphanumeric())

@@ -1,4 +1,5 @@
-//! A line of a bus log by itself (`docs/SHOW.md`): its bytes, which way they went, and a time; and the messages among bytes.
+//! A line of a bus log by itself (`docs/SHOW.md`): its bytes, which way they went, and a time; and
+//! the messages among bytes.
 #![tactic(auto)]
 
 mod byte;

@@ -15,7 +15,8 @@ use cct_model_wire::HOST;
 /// The word of a line of a capture, and its space.
 const TAP: &[u8] = b"tap ";
 
-/// What was taken for granted of bytes that can be read in another way. The checksum of a message decided.
+/// What was taken for granted of bytes that can be read in another way. The checksum of a message
+/// decided.
 #[derive(Clone, Copy, PartialEq, Eq)]
 pub enum Guess {
     /// That the numbers are decimal, or that a hexadecimal number may have one digit.
@@ -32,9 +33,9 @@ pub enum Has {
     Tap { sent: LogBytes, heard: LogBytes },
     /// What was sent, and what was then heard.
     Exchange { sent: LogBytes, heard: LogBytes },
-    /// Bytes, which went this way, where that is told.
+    /// Bytes, which went this way, where that is reported.
     Bytes { way: Option<Way>, bytes: LogBytes },
-    /// None, but the way of the bytes in the next lines, where it is told.
+    /// None, but the way of the bytes in the next lines, where it is reported.
     Heading(Option<Way>),
 }
 
@@ -47,7 +48,7 @@ pub struct Habit {
     pub(crate) offset: Option<u64>,
     /// Whether the bytes of this line don't follow those of the last one in a dump.
     pub is_anew: bool,
-    /// Whether the number of the bytes stands before them.
+    /// Whether the number of the bytes is before them.
     pub(crate) has_counts: bool,
     /// The way that a line without bytes told.
     pub way: Option<Way>,
@@ -96,7 +97,7 @@ pub fn read_has<'l>(line: &'l [u8], habit: &mut Habit) -> Option<(Has, Option<Ti
     }
 }
 
-/// What the line `tap SENT HEARD` has, by what stands after its word.
+/// What the line `tap SENT HEARD` has, by what is after its word.
 fn tap_in(fields: &[u8]) -> Option<Has> {
     let mut fields = fields.split(|byte| *byte == b' ');
     let sent = field_in(fields.next()?)?;
@@ -187,8 +188,8 @@ fn one_way(front: &[u8], way: WayAt, after: &[u8], habit: &mut Habit) -> Option<
     None
 }
 
-/// The exchange of a line in which an arrow or the like stands between whole messages and other bytes: a reply may stand
-/// first.
+/// The exchange of a line in which an arrow or the like is between whole messages and other bytes:
+/// a reply may stand first.
 fn between(before: Run, behind: Run) -> Option<Has> {
     if behind.other >= LEAST_MESSAGE {
         return None;
@@ -200,8 +201,8 @@ fn between(before: Run, behind: Run) -> Option<Has> {
     Some(Has::Exchange { sent, heard })
 }
 
-/// What a line has whose bytes stand after a way. Where that may say something else, only whole messages are taken, and
-/// without a way.
+/// What a line has whose bytes stand after a way. Where that may say something else, only whole
+/// messages are taken, and without a way.
 fn behind_way(front: &[u8], way: &WayAt, run: Run, habit: &mut Habit) -> Option<Has> {
     let is_whole = are_whole(run.bytes.as_slice()) && run.other < LEAST_MESSAGE;
     let is_plain = run.strange == 0 && run.is_last;
@@ -219,7 +220,8 @@ fn has_remark(text: &[u8]) -> bool {
     text.contains(&b'#') || text.windows(2).any(|pair| pair == b"//".as_slice())
 }
 
-/// Whether a way is meant as one: by a word that can be nothing else, or that stands where only a time and the like may.
+/// Whether a way is meant as one: by a word that can be nothing else, or that is where only a time
+/// and the like may.
 fn is_sure(front: &[u8], way: &WayAt) -> bool {
     !way.is_weak || !way.is_part && is_bare(front)
 }
@@ -233,7 +235,7 @@ fn ways_bytes(way: Way, bytes: LogBytes, habit: &mut Habit) -> Has {
     }
 }
 
-/// Whether nothing but a time and other words of no weight stands in a text.
+/// Whether nothing but a time and other words of no weight is in a text.
 fn is_bare(text: &[u8]) -> bool {
     let mut at = 0;
     for _ in text {
@@ -295,7 +297,8 @@ fn free_line<'l>(line: &'l [u8], habit: &mut Habit) -> Option<(Has, Option<Time<
     }
 }
 
-/// Whether a line has the word of an exchange in a transcript: one that is spelt wrongly is none of a log.
+/// Whether a line has the word of an exchange in a transcript: one that is spelt wrongly is none of
+/// a log.
 fn is_transcript(line: &[u8]) -> bool {
     match next_word(line, 0) {
         Some(word) => word.text == b"wire".as_slice(),
@@ -303,8 +306,8 @@ fn is_transcript(line: &[u8]) -> bool {
     }
 }
 
-/// The exchange of a line that has two words alone, of a message each: what was sent and what was then heard, or a hyphen
-/// where nothing was.
+/// The exchange of a line that has two words alone, of a message each: what was sent and what was
+/// then heard, or a hyphen where nothing was.
 fn two_words(line: &[u8], run: &Run) -> Option<Has> {
     if run.strange != 0 || run.offset.is_some() || run.first < LEAST_MESSAGE {
         return None;
@@ -327,7 +330,7 @@ fn two_words(line: &[u8], run: &Run) -> Option<Has> {
     }
 }
 
-/// Bytes of which the line doesn't tell which way they went; a line before may.
+/// Bytes of which the line doesn't say which way they went; a line before may.
 fn free_bytes(bytes: LogBytes, habit: &Habit) -> Has {
     Has::Bytes {
         way: habit.way,
@@ -335,7 +338,8 @@ fn free_bytes(bytes: LogBytes, habit: &Habit) -> Has {
     }
 }
 
-/// The bytes of a text, in the base in which they are messages, or else in that of the lines before.
+/// The bytes of a text, in the base in which they are messages, or else in that of the lines
+/// before.
 fn chosen(text: &[u8], habit: &mut Habit) -> Run {
     let hex = run_in(text, Base::Hex, habit.offset);
     if hex.offset.is_some() && hex.is_double && !text.contains(&b':') {
@@ -401,7 +405,7 @@ fn counts(digits: u8, number: usize) -> bool {
     usize::from(digits) == number || ones < 10 && tens.saturating_add(ones) == number
 }
 
-/// Bytes with the offset in a dump that stands before them.
+/// Bytes with the offset in a dump that is before them.
 fn placed(run: Run, habit: &mut Habit) -> Run {
     if let Some(offset) = run.offset {
         habit.is_anew = habit.offset != Some(offset);

@@ -9,7 +9,8 @@ pub(crate) const LEAST_MESSAGE: usize = 5;
 /// More messages than the bytes of a line or of what is held can be.
 const MOST_MESSAGES: usize = 400;
 
-/// The first message of some bytes, by its length, and the bytes after it; `None` where it isn't there whole.
+/// The first message of some bytes, by its length, and the bytes after it; `None` where it isn't
+/// there whole.
 pub fn first_message(bytes: &[u8]) -> Option<(&[u8], &[u8])> {
     let [_, count, ..] = bytes else {
         return None;
@@ -30,8 +31,8 @@ pub fn is_message(bytes: &[u8]) -> bool {
     read(CheckKind::Simple, bytes).is_ok() || read(CheckKind::Crc, bytes).is_ok()
 }
 
-/// Whether bytes are a message under either check that the host sent or heard, as far as they name it. Only a reply has
-/// header 0.
+/// Whether bytes are a message under either check that the host sent or heard, as far as they name
+/// it. Only a reply has header 0.
 pub fn is_good(bytes: &[u8]) -> bool {
     match read(CheckKind::Simple, bytes) {
         Ok(view) if view.to == HOST => true,
@@ -78,8 +79,8 @@ pub fn unfinished(bytes: &[u8]) -> &[u8] {
     rest
 }
 
-/// How many bytes stand before the first good message among some bytes that isn't at their beginning. One to all doesn't
-/// count: a byte 0 before another message looks like it.
+/// How many bytes stand before the first good message among some bytes that isn't at their
+/// beginning. One to all doesn't count: a byte 0 before another message looks like it.
 pub fn before_good(bytes: &[u8]) -> Option<usize> {
     for skipped in 1..bytes.len() {
         let (_, rest) = bytes.split_at_checked(skipped)?;

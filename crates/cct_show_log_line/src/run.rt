@@ -26,17 +26,18 @@ pub(crate) struct Run {
     pub(crate) is_labelled: bool,
     /// Whether the first of them says that it is hexadecimal.
     pub(crate) is_marked: bool,
-    /// Whether their spelling says the base: two digits in hexadecimal, or three in a decimal number.
+    /// Whether their spelling says the base: two digits in hexadecimal, or three in a decimal
+    /// number.
     pub(crate) is_spelt: bool,
     /// How many bytes the longest of the other runs of the line has.
     pub(crate) other: usize,
-    /// The offset in a dump that stands before them.
+    /// The offset in a dump that is before them.
     pub(crate) offset: Option<u64>,
     /// Whether the first word has two bytes.
     pub(crate) is_double: bool,
     /// Whether each word is one of eight bits.
     are_bits: bool,
-    /// Whether nothing but a column of characters or a remark stands after them.
+    /// Whether nothing but a column of characters or a remark is after them.
     pub(crate) is_last: bool,
 }
 
@@ -87,8 +88,8 @@ impl Run {
     }
 }
 
-/// The longest run of bytes in a line, and of those as long the first one. `expected` is where the last line of a dump
-/// ended.
+/// The longest run of bytes in a line, and of those as long the first one. `expected` is where the
+/// last line of a dump ended.
 pub(crate) fn run_in(line: &[u8], base: Base, expected: Option<u64>) -> Run {
     let mut best = Run::new(0, false);
     let mut run = Run::new(0, false);
@@ -142,7 +143,8 @@ fn longer(earlier: Run, later: Run) -> Run {
     best
 }
 
-/// What stands after a key that says that it is bytes, or after a sign without one; nothing where there is none.
+/// What is after a key that says that it is bytes, or after a sign without one; nothing where there
+/// is none.
 fn value_in(word: &[u8]) -> &[u8] {
     match word.iter().position(|byte| *byte == b'=') {
         Some(place) if place == 0 || is_among(KEYS, word.get(..place).unwrap_or(b"")) => {
@@ -157,7 +159,8 @@ fn is_mark(word: &[u8]) -> bool {
     !word.iter().any(|byte| byte.is_ascii_alphanumeric())
 }
 
-/// Whether a word before the bytes is a number in parentheses or brackets of its own, which counts them.
+/// Whether a word before the bytes is a number in parentheses or brackets of its own, which counts
+/// them.
 fn is_count(line: &[u8], word: &Word<'_>, run: &Run) -> bool {
     let is_number = word.text.len() <= 3 && number_in(word.text).is_some();
     match next_word(line, word.to) {

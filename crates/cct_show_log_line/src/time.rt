@@ -1,4 +1,4 @@
-//! The time that stands in a line.
+//! The time that is in a line.
 
 use crate::word::next_word;
 
@@ -8,7 +8,7 @@ const FRACTION_DIGITS: usize = 6;
 /// Twelve hours, in millionths of a second.
 const NOON: u64 = 43_200_000_000;
 
-/// A time of day, or a time since some beginning, as it stands in a line.
+/// A time of day, or a time since some beginning, as it is in a line.
 #[derive(Clone, Copy)]
 pub struct Time<'l> {
     pub text: &'l [u8],
@@ -16,8 +16,9 @@ pub struct Time<'l> {
     pub micros: u64,
 }
 
-/// The time that a word spells: `H:M:S`, `H:M:S:MILLIS`, `M:S` or seconds with a point, each with a fraction or without, in
-/// brackets or not, after a date and a `T` or not, and with a time zone or not.
+/// The time that a word spells: `H:M:S`, `H:M:S:MILLIS`, `M:S` or seconds with a point, each with a
+/// fraction or without, in brackets or not, after a date and a `T` or not, and with a time zone or
+/// not.
 pub(crate) fn time_in(word: &[u8]) -> Option<Time<'_>> {
     let text = without_frame(word);
     let of_day = without_zone(text.rsplit(|byte| *byte == b'T').next()?);
@@ -39,8 +40,9 @@ pub(crate) fn time_in(word: &[u8]) -> Option<Time<'_>> {
     })
 }
 
-/// The time that stands in a line before a place: the first word that spells one, with a fraction after a comma, AM or
-/// PM, or else, where `is_number_time`, the last word that is a number, which counts milliseconds.
+/// The time that is in a line before a place: the first word that spells one, with a fraction after
+/// a comma, AM or PM, or else, where `is_number_time`, the last word that is a number, which counts
+/// milliseconds.
 pub(crate) fn time_at(line: &[u8], end: usize, is_number_time: bool) -> Option<Time<'_>> {
     let mut number = None;
     let mut at = 0;
@@ -65,7 +67,8 @@ pub(crate) fn time_at(line: &[u8], end: usize, is_number_time: bool) -> Option<T
     if is_number_time { number } else { None }
 }
 
-/// A time with what stands after it, at a place in its line: milliseconds or millionths after a comma, AM or PM.
+/// A time with what is after it, at a place in its line: milliseconds or millionths after a comma,
+/// AM or PM.
 fn completed<'l>(line: &'l [u8], time: Time<'l>, place: usize) -> Time<'l> {
     let mut time = time;
     let Some(next) = next_word(line, place) else {
@@ -85,8 +88,8 @@ fn completed<'l>(line: &'l [u8], time: Time<'l>, place: usize) -> Time<'l> {
     time
 }
 
-/// The time that stands before the rest of a line, in the first word or after a date, and that rest; without one, the
-/// whole line. Seconds without a point are a time too.
+/// The time that is before the rest of a line, in the first word or after a date, and that rest;
+/// without one, the whole line. Seconds without a point are a time too.
 pub fn after_time(line: &[u8]) -> (Option<Time<'_>>, &[u8]) {
     let Some((first, rest)) = split_word(line) else {
         return (None, line);
@@ -103,7 +106,7 @@ pub fn after_time(line: &[u8]) -> (Option<Time<'_>>, &[u8]) {
     (None, line)
 }
 
-/// The first word of a line and what stands after its space.
+/// The first word of a line and what is after its space.
 fn split_word(line: &[u8]) -> Option<(&[u8], &[u8])> {
     let place = line.iter().position(|byte| *byte == b' ')?;
     let (word, rest) = line.split_at(place);
@@ -156,7 +159,8 @@ fn without_zone(text: &[u8]) -> &[u8] {
     }
 }
 
-/// The millionths that numbers with colons between them spell: up to three, or four, of which the last are milliseconds.
+/// The millionths that numbers with colons between them spell: up to three, or four, of which the
+/// last are milliseconds.
 fn micros_in(text: &[u8]) -> Option<u64> {
     let mut count = 0u32;
     let mut seconds = 0u64;

@@ -19,8 +19,8 @@ pub(crate) struct WayAt {
     pub(crate) to: usize,
 }
 
-/// The first way that a line says at a place or after it: one that can be nothing else, or where none is there the first
-/// that may be one.
+/// The first way that a line says at a place or after it: one that can be nothing else, or where
+/// none is there the first that may be one.
 pub(crate) fn first_way(line: &[u8], place: usize) -> Option<WayAt> {
     let mut weak = None;
     let mut at = place;
@@ -59,8 +59,8 @@ fn way_at(line: &[u8], before: &[u8], word: &Word<'_>) -> Option<WayAt> {
     named_at(word)
 }
 
-/// The way that an arrow says at the beginning of a word: from the host, if not the other end is named as it. A name of a way
-/// right after an arrow counts in its place.
+/// The way that an arrow says at the beginning of a word: from the host, if not the other end is
+/// named as it. A name of a way right after an arrow counts in its place.
 fn arrow_at(line: &[u8], before: &[u8], word: &Word<'_>, arrow: &[u8]) -> Option<WayAt> {
     let way = arrow_way(arrow)?;
     let after = word.text.get(arrow.len()..)?;
@@ -90,7 +90,8 @@ fn arrow_at(line: &[u8], before: &[u8], word: &Word<'_>, arrow: &[u8]) -> Option
     Some(found)
 }
 
-/// Whether a word begins bytes in angle brackets: with the first one, where a later word, or this one, ends with the other.
+/// Whether a word begins bytes in angle brackets: with the first one, where a later word, or this
+/// one, ends with the other.
 fn is_bracket(line: &[u8], word: &Word<'_>) -> bool {
     if !word.text.starts_with(b"<") {
         return false;
@@ -111,7 +112,8 @@ fn is_bracket(line: &[u8], word: &Word<'_>) -> bool {
     false
 }
 
-/// Takes the other end of an arrow into account, where the host is named at one. A word in brackets of its own is no end.
+/// Takes the other end of an arrow into account, where the host is named at one. A word in brackets
+/// of its own is no end.
 fn turn(found: &mut WayAt, line: &[u8], before: &[u8], next: &Word<'_>) {
     if is_end_host(next.text) {
         found.way = against(found.way);
@@ -129,7 +131,7 @@ fn against(way: Way) -> Way {
     }
 }
 
-/// The way that a word says in which an arrow stands between two ends, of which one is the host.
+/// The way that a word says in which an arrow is between two ends, of which one is the host.
 fn way_between(word: &[u8]) -> Option<Way> {
     let place = word
         .iter()
@@ -162,7 +164,8 @@ fn cut_arrow(word: &[u8]) -> (&[u8], &[u8]) {
     word.split_at_checked(len).unwrap_or((b"", word))
 }
 
-/// The way that a word names, with marks after it or without. A part of a longer word may name it too.
+/// The way that a word names, with marks after it or without. A part of a longer word may name it
+/// too.
 fn named_at(word: &Word<'_>) -> Option<WayAt> {
     let mut from = 0usize;
     for part in word.text.split(|byte| !byte.is_ascii_alphabetic()) {
@@ -191,8 +194,8 @@ fn named_at(word: &Word<'_>) -> Option<WayAt> {
     None
 }
 
-/// The way that a part of a word names, which begins at this place of it, and whether it may say something else. Such a
-/// part begins the word, or stands after a low line.
+/// The way that a part of a word names, which begins at this place of it, and whether it may say
+/// something else. Such a part begins the word, or is after a low line.
 fn part_way(word: &[u8], from: usize, part: &[u8]) -> Option<(Way, bool)> {
     if let Some(way) = named_way(part) {
         return Some((way, false));

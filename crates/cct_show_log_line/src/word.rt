@@ -1,6 +1,6 @@
 //! The words of a line.
 
-/// A word of a line: no byte of it stands between words.
+/// A word of a line: no byte of it is between words.
 #[derive(Clone, Copy)]
 pub(crate) struct Word<'l> {
     pub(crate) text: &'l [u8],
@@ -26,7 +26,7 @@ pub(crate) fn next_word(line: &[u8], place: usize) -> Option<Word<'_>> {
     })
 }
 
-/// Whether a byte stands between words.
+/// Whether a byte is between words.
 fn is_gap(byte: u8) -> bool {
     match byte {
         b' ' | b'\t' | b',' | b';' | b'|' => true,
@@ -37,7 +37,7 @@ fn is_gap(byte: u8) -> bool {
 }
 
 impl Word<'_> {
-    /// Whether it stands in brackets or parentheses of its own.
+    /// Whether it is in brackets or parentheses of its own.
     pub(crate) fn is_framed(&self, line: &[u8]) -> bool {
         let before = match self.from.checked_sub(1) {
             Some(place) => line.get(place),

@@ -14,12 +14,13 @@ pub struct Wire<'e> {
     /// What was heard, its echo first.
     pub heard: &'e [u8],
     pub has_sent: bool,
-    /// Whether anything was heard, an echo or a reply: a log that has no echo has nothing of a request without a reply.
+    /// Whether anything was heard, an echo or a reply: a log that has no echo has nothing of a
+    /// request without a reply.
     pub has_heard: bool,
 }
 
-/// The mark of an exchange, with the fault that the wire had in it, where that is known. The error comes where there is no
-/// memory for it.
+/// The mark of an exchange, with the fault that the wire had in it, where that is known. The error
+/// comes where there is no memory for it.
 pub fn exchange_mark(alloc: Global, wire: &Wire<'_>, fault: FaultAt) -> Result<Mark, AllocError> {
     let exchange = Exchange::new(wire.sent, wire.heard);
     let (addr, kind) = lane_of(&exchange, wire.sent);
@@ -84,8 +85,8 @@ fn reply_of(
     })
 }
 
-/// The address that what was sent names, or where nothing was sent what was heard, and the kind of device that the header
-/// is for.
+/// The address that what was sent names, or where nothing was sent what was heard, and the kind of
+/// device that the header is for.
 pub fn lane_of(exchange: &Exchange<'_>, sent: &[u8]) -> (u8, LaneKind) {
     match (exchange.asked, exchange.answer) {
         (Asked::Request { to, header, .. }, _) => (to, lane_kind(kind_for(header))),
@@ -108,8 +109,8 @@ fn lane_kind(kind: Option<DeviceKind>) -> LaneKind {
     }
 }
 
-/// How far what was sent came. Where the devices hear something else, it is lost; where the echo isn't whole too, but for a
-/// fault that is the host's alone.
+/// How far what was sent came. Where the devices hear something else, it is lost; where the echo
+/// isn't whole too, but for a fault that is the host's alone.
 fn reach_of(answer: &Answer<'_>, fault: FaultAt) -> Reach {
     match (answer, fault) {
         (_, FaultAt::Devices) => Reach::Lost,

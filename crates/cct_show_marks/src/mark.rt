@@ -5,8 +5,8 @@ use cct_model_lines::{End, Entry, MOST_LINE, Record, Said, WireFault};
 use cct_show_picture::{FaultAt, Happening, Label, LaneKind, Mark, Verdict};
 use cct_show_words::{alarm_of, read_line};
 
-/// The mark of a line, without its line feed, which is this entry, where it is one. A line that says nothing known is a
-/// note. An exchange has a mark of its own (`exchange_mark`).
+/// The mark of a line, without its line feed, which is this entry, where it is one. A line that
+/// says nothing known is a note. An exchange has a mark of its own (`exchange_mark`).
 pub fn mark_of(line: &[u8], entry: Option<&Entry>) -> Mark {
     match entry {
         Some(Entry::Put(record)) => Mark::Put(record.copied()),
@@ -22,7 +22,7 @@ pub fn mark_of(line: &[u8], entry: Option<&Entry>) -> Mark {
     }
 }
 
-/// The device of which an entry tells what it is, and what that is.
+/// The device of which an entry says what it is, and what that is.
 pub fn kind_told(entry: &Entry) -> Option<(u8, LaneKind)> {
     match entry {
         Entry::Put(record) | Entry::Kept(record) | Entry::Listing { entry: record, .. } => {
@@ -45,7 +45,7 @@ pub fn kind_told(entry: &Entry) -> Option<(u8, LaneKind)> {
     }
 }
 
-/// The device of which a record tells what it is.
+/// The device of which a record says what it is.
 fn kind_of_record(record: &Record) -> Option<(u8, LaneKind)> {
     match record {
         Record::Epoch { addr, .. }
@@ -67,7 +67,7 @@ pub fn place_of(fault: &WireFault) -> FaultAt {
     }
 }
 
-/// The label of what stands in a line after its word.
+/// The label of what is in a line after its word.
 fn label_after(word: &[u8], line: &[u8]) -> Label {
     Label::new(line.strip_prefix(word).unwrap_or(line))
 }

@@ -17,7 +17,7 @@ pub struct PlaceWorth {
     pub amount: u32,
 }
 
-/// What a coin of a place is worth by its identification, where an exchange tells that.
+/// What a coin of a place is worth by its identification, where an exchange says that.
 pub fn worth_in_exchange(wire: &Wire<'_>) -> Option<PlaceWorth> {
     if !wire.sent.iter().any(|byte| *byte == COIN_ID) {
         return None;

@@ -19,7 +19,7 @@ impl Classes {
         }
     }
 
-    /// Writes what stands before a class.
+    /// Writes what is before a class.
     fn next<K: Sink>(&mut self, pen: &mut Pen<'_, K>) {
         match (self.has_any, self.are_several) {
             (true, _) => pen.push(b" "),

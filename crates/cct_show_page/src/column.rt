@@ -32,7 +32,7 @@ impl Column {
         Column::Fell,
     ];
 
-    /// What stands above a column.
+    /// What is above a column.
     pub(crate) fn head(self) -> &'static [u8] {
         match self {
             Column::Exchanges => b"exchanges",

@@ -47,7 +47,7 @@ pub(crate) struct Devices {
 }
 
 impl Device {
-    /// A device of which nothing is told yet.
+    /// A device of which nothing is reported yet.
     fn new() -> Device {
         Device {
             addr: 0,

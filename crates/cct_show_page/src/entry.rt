@@ -5,7 +5,8 @@ use crate::row::Tone;
 use cct_model_lines::{BROADCAST, Command, End, Entry, HOST, Record, WireFault};
 use cct_show_words::alarm_of;
 
-/// The address of the job that a command begins: that of all for a scan, that of the host for a sale.
+/// The address of the job that a command begins: that of all for a scan, that of the host for a
+/// sale.
 pub(crate) fn addr_of_command(command: &Command) -> u8 {
     match command {
         Command::Start { addr, .. }
@@ -121,7 +122,8 @@ pub(crate) fn is_record(entry: &Entry) -> bool {
     )
 }
 
-/// How a line that is no entry is to be looked at, by its first word: the faults of a run, of its files and of its line.
+/// How a line that is no entry is to be looked at, by its first word: the faults of a run, of its
+/// files and of its line.
 pub(crate) fn tone_of_note(line: &[u8]) -> Tone {
     match line.split(|byte| *byte == b' ').next() {
         Some(b"refused" | b"readfault" | b"diskfault" | b"notblank" | b"disksize" | b"journal") => {

@@ -1,4 +1,5 @@
-//! A page as a document: its head, what stands on top, and its rows. End tags and quotes that HTML lets out are left out.
+//! A page as a document: its head, what is on top, and its rows. End tags and quotes that HTML lets
+//! out are left out.
 
 use crate::Page;
 use crate::needs::Needs;
@@ -62,7 +63,8 @@ fn write_picture<K: Sink>(pen: &mut Pen<'_, K>, picture: &Picture, is_part: bool
     pen.push(b"</details>");
 }
 
-/// Writes which rows a reader may choose, beside those of a device, and whether the bytes stand there.
+/// Writes which rows a reader may choose, beside those of a device, and whether the bytes stand
+/// there.
 fn write_choices<K: Sink>(pen: &mut Pen<'_, K>, needs: &Needs) {
     if needs.choose_red {
         pen.push(b"<label><input type=checkbox id=errors>errors</label> ");

@@ -60,7 +60,7 @@ impl Job {
         }
     }
 
-    /// Whether its end is told.
+    /// Whether its end is reported.
     pub(crate) fn has_end(&self) -> bool {
         match self.ending {
             Ending::Open | Ending::Cut => false,

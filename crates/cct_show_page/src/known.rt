@@ -29,7 +29,7 @@ impl Known {
         }
     }
 
-    /// Takes an exchange, and tells whether its request had just this reply the last time.
+    /// Takes an exchange, and says whether its request had just this reply the last time.
     pub(crate) fn is_again(
         &mut self,
         alloc: Global,
@@ -64,7 +64,8 @@ impl Known {
     }
 }
 
-/// Whether a header is that of a poll: it asks how a device is, and changes nothing (ccTalk Generic Specification 4, part 2).
+/// Whether a header is that of a poll: it asks how a device is, and changes nothing (ccTalk Generic
+/// Specification 4, part 2).
 pub(crate) fn is_poll(header: u8) -> bool {
     match header {
         152 | 153 | 159 | 163 | 166 | 168 => true,

@@ -1,5 +1,5 @@
-//! A run or a bus log as a page for a browser (`docs/SHOW.md`): one HTML document without a script. It has a row for
-//! each exchange and each other line, a fold for each job, and sums on top.
+//! A run or a bus log as a page for a browser (`docs/SHOW.md`): one HTML document without a script.
+//! It has a row for each exchange and each other line, a fold for each job, and sums on top.
 #![tactic(auto)]
 
 mod classes;

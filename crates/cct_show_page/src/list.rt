@@ -22,7 +22,8 @@ impl List {
         }
     }
 
-    /// Begins the row at a place, with its number, where it has one; it begins the list, where it is the first row.
+    /// Begins the row at a place, with its number, where it has one; it begins the list, where it
+    /// is the first row.
     pub(crate) fn begin_row<K: Sink>(
         &mut self,
         pen: &mut Pen<'_, K>,
@@ -72,8 +73,8 @@ impl List {
     }
 }
 
-/// Writes the classes of a row: its devices, where they can be chosen and it isn't in a fold, and what it is. One that is red
-/// has its id.
+/// Writes the classes of a row: its devices, where they can be chosen and it isn't in a fold, and
+/// what it is. One that is red has its id.
 fn push_classes<K: Sink>(pen: &mut Pen<'_, K>, needs: &Needs, row: &Row, is_unnumbered: bool) {
     let is_odd = row.tone == Tone::Odd;
     let has_devices = needs.choose_devices && row.job.is_none();

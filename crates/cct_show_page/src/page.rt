@@ -17,7 +17,8 @@ use std::alloc::{AllocError, Global};
 /// What is written in place of an answer where nothing was heard.
 const NO_REPLY: &[u8] = b"no reply before the next request";
 
-/// The exchanges and lines of a run or a log, with what is shown of them together. Its memory grows with its rows.
+/// The exchanges and lines of a run or a log, with what is shown of them together. Its memory grows
+/// with its rows.
 #[derive(Drop)]
 pub struct Page {
     alloc: Global,
@@ -56,8 +57,8 @@ impl Page {
         }
     }
 
-    /// Adds an exchange, which begins and ends at these places, and is of the job at an address, where the line names one.
-    /// The error comes where there is no memory for it.
+    /// Adds an exchange, which begins and ends at these places, and is of the job at an address,
+    /// where the line names one. The error comes where there is no memory for it.
     pub fn exchange(
         &mut self,
         place: Place,
@@ -95,8 +96,8 @@ impl Page {
         self.push(row)
     }
 
-    /// Adds a line that is no exchange, without its line feed: this entry, where it is one. The error comes where there is no
-    /// memory for it.
+    /// Adds a line that is no exchange, without its line feed: this entry, where it is one. The
+    /// error comes where there is no memory for it.
     pub fn line(
         &mut self,
         place: Place,
@@ -112,7 +113,8 @@ impl Page {
         }
     }
 
-    /// Writes the page, with this picture folded into it: of the first lines, where it isn't of all.
+    /// Writes the page, with this picture folded into it: of the first lines, where it isn't of
+    /// all.
     pub fn write<K: Sink>(
         &self,
         picture: &Picture,
@@ -127,7 +129,8 @@ impl Page {
         self.running[usize::from(addr?)]
     }
 
-    /// Puts the fault that the exchange of a job has into the fold of that job, where it stands after its command.
+    /// Puts the fault that the exchange of a job has into the fold of that job, where it is after
+    /// its command.
     fn place_fault(&mut self, index: Option<usize>) {
         if let Some(place) = self.fault.take()
             && let Some(index) = index
@@ -187,7 +190,8 @@ impl Page {
         }))
     }
 
-    /// Adds a poll that says nothing new to the last row, where that has such ones and is to be looked at just so.
+    /// Adds a poll that says nothing new to the last row, where that has such ones and is to be
+    /// looked at just so.
     fn add_poll(&mut self, last: &Place, tone: Tone, poll: &Poll) -> Result<bool, AllocError> {
         let Some(row) = self.rows.last_mut() else {
             return Ok(false);
@@ -227,7 +231,7 @@ impl Page {
         }
     }
 
-    /// Adds a row, and tells its job, where it has one.
+    /// Adds a row, and shows its job, where it has one.
     fn push(&mut self, row: Row) -> Result<(), AllocError> {
         if self.rows.len() >= MOST_ROWS {
             self.left_out = self.left_out.saturating_add(1);
@@ -357,7 +361,8 @@ impl Page {
         }
     }
 
-    /// Joins a round that found nothing new to the one right before it, if that is such a one at the same device.
+    /// Joins a round that found nothing new to the one right before it, if that is such a one at
+    /// the same device.
     fn join_idle(&mut self, index: usize) {
         let Some(job) = self.jobs.get(index) else {
             return;
@@ -386,7 +391,8 @@ impl Page {
         }
     }
 
-    /// Whether all rows after that of a job's command are of this job, and so is that command the last one.
+    /// Whether all rows after that of a job's command are of this job, and so is that command the
+    /// last one.
     fn is_whole(&self, index: usize, first: usize) -> bool {
         let (_, rows) = self
             .rows

@@ -54,7 +54,8 @@ pub(crate) struct Row {
     pub(crate) is_record: bool,
     /// The job in whose fold it stands, by its index.
     pub(crate) job: Option<usize>,
-    /// Of polls that say what they said before: the requests; there are several only where the row represents several.
+    /// Of polls that say what they said before: the requests; there are several only where the row
+    /// represents several.
     pub(crate) polls: Vec<Poll>,
     pub(crate) body: Body,
 }

@@ -31,7 +31,8 @@ pub(crate) fn write_rows<K: Sink>(pen: &mut Pen<'_, K>, page: &Page, needs: &Nee
     list.end(pen);
 }
 
-/// Writes the fold of a job, whose command has the row at a place; it is open where it didn't end well.
+/// Writes the fold of a job, whose command has the row at a place; it is open where it didn't end
+/// well.
 fn write_fold<K: Sink>(
     pen: &mut Pen<'_, K>,
     page: &Page,
@@ -127,7 +128,7 @@ fn write_coins<K: Sink>(pen: &mut Pen<'_, K>, job: &Job) {
     }
 }
 
-/// Writes what stands in a row, after its number.
+/// Writes what is in a row, after its number.
 fn write_row<K: Sink>(pen: &mut Pen<'_, K>, row: &Row) {
     let until = if row.poll_count() > 1 {
         row.until

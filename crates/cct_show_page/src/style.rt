@@ -1,13 +1,13 @@
-//! How a page looks: in light and dark, on a phone and on paper. Each rule stands there only where a page needs it, since a
-//! short page is to be short.
+//! How a page looks: in light and dark, on a phone and on paper. Each rule is there only where a
+//! page needs it, since a short page is to be short.
 
 use crate::Page;
 use crate::needs::Needs;
 use cct_edge::Sink;
 use cct_show_pen::Pen;
 
-/// What every page needs. A row is an item of a list, which numbers it; in its words a line feed represents itself. Numbers,
-/// times and bytes are grey.
+/// What every page needs. A row is an item of a list, which numbers it; in its words a line feed
+/// represents itself. Numbers, times and bytes are grey.
 const ALWAYS: &[u8] = b"\
 :root{color-scheme:light dark;font:14px system-ui}\
 ol{margin:0}\
@@ -34,8 +34,8 @@ const WIDE_TABLE: &[u8] = b"table{display:block;overflow:auto}";
 /// The bytes of an exchange, where they aren't wanted.
 const BYTES: &[u8] = b":has(#bytes:not(:checked)) i{display:none}";
 
-/// What somebody is to look at: rows with an id. Nothing is told by a colour alone: they have a bar at their left, and a link
-/// on top.
+/// What somebody is to look at: rows with an id. Nothing is reported by a colour alone: they have a
+/// bar at their left, and a link on top.
 const RED: &[u8] = b"li[id],.x>summary,td.x{box-shadow:-3px 0;color:#d33}";
 
 /// What is unusual.
@@ -53,7 +53,8 @@ const PICTURE: &[u8] = b"\
 svg{position:absolute;z-index:-1}\
 pre{contain:paint;overflow:auto;font:10px/14px monospace;tab-size:";
 
-/// The rows of a long page: a number stands within its row, since a row that isn't drawn whole has nothing outside it.
+/// The rows of a long page: a number is within its row, since a row that isn't drawn whole has
+/// nothing outside it.
 const MANY: &[u8] = b"\
 ol{padding:0}\
 li{list-style-position:inside;padding-left:4em;text-indent:-4em;content-visibility:auto;contain-intrinsic-size:auto 4em}";
@@ -97,7 +98,8 @@ fn push_rule<K: Sink>(pen: &mut Pen<'_, K>, is_needed: bool, rule: &[u8]) {
     }
 }
 
-/// Writes the rules that hide what is no error, or no record, where such rows are chosen. A fold stays for what is in it.
+/// Writes the rules that hide what is no error, or no record, where such rows are chosen. A fold
+/// stays for what is in it.
 fn write_kind_rules<K: Sink>(pen: &mut Pen<'_, K>, needs: &Needs) {
     push_rule(
         pen,

@@ -1,4 +1,4 @@
-//! What stands on top of a page: the sums by device, and the rows that are red.
+//! What is on top of a page: the sums by device, and the rows that are red.
 
 use crate::Page;
 use crate::column::Column;
@@ -12,7 +12,8 @@ use cct_show_pen::Pen;
 /// The most red rows that are listed.
 const MOST_RED: usize = 200;
 
-/// Writes the sums of the devices that have any, in the columns that have any, and the last balance.
+/// Writes the sums of the devices that have any, in the columns that have any, and the last
+/// balance.
 pub(crate) fn write_sums<K: Sink>(pen: &mut Pen<'_, K>, page: &Page, needs: &Needs) {
     if needs.choose_devices || page.devices.column_count() > 0 {
         write_table(pen, page, needs);
@@ -62,7 +63,8 @@ fn write_device<K: Sink>(pen: &mut Pen<'_, K>, page: &Page, needs: &Needs, devic
     }
 }
 
-/// Writes a number of a table, in red where any is too many; or what is open at a device: its order, or its epoch.
+/// Writes a number of a table, in red where any is too many; or what is open at a device: its
+/// order, or its epoch.
 fn write_sum<K: Sink>(pen: &mut Pen<'_, K>, column: Column, device: &Device) {
     let number = device.sum(column);
     match column.is_bad(device) {

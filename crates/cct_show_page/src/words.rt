@@ -6,7 +6,7 @@ use std::alloc::{AllocError, Global};
 use std::fmt;
 use std::fmt::Write;
 
-/// What stands after words on a message whose check is good.
+/// What is after words on a message whose check is good.
 const CHECKS: [&[u8]; 2] = [b"; simple check good", b"; CRC good"];
 
 /// Words that are being collected.

@@ -7,8 +7,9 @@ use std::fmt;
 /// The most bytes of a label.
 pub const MOST_LABEL: usize = 60;
 
-/// A short text of a document: printable ASCII, `MOST_LABEL` bytes at most. Text can be written to it. A byte outside
-/// printable ASCII becomes a question mark. Of a longer text the front is kept, and ends in two dots.
+/// A short text of a document: printable ASCII, `MOST_LABEL` bytes at most. Text can be written to
+/// it. A byte outside printable ASCII becomes a question mark. Of a longer text the front is kept,
+/// and ends in two dots.
 #[derive(Clone, Copy)]
 pub struct Label {
     bytes: [u8; MOST_LABEL],

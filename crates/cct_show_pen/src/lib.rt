@@ -1,4 +1,5 @@
-//! What a document for people is written with: a pen, which escapes what it writes, and short texts.
+//! What a document for people is written with: a pen, which escapes what it writes, and short
+//! texts.
 #![tactic(auto)]
 
 mod label;

@@ -11,7 +11,8 @@ const ROOM: usize = 4096;
 /// The digits in hexadecimal.
 const DIGITS: [u8; 16] = *b"0123456789abcdef";
 
-/// Collects the bytes of a picture or of a page, and puts them part by part. Once a put failed, what is pushed goes nowhere.
+/// Collects the bytes of a picture or of a page, and puts them part by part. Once a put failed,
+/// what is pushed goes nowhere.
 #[derive(Drop)]
 pub struct Pen<'k, K> {
     bytes: ArrayVec<u8, ROOM>,
@@ -49,8 +50,8 @@ impl<'k, K: Sink> Pen<'k, K> {
         self.push_text(label.as_slice());
     }
 
-    /// Adds a text, each byte escaped where XML or HTML reads more into it. A byte outside printable ASCII becomes a question
-    /// mark.
+    /// Adds a text, each byte escaped where XML or HTML reads more into it. A byte outside
+    /// printable ASCII becomes a question mark.
     pub fn push_text(&mut self, text: &[u8]) {
         for byte in text {
             match *byte {
@@ -86,7 +87,7 @@ impl<'k, K: Sink> Pen<'k, K> {
         !self.has_failed
     }
 
-    /// Puts what is left, and tells whether a put failed.
+    /// Puts what is left, and says whether a put failed.
     pub fn finish(&mut self) -> Result<(), Failed> {
         self.flush();
         if self.has_failed {

@@ -21,7 +21,7 @@ pub(crate) const REQUEST_LINE: u32 = 13;
 /// The line of what was heard, below the top of its row.
 pub(crate) const HEARD_LINE: u32 = 27;
 
-/// The height of what stands above the first row of a page.
+/// The height of what is above the first row of a page.
 pub(crate) const HEAD_HEIGHT: u32 = 56;
 
 /// The top of the names of the lanes in it.
@@ -30,7 +30,7 @@ pub(crate) const NAMES_TOP: u32 = 22;
 /// Where the lanes begin in it, below their names.
 pub(crate) const LANE_TOP: u32 = 48;
 
-/// The height of what stands below the last row of a page.
+/// The height of what is below the last row of a page.
 pub(crate) const FOOT_HEIGHT: u32 = 24;
 
 /// The left end of a page's title.
@@ -60,7 +60,7 @@ pub(crate) const LOST_GAP: u32 = 40;
 /// From the last lane to the end of an arrow to all devices.
 const END_GAP: u32 = 24;
 
-/// From the end of such an arrow to the next page. What is written of the last device stands there.
+/// From the end of such an arrow to the next page. What is written of the last device is there.
 const PAGE_GAP: u32 = 240;
 
 /// The lanes of the devices, in rising order of their addresses.
@@ -78,7 +78,8 @@ impl Lanes {
         Lanes::at(devices, kinds, HOST_LANE + FIRST_GAP, LANE_GAP)
     }
 
-    /// The lanes of these devices, of these kinds, with a place for the first, and so far from one to the next.
+    /// The lanes of these devices, of these kinds, with a place for the first, and so far from one
+    /// to the next.
     pub(crate) fn at(devices: DeviceSet, kinds: [LaneKind; 256], first: u32, gap: u32) -> Lanes {
         let mut places = [0; 256];
         let mut next = first;

@@ -1,4 +1,5 @@
-//! A sequence picture of a run, in SVG: a lane for the host and one for each device, and time downwards.
+//! A sequence picture of a run, in SVG: a lane for the host and one for each device, and time
+//! downwards.
 #![tactic(auto)]
 
 mod element;

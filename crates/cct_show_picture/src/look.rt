@@ -1,6 +1,6 @@
 //! How the paths of a picture look.
 
-/// How the paths of a class look. Nothing is told by a colour alone.
+/// How the paths of a class look. Nothing is reported by a colour alone.
 #[derive(Clone, Copy)]
 pub(crate) struct Look {
     pub(crate) class: &'static [u8],

@@ -130,7 +130,8 @@ pub enum Mark {
         addr: u8,
         what: Happening,
     },
-    /// The wire has a fault in the next exchange: the host or the devices hear these bytes, in hexadecimal.
+    /// The wire has a fault in the next exchange: the host or the devices hear these bytes, in
+    /// hexadecimal.
     Fault {
         at: FaultAt,
         bytes: Label,
@@ -157,7 +158,8 @@ pub enum Mark {
     },
     /// A job or a session of change ended well, as `posted 2` or `served 70`.
     Ended(Label),
-    /// A job or a session of change ended so that somebody is to look, as `broke 2` or `short 10 60` (`docs/OPERATING.md`).
+    /// A job or a session of change ended so that somebody is to look, as `broke 2` or
+    /// `short 10 60` (`docs/OPERATING.md`).
     Alarm(Label),
     /// The exchange before it was forged, as `forged 2`.
     Forged(Label),
@@ -222,8 +224,8 @@ impl LaneKind {
         }
     }
 
-    /// What a device of this kind is once it is known to be of another kind too. A bill acceptor is an acceptor, so it stays
-    /// one.
+    /// What a device of this kind is once it is known to be of another kind too. A bill acceptor is
+    /// an acceptor, so it stays one.
     pub fn learn(&mut self, kind: LaneKind) {
         match (*self, kind) {
             (_, LaneKind::Unknown) | (LaneKind::BillAcceptor, LaneKind::Acceptor) => {}

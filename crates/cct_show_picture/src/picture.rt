@@ -40,9 +40,10 @@ impl Picture {
         }
     }
 
-    /// Adds the mark of the lines from a place to the line `last`, as the next row. An exchange with the same bytes as the
-    /// last row's has no row of its own: that row says how many there are. After `MOST_ROWS` rows a mark isn't kept but
-    /// counted, and the picture tells how many it leaves out. The error comes where there is no memory for it.
+    /// Adds the mark of the lines from a place to the line `last`, as the next row. An exchange
+    /// with the same bytes as the last row's has no row of its own: that row says how many there
+    /// are. After `MOST_ROWS` rows a mark isn't kept but counted, and the picture says how many it
+    /// leaves out. The error comes where there is no memory for it.
     pub fn add(&mut self, place: Place, last: u64, mark: Mark) -> Result<(), AllocError> {
         if self.is_like_last(&mark) {
             self.add_equal(last);
@@ -67,8 +68,8 @@ impl Picture {
         Ok(())
     }
 
-    /// Adds one more mark, up to the line `last`, that is equal to the last one: it has no row of its own, and that row says
-    /// how many there are.
+    /// Adds one more mark, up to the line `last`, that is equal to the last one: it has no row of
+    /// its own, and that row says how many there are.
     pub fn add_equal(&mut self, last: u64) {
         if self.left_out > 0 {
             self.left_out = self.left_out.saturating_add(1);
@@ -96,7 +97,8 @@ impl Picture {
         self.kinds[usize::from(addr)].learn(kind);
     }
 
-    /// Learns what a coin or a bill of a place of an acceptor is worth. The error comes where there is no memory for it.
+    /// Learns what a coin or a bill of a place of an acceptor is worth. The error comes where there
+    /// is no memory for it.
     pub fn learn_worth(&mut self, addr: u8, place: u8, amount: u32) -> Result<(), AllocError> {
         self.worths.learn(addr, place, amount)
     }

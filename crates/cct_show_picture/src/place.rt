@@ -1,9 +1,9 @@
-//! Where a row stands in the input.
+//! Where a row is in the input.
 
 use crate::Label;
 
-/// Where a row stands: the number of its line, from 1; of a line of a capture its number among the taps, from 1; and the
-/// time that stands in the line, with how long that is after the line before.
+/// Where a row stands: the number of its line, from 1; of a line of a capture its number among the
+/// taps, from 1; and the time that is in the line, with how long that is after the line before.
 #[derive(Clone, Copy)]
 pub struct Place {
     pub line: u64,

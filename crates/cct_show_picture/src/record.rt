@@ -57,7 +57,8 @@ fn coins_of(count: u8) -> &'static [u8] {
     }
 }
 
-/// Writes the coins that a record posts, with their worth where it is told, and how many more it tells to be lost.
+/// Writes the coins that a record posts, with their worth where it is reported, and how many more
+/// it tells to be lost.
 fn write_coins<K: Sink>(
     pen: &mut Pen<'_, K>,
     worths: &Worths,

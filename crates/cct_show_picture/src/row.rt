@@ -15,7 +15,8 @@ use cct_edge::Sink;
 use cct_model_lines::Record;
 use cct_show_pen::Pen;
 
-/// A mark, by the place of its first line, its last line, and how many equal lines or exchanges it represents.
+/// A mark, by the place of its first line, its last line, and how many equal lines or exchanges it
+/// represents.
 #[derive(Drop)]
 pub(crate) struct Row {
     pub(crate) mark: Mark,
@@ -24,8 +25,8 @@ pub(crate) struct Row {
     pub(crate) times: u64,
 }
 
-/// What all rows of a picture share: the lanes, what the places are worth, and whether the input is a capture, so that rows
-/// are numbered by tap.
+/// What all rows of a picture share: the lanes, what the places are worth, and whether the input is
+/// a capture, so that rows are numbered by tap.
 #[derive(Clone, Copy)]
 pub(crate) struct Scene<'s> {
     pub(crate) lanes: &'s Lanes,
@@ -85,7 +86,7 @@ fn draw_mark<K: Sink>(pen: &mut Pen<'_, K>, scene: &Scene<'_>, mark: &Mark, time
     }
 }
 
-/// Draws what a mark shows that stands at the host alone.
+/// Draws what a mark shows that is at the host alone.
 fn draw_of_host<K: Sink>(pen: &mut Pen<'_, K>, mark: &Mark, times: u64) {
     let Some(said) = said_of_host(mark) else {
         return;
@@ -96,8 +97,8 @@ fn draw_of_host<K: Sink>(pen: &mut Pen<'_, K>, mark: &Mark, times: u64) {
     }
 }
 
-/// Draws an exchange, or one half of it, with the lane of a device. How many lines it represents is written at its first
-/// half.
+/// Draws an exchange, or one half of it, with the lane of a device. How many lines it represents is
+/// written at its first half.
 fn draw_exchange<K: Sink>(
     pen: &mut Pen<'_, K>,
     lane: u32,
@@ -115,7 +116,8 @@ fn draw_exchange<K: Sink>(
     }
 }
 
-/// Draws what the host sent: to the device's lane, or where it wasn't heard whole up to a cross before it.
+/// Draws what the host sent: to the device's lane, or where it wasn't heard whole up to a cross
+/// before it.
 fn draw_ask<K: Sink>(pen: &mut Pen<'_, K>, lane: u32, ask: &Ask, times: u64) {
     let end = lane.saturating_sub(LOST_GAP);
     let bytes = ask.bytes.as_slice();

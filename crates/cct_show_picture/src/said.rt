@@ -9,13 +9,13 @@ use crate::{Label, Mark};
 use cct_edge::Sink;
 use cct_show_pen::Pen;
 
-/// What stands before a record.
+/// What is before a record.
 pub(crate) const PUT: &[u8] = b"put: ";
 
-/// What stands before a record that was kept.
+/// What is before a record that was kept.
 pub(crate) const KEPT: &[u8] = b"kept: ";
 
-/// What stands beside the lane of the host: its sign, where it has one, and its words.
+/// What is beside the lane of the host: its sign, where it has one, and its words.
 #[derive(Clone, Copy)]
 pub(crate) struct Said<'m> {
     pub(crate) shape: Option<Shape>,
@@ -23,7 +23,7 @@ pub(crate) struct Said<'m> {
     pub(crate) words: &'m Label,
 }
 
-/// What a mark says that stands at the host alone, and has a text for its words.
+/// What a mark says that is at the host alone, and has a text for its words.
 pub(crate) fn said_of_host(mark: &Mark) -> Option<Said<'_>> {
     let (shape, before, words): (Option<Shape>, &'static [u8], &Label) = match mark {
         Mark::Taken(words) => (Some(Shape::Taken), b"taken: ", words),

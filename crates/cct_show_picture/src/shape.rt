@@ -57,7 +57,8 @@ impl Shape {
         }
     }
 
-    /// The path of a sign: a dot or a square with an arrow into it or out of it, or what its name says.
+    /// The path of a sign: a dot or a square with an arrow into it or out of it, or what its name
+    /// says.
     pub(crate) fn path(self) -> &'static [u8] {
         match self {
             Shape::Accepted | Shape::Inhibited => {

@@ -1,4 +1,5 @@
-//! A picture in few bytes, to be folded into a page of HTML: its lines as SVG, and its words as a text that lies over them.
+//! A picture in few bytes, to be folded into a page of HTML: its lines as SVG, and its words as a
+//! text that lies over them.
 
 use crate::element::{push_numbered, push_pair};
 use crate::layout::{Lanes, NAMES_EVERY};
@@ -13,7 +14,8 @@ use cct_edge::Sink;
 use cct_show_pen::Pen;
 use std::fmt::Write;
 
-/// The height of a line of text. A row has one, or two where it has a time, or a request above what was heard.
+/// The height of a line of text. A row has one, or two where it has a time, or a request above what
+/// was heard.
 const LINE_HEIGHT: u32 = 14;
 
 /// The lines of a request, of what was heard, and of a sign, below the top of a row.
@@ -40,8 +42,8 @@ const LOST_GAP: u32 = 40;
 /// From the last lane to the right end.
 const END_GAP: u32 = 80;
 
-/// How far apart the tabs are at which words and lanes stand: the host's at the first, and how many later the first device's,
-/// and from one device to the next.
+/// How far apart the tabs are at which words and lanes stand: the host's at the first, and how many
+/// later the first device's, and from one device to the next.
 #[derive(Clone, Copy)]
 struct Tabs {
     width: u32,
@@ -62,7 +64,8 @@ const TIMED_TABS: Tabs = Tabs {
     next: 1,
 };
 
-/// Where the rows of a picture stand, from above; the names of the lanes stand between them every now and then.
+/// Where the rows of a picture stand, from above; the names of the lanes stand between them every
+/// now and then.
 #[derive(Clone, Copy)]
 struct Tops {
     next: u32,
@@ -109,8 +112,9 @@ impl Picture {
         }
     }
 
-    /// Draws the picture in few bytes for a page of HTML, which has all words and bytes in rows of its own: arrows and
-    /// signs of one look are one path, and its words one text. Lines that are only words are left out.
+    /// Draws the picture in few bytes for a page of HTML, which has all words and bytes in rows of
+    /// its own: arrows and signs of one look are one path, and its words one text. Lines that are
+    /// only words are left out.
     pub fn sketch<K: Sink>(&self, pen: &mut Pen<'_, K>) {
         let tabs = self.tabs();
         let host = tabs.width.saturating_sub(NAME_GAP);
@@ -154,7 +158,7 @@ impl Picture {
     }
 }
 
-/// Whether a row stands in the lane of a device, or is an exchange with all.
+/// Whether a row is in the lane of a device, or is an exchange with all.
 fn is_of_device(row: &Row) -> bool {
     matches!(
         row.mark,
@@ -170,7 +174,7 @@ fn is_drawn(row: &Row) -> bool {
     }
 }
 
-/// Whether a time stands in a row.
+/// Whether a time is in a row.
 fn has_time(row: &Row) -> bool {
     is_drawn(row) && !row.place.time.as_slice().is_empty()
 }
@@ -299,7 +303,7 @@ fn draw_style<K: Sink>(pen: &mut Pen<'_, K>, sheet: &Sheet<'_>, style: &[u8], ro
     }
 }
 
-/// Begins the path of a style, which stands there in attributes.
+/// Begins the path of a style, which is there in attributes.
 fn begin_style<K: Sink>(pen: &mut Pen<'_, K>, style: &[u8]) {
     pen.push(b"<path ");
     if style != PLAIN {
@@ -540,7 +544,7 @@ fn write_number<K: Sink>(pen: &mut Pen<'_, K>, sheet: &Sheet<'_>, row: &Row) {
     pen.push(b"\t");
 }
 
-/// Writes a request. The name of its header stands there the first time, and then its number alone.
+/// Writes a request. The name of its header is there the first time, and then its number alone.
 fn write_ask<K: Sink>(pen: &mut Pen<'_, K>, named: &mut [bool; 256], ask: &Ask) {
     let words = ask.words.as_slice();
     let place = match (ask.bytes.as_slice(), words.first()) {

@@ -20,7 +20,8 @@ struct Span {
     last: u64,
 }
 
-/// Draws beside the rows of a page what a monitor says of their taps: what it says stands in any of all rows.
+/// Draws beside the rows of a page what a monitor says of their taps: what it says is in any of all
+/// rows.
 pub(crate) fn draw_spans<K: Sink>(
     pen: &mut Pen<'_, K>,
     scene: &Scene<'_>,

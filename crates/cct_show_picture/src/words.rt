@@ -24,7 +24,8 @@ fn happening_name(what: Happening) -> &'static [u8] {
     }
 }
 
-/// Writes what happened in the device at an address, and the place, the worth and the path of a coin or a bill.
+/// Writes what happened in the device at an address, and the place, the worth and the path of a
+/// coin or a bill.
 pub(crate) fn write_happening<K: Sink>(
     pen: &mut Pen<'_, K>,
     worths: &Worths,

@@ -19,14 +19,14 @@ pub(crate) struct Worths {
 }
 
 impl Worths {
-    /// Nothing is told yet.
+    /// Nothing is reported yet.
     pub(crate) fn new(alloc: Global) -> Worths {
         Worths {
             list: Vec::new(alloc),
         }
     }
 
-    /// Learns what a place is worth, the newest time it is told.
+    /// Learns what a place is worth, the newest time it is reported.
     pub(crate) fn learn(&mut self, addr: u8, place: u8, amount: u32) -> Result<(), AllocError> {
         for worth in self.list.iter_mut() {
             if worth.addr == addr && worth.place == place {
@@ -42,7 +42,7 @@ impl Worths {
         Ok(())
     }
 
-    /// Writes what a place is worth, in brackets after a space; nothing where that isn't told.
+    /// Writes what a place is worth, in brackets after a space; nothing where that isn't reported.
     pub(crate) fn write<K: Sink>(&self, pen: &mut Pen<'_, K>, addr: u8, place: u8) {
         for worth in &self.list {
             if worth.addr == addr && worth.place == place {

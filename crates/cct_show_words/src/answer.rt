@@ -16,7 +16,8 @@ use std::fmt;
 /// The header of a reply that is no refusal.
 pub(crate) const REPLY: u8 = 0;
 
-/// The codes with which a bill acceptor refuses to route a bill (ccTalk Generic Specification 4, part 2, header 154).
+/// The codes with which a bill acceptor refuses to route a bill (ccTalk Generic Specification 4,
+/// part 2, header 154).
 const NO_BILL: u8 = 254;
 
 const NOT_ROUTED: u8 = 255;
@@ -24,7 +25,8 @@ const NOT_ROUTED: u8 = 255;
 /// What was heard in an exchange, after the echo of what was sent.
 #[derive(Clone, Copy)]
 pub enum Answer<'e> {
-    /// The echo is damaged: at the place `at`, counted from 0, `sent` was sent and `heard` was heard, or no byte.
+    /// The echo is damaged: at the place `at`, counted from 0, `sent` was sent and `heard` was
+    /// heard, or no byte.
     EchoBad {
         at: usize,
         sent: Option<u8>,
@@ -36,7 +38,8 @@ pub enum Answer<'e> {
     Addresses(&'e [u8]),
     /// Bytes that are no message under the check of the request.
     Broken(FrameFault),
-    /// The reply that was wanted, NAK or BUSY, of a device that takes coins or bills as far as the request tells.
+    /// The reply that was wanted, NAK or BUSY, of a device that takes coins or bills as far as the
+    /// request tells.
     Reply {
         kind: CheckKind,
         from: u8,
@@ -105,7 +108,8 @@ impl<'e> Answer<'e> {
     }
 }
 
-/// What was heard after something that was sent to `asked`, with the request that it was, where both are known.
+/// What was heard after something that was sent to `asked`, with the request that it was, where
+/// both are known.
 fn message_answer<'e>(
     kind: CheckKind,
     asked: Option<u8>,
@@ -124,8 +128,8 @@ fn message_answer<'e>(
     }
 }
 
-/// What a message says that follows something sent to `from`. Where no form of its reply is known, it may still be bare:
-/// ACK, NAK or BUSY.
+/// What a message says that follows something sent to `from`. Where no form of its reply is known,
+/// it may still be bare: ACK, NAK or BUSY.
 fn reply_answer<'e>(
     kind: CheckKind,
     from: u8,
@@ -195,7 +199,8 @@ fn other_answer<'e>(
     }
 }
 
-/// The answer to a message with this header that was sent to `from`, with what it reads, where that is known.
+/// The answer to a message with this header that was sent to `from`, with what it reads, where that
+/// is known.
 fn with_reading<'e>(header: u8, from: u8, answer: Answer<'e>) -> Answer<'e> {
     match answer {
         Answer::Message { kind, view } if view.to == HOST && view.header == REPLY => {

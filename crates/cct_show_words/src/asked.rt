@@ -14,7 +14,8 @@ use std::fmt;
 pub enum Asked<'e> {
     /// No byte.
     Nothing,
-    /// A request of the host to an address, or to all by address 0, under this check and with this header.
+    /// A request of the host to an address, or to all by address 0, under this check and with this
+    /// header.
     Request {
         kind: CheckKind,
         to: u8,
@@ -137,7 +138,8 @@ fn write_header<W: fmt::Write>(header: u8, f: &mut fmt::Formatter<W>) -> fmt::Re
 /// The fewest bytes that are taken for a text.
 const LEAST_TEXT: usize = 2;
 
-/// Writes the data bytes of a message, where it has any; beside them the text that they spell, where each of them prints.
+/// Writes the data bytes of a message, where it has any; beside them the text that they spell,
+/// where each of them prints.
 fn write_data<W: fmt::Write>(body: &[u8], f: &mut fmt::Formatter<W>) -> fmt::Result {
     if body.is_empty() {
         return Ok(());

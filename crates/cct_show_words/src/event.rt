@@ -4,9 +4,9 @@ use cct_model_lines::Pair;
 use cct_msg::Request;
 use std::fmt;
 
-/// The error codes of a coin acceptor and their names, but for 128 to 159 (ccTalk Generic Specification 4, part 3, its
-/// table of coin acceptor error codes, of which header 229 in part 2 speaks). Code 41 isn't in every release, so its name
-/// isn't sure.
+/// The error codes of a coin acceptor and their names, but for 128 to 159 (ccTalk Generic
+/// Specification 4, part 3, its table of coin acceptor error codes, of which header 229 in part 2
+/// speaks). Code 41 isn't in every release, so its name isn't sure.
 static ERRORS: [(u8, &str); 44] = [
     (1, "reject coin"),
     (2, "inhibited coin"),
@@ -54,8 +54,8 @@ static ERRORS: [(u8, &str); 44] = [
     (255, "unspecified alarm code"),
 ];
 
-/// The events of a bill acceptor that stand at place 0, and their names (ccTalk Generic Specification 4, part 2, header
-/// 159). Code 21 isn't in every release, so its name isn't sure.
+/// The events of a bill acceptor that stand at place 0, and their names (ccTalk Generic
+/// Specification 4, part 2, header 159). Code 21 isn't in every release, so its name isn't sure.
 static BILL_EVENTS: [(u8, &str); 21] = [
     (1, "a held bill given back"),
     (2, "a bill not taken in"),
@@ -80,7 +80,8 @@ static BILL_EVENTS: [(u8, &str); 21] = [
     (21, "unknown bill type stacked; its name isn't sure"),
 ];
 
-/// What the device takes whose events are read: the same pair says another thing of a bill than of a coin.
+/// What the device takes whose events are read: the same pair says another thing of a bill than of
+/// a coin.
 #[derive(Clone, Copy)]
 pub enum Taker {
     Coins,
@@ -88,7 +89,8 @@ pub enum Taker {
 }
 
 impl Taker {
-    /// What the device takes to which this request is sent, as far as the request tells: coins where it doesn't.
+    /// What the device takes to which this request is sent, as far as the request tells: coins
+    /// where it doesn't.
     pub(crate) fn of(request: Option<Request>) -> Taker {
         match request {
             Some(Request::ReadBills) => Taker::Bills,
@@ -97,7 +99,8 @@ impl Taker {
     }
 }
 
-/// An event as people read it: a coin by place and path, a bill by place and where it is, an error by its text, or none.
+/// An event as people read it: a coin by place and path, a bill by place and where it is, an error
+/// by its text, or none.
 #[derive(Drop)]
 pub(crate) struct Event(pub Pair, pub Taker);
 
@@ -125,8 +128,8 @@ fn write_bill<W: fmt::Write>(pair: Pair, f: &mut fmt::Formatter<W>) -> fmt::Resu
     }
 }
 
-/// Writes an error by its code, and by its text where that is known. Codes 128 to 159 are an inhibited coin of each of
-/// 32 types.
+/// Writes an error by its code, and by its text where that is known. Codes 128 to 159 are an
+/// inhibited coin of each of 32 types.
 fn write_error<W: fmt::Write>(code: u8, f: &mut fmt::Formatter<W>) -> fmt::Result {
     if let 128..=159 = code {
         let kind = code - 127;

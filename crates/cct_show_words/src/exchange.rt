@@ -34,9 +34,10 @@ impl fmt::Display for Exchange<'_> {
     }
 }
 
-/// The check under which an exchange is read. No line names it, so both are tried. A request under the simple check
-/// names the host as its source. A few requests under the CRC are messages under the simple check too: then it is the
-/// check under which the reply is a message as well, and the simple one where both are or neither is.
+/// The check under which an exchange is read. No line names it, so both are tried. A request under
+/// the simple check names the host as its source. A few requests under the CRC are messages under
+/// the simple check too: then it is the check under which the reply is a message as well, and the
+/// simple one where both are or neither is.
 fn check_of(sent: &[u8], heard: &[u8]) -> CheckKind {
     match (
         is_request(CheckKind::Simple, sent),

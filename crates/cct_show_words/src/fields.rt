@@ -7,7 +7,8 @@ use cct_script::{ranged, read_step_line};
 /// The most fields that a line of a transcript has.
 pub(crate) const MOST_FIELDS: usize = 10;
 
-/// The fields of a line, which single spaces part, or `None` where there are more than a line of a transcript has.
+/// The fields of a line, which single spaces part, or `None` where there are more than a line of a
+/// transcript has.
 pub(crate) fn fields_of(line: &[u8]) -> Option<ArrayVec<&[u8], MOST_FIELDS>> {
     let mut fields = ArrayVec::new();
     for field in line.split(|byte| *byte == b' ') {

@@ -1,9 +1,9 @@
 //! The standard's names of headers, and which devices they are for.
 
-/// Every header that the standard names, and its name (ccTalk Generic Specification 4, part 2, its list of headers; part
-/// 3 has the sections on those of more than one kind of device). Headers 99 to 20 are for a maker's own use, and 19 to 7
-/// are reserved, so they have none. Where two names stand at a header, releases of the standard differ, the newer one
-/// first.
+/// Every header that the standard names, and its name (ccTalk Generic Specification 4, part 2, its
+/// list of headers; part 3 has the sections on those of more than one kind of device). Headers 99
+/// to 20 are for a maker's own use, and 19 to 7 are reserved, so they have none. Where two names
+/// stand at a header, releases of the standard differ, the newer one first.
 static NAMES: [(u8, &str); 163] = [
     (255, "Factory set-up and test"),
     (254, "Simple poll"),
@@ -192,7 +192,8 @@ pub fn name_of(header: u8) -> Option<&'static str> {
     None
 }
 
-/// The kind of device that a header is for, where it is for one kind alone (ccTalk Generic Specification 4, part 2).
+/// The kind of device that a header is for, where it is for one kind alone (ccTalk Generic
+/// Specification 4, part 2).
 pub fn kind_for(header: u8) -> Option<DeviceKind> {
     match header {
         229 | 221 | 222 | 209 | 210 | 188 | 189 => Some(DeviceKind::Acceptor),

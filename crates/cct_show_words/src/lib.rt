@@ -1,5 +1,6 @@
-//! What a line of a transcript says, and what an exchange on the wire says, in words for people (`docs/SHOW.md`). The
-//! bytes of the wire are read by the proved readers of `cct_wire`, `cct_frame` and `cct_msg` alone.
+//! What a line of a transcript says, and what an exchange on the wire says, in words for people
+//! (`docs/SHOW.md`). The bytes of the wire are read by the proved readers of `cct_wire`,
+//! `cct_frame` and `cct_msg` alone.
 #![tactic(auto)]
 
 mod answer;

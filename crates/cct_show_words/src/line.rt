@@ -52,8 +52,8 @@ const TOTAL: &[u8] = b"total";
 
 /// What a line of a transcript says, without its line feed (`docs/TRANSCRIPT.md`).
 ///
-/// `None` for any other line, and for those of which there is no more to say: a refused line, the faults of a file, and
-/// the sums of a load.
+/// `None` for any other line, and for those of which there is no more to say: a refused line, the
+/// faults of a file, and the sums of a load.
 pub fn read_line(line: &[u8]) -> Option<Entry> {
     let fields = fields_of(line)?;
     let (word, rest) = fields.as_slice().split_first()?;

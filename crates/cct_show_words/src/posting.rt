@@ -99,8 +99,8 @@ fn write_end<W: fmt::Write>(record: &Record, f: &mut fmt::Formatter<W>) -> fmt::
     }
 }
 
-/// Writes the coins or bills that a record posts, and how many more it tells to be lost, by the accept counter that was
-/// read.
+/// Writes the coins or bills that a record posts, and how many more it tells to be lost, by the
+/// accept counter that was read.
 fn write_coins<W: fmt::Write>(
     posted: &Coins,
     accepts: u32,

@@ -11,8 +11,8 @@ pub enum Reading {
     FaultCode(u8),
 }
 
-/// What the data of a reply to a request with this header reads (ccTalk Generic Specification 4, part 2, the header's
-/// section), or `None` where it isn't known.
+/// What the data of a reply to a request with this header reads (ccTalk Generic Specification 4,
+/// part 2, the header's section), or `None` where it isn't known.
 pub(crate) fn reading_of(header: u8, body: &[u8]) -> Option<Reading> {
     match (header, body) {
         (226, _) => counter_of("objects that came in", body),

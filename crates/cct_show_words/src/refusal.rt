@@ -27,8 +27,8 @@ const SHORT: &[u8] = b"short";
 
 const JOURNAL_FULL: &[u8] = b"journalfull";
 
-/// The command and the reason that a text spells, as they stand after `no`: the reason is the first text after a
-/// space that is one.
+/// The command and the reason that a text spells, as they stand after `no`: the reason is the first
+/// text after a space that is one.
 pub(crate) fn refusal_in(text: &[u8]) -> Option<(Command, CommandNo)> {
     for (at, letter) in text.iter().enumerate() {
         if *letter == b' '

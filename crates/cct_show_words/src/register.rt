@@ -2,9 +2,10 @@
 
 use std::fmt;
 
-/// The names of the bits of a hopper's test registers 1 to 3, from bit 0 on (ccTalk Generic Specification 4, part 2,
-/// header 163). Makers use bits 2 to 6 of register 2 in two ways, a universal hopper's and a compact one's, so these names
-/// aren't sure. Bits 5 to 7 of register 3 have none.
+/// The names of the bits of a hopper's test registers 1 to 3, from bit 0 on (ccTalk Generic
+/// Specification 4, part 2, header 163). Makers use bits 2 to 6 of register 2 in two ways, a
+/// universal hopper's and a compact one's, so these names aren't sure. Bits 5 to 7 of register 3
+/// have none.
 static BITS: [[&str; 8]; 3] = [
     [
         "absolute maximum current exceeded",

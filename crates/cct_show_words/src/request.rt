@@ -38,7 +38,8 @@ fn write_acceptor<W: fmt::Write>(request: &Request, f: &mut fmt::Formatter<W>) -
     }
 }
 
-/// The way by which a bill isn't sent, but held for longer (ccTalk Generic Specification 4, part 2, header 154).
+/// The way by which a bill isn't sent, but held for longer (ccTalk Generic Specification 4, part 2,
+/// header 154).
 const HOLD_CODE: u8 = 255;
 
 /// Writes where a bill is to go.

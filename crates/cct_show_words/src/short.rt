@@ -87,7 +87,8 @@ fn write_data<W: fmt::Write>(
     }
 }
 
-/// What was heard, for a picture: shorter than below a line, and nothing for an answer whose kind says it all.
+/// What was heard, for a picture: shorter than below a line, and nothing for an answer whose kind
+/// says it all.
 #[derive(Drop)]
 pub struct Short<'a>(pub &'a Answer<'a>);
 

@@ -8,8 +8,8 @@ use crate::said::write_said;
 use cct_model_lines::{End, Entry, Record, Totals, WireFault};
 use std::fmt;
 
-/// What people read below the line of an entry: lines that are indented by four spaces, each with its line feed;
-/// nothing where the line says it all.
+/// What people read below the line of an entry: lines that are indented by four spaces, each with
+/// its line feed; nothing where the line says it all.
 #[derive(Drop)]
 pub struct Told<'e>(pub &'e Entry);
 
@@ -78,7 +78,8 @@ fn write_end<W: fmt::Write>(end: End, f: &mut fmt::Formatter<W>) -> fmt::Result 
     }
 }
 
-/// What an end means at which somebody is to look (`docs/OPERATING.md`), or `None` where it is a good one.
+/// What an end means at which somebody is to look (`docs/OPERATING.md`), or `None` where it is a
+/// good one.
 pub fn alarm_of(end: End) -> Option<&'static str> {
     match end {
         End::StartUnsure => Some(

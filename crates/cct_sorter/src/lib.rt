@@ -1,4 +1,5 @@
-//! The inhibits and the sorter paths of a coin acceptor: which coins it accepts, and by which path each of them falls.
+//! The inhibits and the sorter paths of a coin acceptor: which coins it accepts, and by which path
+//! each of them falls.
 #![tactic(auto)]
 
 mod table;

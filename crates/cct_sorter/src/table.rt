@@ -1,7 +1,11 @@
-//! The table of coins (ccTalk Generic Specification 4, part 2): headers 231 and 230 set and tell the inhibit mask, 228
-//! and 227 the master inhibit, 210 and 209 the sorter path of a coin place, 189 and 188 the default path.
-ghost use Rattle.std.specs.Prelude.{◌≡◌, ◌≤◌, ◌↔◌, ◌&&◌, List, [], ◌∷◌, IsErrOf, IsOk, IsTrue, OnErr, not};
-ghost use Rattle.cct_model_wire.specs.Setting.{Setting, mask_set, master_set, path_set, default_set, is_place, is_path, mask_in, is_normal_in, default_in, path_in, accepts_in};
+//! The table of coins (ccTalk Generic Specification 4, part 2): headers 231 and 230 set and tell
+//! the inhibit mask, 228 and 227 the master inhibit, 210 and 209 the sorter path of a coin place,
+//! 189 and 188 the default path.
+ghost use Rattle.std.specs.Prelude.{◌≡◌, ◌≤◌, ◌↔◌, ◌&&◌, List, [], ◌∷◌, IsErrOf, IsOk, IsTrue};
+ghost use Rattle.std.specs.Prelude.{OnErr, not};
+ghost use Rattle.cct_model_wire.specs.Setting.{Setting, mask_set, master_set, path_set};
+ghost use Rattle.cct_model_wire.specs.Setting.{default_set, is_place, is_path, mask_in};
+ghost use Rattle.cct_model_wire.specs.Setting.{is_normal_in, default_in, path_in, accepts_in};
 ghost use Rattle.cct_sorter.specs.Table.{Holds};
 
 use cct_model_wire::{COIN_PLACES, PATHS, has_place};
@@ -28,7 +32,8 @@ pub struct PathRefused {
 }
 
 impl CoinTable {
-    /// A table as after a reset: every coin place is inhibited, operation is normal, and the default path is 1.
+    /// A table as after a reset: every coin place is inhibited, operation is normal, and the
+    /// default path is 1.
     pub fn new() -> CoinTable
         ensures { Holds result [] }
     {
@@ -65,7 +70,8 @@ impl CoinTable {
         self.mask
     }
 
-    /// Whether operation is normal, which is bit 0 of what header 227 reads; else every coin is inhibited.
+    /// Whether operation is normal, which is bit 0 of what header 227 reads; else every coin is
+    /// inhibited.
     pub fn master(&self) -> bool
         ensures { (past : List Setting) → Holds self.now past → result ≡ is_normal_in past }
     {
@@ -81,21 +87,26 @@ impl CoinTable {
 
     /// Sets the inhibit mask (header 231): bit 0 is place 1, and 1 accepts.
     pub fn set_mask(&mut self, mask: u16)
-        ensures { (past : List Setting) → Holds self.old past → Holds self.new (mask_set mask ∷ past) }
+        ensures { (past : List Setting) → Holds self.old past →
+            Holds self.new (mask_set mask ∷ past) }
     {
         self.mask = mask;
     }
 
-    /// Sets the master inhibit by the byte of header 228: bit 0 is 1 for normal operation, and 0 inhibits every coin.
+    /// Sets the master inhibit by the byte of header 228: bit 0 is 1 for normal operation, and 0
+    /// inhibits every coin.
     pub fn set_master(&mut self, value: u8)
-        ensures { (past : List Setting) → Holds self.old past → Holds self.new (master_set value ∷ past) }
+        ensures { (past : List Setting) → Holds self.old past →
+            Holds self.new (master_set value ∷ past) }
     {
         self.normal = value & 1 == 1;
     }
 
-    /// Sets the sorter path of a coin place (header 210), unless the place isn't 1 to 16 or the path isn't 1 to 8.
+    /// Sets the sorter path of a coin place (header 210), unless the place isn't 1 to 16 or the
+    /// path isn't 1 to 8.
     pub fn set_path(&mut self, place: u8, path: u8) -> Result<(), PathRefused>
-        ensures holds { (past : List Setting) → Holds self.old past → Holds self.new (path_set place path ∷ past) }
+        ensures holds { (past : List Setting) → Holds self.old past →
+            Holds self.new (path_set place path ∷ past) }
         ensures taken { IsOk result ↔ IsTrue (is_place place && is_path path) }
         ensures refused { IsErrOf result (record { place = place; path = path })
             ↔ IsTrue (not (is_place place && is_path path)) }
@@ -109,12 +120,14 @@ impl CoinTable {
         Ok(())
     }
 
-    /// Sets the path of every coin place for which none is set (header 189), unless it isn't 1 to 8: the refusal then
-    /// has place 0.
+    /// Sets the path of every coin place for which none is set (header 189), unless it isn't 1 to
+    /// 8: the refusal then has place 0.
     pub fn set_default(&mut self, path: u8) -> Result<(), PathRefused>
-        ensures holds { (past : List Setting) → Holds self.old past → Holds self.new (default_set path ∷ past) }
+        ensures holds { (past : List Setting) → Holds self.old past →
+            Holds self.new (default_set path ∷ past) }
         ensures taken { IsOk result ↔ IsTrue (is_path path) }
-        ensures refused { IsErrOf result (record { place = 0; path = path }) ↔ IsTrue (not (is_path path)) }
+        ensures refused { IsErrOf result (record { place = 0; path = path }) ↔
+            IsTrue (not (is_path path)) }
         ensures unchanged { OnErr result (self.new ≡ self.old) }
     {
         if !is_path(path) {

@@ -1,11 +1,13 @@
-//! An audit of a capture that is cut at any byte, by any amount, and over a source and a sink that fail.
+//! An audit of a capture that is cut at any byte, by any amount, and over a source and a sink that
+//! fail.
 
 use crate::runs::{count_lines, disk, lines_and, play};
 use cct_bench::Status;
 use std::alloc::Global;
 use std::test::Fail;
 
-/// An acceptor and a hopper: sure coins, coins that fell, a reset between two readings, and a span that is open at the end.
+/// An acceptor and a hopper: sure coins, coins that fell, a reset between two readings, and a span
+/// that is open at the end.
 const CAPTURE: &[u8] = b"watch 2 simple acceptor\nwatch 3 simple hopper\nbegin\n\
      tap 020001e518 020001e518010b02000000000000000000000000f2\n\
      tap 030001a854 030001a85401030300fefffffd\n\
@@ -18,11 +20,12 @@ const CAPTURE: &[u8] = b"watch 2 simple acceptor\nwatch 3 simple hopper\nbegin\n
 
 const TEXT: &[u8] = b"sure 2 1 3 5/1\nfell 3 2 5 4\ndoubt 2 3 7\ndoubt 2 7 8\n";
 
-/// How many lines are said once so many lines of the capture are read, without the one that is said at the end.
+/// How many lines are said once so many lines of the capture are read, without the one that is said
+/// at the end.
 const SAID: [usize; 13] = [0, 0, 0, 0, 0, 0, 0, 1, 2, 2, 3, 3, 3];
 
-/// Audits a capture over a source that gives at most so many bytes a take, with the takes and puts of these numbers failing. The
-/// disk has no byte, and its first call fails: an audit makes none.
+/// Audits a capture over a source that gives at most so many bytes a take, with the takes and puts
+/// of these numbers failing. The disk has no byte, and its first call fails: an audit makes none.
 fn audit(
     alloc: Global,
     capture: &[u8],
@@ -70,7 +73,7 @@ fn refuses_a_capture_that_is_cut_at_any_byte(rt: HostRuntime) -> Result<(), Fail
 #[test]
 fn an_audit_stops_at_each_fault_of_the_source(rt: HostRuntime) -> Result<(), Fail> {
     let alloc = rt.alloc();
-    // The last take gives nothing: it tells the end of the capture.
+    // The last take gives nothing: it shows the end of the capture.
     for taken in 0..=CAPTURE.len() {
         let (status, written) = audit(alloc, CAPTURE, 1, &[taken.saturating_add(1) as u64], &[])?;
         let text = said_of(alloc, taken, b"readfault\n")?;

@@ -5,13 +5,14 @@ use cct_bench::Status;
 use std::alloc::Global;
 use std::test::Fail;
 
-/// How many lines of the script of a posted coin come before the step that puts its reading, and how many lines of its
-/// transcript.
+/// How many lines of the script of a posted coin come before the step that puts its reading, and
+/// how many lines of its transcript.
 const SCRIPT_LINES: usize = 30;
 
 pub(crate) const TEXT_LINES: usize = 13;
 
-/// A power cut in the place of the put of a reading, and whether its record is kept. Its gate stands at place 1184.
+/// A power cut in the place of the put of a reading, and whether its record is kept. Its gate is at
+/// place 1184.
 const READING_LOST: [(&str, bool); 39] = [
     // no put is named
     ("crash 0", false),
@@ -59,7 +60,8 @@ const READING_LOST: [(&str, bool); 39] = [
     ("crash 2 4 3", true),
 ];
 
-/// What is told where the reading is lost, and where it is kept: by the crash, and by a whole round after it.
+/// What is reported where the reading is lost, and where it is kept: by the crash, and by a whole
+/// round after it.
 pub(crate) const PUT_AGAIN: &[u8] =
     b"crash 1\nok round 2\nwire 2 020001e11c 020001e11c01030200010000f9\n\
       wire 2 020001e518 020001e518010b02000105010000000000000000eb\n\
@@ -75,7 +77,8 @@ pub(crate) const CLEAN: &[u8] =
 /// A whole round, and the end of the script.
 pub(crate) const ROUND: &[u8] = b"round 2\nnext 2\nnext 2\nnext 2\nnext 2\nnext 2\nend\n";
 
-/// The script of a posted coin up to the step that puts its reading, and in its place this line and these.
+/// The script of a posted coin up to the step that puts its reading, and in its place this line and
+/// these.
 pub(crate) fn crashing(alloc: Global, line: &str, after: &[u8]) -> Result<Vec<u8>, Fail> {
     let mut script = lines_and(alloc, POSTED, SCRIPT_LINES, line.as_bytes())?;
     script.extend_from_slice(b"\n")?;

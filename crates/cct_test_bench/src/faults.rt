@@ -1,5 +1,6 @@
-//! Disks each of whose calls fails once, and tears what it was to write: in the run of a posted coin, and in runs whose power
-//! is cut in the put of its reading. After a further power cut a report lists the records that were told, or one more.
+//! Disks each of whose calls fails once, and tears what it was to write: in the run of a posted
+//! coin, and in runs whose power is cut in the put of its reading. After a further power cut a
+//! report lists the records that were reported, or one more.
 
 use crate::crashes::{CLEAN, PUT_AGAIN, ROUND, TEXT_LINES, crashing};
 use crate::runs::{CALLS_BLANK, DISK, POSTED_TEXT, lines_and, play};
@@ -9,19 +10,20 @@ use std::alloc::Global;
 use std::process::Abort;
 use std::test::Fail;
 
-/// What is told where the reading is put, and by a whole round after it.
+/// What is reported where the reading is put, and by a whole round after it.
 const PUT: &[u8] =
     b"put reading 2 1 0 1 5/1\nposted 2\nok round 2\nwire 2 020001e11c 020001e11c01030200010000f9\n\
       wire 2 020001e518 020001e518010b02000105010000000000000000eb\n\
       wire 2 020001e617 020001e61701020200fffffd\nwire 2 020001e11c 020001e11c01030200010000f9\nclean 2\n\
       idle 2\n";
 
-/// The line of a run in the place of the put of the reading, the first call of the disk that is to fail, how many calls this
-/// line makes, how many the whole round after it, and what both tell.
+/// The line of a run in the place of the put of the reading, the first call of the disk that is to
+/// fail, how many calls this line makes, how many the whole round after it, and what both tell.
 type Run = (&'static str, u64, u64, u64, &'static [u8]);
 
-/// A power cut makes so many calls of the put, and cuts the power; it looks at both halves, and reads the start of the current
-/// one, the slot of each record, and the slot after them. Where the reading is lost, the round puts it again.
+/// A power cut makes so many calls of the put, and cuts the power; it looks at both halves, and
+/// reads the start of the current one, the slot of each record, and the slot after them. Where the
+/// reading is lost, the round puts it again.
 const RUNS: [Run; 7] = [
     ("crash 2 4 0", 1, 11, 0, CLEAN),
     ("crash 2 3 1", CALLS_BEFORE + 1, 10, 0, CLEAN),
@@ -35,9 +37,9 @@ const RUNS: [Run; 7] = [
 /// How many calls of the disk come before that line: four of them put the record of the epoch.
 const CALLS_BEFORE: u64 = CALLS_BLANK + 4;
 
-/// How many lines of its transcript a run has written before this call of the disk, and how many records may be left then, at
-/// the least and at the most: those that are told, or one more where its gate may be written; or none where there is no such
-/// call.
+/// How many lines of its transcript a run has written before this call of the disk, and how many
+/// records may be left then, at the least and at the most: those that are reported, or one more
+/// where its gate may be written; or none where there is no such call.
 fn before(call: u64, (_, _, calls, again, _): Run) -> Option<(usize, usize, usize)> {
     let number = call.saturating_sub(CALLS_BEFORE);
     if call <= CALLS_BLANK {
@@ -79,8 +81,8 @@ fn listed_after(alloc: Global, disk: TornDisk, cut: u64) -> Result<Vec<u8>, Fail
     Ok(listed)
 }
 
-/// A run over a disk whose call of this number fails, and tears by the first choice what it was to write. The power is then
-/// cut by the second one.
+/// A run over a disk whose call of this number fails, and tears by the first choice what it was to
+/// write. The power is then cut by the second one.
 fn fails_by(
     rt: &impl Abort,
     alloc: Global,

@@ -1,5 +1,6 @@
-//! Tests of the bench: runs, audits, reports, loads and upgrades over a source that gives little or fails, a sink that fails, and
-//! disks whose calls fail or whose power is cut. What a whole run writes is played by `tools/check_runs`.
+//! Tests of the bench: runs, audits, reports, loads and upgrades over a source that gives little or
+//! fails, a sink that fails, and disks whose calls fail or whose power is cut. What a whole run
+//! writes is played by `tools/check_runs`.
 #![tactic(auto)]
 
 #[cfg(test)]

@@ -5,8 +5,8 @@ use cct_bench::Status;
 use std::alloc::Global;
 use std::test::Fail;
 
-/// Plays a load over a blank disk whose call of this number fails, or none where it is 0, with the puts of these
-/// numbers failing. Any take of a script would fail.
+/// Plays a load over a blank disk whose call of this number fails, or none where it is 0, with the
+/// puts of these numbers failing. Any take of a script would fail.
 fn load(
     alloc: Global,
     (seed, rounds): (&str, &str),

@@ -6,7 +6,8 @@ use cct_disk::MemDisk;
 use std::alloc::Global;
 use std::test::Fail;
 
-/// Lists the journal on a disk, with the puts of these numbers failing. Any take of a script would fail.
+/// Lists the journal on a disk, with the puts of these numbers failing. Any take of a script would
+/// fail.
 fn report(alloc: Global, puts: &[u64], disk: MemDisk) -> Result<(Status, Vec<u8>, MemDisk), Fail> {
     play(alloc, &["report"], Vec::new(alloc), 1, &[1], puts, disk)
 }

@@ -1,4 +1,5 @@
-//! Runs over a source that gives little at a time or ends too early, and over a source and a sink that fail.
+//! Runs over a source that gives little at a time or ends too early, and over a source and a sink
+//! that fail.
 use cct_bench::{Status, bench};
 use cct_disk::{Disk, MemDisk};
 use cct_edge::{MemSink, MemSource};
@@ -68,8 +69,9 @@ const SCRIPTS: [(&[u8], &[usize], &[u8]); 2] = [
 /// How many bytes a disk has that a journal is created on.
 pub(crate) const DISK: u64 = 2_097_152;
 
-/// Plays a script by one word or two over a disk, from a source that gives at most so many bytes a take, with the takes
-/// and puts of these numbers failing. A transcript has room where it is no longer than eight times its script.
+/// Plays a script by one word or two over a disk, from a source that gives at most so many bytes a
+/// take, with the takes and puts of these numbers failing. A transcript has room where it is no
+/// longer than eight times its script.
 pub(crate) fn play<D: Disk + Drop>(
     alloc: Global,
     words: &[&str],
@@ -95,8 +97,8 @@ pub(crate) fn disk(alloc: Global, len: u64, fails: &[u64]) -> Result<MemDisk, Al
     MemDisk::new(alloc, len, fails.to_vec(alloc)?)
 }
 
-/// Plays a script over a blank disk, from a source that gives at most so many bytes a take, with the takes and puts of
-/// these numbers failing.
+/// Plays a script over a blank disk, from a source that gives at most so many bytes a take, with
+/// the takes and puts of these numbers failing.
 pub(crate) fn run(
     alloc: Global,
     script: &[u8],
@@ -177,7 +179,7 @@ fn stops_at_each_fault_of_the_sink(rt: HostRuntime) -> Result<(), Fail> {
 fn stops_at_each_fault_of_the_source(rt: HostRuntime) -> Result<(), Fail> {
     let alloc = rt.alloc();
     for (script, lines, transcript) in SCRIPTS {
-        // The last take gives nothing: it tells the end of the script.
+        // The last take gives nothing: it shows the end of the script.
         for taken in 0..=script.len() {
             let (status, written) = run(alloc, script, 1, &[taken.saturating_add(1) as u64], &[])?;
             let whole = count_lines(script.get(..taken).unwrap_or(b""));
@@ -206,14 +208,15 @@ fn refuses_a_script_that_is_cut_at_any_byte(rt: HostRuntime) -> Result<(), Fail>
     Ok(())
 }
 
-/// How many calls of the disk the run of a posted coin makes: 512 reads of a blank disk, four that begin its first half,
-/// and four for each of two puts.
+/// How many calls of the disk the run of a posted coin makes: 512 reads of a blank disk, four that
+/// begin its first half, and four for each of two puts.
 pub(crate) const CALLS: u64 = 524;
 
 /// How many of them come before the first byte of the script.
 pub(crate) const CALLS_BLANK: u64 = 516;
 
-/// Plays the script of a posted coin over a disk whose call with this number fails, or none where it is 0.
+/// Plays the script of a posted coin over a disk whose call with this number fails, or none where
+/// it is 0.
 pub(crate) fn play_posted(alloc: Global, call: u64) -> Result<(Status, Vec<u8>, MemDisk), Fail> {
     let blank = disk(alloc, DISK, &[call])?;
     play(

@@ -18,27 +18,28 @@ const SETUP: &[u8] =
 /// What a journal of version 1 begins with.
 const FIRST: (u64, &[u8]) = (0, b"\xa5CCTALK JOURNAL\x01");
 
-/// An epoch of the acceptor, a coin of place 5 by path 1, and the end of the epoch, one slot after the other.
+/// An epoch of the acceptor, a coin of place 5 by path 1, and the end of the epoch, one slot after
+/// the other.
 const EPOCH: (u64, &[u8]) = (32, b"\xa5\x01\x02\xff\xff");
 
 const READING: (u64, &[u8]) = (64, b"\xa5\x02\x02\x01\x00\x01\x05\x01");
 
 const EPOCH_END: (u64, &[u8]) = (96, b"\xa5\x04\x02");
 
-/// What stands on a disk: bytes at their places.
+/// What is on a disk: bytes at their places.
 type Written<'a> = &'a [(u64, &'a [u8])];
 
 /// A journal of version 1 with three records, in which no epoch runs.
 const STOPPED: [(u64, &[u8]); 4] = [FIRST, EPOCH, READING, EPOCH_END];
 
-/// The same over a second half with an open gate, whatever stands after it.
+/// The same over a second half with an open gate, whatever is after it.
 const OVER_OTHERS: [(u64, &[u8]); 5] = [FIRST, EPOCH, READING, EPOCH_END, (HALF, &[0xa5; 200])];
 
 /// Where the second half begins.
 const HALF: u64 = 1_048_576;
 
-/// A journal of version 2 that turned once: an epoch and its coin stand in its carry, and then the epoch ends. Its first half is
-/// left as it was.
+/// A journal of version 2 that turned once: an epoch and its coin stand in its carry, and then the
+/// epoch ends. Its first half is left as it was.
 const TURNED: [(u64, &[u8]); 11] = [
     (0, b"\xa5CCTALK JOURNAL\x02\0\0\0\0\0\0\0\0\x03"),
     (33, b"\x09"),
@@ -136,8 +137,8 @@ const MOST_CALLS: u64 = 64;
 /// The choices of a torn write, and of a power cut.
 const CHOICES: u64 = 4;
 
-/// An upgrade over a disk whose call of this number fails, and tears what it was to write; then the power is cut. Whether
-/// no call failed.
+/// An upgrade over a disk whose call of this number fails, and tears what it was to write; then the
+/// power is cut. Whether no call failed.
 fn fails_by(
     rt: &impl Abort,
     alloc: Global,
@@ -170,8 +171,8 @@ fn fails_by(
     Ok(false)
 }
 
-/// Whichever call fails, and whatever a power cut then leaves: the journal is the old one or the new one, and the next upgrade
-/// tells which.
+/// Whichever call fails, and whatever a power cut then leaves: the journal is the old one or the
+/// new one, and the next upgrade says which.
 fn is_made_again(rt: &impl Abort, alloc: Global, written: Written<'_>) -> Result<(), Fail> {
     // Each of its parts is one call, and a sync.
     let puts = (written.len() as u64).saturating_add(1);

@@ -1,4 +1,5 @@
-//! A caller of a host that calls nothing: he has the devices, and the part that keeps the host's journal.
+//! A caller of a host that calls nothing: he has the devices, and the part that keeps the host's
+//! journal.
 ghost use Rattle.std.specs.Prelude.{◌≡◌, IfOk};
 ghost use Rattle.cct_model.specs.Setup.{IsSoundSetup};
 
@@ -37,7 +38,7 @@ pub(crate) struct Caller<'s> {
     pub(crate) calls: u32,
     pub(crate) most: u32,
     row: u32,
-    /// How many coins were accepted, and how many the records posted that were told as put.
+    /// How many coins were accepted, and how many the records posted that were reported as put.
     pub(crate) accepted: u64,
     pub(crate) told: u64,
 }

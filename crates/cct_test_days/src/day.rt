@@ -1,5 +1,5 @@
-//! A day's use, and the same day with one more power cut before any of its steps: its lines are the same over a journal that turns
-//! at each put.
+//! A day's use, and the same day with one more power cut before any of its steps: its lines are the
+//! same over a journal that turns at each put.
 
 use crate::turning;
 use cct_bench::{Status, bench};
@@ -17,8 +17,8 @@ const SETUP: &str = "acceptor 2 simple 1 0\nvalue 2 1 100 XX100A\nvalue 2 2 100 
 /// A step, how often it comes, and the address at which a power cut before it may find a put.
 type Step = (u8, &'static str, u8);
 
-/// Coins are posted at each of two acceptors. Three hoppers pay, of which one jams and one is settled after a power cut, and a
-/// sale is made.
+/// Coins are posted at each of two acceptors. Three hoppers pay, of which one jams and one is
+/// settled after a power cut, and a sale is made.
 const DAY: [Step; 49] = [
     (1, "start 2 0003\n", 2),
     (5, "next 2\n", 2),
@@ -74,8 +74,8 @@ const DAY: [Step; 49] = [
 /// How many steps these are.
 const STEPS: u32 = 128;
 
-/// The script of the day, with a power cut before the step of this number, after so many calls of the disk in the put that it
-/// makes, if it makes one.
+/// The script of the day, with a power cut before the step of this number, after so many calls of
+/// the disk in the put that it makes, if it makes one.
 fn day(alloc: Global, cut: u32, calls: u8) -> Result<String, Fail> {
     let mut script = String::from_str(alloc, SETUP)?;
     let mut number = 0u32;
@@ -96,7 +96,8 @@ fn day(alloc: Global, cut: u32, calls: u8) -> Result<String, Fail> {
 /// How many bytes a disk has that a journal is created on.
 const DISK: u64 = 2_097_152;
 
-/// What a run of a script writes over a journal that doesn't turn. It has room if it is no longer than eight times the script.
+/// What a run of a script writes over a journal that doesn't turn. It has room if it is no longer
+/// than eight times the script.
 fn ran(rt: &impl Abort, alloc: Global, script: &str) -> Result<String, Fail> {
     let words = vec![in alloc; String::from_str(alloc, "run")?]?;
     let room = script.len().saturating_mul(8).saturating_add(4096);
@@ -108,7 +109,8 @@ fn ran(rt: &impl Abort, alloc: Global, script: &str) -> Result<String, Fail> {
     Ok(String::from_utf8(sink.bytes().to_vec(alloc)?)?)
 }
 
-/// The day has the same lines over both journals, with this power cut more; these lines, and how many records there are.
+/// The day has the same lines over both journals, with this power cut more; these lines, and how
+/// many records there are.
 fn is_the_same(rt: &impl Abort, alloc: Global, cut: u32, calls: u8) -> Result<(String, u32), Fail> {
     let script = day(alloc, cut, calls)?;
     let (turned, journal) = turning::played(rt, alloc, script.as_str())?;

@@ -1,4 +1,5 @@
-//! A host whose link says what is told to it, over a journal that is nearly full, and over one whose power is cut.
+//! A host whose link says what is told to it, over a journal that is nearly full, and over one
+//! whose power is cut.
 ghost use Rattle.std.specs.Prelude.{◌≡◌, ◌≤◌, false, IfOk, OnOk};
 ghost use Rattle.cct_model.specs.Device.{IsSound, IsSoundBody, IsWord};
 ghost use Rattle.cct_model.specs.Setup.{IsSoundSetup};
@@ -19,10 +20,11 @@ use std::alloc::Global;
 use std::process::Abort;
 use std::test::Fail;
 
-/// The replies of an acceptor that is started, takes a coin of place 5, and is read: an acknowledgement, no credits, no
-/// accepted coin, an acknowledgement; one accepted coin, one credit, the mask, and one accepted coin. After these come those
-/// of a hopper that is to pay two coins: an acknowledgement, life count 0, an acknowledgement; none to three questions how
-/// far it is; then two coins paid, and life count 2.
+/// The replies of an acceptor that is started, takes a coin of place 5, and is read: an
+/// acknowledgement, no credits, no accepted coin, an acknowledgement; one accepted coin, one
+/// credit, the mask, and one accepted coin. After these come those of a hopper that is to pay two
+/// coins: an acknowledgement, life count 0, an acknowledgement; none to three questions how far it
+/// is; then two coins paid, and life count 2.
 pub(crate) const REPLIES: [&[u8]; 16] = [
     b"\x01\0\x02\0\xfd",
     b"\x01\x0b\x02\0\0\0\0\0\0\0\0\0\0\0\0\xf2",
@@ -132,8 +134,8 @@ fn opened(disk: MemDisk) -> Result<Journal<MemDisk>, Fail>
     }
 }
 
-/// A journal each of whose halves takes one record, and which takes so many records more, 1 to 256: of as many less than
-/// 4,294,967,295 no more is known than that they had no sum.
+/// A journal each of whose halves takes one record, and which takes so many records more, 1 to 256:
+/// of as many less than 4,294,967,295 no more is known than that they had no sum.
 fn nearly_full(rt: &impl Abort, alloc: Global, room: u8) -> Result<Journal<MemDisk>, Fail>
     ensures { IfOk result (λ journal. journals.has_failed journal ≡ false) }
 {
@@ -319,8 +321,8 @@ fn is_full(rt: &impl Abort, host: &mut Host<'_, MemDisk>) -> Result<(), Fail> {
     Ok(())
 }
 
-/// How many records there are after a power cut in the put of a reading, or none where the disk failed, one of whose
-/// calls fails. Each half takes three records.
+/// How many records there are after a power cut in the put of a reading, or none where the disk
+/// failed, one of whose calls fails. Each half takes three records.
 fn crashed(setup: &Setup, alloc: Global, fails: u64) -> Result<Option<u32>, Fail>
     requires { IsSoundSetup setup.now }
 {
@@ -333,9 +335,9 @@ fn crashed(setup: &Setup, alloc: Global, fails: u64) -> Result<Option<u32>, Fail
     }
 }
 
-// Of the disk's calls five make the journal, four put the record of the epoch, and four that of the reading. One cuts the
-// power, two look at the halves, one reads the start of the first, and three read the slots: two of records, and the last,
-// whose gate is shut. That is the twentieth.
+// Of the disk's calls five make the journal, four put the record of the epoch, and four that of the
+// reading. One cuts the power, two look at the halves, one reads the start of the first, and three
+// read the slots: two of records, and the last, whose gate is shut. That is the twentieth.
 #[test]
 fn a_power_cut_reads_each_slot_once(rt: HostRuntime) -> Result<(), Fail> {
     let setup = setup();

@@ -1,4 +1,5 @@
-//! A host on a real line: what it writes over a disk in memory and a link whose replies are told, and how it goes on.
+//! A host on a real line: what it writes over a disk in memory and a link whose replies are
+//! reported, and how it goes on.
 ghost use Rattle.std.specs.Prelude.{◌≡◌, ◌≤◌, ℕ, [], false, length};
 ghost use Rattle.cct_live_port.specs.Answer.{answered};
 ghost use Rattle.cct_model_wire.specs.declared.wire.TheConstants.{MOST_HEARD};
@@ -16,8 +17,8 @@ use cct_wire::Link;
 use std::alloc::{AllocError, Global};
 use std::test::Fail;
 
-/// A link that gives the echo and the next of the replies of a host's day; but of an exchange with one of these numbers, the
-/// first at 0, nothing, which is counted as a failure.
+/// A link that gives the echo and the next of the replies of a host's day; but of an exchange with
+/// one of these numbers, the first at 0, nothing, which is counted as a failure.
 #[derive(Drop)]
 struct Counted {
     exchanges: usize,
@@ -96,7 +97,8 @@ fn blank(alloc: Global) -> Result<MemDisk, AllocError> {
     MemDisk::new(alloc, MADE_LEN, Vec::new(alloc))
 }
 
-/// What a service writes without its lines `wire` and `unsent`, how it ends, and the disk. The first reply is that of this index.
+/// What a service writes without its lines `wire` and `unsent`, how it ends, and the disk. The
+/// first reply is that of this index.
 fn served(
     alloc: Global,
     input: &[u8],
@@ -139,8 +141,9 @@ fn served(
     Ok((told, how, disk))
 }
 
-/// A coin is read out by `poll`, and a hopper doesn't answer any more once its order is open; a wrong line, one that is too
-/// long and one that is cut change nothing. A second host goes on with the journal, and closes the order.
+/// A coin is read out by `poll`, and a hopper doesn't answer any more once its order is open; a
+/// wrong line, one that is too long and one that is cut change nothing. A second host goes on with
+/// the journal, and closes the order.
 #[test]
 fn a_day_is_served(rt: HostRuntime) -> Result<(), Fail> {
     let alloc = rt.alloc();
@@ -172,7 +175,7 @@ ok settle 3\nput closed 1 2 0\nclosed 3\n"
     Ok(())
 }
 
-/// A port that failed is told once, and again after an exchange that went through.
+/// A port that failed is reported once, and again after an exchange that went through.
 #[test]
 fn a_fault_of_the_line_is_told_once(rt: HostRuntime) -> Result<(), Fail> {
     let alloc = rt.alloc();

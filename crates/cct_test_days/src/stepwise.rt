@@ -1,5 +1,5 @@
-//! A host that calls nothing, asked by a caller who makes its calls in their order: what it posts over turns of its journal, in
-//! a second life, and where the power was cut before any of them.
+//! A host that calls nothing, asked by a caller who makes its calls in their order: what it posts
+//! over turns of its journal, in a second life, and where the power was cut before any of them.
 ghost use Rattle.cct_model.specs.Setup.{IsSoundSetup};
 
 use crate::caller::{Caller, Left};
@@ -72,8 +72,8 @@ fn a_second_host_goes_on(rt: HostRuntime) -> Result<(), Fail> {
     Ok(())
 }
 
-/// What is left where the power was cut before one of the calls of eight rounds: all that was told, or one record more. What
-/// fell in meanwhile is posted afterwards, once.
+/// What is left where the power was cut before one of the calls of eight rounds: all that was
+/// reported, or one record more. What fell in meanwhile is posted afterwards, once.
 fn is_whole_after_a_cut(
     rt: &impl Abort,
     alloc: Global,
@@ -114,7 +114,8 @@ fn a_cut_before_any_call_loses_nothing(rt: HostRuntime) -> Result<(), Fail> {
     Ok(())
 }
 
-/// A host of which a call was lost wants nothing any more. Another one starts over what the part has.
+/// A host of which a call was lost wants nothing any more. Another one starts over what the part
+/// has.
 #[test]
 fn a_lost_call_ends_a_host(rt: HostRuntime) -> Result<(), Fail> {
     let setup = setup();

@@ -1,5 +1,5 @@
-//! A machine over a journal each of whose halves takes one record, so that each put but the first turns it: its lines are
-//! those of a machine whose journal doesn't turn.
+//! A machine over a journal each of whose halves takes one record, so that each put but the first
+//! turns it: its lines are those of a machine whose journal doesn't turn.
 ghost use Rattle.std.specs.Prelude.{◌≡◌};
 ghost use Rattle.cct_model.specs.Legal.{is_played};
 ghost use Rattle.cct_model.specs.Setup.{IsSoundSetup};
@@ -62,8 +62,8 @@ fn play_line<'s>(
     Ok(world)
 }
 
-/// Plays a whole script over a journal that turns, and gives what is written, and the journal. A transcript has room where
-/// it is no longer than eight times its script.
+/// Plays a whole script over a journal that turns, and gives what is written, and the journal. A
+/// transcript has room where it is no longer than eight times its script.
 pub(crate) fn played(
     rt: &impl Abort,
     alloc: Global,

@@ -24,7 +24,8 @@ fn is_written<D: Disk>(disk: &mut D, at: u64, bytes: &[u8]) -> bool {
     at <= len && bytes.len() as u64 <= len - at && disk.write(at, bytes).is_ok()
 }
 
-/// Whether a read gives these bytes, five at most; none where it fails, or the disk doesn't have the place.
+/// Whether a read gives these bytes, five at most; none where it fails, or the disk doesn't have
+/// the place.
 fn gives<D: Disk>(disk: &mut D, at: u64, wanted: &[u8]) -> Option<bool> {
     let mut room = [9; 5];
     let count = wanted.len().min(5);

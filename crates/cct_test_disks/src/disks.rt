@@ -1,4 +1,5 @@
-//! The disks in memory through the trait: what a cut leaves, which calls fail, and where the room ends.
+//! The disks in memory through the trait: what a cut leaves, which calls fail, and where the room
+//! ends.
 use crate::calls::{Call, plays};
 use cct_disk::{Disk, MemDisk, TornDisk};
 use std::alloc::Global;
@@ -13,8 +14,8 @@ const FOUR: [Call<'static>; 4] = [
     Call::Sync(true),
 ];
 
-/// What a cut leaves of the bytes at places 32 to 34 of a blank disk of 64, by the number of those calls that are made before it
-/// and by its choice.
+/// What a cut leaves of the bytes at places 32 to 34 of a blank disk of 64, by the number of those
+/// calls that are made before it and by its choice.
 const LEFT_BY_CUTS: [(usize, u64, [u8; 3]); 24] = [
     (1, 0, [0, 0, 0]),
     (1, 1, [0, 7, 8]),
@@ -64,7 +65,8 @@ fn a_cut_leaves_each_unsynced_byte_by_its_choice(rt: HostRuntime) -> Result<(), 
     Ok(())
 }
 
-/// Places 0 to 3 hold 10, 20, 30 and 40, all synced; then places 1 and 2 are written by 1 and 2, and place 2 once more by 3.
+/// Places 0 to 3 hold 10, 20, 30 and 40, all synced; then places 1 and 2 are written by 1 and 2,
+/// and place 2 once more by 3.
 const TWO_WRITES: [Call<'static>; 4] = [
     Call::Write(0, &[10, 20, 30, 40], true),
     Call::Sync(true),
@@ -92,7 +94,8 @@ fn a_cut_takes_back_both_writes_of_a_byte(rt: HostRuntime) -> Result<(), Fail> {
     Ok(())
 }
 
-/// A read, a write of 5, a sync, a cut and a read, of which one is told to fail; and what the last read gives.
+/// A read, a write of 5, a sync, a cut and a read, of which one is told to fail; and what the last
+/// read gives.
 fn one_fails<'a>(fails: u64, left: &'a [u8]) -> [Call<'a>; 5] {
     [
         if fails == 1 {
@@ -131,10 +134,11 @@ fn of_calls_that_are_told_to_fail_only_a_write_is_torn(rt: HostRuntime) -> Resul
     Ok(())
 }
 
-/// What stands on a disk of 5, all synced, before a write of 1, 2 and 3 at place 1 is torn.
+/// What is on a disk of 5, all synced, before a write of 1, 2 and 3 at place 1 is torn.
 const STOOD: [u8; 5] = [10, 20, 30, 40, 50];
 
-/// By the choice of such a write what stands there after it, and by the choice of a cut what stands there after that.
+/// By the choice of such a write what is there after it, and by the choice of a cut what is there
+/// after that.
 const TORN: [(u64, [u8; 5], u64, [u8; 5]); 6] = [
     (0, STOOD, 5, [10, 6, 7, 8, 50]),
     (1, [10, 1, 2, 3, 50], 0, STOOD),

@@ -48,7 +48,8 @@ fn a_sink_in_memory_fails_where_told_and_past_its_room(rt: HostRuntime) -> Resul
     Ok(())
 }
 
-/// A reader and a writer of one byte a call. The second and the sixth call fail, and the fourth write takes nothing.
+/// A reader and a writer of one byte a call. The second and the sixth call fail, and the fourth
+/// write takes nothing.
 #[derive(Drop)]
 struct Halting {
     calls: u8,

@@ -111,8 +111,8 @@ enum Wrong {
     Syncing,
 }
 
-/// Files of which each opening gives one of 2,097,152 zeros, which gives two bytes a call, and takes half of what it is
-/// given. It is known whether one was removed.
+/// Files of which each opening gives one of 2,097,152 zeros, which gives two bytes a call, and
+/// takes half of what it is given. It is known whether one was removed.
 #[derive(Drop)]
 struct Faulty {
     wrong: Wrong,
@@ -273,8 +273,8 @@ impl Files for Faulty {
     }
 }
 
-/// Whether the file is there, what goes wrong, whether it is removed, and whether a read, a write, a sync and a cut then
-/// succeed, one after the other.
+/// Whether the file is there, what goes wrong, whether it is removed, and whether a read, a write,
+/// a sync and a cut then succeed, one after the other.
 const FAULTS: [(bool, Wrong, bool, [bool; 4]); 21] = [
     (true, Wrong::Nothing, false, [true, true, true, true]),
     (true, Wrong::Opening, false, [false, false, false, false]),
@@ -320,7 +320,8 @@ fn four_calls(succeed: [bool; 4]) -> [Call<'static>; 5] {
     ]
 }
 
-/// Whether a file that is opened with a lock, or without one, answers its four calls so; none where another has locked it.
+/// Whether a file that is opened with a lock, or without one, answers its four calls so; none where
+/// another has locked it.
 fn faulty_plays(files: &Faulty, locks: bool, succeed: [bool; 4]) -> Option<bool> {
     if !locks {
         let mut disk = FileDisk::open_file(files, "any.jnl");

@@ -1,5 +1,5 @@
-//! Tests of disks, in memory and over a file, and of sources and sinks: their calls fail where they are made to, and the power is
-//! cut.
+//! Tests of disks, in memory and over a file, and of sources and sinks: their calls fail where they
+//! are made to, and the power is cut.
 #![tactic(auto)]
 
 #[cfg(test)]

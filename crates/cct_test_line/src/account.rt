@@ -133,7 +133,8 @@ pub(crate) fn path_at(addr: u8) -> u8 {
 /// What came of a run.
 #[derive(Clone, Copy, Debug, PartialEq, Eq)]
 pub(crate) struct Account {
-    /// In how many exchanges another reply was heard than that to the message, and in how many none, though one was given.
+    /// In how many exchanges another reply was heard than that to the message, and in how many
+    /// none, though one was given.
     pub(crate) mistaken: u64,
     pub(crate) missed: u64,
     /// How many commands were refused.
@@ -146,8 +147,8 @@ pub(crate) struct Account {
     pub(crate) fallen: OfOrders,
     pub(crate) paid: OfOrders,
     pub(crate) ends: Ends,
-    /// How many readings posted coins that their acceptor hadn't accepted, and how many orders were closed with another
-    /// number of coins than had fallen.
+    /// How many readings posted coins that their acceptor hadn't accepted, and how many orders were
+    /// closed with another number of coins than had fallen.
     pub(crate) posted_wrong: u64,
     pub(crate) closed_wrong: u64,
     /// What the host has, in units of value.

@@ -27,7 +27,8 @@ pub(crate) enum Step {
     Turns(u8, u8, u8),
     /// A coin falls into the acceptor at an address.
     Coin(u8),
-    /// So many coins fall out of the hopper at an address, or as many as it was still to pay, for the order with an id.
+    /// So many coins fall out of the hopper at an address, or as many as it was still to pay, for
+    /// the order with an id.
     Falls(u8, u32, u8),
     /// The power of the host is cut between two puts, and it starts again.
     Restart,

@@ -11,8 +11,9 @@ use std::alloc::Global;
 use std::process::Abort;
 use std::test::Fail;
 
-/// The days of which one reply is late, of each exchange in turn, by 1 to 20 reads, over the same port without the wait:
-/// in some an acceptor's coins are posted as another's, and in some an order is closed with a wrong number.
+/// The days of which one reply is late, of each exchange in turn, by 1 to 20 reads, over the same
+/// port without the wait: in some an acceptor's coins are posted as another's, and in some an order
+/// is closed with a wrong number.
 fn loses_money(rt: &impl Abort, alloc: Global, gap: u16) -> Result<(), Fail> {
     let setup = setup();
     let steps = day(alloc)?;
@@ -56,7 +57,8 @@ fn hasty(echoes: bool, longest: u16) -> Options {
     }
 }
 
-/// A coin falls into acceptor 2, and both acceptors are read by turns, after the 8 exchanges of their start.
+/// A coin falls into acceptor 2, and both acceptors are read by turns, after the 8 exchanges of
+/// their start.
 const ONE_COIN: &[Step] = &[
     Step::Give(Command::Start { addr: 2, mask: 1 }),
     Step::Give(Command::Start { addr: 5, mask: 1 }),
@@ -67,7 +69,8 @@ const ONE_COIN: &[Step] = &[
     Step::Turns(2, 5, 6),
 ];
 
-/// What comes of it where the reply to the credits of acceptor 2 isn't waited for long enough, and it is asked again.
+/// What comes of it where the reply to the credits of acceptor 2 isn't waited for long enough, and
+/// it is asked again.
 const ONE_POST: Account = Account {
     mistaken: 0,
     missed: 1,
@@ -103,7 +106,8 @@ const TWO_POSTS: Account = Account {
     ..ONE_POST
 };
 
-/// The credits of acceptor 2 come late, in the exchange with number 10: after both accept counters. They name no source.
+/// The credits of acceptor 2 come late, in the exchange with number 10: after both accept counters.
+/// They name no source.
 #[test]
 fn a_port_that_waits_too_short_posts_a_coin_twice(rt: HostRuntime) -> Result<(), Fail> {
     let setup = setup();
@@ -120,8 +124,8 @@ fn a_port_that_waits_too_short_posts_a_coin_twice(rt: HostRuntime) -> Result<(),
     Ok(())
 }
 
-/// After the 8 exchanges of their start, and 8 of a round that posts a coin, both hoppers pay: 3 two coins, and 4 one. They
-/// are asked by turns, and all coins fall at once.
+/// After the 8 exchanges of their start, and 8 of a round that posts a coin, both hoppers pay: 3
+/// two coins, and 4 one. They are asked by turns, and all coins fall at once.
 const TWO_ORDERS: &[Step] = &[
     Step::Give(Command::Start { addr: 2, mask: 1 }),
     Step::Give(Command::Start { addr: 5, mask: 1 }),
@@ -146,8 +150,8 @@ const TWO_ORDERS: &[Step] = &[
     Step::Turns(4, 3, 4),
 ];
 
-/// What comes of it where the life count of hopper 4 isn't waited for long enough, and it is asked again: both orders are
-/// closed with all their coins.
+/// What comes of it where the life count of hopper 4 isn't waited for long enough, and it is asked
+/// again: both orders are closed with all their coins.
 const THREE_PAID: Account = Account {
     fallen: OfOrders {
         coins: [2, 1, 0, 0, 0, 0],
@@ -166,7 +170,8 @@ const THREE_PAID: Account = Account {
     ..ONE_POST
 };
 
-/// What comes of it where hopper 3, asked next, is taken to have said that: its order is closed with one coin.
+/// What comes of it where hopper 3, asked next, is taken to have said that: its order is closed
+/// with one coin.
 const TWO_PAID: Account = Account {
     mistaken: 1,
     paid: OfOrders {
@@ -177,8 +182,8 @@ const TWO_PAID: Account = Account {
     ..THREE_PAID
 };
 
-/// The life count of hopper 4 comes late, in the exchange with number 24: after 6 exchanges up to the dispenses and 2 for
-/// the states.
+/// The life count of hopper 4 comes late, in the exchange with number 24: after 6 exchanges up to
+/// the dispenses and 2 for the states.
 #[test]
 fn a_port_that_waits_too_short_closes_an_order_with_a_wrong_number(
     rt: HostRuntime,

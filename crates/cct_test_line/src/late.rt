@@ -11,7 +11,7 @@ use std::alloc::Global;
 use std::process::Abort;
 use std::test::Fail;
 
-/// How `cct_live` uses a line, where it isn't told otherwise.
+/// How `cct_live` uses a line, where it isn't reported otherwise.
 const STANDARD: Options = Options {
     echoes: true,
     gap: 0,
@@ -50,11 +50,13 @@ const NONE_LISTED: Account = Account {
     ..MISSED
 };
 
-/// The exchanges of a day in which a hopper tells how many coins are left to pay, and is halted before it is asked again.
+/// The exchanges of a day in which a hopper says how many coins are left to pay, and is halted
+/// before it is asked again.
 const BEFORE_A_HALT: [u64; 2] = [38, 39];
 
-/// What comes of a day in which a reply to a message with this header is late, and whether that message is sent again: a
-/// row that is sent once goes on without its reply, and any other one is tried again.
+/// What comes of a day in which a reply to a message with this header is late, and whether that
+/// message is sent again: a row that is sent once goes on without its reply, and any other one is
+/// tried again.
 fn wanted(options: Options, header: u8, late: Late) -> (Account, bool) {
     match header {
         253 if is_in_time(options.longest, late.by) => (DAY, false),
@@ -67,8 +69,8 @@ fn wanted(options: Options, header: u8, late: Late) -> (Account, bool) {
     }
 }
 
-/// Whether a reply that is late by so many reads is still heard by a port that gives up after so many silent ones. The
-/// reply itself takes one.
+/// Whether a reply that is late by so many reads is still heard by a port that gives up after so
+/// many silent ones. The reply itself takes one.
 fn is_in_time(listens: u16, by: u16) -> bool {
     by.saturating_add(2) <= listens
 }
@@ -100,7 +102,8 @@ fn is_right_day(
     Ok(())
 }
 
-/// Each day of which one reply is late, of each exchange in turn, by so many reads, comes to what it should.
+/// Each day of which one reply is late, of each exchange in turn, by so many reads, comes to what
+/// it should.
 fn are_right_days(
     rt: &impl Abort,
     alloc: Global,
@@ -161,8 +164,9 @@ fn a_late_reply_changes_nothing_without_an_echo(rt: HostRuntime) -> Result<(), F
     are_right_days(&rt, rt.alloc(), options, &[1, 6, 20])
 }
 
-/// As the program uses a line, a reply may be late by all that it waits for, but for the last two reads: it gives up after
-/// the fourth silent read, and sends after the twelfth, those four counted.
+/// As the program uses a line, a reply may be late by all that it waits for, but for the last two
+/// reads: it gives up after the fourth silent read, and sends after the twelfth, those four
+/// counted.
 #[test]
 fn a_late_reply_within_the_wait_changes_nothing(rt: HostRuntime) -> Result<(), Fail> {
     are_right_days(&rt, rt.alloc(), STANDARD, &[1, 4, 10])

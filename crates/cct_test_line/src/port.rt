@@ -34,7 +34,8 @@ struct Part {
     bytes: &'static [u8],
 }
 
-/// A line that is played. A read gives what is waiting, or is silent; time is the number of silent reads.
+/// A line that is played. A read gives what is waiting, or is silent; time is the number of silent
+/// reads.
 #[derive(Drop)]
 struct Played {
     echoes: bool,
@@ -123,7 +124,8 @@ impl Write for Played {
     }
 }
 
-/// A port over a played line: one silent read before a message, an answer within three, none after thirty.
+/// A port over a played line: one silent read before a message, an answer within three, none after
+/// thirty.
 fn port(line: Played) -> Port<StdLine<Played>> {
     let options = Options {
         echoes: line.echoes,
@@ -280,8 +282,9 @@ fn a_reply_that_comes_twice_is_dropped_by_a_silent_read(rt: HostRuntime) {
     assert!(rt; port.is_settled());
 }
 
-/// Whether one of the next twenty exchanges with device 6, which is silent, takes the late reply of device 5 for its
-/// own. That one comes so many silent reads after the exchange with device 5 gave up.
+/// Whether one of the next twenty exchanges with device 6, which is silent, takes the late reply of
+/// device 5 for its own. That one comes so many silent reads after the exchange with device 5 gave
+/// up.
 fn takes_late(late: u16, longest: u16) -> bool {
     const LATE: &[Part] = &[Part {
         write: 0,
@@ -310,7 +313,8 @@ fn takes_late(late: u16, longest: u16) -> bool {
 
 #[test]
 fn a_late_reply_is_dropped(rt: HostRuntime) {
-    // Only a wait that is longer than the reply is late will do. The three silent reads before the port gave up count.
+    // Only a wait that is longer than the reply is late will do. The three silent reads before the
+    // port gave up count.
     for late in 1..=20 {
         assert!(rt; takes_late(late, 0));
         assert!(rt; takes_late(late, late + 3));

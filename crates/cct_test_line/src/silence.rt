@@ -1,4 +1,5 @@
-//! How long a port lets its line be silent before it sends: the silent reads in which an answer was waited for count.
+//! How long a port lets its line be silent before it sends: the silent reads in which an answer was
+//! waited for count.
 ghost use Rattle.std.specs.Prelude.{◌≤◌, length};
 ghost use Rattle.std.specs.Io.{ReadsAtMost};
 ghost use Rattle.cct_model_wire.specs.declared.wire.TheConstants.{MOST_SENT};
@@ -10,7 +11,8 @@ use cct_wire::Link;
 use std::cell::RefCell;
 use std::test::Fail;
 
-/// A poll of device 2 by the host under the simple check, and its reply; and the address poll by the host.
+/// A poll of device 2 by the host under the simple check, and its reply; and the address poll by
+/// the host.
 const POLL: &[u8] = b"\x02\x00\x01\xfe\xff";
 
 const REPLY: &[u8] = b"\x01\x00\x02\x00\xfd";
@@ -123,7 +125,8 @@ fn sends(
     Ok(counted.into_inner().written_at)
 }
 
-/// The four silent reads after a message are of the twelve before the next one: sixteen would be too many.
+/// The four silent reads after a message are of the twelve before the next one: sixteen would be
+/// too many.
 #[test]
 fn silent_reads_count_whoever_waited(rt: HostRuntime) -> Result<(), Fail> {
     let written = sends(&[], 0, POLL, 3)?;

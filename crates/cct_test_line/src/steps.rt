@@ -6,8 +6,8 @@ use cct_model::Command;
 use std::alloc::Global;
 use std::test::Fail;
 
-/// Both acceptors are started, in 8 exchanges. Each job here is left one attempt more than it has rows, for a try that
-/// fails.
+/// Both acceptors are started, in 8 exchanges. Each job here is left one attempt more than it has
+/// rows, for a try that fails.
 const START: &[Step] = &[
     Step::Give(Command::Start { addr: 2, mask: 1 }),
     Step::Give(Command::Start { addr: 5, mask: 1 }),
@@ -35,7 +35,8 @@ const ROUND: &[Step] = &[
     Step::Turns(2, 5, 3),
 ];
 
-/// Hopper 3 pays two coins and hopper 4 three, in 6 exchanges up to the dispense, 2 while coins fall, and 4 up to the end.
+/// Hopper 3 pays two coins and hopper 4 three, in 6 exchanges up to the dispense, 2 while coins
+/// fall, and 4 up to the end.
 const PAY: &[Step] = &[
     Step::Give(Command::Pay {
         addr: 3,
@@ -55,7 +56,8 @@ const PAY: &[Step] = &[
     Step::Turns(3, 4, 4),
 ];
 
-/// Each hopper is to pay three coins, and is halted after one, in 8 exchanges up to the halt and 6 after it.
+/// Each hopper is to pay three coins, and is halted after one, in 8 exchanges up to the halt and 6
+/// after it.
 const HALT: &[Step] = &[
     Step::Give(Command::Pay {
         addr: 3,
@@ -75,8 +77,8 @@ const HALT: &[Step] = &[
     Step::Turns(3, 4, 5),
 ];
 
-/// Each hopper is to pay two coins when the power of the host is cut, and both orders are settled, in 8 exchanges before
-/// the cut and 4 after it.
+/// Each hopper is to pay two coins when the power of the host is cut, and both orders are settled,
+/// in 8 exchanges before the cut and 4 after it.
 const SETTLE: &[Step] = &[
     Step::Give(Command::Pay {
         addr: 3,
@@ -98,7 +100,8 @@ const SETTLE: &[Step] = &[
     Step::Turns(3, 4, 4),
 ];
 
-/// All four devices tell of themselves, an acceptor in 26 exchanges and a hopper in 8. Then they are listed, in 10.
+/// All four devices tell of themselves, an acceptor in 26 exchanges and a hopper in 8. Then they
+/// are listed, in 10.
 const IDENT: &[Step] = &[
     Step::Give(Command::Ident { addr: 2 }),
     Step::Give(Command::Ident { addr: 5 }),
@@ -144,7 +147,8 @@ pub(crate) const ENDS: Ends = Ends {
     other: 0,
 };
 
-/// What comes of a day, by hand: five coins of 100 are posted, and of six orders eleven coins of 10 are paid.
+/// What comes of a day, by hand: five coins of 100 are posted, and of six orders eleven coins of 10
+/// are paid.
 pub(crate) const DAY: Account = Account {
     mistaken: 0,
     missed: 0,

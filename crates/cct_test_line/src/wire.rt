@@ -29,8 +29,8 @@ pub(crate) struct Late {
     pub(crate) by: u16,
 }
 
-/// Devices that answer each message once. A reply comes one silent read after its message, but for the one that is late.
-/// Time is counted in silent reads.
+/// Devices that answer each message once. A reply comes one silent read after its message, but for
+/// the one that is late. Time is counted in silent reads.
 #[derive(Drop)]
 pub(crate) struct Wire<'s> {
     bus: Bus<'s>,
@@ -44,7 +44,8 @@ pub(crate) struct Wire<'s> {
     sent: u64,
     /// The last message, and what the devices answer it.
     answered: ArrayVec<u8, MOST_HEARD>,
-    /// The message whose reply is late, once it was sent and answered; and whether the next one to its device was the same.
+    /// The message whose reply is late, once it was sent and answered; and whether the next one to
+    /// its device was the same.
     late_message: Option<ArrayVec<u8, 64>>,
     is_again: Option<bool>,
 }

@@ -1,5 +1,5 @@
-// A journal on a disk in memory, in its first half: a put that is cut short, a failure of each disk call, and a journal
-// that is full.
+// A journal on a disk in memory, in its first half: a put that is cut short, a failure of each disk
+// call, and a journal that is full.
 ghost use Rattle.std.specs.Prelude.{◌≡◌, false, IfOk, OnOk};
 ghost use Rattle.cct_model_lines.specs.Carried.{IsRightly};
 ghost use Rattle.cct_record.specs.Body.{Encodable};
@@ -23,11 +23,12 @@ pub(crate) const ONE_EACH: u64 = 2368;
 
 const THREE_EACH: u64 = 2496;
 
-// What the first half of a new journal begins with: its header, and a carry of three bodies without a sum.
+// What the first half of a new journal begins with: its header, and a carry of three bodies without
+// a sum.
 const HEADER: [u8; 32] = *b"\xa5CCTALK JOURNAL\x03\0\0\0\0\0\0\0\0\x03\0\0\0\0\0\0\0";
 
-// What a body may be after a power cut: not yet written, written, and written at even places alone; and bytes that
-// rise by one from the first on.
+// What a body may be after a power cut: not yet written, written, and written at even places alone;
+// and bytes that rise by one from the first on.
 const NONE: [u8; 31] = [0; 31];
 
 const BODY: [u8; 31] = [
@@ -53,8 +54,9 @@ const FROM_166: [u8; 31] = [
     185, 186, 187, 188, 189, 190, 191, 192, 193, 194, 195, 196,
 ];
 
-// How many calls of the first put were made, how the power was cut then, the gate and the body that stand there, and
-// how many records are found. The gate stands at place 1152, in the last slot of its half.
+// How many calls of the first put were made, how the power was cut then, the gate and the body that
+// stand there, and how many records are found. The gate is at place 1152, in the last slot of its
+// half.
 const CUTS: [(u8, u64, u8, &[u8; 31], u32); 24] = [
     (1, 0, 0, &NONE, 0),
     (1, 1, 0, &BODY, 0),
@@ -86,7 +88,8 @@ fn disk(alloc: Global, len: u64, fails: &[u64]) -> Result<MemDisk, AllocError> {
     MemDisk::new(alloc, len, fails.to_vec(alloc)?)
 }
 
-// A new journal on a disk of at most 4,096 bytes. It makes five calls: one reads the disk, four begin the first half.
+// A new journal on a disk of at most 4,096 bytes. It makes five calls: one reads the disk, four
+// begin the first half.
 pub(crate) fn created_on<D: Disk + Drop>(disk: D) -> Result<Journal<D>, Fail>
     ensures { IfOk result (λ journal. has_failed journal ≡ false) }
 {
@@ -252,9 +255,10 @@ fn a_power_cut_leaves_the_record_or_not(rt: HostRuntime) -> Result<(), Fail> {
     Ok(())
 }
 
-// How many records there are before a power cut in no put, and the number of its last disk call. Five calls make the
-// journal and four put each record; then one cuts the power, two look at the halves, one reads the start of the current
-// one, and one reads each slot up to the first shut gate.
+// How many records there are before a power cut in no put, and the number of its last disk call.
+// Five calls make the journal and four put each record; then one cuts the power, two look at the
+// halves, one reads the start of the current one, and one reads each slot up to the first shut
+// gate.
 const LAST_CALLS: [(u32, u64); 4] = [(0, 10), (1, 15), (2, 20), (3, 24)];
 
 #[test]
@@ -297,7 +301,7 @@ fn a_disk_may_be_too_small(rt: HostRuntime) -> Result<(), Fail> {
     Ok(())
 }
 
-// The last base but one that a journal may have, low byte first. Where it stands in the first half.
+// The last base but one that a journal may have, low byte first. Where it is in the first half.
 const LATE_BASE: [(u64, u8); 4] = [(20, 0xfe), (21, 0xff), (22, 0xff), (23, 0xff)];
 
 // A journal that was new, and has one record less than it takes.
@@ -354,8 +358,8 @@ fn a_failure_is_told_by_create(rt: HostRuntime) -> Result<(), Fail> {
     Ok(())
 }
 
-// A put on a new journal, of whose disk calls one fails, and how many records are found after a power cut that
-// keeps what was written.
+// A put on a new journal, of whose disk calls one fails, and how many records are found after a
+// power cut that keeps what was written.
 fn put_with_failure(rt: &impl Abort, alloc: Global, call: u64) -> Result<(bool, u32), Fail> {
     let mut journal = created(alloc, ONE_EACH, &[call])?;
     let carry = carry_of(rt, &journal);

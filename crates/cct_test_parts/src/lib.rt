@@ -1,5 +1,5 @@
-//! Tests of the parts by themselves: those that take memory, with ample memory; and a journal, how it is opened and how it
-//! turns, on a disk whose calls fail and whose power is cut.
+//! Tests of the parts by themselves: those that take memory, with ample memory; and a journal, how
+//! it is opened and how it turns, on a disk whose calls fail and whose power is cut.
 #![tactic(auto)]
 
 #[cfg(test)]

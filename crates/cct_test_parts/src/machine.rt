@@ -64,7 +64,8 @@ pub(crate) fn bills() -> DeviceBody
     }
 }
 
-/// An acceptor at 2 whose coins are worth 100, a hopper at 3 whose coins are worth 10, and one at 5 whose are worth 50.
+/// An acceptor at 2 whose coins are worth 100, a hopper at 3 whose coins are worth 10, and one at 5
+/// whose are worth 50.
 pub(crate) fn setup() -> Setup
     ensures { IsSoundSetup result }
 {

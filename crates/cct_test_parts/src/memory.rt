@@ -1,5 +1,5 @@
-//! The parts that take all their memory at their beginning, with ample memory: a table of plans, an acceptor and a bill
-//! acceptor.
+//! The parts that take all their memory at their beginning, with ample memory: a table of plans, an
+//! acceptor and a bill acceptor.
 use crate::machine::{acceptor, bills, device};
 use arrayvec::ArrayVec;
 use cct_acceptor::Acceptor;

@@ -9,8 +9,8 @@ use std::test::Fail;
 // Halves of 39 slots, three of them for records. The second half begins at 1,248.
 const LEN: usize = 2496;
 
-// The header of a first half without records before it, and that of a second half with two of them. A carry has three
-// bodies, and one for each epoch and each order.
+// The header of a first half without records before it, and that of a second half with two of them.
+// A carry has three bodies, and one for each epoch and each order.
 const FIRST: [u8; 32] = *b"\xa5CCTALK JOURNAL\x03\0\0\0\0\0\0\0\0\x03\0\0\0\0\0\0\0";
 
 const SECOND: [u8; 32] = *b"\xa5CCTALK JOURNAL\x03\x01\0\0\0\x02\0\0\0\x05\0\0\0\0\0\0\0";
@@ -32,7 +32,8 @@ fn new_journal() -> [u8; LEN] {
     changed(image, &[(33, 9), (65, 10), (97, 11)])
 }
 
-// A journal that turned once: after two records stands one more, which is that of the first slot for records.
+// A journal that turned once: after two records stands one more, which is that of the first slot
+// for records.
 fn turned_journal() -> [u8; LEN] {
     let image = laid(new_journal(), 1248, &SECOND);
     let image = laid(
@@ -53,7 +54,7 @@ fn turned_journal() -> [u8; LEN] {
     laid(image, 2400, &[0xa5, 4, 9])
 }
 
-// The carry that stands in it.
+// The carry that is in it.
 fn carry_of_two() -> Carry {
     let mut epochs = CarryEpochs::new();
     epochs.push(CarryEpoch {
@@ -141,7 +142,8 @@ const DAMAGES: [(usize, u8); 27] = [
     (24, 36),
     (25, 1),
     (31, 1),
-    // the gate of a slot, the kind of a body, a last id and a sum of no records, and the bytes after the sums
+    // the gate of a slot, the kind of a body, a last id and a sum of no records, and the bytes
+    // after the sums
     (32, 0xa5),
     (33, 0),
     (33, 10),
@@ -196,7 +198,8 @@ fn a_short_disk_has_no_older_journal(rt: HostRuntime) -> Result<(), Fail> {
     Ok(())
 }
 
-// What changes a journal that turned once, and what is found then: nothing, or the base and the number of records.
+// What changes a journal that turned once, and what is found then: nothing, or the base and the
+// number of records.
 #[test]
 fn the_current_half_counts(rt: HostRuntime) -> Result<(), Fail> {
     let alloc = rt.alloc();
@@ -212,7 +215,7 @@ fn the_current_half_counts(rt: HostRuntime) -> Result<(), Fail> {
     check_found(&rt, alloc, &changed(image, &[(16, 2), (20, 1)]), 1, 1)?;
     let twice = changed(image, &[(16, 4), (20, 2)]);
     assert!(rt; matches!(found(disk_with(alloc, &twice, &[])?), Err(OpenNo::Alien)));
-    // an older half never stands in for a current one that begins with no header and carry
+    // an older half never is in for a current one that begins with no header and carry
     for damage in [
         [(1409, 6), (0, 0xa5)],
         [(1377, 13), (0, 0xa5)],
@@ -237,7 +240,7 @@ fn a_base_bounds_the_sums(rt: HostRuntime) -> Result<(), Fail> {
     Ok(())
 }
 
-// After 4,294,967,294 records one more is the last, whatever stands after it.
+// After 4,294,967,294 records one more is the last, whatever is after it.
 #[test]
 fn a_journal_ends_with_the_most_records(rt: HostRuntime) -> Result<(), Fail> {
     let alloc = rt.alloc();
@@ -283,8 +286,8 @@ fn a_base_and_a_carry_are_told(rt: HostRuntime) -> Result<(), Fail> {
     Ok(())
 }
 
-// The fronts of both halves and the start of the current one are read, and then each slot once, up to the first shut gate or the end of
-// the half. The first call wrote the disk.
+// The fronts of both halves and the start of the current one are read, and then each slot once, up
+// to the first shut gate or the end of the half. The first call wrote the disk.
 #[test]
 fn each_slot_is_read_once(rt: HostRuntime) -> Result<(), Fail> {
     let alloc = rt.alloc();

@@ -1,5 +1,6 @@
-//! A journal that turns. Within the first turns each disk call fails once, where a write is torn, and the power is cut after
-//! each. And one turns a hundred times, with an epoch and two orders open over each turn: its sums are counted by hand.
+//! A journal that turns. Within the first turns each disk call fails once, where a write is torn,
+//! and the power is cut after each. And one turns a hundred times, with an epoch and two orders
+//! open over each turn: its sums are counted by hand.
 ghost use Rattle.std.specs.Prelude.{◌≡◌, ◌≤◌, ◌<◌, ◌^◌, false, IfOk};
 ghost use Rattle.cct_model.specs.Carried.{IsRightly};
 ghost use Rattle.cct_model.specs.Setup.{IsSoundSetup};
@@ -19,8 +20,8 @@ use std::alloc::{AllocError, Global};
 use std::process::Abort;
 use std::test::Fail;
 
-/// The records that are put, one after the other: an epoch begins, a coin is posted by which the accept counter is 0 again,
-/// and an order is opened and closed.
+/// The records that are put, one after the other: an epoch begins, a coin is posted by which the
+/// accept counter is 0 again, and an order is opened and closed.
 fn record(index: u32) -> Record
     ensures { Encodable result }
 {
@@ -93,8 +94,9 @@ fn carry_of(records: u32) -> Carry {
     carry
 }
 
-/// What is found of a journal each of whose halves takes one record: how many stood before its current half, how many
-/// there are, the carry of the former, and the record of that half, if it has one.
+/// What is found of a journal each of whose halves takes one record: how many stood before its
+/// current half, how many there are, the carry of the former, and the record of that half, if it
+/// has one.
 #[derive(Debug, Drop, PartialEq, Eq)]
 struct Found {
     base: u32,
@@ -134,12 +136,14 @@ fn look_at(alloc: Global, journal: &mut Journal<TornDisk>) -> Result<Found, Fail
     })
 }
 
-/// A blank disk of so many bytes, whose calls with these numbers fail; a write of them is torn by this choice.
+/// A blank disk of so many bytes, whose calls with these numbers fail; a write of them is torn by
+/// this choice.
 fn disk(alloc: Global, len: u64, (fails, torn): (&[u64], u64)) -> Result<TornDisk, AllocError> {
     TornDisk::new(alloc, len, fails.to_vec(alloc)?, torn)
 }
 
-/// A new journal with the first so many records, three at most, each counted, on a disk whose calls fail in this way.
+/// A new journal with the first so many records, three at most, each counted, on a disk whose calls
+/// fail in this way.
 fn filled(
     rt: &impl Abort,
     alloc: Global,
@@ -170,16 +174,17 @@ const HALF: u64 = 1184;
 
 const GATE: u64 = 1152;
 
-/// Puts: how many records were put before, and how many calls of the disk the journal made until then, and makes by the
-/// put and the turn before it, if there is one. Five make the journal.
+/// Puts: how many records were put before, and how many calls of the disk the journal made until
+/// then, and makes by the put and the turn before it, if there is one. Five make the journal.
 const PUTS: [(u32, u64, u64); 4] = [(0, 5, 4), (1, 9, 10), (2, 19, 10), (3, 29, 10)];
 
-/// How the power is cut, and a write is torn. By the last four of these one gate each is open after a cut, if it was written
-/// and isn't synced: that of the second half at place 1184, those of the records at 1152 and 2336, and that of the first
-/// half.
+/// How the power is cut, and a write is torn. By the last four of these one gate each is open after
+/// a cut, if it was written and isn't synced: that of the second half at place 1184, those of the
+/// records at 1152 and 2336, and that of the first half.
 const CHOICES: [u64; 8] = [0, 1, 2, 3, 5, 37, 133, 165];
 
-/// Whether a gate that stood shut is open after a power cut or a torn write of a byte that is open, or isn't.
+/// Whether a gate that stood shut is open after a power cut or a torn write of a byte that is open,
+/// or isn't.
 fn is_open(choice: u64, place: u64, to_be: bool) -> bool {
     match choice {
         0 => false,
@@ -189,8 +194,8 @@ fn is_open(choice: u64, place: u64, to_be: bool) -> bool {
     }
 }
 
-/// Whether a gate that stood shut is open after a power cut, if the write that was to open it was torn by a choice. Without
-/// one it wasn't written.
+/// Whether a gate that stood shut is open after a power cut, if the write that was to open it was
+/// torn by a choice. Without one it wasn't written.
 fn is_torn_open(choice: u64, place: u64, torn: Option<u64>) -> bool {
     match torn {
         Some(torn) => is_open(choice, place, is_open(torn, place, true)),
@@ -198,8 +203,9 @@ fn is_torn_open(choice: u64, place: u64, torn: Option<u64>) -> bool {
     }
 }
 
-/// How many records stood before the current half and how many there are, after a power cut in the put of one record after
-/// so many: the turn and the put have made so many of their calls, and the next one is torn by a choice, if there is one.
+/// How many records stood before the current half and how many there are, after a power cut in the
+/// put of one record after so many: the turn and the put have made so many of their calls, and the
+/// next one is torn by a choice, if there is one.
 fn left(records: u32, made: u64, torn: Option<u64>, choice: u64) -> (u32, u32) {
     let start = HALF * u64::from(records % 2);
     let gate = start + GATE;
@@ -275,8 +281,8 @@ fn stands(
     Ok(())
 }
 
-/// One record is put after so many, the disk fails after so many of the calls of turn and put, by a torn write where that is
-/// one, and the power is cut.
+/// One record is put after so many, the disk fails after so many of the calls of turn and put, by a
+/// torn write where that is one, and the power is cut.
 fn fails(
     rt: &impl Abort,
     alloc: Global,
@@ -313,11 +319,12 @@ fn a_turn_outlasts_each_failure(rt: HostRuntime) -> Result<(), Fail> {
     Ok(())
 }
 
-/// How many disk calls an opening makes where each half takes one record: it looks at both halves, and reads the start and
-/// the slot of the current one.
+/// How many disk calls an opening makes where each half takes one record: it looks at both halves,
+/// and reads the start and the slot of the current one.
 const OPENING: u64 = 4;
 
-/// The disk fails within a turn, and again in the next put, after so many of its calls; each time the power is cut.
+/// The disk fails within a turn, and again in the next put, after so many of its calls; each time
+/// the power is cut.
 fn fails_again(
     rt: &impl Abort,
     alloc: Global,
@@ -349,7 +356,8 @@ fn fails_again(
     stands(rt, alloc, disk, found, what.as_str())
 }
 
-/// Puts that turn: how many records were put before, and how many calls of the disk the journal made until then.
+/// Puts that turn: how many records were put before, and how many calls of the disk the journal
+/// made until then.
 const TURNS: [(u32, u64); 3] = [(1, 9), (2, 19), (3, 29)];
 
 #[test]
@@ -418,7 +426,8 @@ fn left_by(records: u32, calls: u8, choice: u64) -> (u32, u32) {
     left(records, turn + u64::from(calls), None, choice)
 }
 
-/// What was replayed: the carry of so many records, and how many there are with those after them, each at its index.
+/// What was replayed: the carry of so many records, and how many there are with those after them,
+/// each at its index.
 #[derive(Debug, Drop, PartialEq, Eq)]
 struct Replayed {
     base: u32,
@@ -562,7 +571,8 @@ impl<'s> Books<'s> {
         opened.put(rt, &opening(1))
     }
 
-    /// Half a round: one coin is posted and another one lost, and the second order is closed. The first one stays open.
+    /// Half a round: one coin is posted and another one lost, and the second order is closed. The
+    /// first one stays open.
     fn half_round(self, rt: &impl Abort, round: u32) -> Result<Books<'s>, Fail> {
         let posted = self.put(
             rt,
@@ -591,7 +601,8 @@ fn counter_of(round: u32) -> u8 {
     (round % 255) as u8 + 1
 }
 
-/// The accept counter that a round reads, one of the first 255: it was 4 after five coins, and each round has two.
+/// The accept counter that a round reads, one of the first 255: it was 4 after five coins, and each
+/// round has two.
 fn accepts_of(round: u32) -> u32
     ensures { result < 2 ^ 24 }
 {
@@ -650,7 +661,8 @@ fn orders_after(rounds: u32) -> CarryOrders {
     orders
 }
 
-/// How many orders of so many rounds were closed, and how many of them with counts of life that don't fit.
+/// How many orders of so many rounds were closed, and how many of them with counts of life that
+/// don't fit.
 fn orders_closed(rounds: u32) -> (u64, u64)
     ensures closed { result.0 ≤ rounds }
     ensures odd { result.1 ≤ 1 }
@@ -697,7 +709,8 @@ fn totals_after(rounds: u32) -> Totals {
     }
 }
 
-/// What the operator has after 99 rounds and the half of one: 10,500 were posted, and no order of a round is open.
+/// What the operator has after 99 rounds and the half of one: 10,500 were posted, and no order of a
+/// round is open.
 const LAST: Totals = Totals {
     available: 6_350,
     reserved: 190,
@@ -734,7 +747,8 @@ fn a_journal_turns_a_hundred_times(rt: HostRuntime) -> Result<(), Fail> {
     } = books.half_round(&rt, 100)?;
     assert_eq!(rt; ledger.totals(), LAST);
 
-    // Whoever opens it finds its last two records and the carry of 400, and none of those that stood in that half before.
+    // Whoever opens it finds its last two records and the carry of 400, and none of those that
+    // stood in that half before.
     let mut journal = opened(journal.into_disk())?;
     assert_eq!(rt; (journal.base(), journal.used()), (400, 402));
     assert_eq!(rt; *journal.carry(), last_carry());

@@ -1,4 +1,4 @@
-//! What differs between two setups is told, at the first address in rising order.
+//! What differs between two setups is reported, at the first address in rising order.
 
 use crate::setups::setup_of;
 use cct_live_setup_copy::{What, first_difference};

@@ -10,8 +10,8 @@ use cct_model::LineKind;
 use cct_script::SetupNo;
 use std::test::Fail;
 
-/// The devices that are there, under both checks, one at an address that isn't usual. The third coin of the first acceptor
-/// tells no whole number, and a place without a value line has no coin.
+/// The devices that are there, under both checks, one at an address that isn't usual. The third
+/// coin of the first acceptor shows no whole number, and a place without a value line has no coin.
 const THERE: &[u8] = b"\
 acceptor 2 simple 1 5
 value 2 1 5 EU005A
@@ -23,7 +23,8 @@ acceptor 50 crc 9 0
 begin
 ";
 
-/// What is drafted. What devices have counted isn't asked, and a hopper doesn't tell the value of its coins.
+/// What is drafted. What devices have counted isn't asked, and a hopper doesn't tell the value of
+/// its coins.
 const DRAFT: &[u8] = b"\
 acceptor 2 simple 1 0
 value 2 1 5 EU005A
@@ -77,7 +78,7 @@ acceptor 50 crc 9 0
 begin
 ";
 
-/// Devices that tell what their bills and coins are worth (`Telling`).
+/// Devices that say what their bills and coins are worth (`Telling`).
 const RICH: &[u8] = b"\
 hopper 3 simple 1 7 10
 hopper 4 simple 2 7 10
@@ -86,7 +87,8 @@ bills 40 simple 4 0
 begin
 ";
 
-/// What is drafted of them. The third bill place has no bill, and of the fifth the scaling isn't told.
+/// What is drafted of them. The third bill place has no bill, and of the fifth the scaling isn't
+/// reported.
 const RICH_DRAFT: &[u8] = b"\
 hopper 3 simple 1 0 50
 hopper 4 simple 2 0 20

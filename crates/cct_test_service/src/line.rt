@@ -1,4 +1,5 @@
-//! A line with the devices of a setup, some of which fall silent, and what a service writes over it.
+//! A line with the devices of a setup, some of which fall silent, and what a service writes over
+//! it.
 ghost use Rattle.std.specs.Prelude.{◌≡◌, ◌≤◌, [], false, length};
 ghost use Rattle.cct_model.specs.Setup.{IsSoundSetup};
 ghost use Rattle.cct_live_port.specs.Answer.{answered};
@@ -24,8 +25,8 @@ pub(crate) struct Trouble {
     pub(crate) dead: &'static [u8],
     /// after so many exchanges.
     pub(crate) after: u32,
-    /// A coin of place 1 falls into the acceptor at address 2 before each exchange there with a number that this divides; never
-    /// where it is 0.
+    /// A coin of place 1 falls into the acceptor at address 2 before each exchange there with a
+    /// number that this divides; never where it is 0.
     pub(crate) coin_each: u32,
     /// The write of these exchanges fails.
     pub(crate) unsent: &'static [u32],
@@ -115,7 +116,8 @@ impl CountedLink for Troubled<'_> {
     }
 }
 
-/// A program around the service that keeps the last refused line, and knows one order that was closed.
+/// A program around the service that keeps the last refused line, and knows one order that was
+/// closed.
 #[derive(Drop)]
 pub(crate) struct Around {
     /// How many lines were refused.
@@ -145,7 +147,8 @@ impl Beside<MemDisk> for Around {
     }
 }
 
-/// What a service writes for these lines over a new journal, and what is around it then. The devices aren't asked who they are.
+/// What a service writes for these lines over a new journal, and what is around it then. The
+/// devices aren't asked who they are.
 pub(crate) fn written(
     alloc: Global,
     setup: &Setup,
@@ -159,7 +162,7 @@ pub(crate) fn written(
     written_by(alloc, setup, setup, &mut roll, trouble, ends, lines)
 }
 
-/// The same, where these devices are there, and a roll tells what is left to ask.
+/// The same, where these devices are there, and a roll says what is left to ask.
 pub(crate) fn written_by(
     alloc: Global,
     setup: &Setup,

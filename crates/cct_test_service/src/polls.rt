@@ -35,7 +35,8 @@ fn count(text: &[u8], front: &[u8]) -> u32 {
     count
 }
 
-/// How many exchanges with one of two addresses a poll makes at most, where a `balance` stands before each.
+/// How many exchanges with one of two addresses a poll makes at most, where a `balance` is before
+/// each.
 fn most_tries(text: &[u8], one: &[u8], other: &[u8]) -> u32 {
     let mut most: u32 = 0;
     let mut tries: u32 = 0;
@@ -50,8 +51,8 @@ fn most_tries(text: &[u8], one: &[u8], other: &[u8]) -> u32 {
     most
 }
 
-/// Two acceptors fall silent. No poll makes more than one try there, and the third acceptor is read out in each poll but the
-/// second, which begins with the other silent one.
+/// Two acceptors fall silent. No poll makes more than one try there, and the third acceptor is read
+/// out in each poll but the second, which begins with the other silent one.
 #[test]
 fn two_dead_devices_hold_a_poll_once(rt: HostRuntime) -> Result<(), Fail> {
     let alloc = rt.alloc();
@@ -77,7 +78,8 @@ fn two_dead_devices_hold_a_poll_once(rt: HostRuntime) -> Result<(), Fail> {
     Ok(())
 }
 
-/// How many polls, each begun by a `balance`, make no exchange with an address between a `noanswer` there and the next exchange.
+/// How many polls, each begun by a `balance`, make no exchange with an address between a `noanswer`
+/// there and the next exchange.
 fn polls_alone(text: &[u8], ended: &[u8], wire: &[u8]) -> u32 {
     let mut polls: u32 = 0;
     let mut is_alone = false;
@@ -94,7 +96,8 @@ fn polls_alone(text: &[u8], ended: &[u8], wire: &[u8]) -> u32 {
     polls
 }
 
-/// After a job ended for want of an answer its device is left alone for sixteen polls: the seventeenth asks again.
+/// After a job ended for want of an answer its device is left alone for sixteen polls: the
+/// seventeenth asks again.
 #[test]
 fn a_device_is_left_alone_for_sixteen_polls(rt: HostRuntime) -> Result<(), Fail> {
     let alloc = rt.alloc();

@@ -14,7 +14,8 @@ use std::test::Fail;
 const THERE: &[u8] =
     b"acceptor 2 simple 1 0\nhopper 3 simple 197121 0 10\nhopper 5 crc 7 0 10\nhopper 6 crc 8 0 10\nbegin\n";
 
-/// Those of the setup: at 2 the right one, at 3 another serial number, at 4 none, at 5 another kind, and at 6 the right one.
+/// Those of the setup: at 2 the right one, at 3 another serial number, at 4 none, at 5 another
+/// kind, and at 6 the right one.
 const WANTED: &[u8] =
     b"acceptor 2 simple 1 0\nhopper 3 simple 99 0 10\nacceptor 4 simple 1 0\nacceptor 5 crc 7 0\nhopper 6 crc 8 0 10\n";
 

@@ -23,7 +23,7 @@ fn without_wire(alloc: Global, text: &[u8]) -> Result<Vec<u8>, AllocError> {
     Ok(told)
 }
 
-/// A message that wasn't written is told so, and that the line is back.
+/// A message that wasn't written is reported so, and that the line is back.
 #[test]
 fn an_unsent_message_is_told(rt: HostRuntime) -> Result<(), Fail> {
     let alloc = rt.alloc();
@@ -46,7 +46,8 @@ fn an_unsent_message_is_told(rt: HostRuntime) -> Result<(), Fail> {
     Ok(())
 }
 
-/// What is known of orders, and that there is no journal beside the host to read; a line that is refused is told outside too.
+/// What is known of orders, and that there is no journal beside the host to read; a line that is
+/// refused is reported outside too.
 #[test]
 fn orders_and_refused_lines(rt: HostRuntime) -> Result<(), Fail> {
     let alloc = rt.alloc();
@@ -62,8 +63,8 @@ fn orders_and_refused_lines(rt: HostRuntime) -> Result<(), Fail> {
     Ok(())
 }
 
-/// Before a payment and a start are decided, the device there is asked what is left, and another serial number or another coin
-/// withholds them. A command to another device isn't.
+/// Before a payment and a start are decided, the device there is asked what is left, and another
+/// serial number or another coin withholds them. A command to another device isn't.
 #[test]
 fn what_is_found_withholds_a_command(rt: HostRuntime) -> Result<(), Fail> {
     let alloc = rt.alloc();

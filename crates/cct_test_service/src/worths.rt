@@ -1,4 +1,4 @@
-//! A line whose devices tell what their bills and coins are worth.
+//! A line whose devices say what their bills and coins are worth.
 use arrayvec::ArrayVec;
 use cct_bus::Bus;
 use cct_frame::{FrameView, read, write};
@@ -6,8 +6,8 @@ use cct_model::MOST_HEARD;
 use cct_model_lines::{CheckKind, HOST};
 use cct_wire::Link;
 
-/// A bus whose devices, all under the simple check, also answer headers 157, 156, 171 and 131, as far as `of_hoppers` and
-/// `of_bills` say.
+/// A bus whose devices, all under the simple check, also answer headers 157, 156, 171 and 131, as
+/// far as `of_hoppers` and `of_bills` say.
 #[derive(Drop)]
 pub(crate) struct Telling<'s> {
     pub(crate) bus: Bus<'s>,

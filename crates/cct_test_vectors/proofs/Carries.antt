@@ -101,7 +101,7 @@ third_twice =
     refused_carry 4 _ _ (omega arith) refl
     (λ (spells : SpellsCarry 4 _ _). let kinds : 5 ≡ 11 = ap (kind_at 3) spells.spelt in omega (arith, kinds))
 
--- no epoch stands after an order
+-- no epoch is after an order
 epoch_after_order : SpellsNone 4 (first ∷ second ∷ third ∷ order ∷ epoch ∷ [])
 unfolding carry_read order_body
 epoch_after_order =

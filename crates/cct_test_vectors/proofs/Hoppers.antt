@@ -21,7 +21,7 @@ payer = record { addr = 3; kind = Simple; serial = 197121; texts = texts; named 
 -- from power-up on, until it is to pay
 abbrev off_and_idle : List Row
 off_and_idle =
-    -- After power-up it is off: the register tells so, and that it was not read yet.
+    -- After power-up it is off: the register shows so, and that it was not read yet.
     hears "030001a656" "0104030000000000f8"
     ∷ hears "030001a359" "01010300c03b"
     ∷ hears "030001a359" "01010300807b"
@@ -71,7 +71,7 @@ paying =
     ∷ hears "030001a854" "01030300020000f7"
     ∷ fell false
     ∷ hears "030001a359" "0101030000fb"
-    -- A jam ends the payout: the register tells the timeout until the next one.
+    -- A jam ends the payout: the register shows the timeout until the next one.
     ∷ hears "030401a70102030447" "01000300fc"
     ∷ hears "030001a656" "0104030002040000f2"
     ∷ fell true

@@ -1,5 +1,5 @@
 -- Bodies of journals of versions 1 and 2 that spelt no record in them, and those of a carry of version 2 that spelt none.
--- What spelt a record stands in cct_record.
+-- What spelt a record is in cct_record.
 use Rattle.std.proofs.Common.{◌≡◌, ◌≤◌, [], ◌∷◌, replicate, arith, refl}
 use Rattle.cct_model_lines.specs.declared.record.Record.TheVariants.{Epoch, Reading, Broken, Opened, Closed, Odd, Sold}
 use Rattle.cct_record.specs.Body.{Spells, body_of, fields_of}

@@ -1,4 +1,4 @@
--- A command is read back from its fields, whatever stands after them, and none of them has a space. What is said of each
+-- A command is read back from its fields, whatever is after them, and none of them has a space. What is said of each
 -- command is what the table says: its word is its own, and its numbers make it.
 use Rattle.std.proofs.Common.{◌≡◌, ℕ, true, List, ◌++◌, Some, refl, ap, ◌∙◌, append_assoc}
 use Rattle.cct_model_lines.specs.declared.command.Command.{Command}

@@ -97,7 +97,7 @@ all_are : (n : ℕ) → n ≡ 256 → all_addresses ≡ addresses_below n
 unfolding all_addresses
 all_are n e = ap addresses_below (sym e)
 
--- whether an address stands in a list
+-- whether an address is in a list
 stands : ℕ → List ℕ → Bool
 stands addr [] = false
 stands addr (a ∷ addrs) = (a == addr) || stands addr addrs

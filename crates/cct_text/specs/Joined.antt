@@ -20,7 +20,8 @@ abbrev pub found : ℕ → Option (List ℕ) → List ℕ
 found separator None = []
 found separator (Some text) = separator ∷ text
 
--- The separator after a text, where there is one, that is after a separator: a comma, or the same one where there is none.
+-- The separator after a text, where there is one, that is after a separator: a comma, or the same
+-- one where there is none.
 abbrev pub separator_past : ℕ → Option (List ℕ) → ℕ
 separator_past separator None = separator
 separator_past separator (Some text) = 44

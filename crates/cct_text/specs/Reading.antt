@@ -1,5 +1,6 @@
 -- Reading a transcript back: the entry of a line, and the entries of a text.
-use Rattle.std.specs.Prelude.{ℕ, ◌+◌, ◌*◌, ◌==◌, ◌&&◌, Bool, true, false, List, [], ◌∷◌, if◌then◌else◌, map, Option, Some, None, codes}
+use Rattle.std.specs.Prelude.{ℕ, ◌+◌, ◌*◌, ◌==◌, ◌&&◌, Bool, true, false, List, [], ◌∷◌}
+use Rattle.std.specs.Prelude.{if◌then◌else◌, map, Option, Some, None, codes}
 use Rattle.std.specs.List.{filter_map, slice_split}
 use Rattle.std.specs.Result.{result_unwrap_or}
 use Rattle.std.specs.Str.{bytes_eq}
@@ -70,11 +71,12 @@ device_of _ = None
 abbrev pub devices_in : List ℕ → List Device
 devices_in field = filter_map (λ text. device_of (parts_at 47 text)) (parts_at 44 field)
 
--- Whether an address stands in a list with the check.
+-- Whether an address is in a list with the check.
 abbrev pub is_listed : Bool → List Device → ℕ → Bool
 is_listed is_simple [] addr = false
 is_listed is_simple (device ∷ devices) addr =
-    if device.addr == addr && (if is_simple then device.is_simple else (if device.is_simple then false else true)) then true else is_listed is_simple devices addr
+    if device.addr == addr && (if is_simple then device.is_simple else
+    (if device.is_simple then false else true)) then true else is_listed is_simple devices addr
 
 -- The devices listed in a field.
 abbrev pub listed_in : List ℕ → Listed
@@ -100,12 +102,14 @@ of_three make _ = None
 
 -- What is made of four numbers, where there are just four.
 abbrev pub of_four : {A : Type 0} → (ℕ → ℕ → ℕ → ℕ → A) → List (List ℕ) → Option A
-of_four make (a ∷ b ∷ c ∷ d ∷ []) = Some (make (number_in a) (number_in b) (number_in c) (number_in d))
+of_four make (a ∷ b ∷ c ∷ d ∷ []) =
+    Some (make (number_in a) (number_in b) (number_in c) (number_in d))
 of_four make _ = None
 
 -- What is made of five numbers, where there are just five.
 abbrev pub of_five : {A : Type 0} → (ℕ → ℕ → ℕ → ℕ → ℕ → A) → List (List ℕ) → Option A
-of_five make (a ∷ b ∷ c ∷ d ∷ e ∷ []) = Some (make (number_in a) (number_in b) (number_in c) (number_in d) (number_in e))
+of_five make (a ∷ b ∷ c ∷ d ∷ e ∷ []) =
+    Some (make (number_in a) (number_in b) (number_in c) (number_in d) (number_in e))
 of_five make _ = None
 
 -- A value, where no field is left.
@@ -130,19 +134,24 @@ either (Some first) second = Some first
 
 -- The record of its fields: an address, a mask, and an accept counter.
 abbrev pub epoch_of : List (List ℕ) → Option Record
-epoch_of (addr ∷ mask ∷ accepts ∷ []) = Some (record_of.Epoch (number_in addr) (mask_in mask) (number_in accepts))
+epoch_of (addr ∷ mask ∷ accepts ∷ []) =
+    Some (record_of.Epoch (number_in addr) (mask_in mask) (number_in accepts))
 epoch_of _ = None
 
--- The record of its fields: an address, an event counter, how many coins are lost, an accept counter, and coins.
+-- The record of its fields: an address, an event counter, how many coins are lost, an accept
+-- counter, and coins.
 abbrev pub reading_of : List (List ℕ) → Option Record
 reading_of (addr ∷ counter ∷ lost ∷ accepts ∷ coins ∷ []) =
-    Some (record_of.Reading (number_in addr) (number_in counter) (number_in lost) (number_in accepts) (coins_in coins))
+    Some (record_of.Reading (number_in addr) (number_in counter) (number_in lost)
+    (number_in accepts) (coins_in coins))
 reading_of _ = None
 
--- The record of its fields: an address, a mask, an event counter, how many coins are lost, an accept counter, and coins.
+-- The record of its fields: an address, a mask, an event counter, how many coins are lost, an
+-- accept counter, and coins.
 abbrev pub broken_of : List (List ℕ) → Option Record
 broken_of (addr ∷ mask ∷ counter ∷ lost ∷ accepts ∷ coins ∷ []) =
-    Some (record_of.Broken (number_in addr) (mask_in mask) (number_in counter) (number_in lost) (number_in accepts) (coins_in coins))
+    Some (record_of.Broken (number_in addr) (mask_in mask) (number_in counter) (number_in lost)
+    (number_in accepts) (coins_in coins))
 broken_of _ = None
 
 -- The record of a word and the fields after it.
@@ -248,7 +257,8 @@ refused_by None = None
 
 -- The entry of an exchange: an address, what was sent, and what was heard.
 abbrev pub exchange_of : List (List ℕ) → Option Entry
-exchange_of (addr ∷ sent ∷ heard ∷ []) = Some (entry.Wire (number_in addr) (piece_in sent) (piece_in heard))
+exchange_of (addr ∷ sent ∷ heard ∷ []) =
+    Some (entry.Wire (number_in addr) (piece_in sent) (piece_in heard))
 exchange_of _ = None
 
 -- The entry of a refused line: a number and a kind.
@@ -292,18 +302,20 @@ abbrev pub listed_by : List (List ℕ) → Option Entry
 listed_by (devices ∷ []) = Some (entry.Ended 0 (end_of.Listed (listed_in devices)))
 listed_by _ = None
 
--- The entry of a coin that fell out of a hopper: its address; or of what a monitor says of a hopper: its address, two
--- numbers of taps, and how many coins fell.
+-- The entry of a coin that fell out of a hopper: its address; or of what a monitor says of a
+-- hopper: its address, two numbers of taps, and how many coins fell.
 abbrev pub fell_of : List (List ℕ) → Option Entry
 fell_of (addr ∷ []) = Some (entry.Fell (number_in addr))
 fell_of (addr ∷ first ∷ last ∷ count ∷ []) =
-    Some (entry.Said (said_of.Fell (number_in addr) (number_in first) (number_in last) (number_in count)))
+    Some (entry.Said (said_of.Fell (number_in addr) (number_in first) (number_in last)
+    (number_in count)))
 fell_of _ = None
 
 -- The entry of coins that a monitor is sure of: an address, two numbers of taps, and the coins.
 abbrev pub sure_of : List (List ℕ) → Option Entry
 sure_of (addr ∷ first ∷ last ∷ coins ∷ []) =
-    Some (entry.Said (said_of.Sure (number_in addr) (number_in first) (number_in last) (coins_in coins)))
+    Some (entry.Said (said_of.Sure (number_in addr) (number_in first) (number_in last)
+    (coins_in coins)))
 sure_of _ = None
 
 -- The entry of a session of change that began, or of one that didn't, since one runs.
@@ -362,7 +374,8 @@ host_entry word rest =
     else if bytes_eq word (codes "kept") then made entry.Kept (record_in rest)
     else if bytes_eq word (codes "crash") then of_one entry.Crash rest
     else if bytes_eq word (codes "balance") then of_four (λ available reserved paid sold.
-    entry.Balance (record { available = available; reserved = reserved; paid = paid; sold = sold })) rest
+    entry.Balance (record { available = available; reserved = reserved; paid = paid; sold = sold }))
+    rest
     else None
 
 -- The entry of a job's end, by its word.
@@ -387,7 +400,8 @@ end_entry word rest =
     else if bytes_eq word (codes "sold") then of_none (entry.Ended 1 end_of.Sold) rest
     else None
 
--- The entry of a session of change, of a hopper's stock, or of what a monitor says of an acceptor, by its word.
+-- The entry of a session of change, of a hopper's stock, or of what a monitor says of an acceptor,
+-- by its word.
 abbrev pub desk_entry : List ℕ → List (List ℕ) → Option Entry
 desk_entry word rest =
     if bytes_eq word (codes "stock") then of_two entry.Stock rest

@@ -48,14 +48,15 @@ pub record IsListed (listed : Listed) : Type 0 where
   pub crc : length listed.crc.members ≡ 256
   pub once : (addr : ℕ) → has listed.simple addr ≡ true → has listed.crc addr ≡ false
 
--- The end of a job at an address: that of a scan is at address 0 and lists two such sets, and that of a sale is at
--- address 1.
+-- The end of a job at an address: that of a scan is at address 0 and lists two such sets, and that
+-- of a sale is at address 1.
 abbrev pub IsEnd : ℕ → End → Type 0
 IsEnd addr (end_of.Listed listed) = (addr ≡ 0) × IsListed listed
 IsEnd addr end_of.Sold = addr ≡ 1
 IsEnd addr end = ⊤
 
--- An entry is none of a load's sums, and its bytes, masks and sets are in range. Its numbers are any.
+-- An entry is none of a load's sums, and its bytes, masks and sets are in range. Its numbers are
+-- any.
 abbrev pub IsWritten : Entry → Type 0
 IsWritten (entry.Fault f) = IsFault f
 IsWritten (entry.Taken c) = IsCommand c

@@ -40,8 +40,8 @@ pub(crate) fn write_end(line: &mut TextLine, addr: u8, end: &End)
     }
 }
 
-/// Writes the listed devices as the next field, in rising order of address: joined by commas, or a hyphen where there
-/// is none.
+/// Writes the listed devices as the next field, in rising order of address: joined by commas, or a
+/// hyphen where there is none.
 fn write_listed(line: &mut TextLine, listed: &Listed)
     requires { length line.old ≤ 100 }
     ensures { Adds line.old line.new (32 ∷ listed_field listed.now) 2820 }
@@ -55,8 +55,8 @@ fn write_listed(line: &mut TextLine, listed: &Listed)
     }
 }
 
-/// Writes a device after a separator, where it is listed. Gives the separator of the next device: a comma once one is
-/// written.
+/// Writes a device after a separator, where it is listed. Gives the separator of the next device: a
+/// comma once one is written.
 fn write_device(line: &mut TextLine, separator: u8, listed: &Listed, addr: u8) -> u8
     requires { length line.old + 11 ≤ MOST_TEXT }
     ensures adds { Adds line.old line.new (found separator (listed_text listed.now addr)) 11 }

@@ -1,7 +1,10 @@
 //! The line of each entry.
 ghost use Rattle.std.specs.Prelude.{◌≡◌, ℕ, ◌+◌, ◌<◌, ◌≤◌, List, [], ◌∷◌, ◌++◌, length};
-ghost use Rattle.cct_model_lines.specs.declared.entry.Entry.TheVariants.{Accepted, Taken, No, Wire, Balance, Line, JournalLost, Listing};
-ghost use Rattle.cct_model_lines.specs.Text.{record_fields, fields_of, line_of, kind_field, sum_field};
+ghost use Rattle.cct_model_lines.specs.declared.entry.Entry.TheVariants.{Accepted, Taken, No, Wire};
+ghost use Rattle.cct_model_lines.specs.declared.entry.Entry.TheVariants.{Balance, Line};
+ghost use Rattle.cct_model_lines.specs.declared.entry.Entry.TheVariants.{JournalLost, Listing};
+ghost use Rattle.cct_model_lines.specs.Text.{record_fields, fields_of, line_of, kind_field};
+ghost use Rattle.cct_model_lines.specs.Text.{sum_field};
 ghost use Rattle.cct_text.specs.Joined.{each_after};
 ghost use Rattle.cct_text.specs.Adding.{Adds, HasFields};
 

@@ -26,8 +26,8 @@ pub use laws::{
 };
 pub use text::TextLine;
 
-/// Writes the line of an entry by one put. The line buffer is used for it, whatever it holds; afterwards it holds the
-/// line.
+/// Writes the line of an entry by one put. The line buffer is used for it, whatever it holds;
+/// afterwards it holds the line.
 pub fn write_entry<K: Sink>(out: &mut K, line: &mut TextLine, entry: &Entry) -> Result<(), Failed>
     ensures puts { PutsLine K.written K.puts out.old (line_of entry.now) result out.new }
     // Also if the put failed.

@@ -37,7 +37,8 @@ pub(crate) fn write_said(line: &mut TextLine, said: &Said)
     }
 }
 
-/// Writes a word, and the address of a watched device and the numbers of two taps as the fields after it.
+/// Writes a word, and the address of a watched device and the numbers of two taps as the fields
+/// after it.
 fn write_span(line: &mut TextLine, word: &[u8], addr: u8, first: u32, last: u32)
     requires { length line.old + length word.now + 63 ≤ MOST_TEXT }
     ensures { Adds line.old line.new (word.now ++ each_after 32 (number_text addr ∷ number_text first ∷ number_text last ∷ []))

@@ -10,7 +10,8 @@ use cct_model_lines::MOST_TEXT;
 use itoa::write_digits;
 use std::marker::Model;
 
-/// One line of text, `MOST_TEXT` bytes at most, in a buffer that is made once and serves every line.
+/// One line of text, `MOST_TEXT` bytes at most, in a buffer that is made once and serves every
+/// line.
 #[derive(Drop)]
 pub struct TextLine {
     bytes: [u8; MOST_TEXT],

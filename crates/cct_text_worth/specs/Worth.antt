@@ -1,5 +1,6 @@
 -- The value that the identification of a coin tells.
-use Rattle.std.specs.Prelude.{ℕ, ◌+◌, ◌-◌, ◌*◌, ◌==◌, ◌&&◌, nat_le, not, Bool, List, [], ◌∷◌, if◌then◌else◌, Option, Some, None}
+use Rattle.std.specs.Prelude.{ℕ, ◌+◌, ◌-◌, ◌*◌, ◌==◌, ◌&&◌, nat_le, not, Bool, List, [], ◌∷◌}
+use Rattle.std.specs.Prelude.{if◌then◌else◌, Option, Some, None}
 use Rattle.cct_model_lines.specs.Grammar.{◌>>=◌}
 
 -- The number that a digit spells.
@@ -25,7 +26,8 @@ abbrev pub times : ℕ → Option ℕ → Option ℕ
 times factor (Some number) = Some (factor * number)
 times factor None = None
 
--- The number that three figures spell: K (75) is a point before thousands, M (77) one before millions.
+-- The number that three figures spell: K (75) is a point before thousands, M (77) one before
+-- millions.
 abbrev pub figures_told : ℕ → ℕ → ℕ → Option ℕ
 figures_told a b c =
     if a == 75 then times 10 (two_told b c)
@@ -42,7 +44,8 @@ is_capital byte = nat_le 65 byte && nat_le byte 90
 
 -- Two capital letters are those of a country; TK (84, 75) is no country.
 abbrev pub is_country : ℕ → ℕ → Bool
-is_country first second = is_capital first && is_capital second && not ((first == 84) && (second == 75))
+is_country first second =
+    is_capital first && is_capital second && not ((first == 84) && (second == 75))
 
 -- A value in the range of a coin's or a bill's.
 abbrev pub in_range : ℕ → Option ℕ
@@ -64,5 +67,6 @@ bill_figures a b c d = do
 -- The value of a bill under a scaling factor: a country, four digits and an issue.
 abbrev pub bill_value : List ℕ → ℕ → Option ℕ
 bill_value (first ∷ second ∷ a ∷ b ∷ c ∷ d ∷ issue ∷ []) factor =
-    if is_country first second then bill_figures a b c d >>= (λ figures. in_range (factor * figures)) else None
+    if is_country first second then bill_figures a b c d >>=
+    (λ figures. in_range (factor * figures)) else None
 bill_value id factor = None

@@ -1,14 +1,18 @@
-//! The value that the identification of a coin tells (ccTalk Generic Specification 4, part 3, appendix on coins).
+//! The value that the identification of a coin tells (ccTalk Generic Specification 4, part 3,
+//! appendix on coins).
 ghost use Rattle.std.specs.Prelude.{◌≡◌, ◌≤◌, IfSome};
-ghost use Rattle.cct_text_worth.specs.Worth.{bill_figures, bill_value, digit_told, figures_told, in_range, is_country, two_told, value_told};
+ghost use Rattle.cct_text_worth.specs.Worth.{bill_figures, bill_value, digit_told, figures_told};
+ghost use Rattle.cct_text_worth.specs.Worth.{in_range, is_country, two_told, value_told};
 
 /// The greatest value of a coin.
 const MOST_VALUE: u32 = 1_000_000;
 
-/// The value that an identification tells, in the units in which `EU100A` tells 100. It has two capital letters of a
-/// country, three figures, and a letter of the issue. The figures are three digits, or two with a `K` (thousand) or an `M`
-/// (million) at the place of the decimal point: `050` is 50, `1K5` is 1,500, `20K` is 20,000, `M10` is 100,000. None where
-/// the figures are no whole number of units, as `.20`, or not from 1 to 1,000,000; and none of a token, whose country is `TK`.
+/// The value that an identification tells, in the units in which `EU100A` tells 100. It has two
+/// capital letters of a country, three figures, and a letter of the issue. The figures are three
+/// digits, or two with a `K` (thousand) or an `M` (million) at the place of the decimal point:
+/// `050` is 50, `1K5` is 1,500, `20K` is 20,000, `M10` is 100,000. None where the figures are no
+/// whole number of units, as `.20`, or not from 1 to 1,000,000; and none of a token, whose country
+/// is `TK`.
 pub fn value_told(id: [u8; 6]) -> Option<u32>
     ensures { result ≡ value_told id }
 {
@@ -19,9 +23,10 @@ pub fn value_told(id: [u8; 6]) -> Option<u32>
     in_range(figures_told(a, b, c)?)
 }
 
-/// The value of a bill under the scaling factor of its country, in the units in which the coins of that country are told. Its
-/// identification has two capital letters of a country, four digits, and a letter of the issue: `EU0005A` under 100 is 500.
-/// None where the figures are no digits, or the product isn't from 1 to 1,000,000. A factor of 0 is none.
+/// The value of a bill under the scaling factor of its country, in the units in which the coins of
+/// that country are reported. Its identification has two capital letters of a country, four digits,
+/// and a letter of the issue: `EU0005A` under 100 is 500. None where the figures are no digits, or
+/// the product isn't from 1 to 1,000,000. A factor of 0 is none.
 pub fn bill_value(id: [u8; 7], factor: u16) -> Option<u32>
     ensures { result ≡ bill_value id factor }
 {

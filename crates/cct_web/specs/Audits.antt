@@ -9,14 +9,16 @@ use Rattle.cct_bench.specs.Status.{code_of}
 abbrev pub AreLines : List ℕ → List (List ℕ) → Type 0
 AreLines page lines = page ≡ bytes_of lines
 
--- These bytes are those of the first of these lines, and of the others a front: in so much room there is none for the rest.
+-- These bytes are those of the first of these lines, and of the others a front: in so much room
+-- there is none for the rest.
 abbrev pub AreFront : ℕ → List ℕ → List (List ℕ) → List (List ℕ) → Type 0
 AreFront room page whole cut =
-    (front : List ℕ) × (rest : List ℕ) × (page ≡ bytes_of whole ++ front) × (bytes_of cut ≡ front ++ rest)
+    (front : List ℕ) × (rest : List ℕ) × (page ≡ bytes_of whole ++ front)
+    × (bytes_of cut ≡ front ++ rest)
     × (room < length page + length rest)
 
--- An audit of this capture, with so much room, answered this code and wrote these bytes: what an audit by the bench says of it, which is right, since
--- reading it can't fail.
+-- An audit of this capture, with so much room, answered this code and wrote these bytes: what an
+-- audit by the bench says of it, which is right, since reading it can't fail.
 pub record IsAudited (capture : List ℕ) (code room : ℕ) (page : List ℕ) : Type 0 where
   pub status : Status
   pub coded : code ≡ code_of status

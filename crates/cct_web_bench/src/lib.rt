@@ -1,4 +1,5 @@
-//! The bench for a web page, over memory that the page hands over: a script is played over a disk in memory.
+//! The bench for a web page, over memory that the page hands over: a script is played over a disk
+//! in memory.
 #![tactic(auto)]
 
 mod playing;

@@ -8,8 +8,8 @@ use std::alloc::{AllocError, Global};
 /// How many bytes a disk has that a journal is created on.
 const DISK: u64 = 2_097_152;
 
-/// Plays a script over a blank disk in memory, and writes its transcript at the front of `page`. Answers the exit status that the
-/// program would have, and in `wrote` how many bytes were written.
+/// Plays a script over a blank disk in memory, and writes its transcript at the front of `page`.
+/// Answers the exit status that the program would have, and in `wrote` how many bytes were written.
 #[unsafe(no_mangle)]
 pub extern "C" fn cct_play(alloc: Global, script: &[u8], page: &mut [u8], wrote: &mut u64) -> u32 {
     let mut sink = Page::new(page);

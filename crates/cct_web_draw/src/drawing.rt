@@ -10,8 +10,8 @@ const WHOLE: Part = Part {
     to: u64::MAX,
 };
 
-/// Draws lines, and writes what `cct_show svg` would at the front of `page`. Answers its exit status, and in `wrote` how many
-/// bytes were written.
+/// Draws lines, and writes what `cct_show svg` would at the front of `page`. Answers its exit
+/// status, and in `wrote` how many bytes were written.
 #[unsafe(no_mangle)]
 pub extern "C" fn cct_picture(
     alloc: Global,

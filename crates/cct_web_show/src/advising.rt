@@ -9,9 +9,10 @@ use std::fmt::Write;
 /// How many bytes of a text are taken in one call at most.
 const CHUNK: usize = 4096;
 
-/// Explains the last line of a transcript, or of an audit where `is_audit` isn't 0; `text` is the script or capture, or its front to
-/// the end of a line that is refused. What `cct_main` would say on standard error is written at the front of `page`, and in
-/// `wrote` how many bytes these are: none where the line says all itself. Answers 0, or 4 where there is too little room.
+/// Explains the last line of a transcript, or of an audit where `is_audit` isn't 0; `text` is the
+/// script or capture, or its front to the end of a line that is refused. What `cct_main` would say
+/// on standard error is written at the front of `page`, and in `wrote` how many bytes these are:
+/// none where the line says all itself. Answers 0, or 4 where there is too little room.
 #[unsafe(no_mangle)]
 pub extern "C" fn cct_advise<'a>(
     is_audit: u32,
@@ -27,7 +28,7 @@ pub extern "C" fn cct_advise<'a>(
     take_all(&mut source);
     let mut out = Page::new(page);
     if let Some(advice) = advise(last, source.window(), "") {
-        // A fault of the page is told below.
+        // A fault of the page is reported below.
         let _ = write!(Written(&mut out), "{advice}\n");
     }
     *wrote = out.used() as u64;

@@ -10,9 +10,10 @@ use std::fmt::Write;
 /// The exit status of `cct_show` where its words are refused.
 const WORDS_REFUSED: u8 = 2;
 
-/// Makes a log a capture, and writes what `cct_show capture` with these words would at the front of `page`, and what it would say
-/// on standard error at the front of `notes`. Lines that wait are in `held`. Answers its exit status, or 4 where `page`, `notes`
-/// or `held` has too little room; and in `wrote` and `noted` how many bytes were written.
+/// Makes a log a capture, and writes what `cct_show capture` with these words would at the front of
+/// `page`, and what it would say on standard error at the front of `notes`. Lines that wait are in
+/// `held`. Answers its exit status, or 4 where `page`, `notes` or `held` has too little room; and
+/// in `wrote` and `noted` how many bytes were written.
 #[unsafe(no_mangle)]
 pub extern "C" fn cct_capture(
     log: &[u8],
@@ -31,7 +32,7 @@ pub extern "C" fn cct_capture(
             write_capture(watches, held, &mut Given::new(log), &mut out, &mut said).code()
         }
         Err(why) => {
-            // A fault of the page is told below.
+            // A fault of the page is reported below.
             let _ = write!(Written(&mut said), "{why}\n");
             WORDS_REFUSED
         }

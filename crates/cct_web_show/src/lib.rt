@@ -1,5 +1,5 @@
-//! The words, the captures and the advice of the programs for a web page, over memory that the page hands over. It takes no
-//! memory, so the kit builds it for wasm64 too (`web/build`).
+//! The words, the captures and the advice of the programs for a web page, over memory that the page
+//! hands over. It takes no memory, so the kit builds it for wasm64 too (`web/build`).
 #![tactic(auto)]
 
 mod advising;

@@ -9,7 +9,8 @@ use Rattle.cct_wire.specs.declared.hearing.Heard.{Heard}
 use Rattle.cct_wire.specs.declared.hearing.Heard.TheVariants as answer
 use Rattle.cct_wire.specs.Echo.{echo_place}
 
--- The first thing that is wrong with what follows an echo, or none: where no byte follows, there is nothing to be wrong.
+-- The first thing that is wrong with what follows an echo, or none: where no byte follows, there is
+-- nothing to be wrong.
 abbrev pub fault_in_rest : CheckKind → List ℕ → Option FrameFault
 fault_in_rest kind [] = None
 fault_in_rest kind (byte ∷ rest) = fault_in kind (byte ∷ rest)
@@ -29,12 +30,15 @@ message_in (answer.EchoBad at) = None
 message_in answer.Silence = None
 message_in (answer.Broken fault) = None
 
--- What each answer says of the bytes sent and heard: the echo is damaged, first at this place; the echo is whole and
--- no byte follows; what follows is no message, for this reason first; what follows is this message.
+-- What each answer says of the bytes sent and heard: the echo is damaged, first at this place; the
+-- echo is whole and no byte follows; what follows is no message, for this reason first; what
+-- follows is this message.
 abbrev pub Tells : CheckKind → List ℕ → List ℕ → Heard → Type 0
-Tells kind sent heard (answer.EchoBad at) = (after_echo sent heard ≡ None) × (at ≡ echo_place sent heard)
+Tells kind sent heard (answer.EchoBad at) =
+    (after_echo sent heard ≡ None) × (at ≡ echo_place sent heard)
 Tells kind sent heard answer.Silence = after_echo sent heard ≡ Some []
-Tells kind sent heard (answer.Broken fault) = (message_after kind sent heard ≡ None) × (fault_after kind sent heard ≡ Some fault)
+Tells kind sent heard (answer.Broken fault) =
+    (message_after kind sent heard ≡ None) × (fault_after kind sent heard ≡ Some fault)
 Tells kind sent heard (answer.Message view) = message_after kind sent heard ≡ Some (message_of view)
 
 -- The data bytes of a message that was heard lie at this place of memory.

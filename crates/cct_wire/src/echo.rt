@@ -5,7 +5,8 @@ ghost use Rattle.cct_wire.specs.Echo.{echo_place};
 
 use thiserror::Error;
 
-/// The echo of what was sent is damaged: what was heard differs from it at the place `at`, or ends there.
+/// The echo of what was sent is damaged: what was heard differs from it at the place `at`, or ends
+/// there.
 #[derive(Clone, Copy, Debug, Error, PartialEq, Eq)]
 #[error("the echo is damaged at place {at}")]
 pub struct EchoBad {
@@ -13,8 +14,8 @@ pub struct EchoBad {
     pub at: usize,
 }
 
-/// The bytes that follow the echo of what was sent, where they are heard without a check, as the answers to an address
-/// poll are. They stay where they are in `heard`.
+/// The bytes that follow the echo of what was sent, where they are heard without a check, as the
+/// answers to an address poll are. They stay where they are in `heard`.
 #[tactic(auto, using(crate::proofs::Echoes::place_heard, crate::proofs::Echoes::none_is, crate::proofs::Echoes::place_within))]
 pub fn bare_after_echo<'a>(sent: &[u8], heard: &'a [u8]) -> Result<&'a [u8], EchoBad>
     ensures rest { IfOk result (λ rest. after_echo sent.now heard.now ≡ Some rest.now) }

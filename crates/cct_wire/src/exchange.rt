@@ -6,11 +6,12 @@ use cct_model_wire::{MOST_HEARD, MOST_SENT};
 
 /// The wire with whatever is at its other end.
 pub trait Link {
-    /// What an exchange may do: the link before it, the piece sent, the piece heard, the link after it.
+    /// What an exchange may do: the link before it, the piece sent, the piece heard, the link after
+    /// it.
     ghost gives: { Self → List ℕ → List ℕ → Self → Type 0 };
 
-    /// Sends a piece, and puts all that the host then hears, its own echo first, in the place of what `heard` holds.
-    /// An exchange can't fail: where nothing is heard, `heard` is empty.
+    /// Sends a piece, and puts all that the host then hears, its own echo first, in the place of
+    /// what `heard` holds. An exchange can't fail: where nothing is heard, `heard` is empty.
     fn exchange(&mut self, sent: &[u8], heard: &mut ArrayVec<u8, MOST_HEARD>)
         requires { length sent.now ≤ MOST_SENT }
         // A link may do whatever its `gives` allows; what the host promises holds for any.

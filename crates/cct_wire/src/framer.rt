@@ -1,5 +1,7 @@
 //! A message whose bytes come one by one.
-ghost use Rattle.std.specs.Prelude.{◌≡◌, ◌↔◌, ◌+◌, ◌-◌, ◌<◌, ◌≤◌, ℕ, true, List, [], ◌∷◌, ◌++◌, None, Some, IfErr, IfOk, IsSome, OnErr, length, slice_range, take};
+ghost use Rattle.std.specs.Prelude.{◌≡◌, ◌↔◌, ◌+◌, ◌-◌, ◌<◌, ◌≤◌, ℕ, true, List, [], ◌∷◌, ◌++◌};
+ghost use Rattle.std.specs.Prelude.{None, Some, IfErr, IfOk, IsSome, OnErr, length, slice_range};
+ghost use Rattle.std.specs.Prelude.{take};
 ghost use Rattle.cct_model_wire.specs.declared.wire.CheckKind.{CheckKind};
 ghost use Rattle.cct_model_wire.specs.declared.wire.TheConstants.{MOST_SENT};
 ghost use Rattle.cct_model_wire.specs.Message.{message};
@@ -19,9 +21,10 @@ pub enum Fed {
     TooLong,
 }
 
-/// The bytes of a wire since the last gap, as they come: it tells when they are a message, and what that says. It needs
-/// no device, so a host may take its replies from a line by it. Each byte goes into the sum or the CRC when it comes,
-/// and none is looked at again. Its contracts tell it by the bytes that came since the last gap.
+/// The bytes of a wire since the last gap, as they come: it says when they are a message, and what
+/// that says. It needs no device, so a host may take its replies from a line by it. Each byte goes
+/// into the sum or the CRC when it comes, and none is looked at again. Its contracts tell it by the
+/// bytes that came since the last gap.
 #[derive(Clone, Copy, Debug)]
 pub struct Framer {
     kind: CheckKind,
@@ -29,7 +32,8 @@ pub struct Framer {
     buffer: [u8; MOST_SENT],
     /// How many bytes came since the gap, as far as a number goes.
     count: usize,
-    /// What the check made of the bytes in the buffer but the last: whether a byte is the last isn't known when it comes.
+    /// What the check made of the bytes in the buffer but the last: whether a byte is the last
+    /// isn't known when it comes.
     check: u16,
     ghost running: { check ≡ run_over kind (before_last (take count buffer)) },
 }
@@ -51,11 +55,13 @@ impl Framer {
         }
     }
 
-    /// One byte more comes. What stands in the buffer is a message's at most, and a byte after that is only counted.
+    /// One byte more comes. What is in the buffer is a message's at most, and a byte after that is
+    /// only counted.
     #[inline]
     pub fn feed(&mut self, byte: u8) -> Fed
         ensures kind { self.new.kind ≡ self.old.kind }
-        ensures since { (bytes : List ℕ) → Since self.old bytes → Since self.new (bytes ++ byte ∷ []) }
+        ensures since { (bytes : List ℕ) → Since self.old bytes →
+            Since self.new (bytes ++ byte ∷ []) }
         // A byte after those of the longest message is only counted.
         ensures too_long { (bytes : List ℕ) → Since self.old bytes
             → ((result ≡ Fed.TooLong) ↔ (MOST_SENT ≤ length bytes)) }
@@ -80,7 +86,8 @@ impl Framer {
         requires { self.old.count < MOST_SENT }
         ensures kind { self.new.kind ≡ self.old.kind }
         ensures count { self.new.count ≡ self.old.count + 1 }
-        ensures held { take self.new.count self.new.buffer ≡ take self.old.count self.old.buffer ++ byte ∷ [] }
+        ensures held { take self.new.count self.new.buffer ≡ take self.old.count self.old.buffer
+            ++ byte ∷ [] }
     {
         if self.count > 0 {
             let place = self.count - 1;
@@ -94,7 +101,8 @@ impl Framer {
     #[inline]
     fn is_whole(&self) -> bool
         requires { self.now.count ≤ MOST_SENT }
-        ensures { (result ≡ true) ↔ IsSome (message self.now.kind (take self.now.count self.now.buffer)) }
+        ensures { (result ≡ true) ↔ IsSome
+            (message self.now.kind (take self.now.count self.now.buffer)) }
     {
         read_checked(self.kind, &self.buffer[..self.count], self.check).is_ok()
     }
@@ -118,11 +126,12 @@ impl Framer {
         self.count == 0
     }
 
-    /// The message that came since the gap, or what is wrong first. Its data stay where they are in the buffer.
+    /// The message that came since the gap, or what is wrong first. Its data stay where they are in
+    /// the buffer.
     #[tactic(auto, using(cct_frame::proofs::Places::none_many, crate::proofs::Framers::count_many))]
     pub fn view(&self) -> Result<FrameView<'_>, FrameFault>
-        // What `read` gives of all bytes since the gap; if they are more than a message can have, the fault says how
-        // many.
+        // What `read` gives of all bytes since the gap; if they are more than a message can have,
+        // the fault says how many.
         ensures whole { (bytes : List ℕ) → Since self.now bytes
             → IfOk result (λ view. message self.now.kind bytes ≡ Some (message_of view)) }
         ensures body { (bytes : List ℕ) → Since self.now bytes

@@ -12,7 +12,8 @@ use cct_model_wire::CheckKind;
 /// What the host hears in one exchange.
 #[derive(Clone, Copy, Debug, PartialEq, Eq)]
 pub enum Heard<'a> {
-    /// The echo is damaged: what was heard differs from what was sent first at the place `at`, or ends there.
+    /// The echo is damaged: what was heard differs from what was sent first at the place `at`, or
+    /// ends there.
     EchoBad { at: usize },
     /// No byte follows the echo.
     Silence,
@@ -33,7 +34,8 @@ pub fn hear<'a>(kind: CheckKind, sent: &[u8], heard: &'a [u8]) -> Heard<'a>
         ↔ (fault_after kind sent.now heard.now ≡ Some fault) }
     ensures message { message_in result ≡ message_after kind sent.now heard.now }
 
-    ensures in_place { BodyLiesAt (heard.entry.ref_ptr.0, heard.entry.ref_ptr.1 + length sent.now + 4) result }
+    ensures in_place { BodyLiesAt
+        (heard.entry.ref_ptr.0, heard.entry.ref_ptr.1 + length sent.now + 4) result }
 {
     match bare_after_echo(sent, heard) {
         Err(EchoBad { at }) => Heard::EchoBad { at },

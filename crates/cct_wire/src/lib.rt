@@ -1,5 +1,6 @@
-//! The wire between the host and its devices: it is shared, so in each exchange the host hears its own bytes first,
-//! and then what follows. Whoever hears it byte by byte has a framer for a message.
+//! The wire between the host and its devices: it is shared, so in each exchange the host hears its
+//! own bytes first, and then what follows. Whoever hears it byte by byte has a framer for a
+//! message.
 #![tactic(auto)]
 
 mod echo;

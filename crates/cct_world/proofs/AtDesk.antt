@@ -31,7 +31,7 @@ use Rattle.cct_world.specs.Step.{crashes}
 use Rattle.cct_world.proofs.Steps.{Left, one_goes}
 use Rattle.cct_world.proofs.Wires.{SameMet, command_wire, still}
 
--- an entry that is no line, that no device meets, and that tells no fault, no record and no power cut
+-- an entry that is no line, that no device meets, and that shows no fault, no record and no power cut
 pub record IsAside (e : Entry) : Type 0 where
   lines : (past : List Entry) → ((d : DeviceSetup) → lines_of d (e ∷ past) ≡ lines_of d past)
       × (scan_lines (e ∷ past) ≡ scan_lines past) × (sale_lines (e ∷ past) ≡ sale_lines past)

@@ -138,7 +138,7 @@ module _ (capacity : ℕ) (setup : Setup) (steps : List Step) (transcript report
   }
 
 -- One step more after what was played: its entries are its own where the past with them may be relied on, as it may
--- where it tells no power cut.
+-- where it shows no power cut.
 pub early_more : (Relies : List Entry → Type 0) (capacity : ℕ) (setup : Setup) (steps : List Step)
     (transcript report : List Entry) (now : Desk) (s : Step) → ((past : List Entry) → crashes past ≡ 0 → Relies past)
     → crashes (reverse report) ≡ crashes_of s

@@ -1,4 +1,4 @@
--- What is told after an attempt, by whether its exchange was forged.
+-- What is reported after an attempt, by whether its exchange was forged.
 use Rattle.std.proofs.Common.{◌≡◌, ℕ, Bool, true, false, List, [], ◌∷◌, ◌++◌, reverse, refl, sym, ap, ◌∙◌, subst, Option, Some, None}
 use Rattle.std.proofs.lemmas.List.{reverse-reverse}
 use Rattle.std.specs.Prelude.{not, if◌then◌else◌}
@@ -16,11 +16,11 @@ abbrev pub asked_by : ℕ → Attempt → Option ℕ
 asked_by addr (asked sent heard end) = Some addr
 asked_by addr what = None
 
--- the entries of an attempt, newest first, and before them the one that tells that its exchange was forged
+-- the entries of an attempt, newest first, and before them the one that says that its exchange was forged
 abbrev pub all_told : Bool → ℕ → Attempt → List Entry
 all_told was addr what = forged_told was (asked_by addr what) ++ news_of addr what
 
--- a report of an attempt, and what is told after it
+-- a report of an attempt, and what is reported after it
 reported : (was : Bool) (addr : ℕ) (what : Attempt) →
     let report = reverse (news_of addr what) in
     reverse (report ++ forged_told was (asked_at report)) ≡ all_told was addr what
@@ -39,7 +39,7 @@ told_are before report told addr what none is tells =
     let first : report ≡ reverse (news_of addr what) = is ∙ ap (λ es. es ++ reverse (news_of addr what)) none in
     ap reverse (tells.told_is ∙ ap (λ es. es ++ forged_told tells.was (asked_at es)) first) ∙ reported tells.was addr what
 
--- it is told just where the exchange was forged
+-- it is reported just where the exchange was forged
 by_honest : (honest : Bool) (addr : ℕ)
     → forged_told (not honest) (Some addr) ≡ (if honest then [] else entry.Forged addr ∷ [])
 by_honest true addr = refl

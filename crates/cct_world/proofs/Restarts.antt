@@ -45,7 +45,7 @@ records_counted (entry.Put r ∷ news) past = let rest = records_counted news pa
 records_counted (entry.Kept r ∷ news) past = let rest = records_counted news past in omega (arith, rest)
 records_counted (e ∷ news) past = records_counted news past
 
--- a journal counts the records that are told
+-- a journal counts the records that are reported
 pub counts_on : (news past : List Entry) (used many : ℕ) → used ≡ length (records past)
     → many ≡ used + length (records news) → many ≡ length (records (news ++ past))
 counts_on news past used many was is = omega (arith, was, is, records_counted news past)

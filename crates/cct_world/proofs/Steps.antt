@@ -65,7 +65,7 @@ of_choice : {X Y : Type 0} (f : X → Y) (test : Bool) (x y : X) → f (cond tes
 of_choice f true x y = refl
 of_choice f false x y = refl
 
--- by what becomes of it, it is told as it is to be
+-- by what becomes of it, it is reported as it is to be
 entry_is : (d : DeviceSetup) (addr : ℕ) (what : Happening) (past : List Entry) → d.addr ≡ addr
     → entry_told addr what (becomes what d.serial (met d past)) ≡ happening_entry addr d past what
 entry_is d addr (happening.Coin place) past is =
@@ -116,7 +116,7 @@ happening_quiet d addr happening.Fall past = fall_quiet (remaining d.serial (met
 happening_quiet d addr happening.Jam past = jam_quiet (remaining d.serial (met d past) == 0) past d.addr
 happening_quiet d addr happening.Reset past = reset_quiet past addr
 
--- it tells no power cut, puts no record, and tells none as kept
+-- it shows no power cut, puts no record, and shows none as kept
 abbrev IsPlain : List Entry → Type 0
 IsPlain news = (crashes news ≡ 0) × (records news ≡ []) × (kept_in news ≡ [])
 

@@ -9,7 +9,7 @@ use Rattle.cct_model.specs.Legal.{due_at}
 use Rattle.cct_laws.specs.Restart.{due_in}
 use Rattle.cct_world.specs.Step.{crashes, crashes_of}
 
--- What is claimed of a past may be relied on: the disk was trusted, or no power cut is told.
+-- What is claimed of a past may be relied on: the disk was trusted, or no power cut is reported.
 abbrev pub IsReliable : Type 0 → List Entry → Type 0
 IsReliable trusted past = trusted ⊎ (crashes past ≡ 0)
 
@@ -29,8 +29,8 @@ due_to setup past (step.Next addr) = due_at setup past addr
 due_to setup past (step.Crash at choice) = due_in setup past at
 due_to setup past s = None
 
--- The disk may fail in a step: in a power cut, and in a `next`, whose job was about to put a record where the past
--- may be relied on.
+-- The disk may fail in a step: in a power cut, and in a `next`, whose job was about to put a record
+-- where the past may be relied on.
 abbrev pub MayFail : Type 0 → Setup → List Entry → Step → Type 0
 MayFail sure setup past (step.Next addr) = sure → (r : Record) × (due_at setup past addr ≡ Some r)
 MayFail sure setup past (step.Crash at choice) = ⊤

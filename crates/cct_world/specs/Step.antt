@@ -32,7 +32,8 @@ abbrev pub is_next : Step → Bool
 is_next (step.Next addr) = true
 is_next s = false
 
--- The step is one of the operator's desk: it is told what is in a hopper, change is wanted, or a session goes on.
+-- The step is one of the operator's desk: it is reported what is in a hopper, change is wanted, or
+-- a session goes on.
 abbrev pub is_of_desk : Step → Bool
 is_of_desk (step.Stock addr count) = true
 is_of_desk (step.Change first amount) = true
@@ -53,7 +54,7 @@ abbrev pub crashes_told : Entry → ℕ
 crashes_told (entry.Crash used) = 1
 crashes_told e = 0
 
--- How often entries tell that the host lost its power.
+-- How often entries say that the host lost its power.
 abbrev pub crashes : List Entry → ℕ
 crashes [] = 0
 crashes (e ∷ past) = crashes_told e + crashes past
@@ -63,22 +64,25 @@ abbrev pub crashes_of : Step → ℕ
 crashes_of (step.Crash at choice) = 1
 crashes_of s = 0
 
--- A count after so many more: each raises it by one, until it stands at its last value.
+-- A count after so many more: each raises it by one, until it is at its last value.
 abbrev pub count_after : ℕ → ℕ → ℕ
 count_after zero count = count
 count_after (suc many) count = next_count (count_after many count)
 
--- A count rose by so many at least, or stands at its last value.
+-- A count rose by so many at least, or is at its last value.
 abbrev pub RoseBy : ℕ → ℕ → ℕ → Type 0
 RoseBy many before now = count_after many before ≤ now
 
 -- A disk goes on in a step as it was; in a power cut its power may be cut, and in no other step.
-abbrev pub LastsIn : {D : Type 0} → Step → (D → ℕ) → (D → Bool) → (D → Option (List ℕ)) → (D → ℕ) → D → D → Type 0
-LastsIn (step.Crash at choice) size honest seen cuts old new = Outlasts size honest seen cuts old new
+abbrev pub LastsIn : {D : Type 0} → Step → (D → ℕ) → (D → Bool) → (D → Option (List ℕ)) → (D → ℕ) →
+    D → D → Type 0
+LastsIn (step.Crash at choice) size honest seen cuts old new =
+    Outlasts size honest seen cuts old new
 LastsIn s size honest seen cuts old new = GoesOn size honest seen cuts old new
 
 -- The power of a disk is cut just once in a power cut, by its choice, and in no other step.
-abbrev pub CutsIn : {D : Type 0} → Step → (D → ℕ) → (D → Bool) → (D → Option (List ℕ)) → (D → ℕ) → (D → ℕ → D → Type 0) → D → D
+abbrev pub CutsIn : {D : Type 0} → Step → (D → ℕ) → (D → Bool) → (D → Option (List ℕ)) → (D → ℕ) →
+    (D → ℕ → D → Type 0) → D → D
     → Type 0
 CutsIn (step.Crash at choice) size honest seen cuts cut_to old new =
     CutOnce size honest seen cuts cut_to choice old new

@@ -42,13 +42,13 @@ module _ {D : Type 0} {g : Ghosts D} where
   abbrev pub StepUnplayed : World D g → D → CrashNo → Step → List Entry → Type 0
   StepUnplayed old left why s report = machines.StepUnplayed old.machine.value left why s report
 
-  -- A step gives these entries, oldest first, whatever is after it, where a record that it puts suits those before it;
-  -- and the world goes on by them. A power cut does so on a trusted disk.
+  -- A step gives these entries, oldest first, whatever is after it, where a record that it puts
+  -- suits those before it; and the world goes on by them. A power cut does so on a trusted disk.
   abbrev pub Plays : World D g → World D g → Step → List Entry → Type 0
   Plays old new s report = machines.Plays old.machine.value new.machine.value s report
 
-  -- What the disk has after a step that was played, where that is a power cut, and what is told of it, newest entry
-  -- first. Any other step tells no record as kept.
+  -- What the disk has after a step that was played, where that is a power cut, and what is told of
+  -- it, newest entry first. Any other step shows no record as kept.
   abbrev pub RestartsBy : World D g → World D g → Step → List Entry → Type 0
   RestartsBy old new s news = machines.RestartsBy old.machine.value new.machine.value s news
 

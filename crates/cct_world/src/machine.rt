@@ -1,5 +1,6 @@
 //! The machine of a world: the host, the bus with its devices, and the operator's desk.
-ghost use Rattle.std.specs.Prelude.{◌∷◌, ◌++◌, ◌≡◌, ◌<◌, [], IfErr, IsTrue, List, OnOk, Some, false, length, reverse, true};
+ghost use Rattle.std.specs.Prelude.{◌∷◌, ◌++◌, ◌≡◌, ◌<◌, [], IfErr, IsTrue, List, OnOk, Some};
+ghost use Rattle.std.specs.Prelude.{false, length, reverse, true};
 ghost use Rattle.cct_model.specs.lines.command.Step.TheVariants as step;
 ghost use Rattle.cct_model.specs.Exchange.{device_at, known_there};
 ghost use Rattle.cct_model.specs.Family.{IsPlaced};
@@ -26,7 +27,8 @@ use cct_host::{Crashed, Host};
 use cct_host_change::{Desk, Serving, Shortfall};
 use cct_model::{Command, CommandNo, CrashAt, Entry, Happening, Payment, Step, Totals, WireFault};
 
-/// The host, the bus and the desk of a world. They stand in a box, so that a world that is moved costs a pointer.
+/// The host, the bus and the desk of a world. They stand in a box, so that a world that is moved
+/// costs a pointer.
 #[derive(Drop)]
 pub(crate) struct Machine<'s, D: Disk> {
     pub host: Host<'s, D>,
@@ -36,7 +38,9 @@ pub(crate) struct Machine<'s, D: Disk> {
 }
 
 impl<D: Disk> Machine<'_, D> {
-    ghost use Rattle.cct_world.specs.Machine.{PlayedTo, Pays, PlaysUndisturbed, StandsFor, StepPlayed, StepUnplayed, desk_of, disk_of, has_failed, setup_of};
+    ghost use Rattle.cct_world.specs.Machine.{PlayedTo, Pays, PlaysUndisturbed, StandsFor};
+    ghost use Rattle.cct_world.specs.Machine.{StepPlayed, StepUnplayed, desk_of, disk_of};
+    ghost use Rattle.cct_world.specs.Machine.{has_failed, setup_of};
 
     pub fn knows(&self, step: &Step) -> bool
         ensures { result ≡ is_known (setup_of self.now) step.now }
@@ -98,7 +102,8 @@ impl<D: Disk> Machine<'_, D> {
         requires whole { has_failed self.old ≡ false }
         requires report { report.old.items ≡ [] }
         ensures setup { setup_of self.new ≡ setup_of self.old }
-        ensures played { OnOk result (PlayedTo self.old self.new step.now report.new.items (desk_of self.old)) }
+        ensures played { OnOk result (PlayedTo self.old self.new step.now report.new.items
+            (desk_of self.old)) }
         ensures unplayed { IfErr result (λ why.
             StepUnplayed self.old (disk_of self.new) why step.now report.new.items) }
     {
@@ -112,7 +117,8 @@ impl<D: Disk> Machine<'_, D> {
         }
     }
 
-    /// Plays a step that makes no call of the disk, and is none of the desk's: any other but a `next` and a power cut.
+    /// Plays a step that makes no call of the disk, and is none of the desk's: any other but a
+    /// `next` and a power cut.
     fn undisturbed_step(&mut self, step: &Step, report: &mut ArrayVec<Entry, 8>)
         requires known { IsTrue (is_known (setup_of self.old) step.now) }
         requires in_range { IsInRange step.now }
@@ -146,8 +152,8 @@ impl<D: Disk> Machine<'_, D> {
         }
     }
 
-    /// The power is cut, in a put of the job at an address or in none, and the host starts again over what its disk then
-    /// keeps.
+    /// The power is cut, in a put of the job at an address or in none, and the host starts again
+    /// over what its disk then keeps.
     fn crash(
         &mut self,
         at: Option<CrashAt>,
@@ -177,7 +183,8 @@ impl<D: Disk> Machine<'_, D> {
         requires known { IsTrue (known_there what (device_at (setup_of self.old).devices addr)) }
         requires placed { IsPlaced what }
         requires report { report.old.items ≡ [] }
-        ensures { PlaysUndisturbed self.old self.new (step_of addr what) report.new.items (desk_of self.old) }
+        ensures { PlaysUndisturbed self.old self.new (step_of addr what) report.new.items
+            (desk_of self.old) }
     {
         let outcome = self.bus.befall(addr, what);
         tell(addr, what, outcome, report);
@@ -187,7 +194,8 @@ impl<D: Disk> Machine<'_, D> {
     fn fault(&mut self, fault: &WireFault, report: &mut ArrayVec<Entry, 8>)
         requires in_range { IsFault fault.now }
         requires report { report.old.items ≡ [] }
-        ensures { PlaysUndisturbed self.old self.new (step.Fault fault.now) report.new.items (desk_of self.old) }
+        ensures { PlaysUndisturbed self.old self.new (step.Fault fault.now) report.new.items
+            (desk_of self.old) }
     {
         self.bus.set_fault(fault.copied());
         report.push(Entry::Fault(fault.copied()));
@@ -205,10 +213,11 @@ impl<D: Disk> Machine<'_, D> {
         }
     }
 
-    /// The operator is told what is available, reserved, paid and sold.
+    /// The operator is reported what is available, reserved, paid and sold.
     fn balance(&self, report: &mut ArrayVec<Entry, 8>)
         requires report { report.old.items ≡ [] }
-        ensures { PlaysUndisturbed self.now self.now step.Balance report.new.items (desk_of self.now) }
+        ensures { PlaysUndisturbed self.now self.now step.Balance report.new.items
+            (desk_of self.now) }
     {
         report.push(Entry::Balance(self.host.totals()));
     }
@@ -250,7 +259,8 @@ impl<D: Disk> Machine<'_, D> {
         }
     }
 
-    /// The host is given a payment of the session at the desk. Where it refuses it, the session ends short.
+    /// The host is given a payment of the session at the desk. Where it refuses it, the session
+    /// ends short.
     fn pay(&mut self, payment: Payment, report: &mut ArrayVec<Entry, 8>)
         requires own { option_map (λ s. s.next) (desk_of self.old).session ≡ Some payment.id }
         requires report { report.old.items ≡ [] }
@@ -274,12 +284,14 @@ impl<D: Disk> Machine<'_, D> {
         }
     }
 
-    /// The host's job at an address makes one attempt of one row on the bus. After an exchange that was forged, that is told.
+    /// The host's job at an address makes one attempt of one row on the bus. After an exchange that
+    /// was forged, that is reported.
     fn next(&mut self, addr: u8, report: &mut ArrayVec<Entry, 8>) -> Result<(), WorldNo>
         requires whole { has_failed self.old ≡ false }
         requires report { report.old.items ≡ [] }
         ensures setup { setup_of self.new ≡ setup_of self.old }
-        ensures played { OnOk result (PlayedTo self.old self.new (step.Next addr) report.new.items (desk_of self.old)) }
+        ensures played { OnOk result (PlayedTo self.old self.new (step.Next addr) report.new.items
+            (desk_of self.old)) }
         ensures unplayed { IfErr result (λ why.
             StepUnplayed self.old (disk_of self.new) why (step.Next addr) report.new.items) }
     {
@@ -294,7 +306,8 @@ impl<D: Disk> Machine<'_, D> {
 
     /// What is available, reserved, paid and sold, in units of value.
     pub fn totals(&self) -> Totals
-        ensures { (past : List Entry) → StandsFor self.now past → result ≡ totals (setup_of self.now) past }
+        ensures { (past : List Entry) → StandsFor self.now past → result
+            ≡ totals (setup_of self.now) past }
     {
         self.host.totals()
     }
@@ -312,7 +325,8 @@ impl<D: Disk> Machine<'_, D> {
     }
 }
 
-/// Tells that the exchange which entries begin with was forged, where that is so: the bus tells it of its last exchange.
+/// Says that the exchange which entries begin with was forged, where that is so: the bus tells it
+/// of its last exchange.
 fn tell_forged(bus: &Bus<'_>, report: &mut ArrayVec<Entry, 8>)
     requires room { length report.old.items < 8 }
     ensures { TellsForged bus.now report.old.items report.new.items }
@@ -322,8 +336,8 @@ fn tell_forged(bus: &Bus<'_>, report: &mut ArrayVec<Entry, 8>)
     }
 }
 
-/// Tells of the exchange which entries begin with that it was forged. Without one nothing is told. An entry is wide: in a
-/// function of its own it is made where it is told.
+/// Tells of the exchange which entries begin with that it was forged. Without one nothing is
+/// reported. An entry is wide: in a function of its own it is made where it is reported.
 #[inline(never)]
 fn add_forged(report: &mut ArrayVec<Entry, 8>)
     requires room { length report.old.items < 8 }
@@ -345,7 +359,7 @@ fn asked_at(report: &[Entry]) -> Option<u8>
     }
 }
 
-/// Tells what a power cut left.
+/// Says what a power cut left.
 fn tell_crash(crashed: Crashed, report: &mut ArrayVec<Entry, 8>)
     requires { report.old.items ≡ [] }
     ensures { reverse report.new.items ≡ restart_news crashed }
@@ -357,7 +371,8 @@ fn tell_crash(crashed: Crashed, report: &mut ArrayVec<Entry, 8>)
     }
 }
 
-/// Tells that a command was taken. An entry is wide: in a function of its own it is made where it is told.
+/// Says that a command was taken. An entry is wide: in a function of its own it is made where it is
+/// reported.
 #[inline(never)]
 #[tactic(auto, using(crate::proofs::Steps::one_entry))]
 fn tell_taken(command: &Command, report: &mut ArrayVec<Entry, 8>)
@@ -367,7 +382,7 @@ fn tell_taken(command: &Command, report: &mut ArrayVec<Entry, 8>)
     report.push(Entry::Taken(*command));
 }
 
-/// Tells that a command was refused, and why.
+/// Says that a command was refused, and why.
 #[inline(never)]
 #[tactic(auto, using(crate::proofs::Steps::one_entry))]
 fn tell_refused(command: &Command, why: CommandNo, report: &mut ArrayVec<Entry, 8>)
@@ -380,7 +395,7 @@ fn tell_refused(command: &Command, why: CommandNo, report: &mut ArrayVec<Entry, 
     });
 }
 
-/// Tells that the operator counted the coins in a hopper.
+/// Says that the operator counted the coins in a hopper.
 #[inline(never)]
 #[tactic(auto, using(crate::proofs::Steps::one_entry))]
 fn tell_stock(addr: u8, count: u32, report: &mut ArrayVec<Entry, 8>)
@@ -390,7 +405,7 @@ fn tell_stock(addr: u8, count: u32, report: &mut ArrayVec<Entry, 8>)
     report.push(Entry::Stock { addr, count });
 }
 
-/// Tells whether a session of change began.
+/// Says whether a session of change began.
 #[inline(never)]
 #[tactic(auto, using(crate::proofs::Steps::one_entry))]
 fn tell_change(first: u32, amount: u32, began: bool, report: &mut ArrayVec<Entry, 8>)
@@ -404,7 +419,7 @@ fn tell_change(first: u32, amount: u32, began: bool, report: &mut ArrayVec<Entry
     }
 }
 
-/// Tells what a `serve` came to, where no payment is given to the host.
+/// Says what a `serve` came to, where no payment is given to the host.
 #[inline(never)]
 #[tactic(auto, using(crate::proofs::Steps::one_entry))]
 fn tell_serving(serving: Serving, report: &mut ArrayVec<Entry, 8>)
@@ -425,7 +440,8 @@ fn tell_serving(serving: Serving, report: &mut ArrayVec<Entry, 8>)
 #[inline(never)]
 fn add_short(shortfall: Shortfall, report: &mut ArrayVec<Entry, 8>)
     requires { length report.old.items < 8 }
-    ensures { report.new.items ≡ report.old.items ++ entry.Short shortfall.paid shortfall.rest ∷ [] }
+    ensures { report.new.items ≡ report.old.items ++ entry.Short shortfall.paid shortfall.rest
+        ∷ [] }
 {
     report.push(Entry::Short {
         paid: shortfall.paid,
@@ -433,7 +449,8 @@ fn add_short(shortfall: Shortfall, report: &mut ArrayVec<Entry, 8>)
     });
 }
 
-/// Tells what happened to the device at an address, by what became of it. An entry is wide, so it is made where it is told.
+/// Says what happened to the device at an address, by what became of it. An entry is wide, so it is
+/// made where it is reported.
 #[tactic(auto, using(crate::proofs::Steps::one_entry))]
 fn tell(addr: u8, what: Happening, outcome: Outcome, report: &mut ArrayVec<Entry, 8>)
     requires { report.old.items ≡ [] }

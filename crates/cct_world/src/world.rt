@@ -23,8 +23,9 @@ use cct_journal::Journal;
 use cct_model::{Entry, Setup, Step, Totals};
 use std::alloc::{AllocError, AllocFailed, Global};
 
-/// The machine that a script plays on: the devices on their wire, the host over its journal, and the operator's desk. Its
-/// contracts tell it by the transcript of all that happened on it, newest entry first, and by what is known at the desk.
+/// The machine that a script plays on: the devices on their wire, the host over its journal, and
+/// the operator's desk. Its contracts tell it by the transcript of all that happened on it, newest
+/// entry first, and by what is known at the desk.
 #[derive(Drop)]
 pub struct World<'s, D: Disk> {
     machine: Box<Machine<'s, D>>,
@@ -32,10 +33,11 @@ pub struct World<'s, D: Disk> {
 }
 
 impl<'s, D: Disk> World<'s, D> {
-    ghost use Rattle.cct_world.specs.World.{StandsFor, StepPlayed, StepUnplayed, desk_of, disk_of, setup_of};
+    ghost use Rattle.cct_world.specs.World.{StandsFor, StepPlayed, StepUnplayed, desk_of, disk_of};
+    ghost use Rattle.cct_world.specs.World.{setup_of};
 
-    /// A machine with the devices of a setup, on which nothing has happened, over a journal without records. This takes
-    /// all memory that the machine ever has.
+    /// A machine with the devices of a setup, on which nothing has happened, over a journal without
+    /// records. This takes all memory that the machine ever has.
     ///
     /// Fails only where there is no memory for it, and gives the disk back.
     pub fn build(
@@ -81,10 +83,11 @@ impl<'s, D: Disk> World<'s, D> {
 
     /// Plays one step; the report is replaced by the entries of the step.
     ///
-    /// Fails only if a call of the disk failed, in a `next` whose job had a record to put or in a power cut, or if a power
-    /// cut left another journal than was there. Then the report is empty, the world is gone, and the disk is given back:
-    /// whether the record stands there is open.
-    // Inlined: its frame has room for several wide entries, and to lay it out at each step costs more than a step needs.
+    /// Fails only if a call of the disk failed, in a `next` whose job had a record to put or in a
+    /// power cut, or if a power cut left another journal than was there. Then the report is empty,
+    /// the world is gone, and the disk is given back: whether the record is there is open.
+    // Inlined: its frame has room for several wide entries, and to lay it out at each step costs
+    // more than a step needs.
     #[inline(always)]
     pub fn step(
         self,
@@ -94,8 +97,10 @@ impl<'s, D: Disk> World<'s, D> {
         requires known { IsTrue (is_known (setup_of self) step.now) }
         requires in_range { IsInRange step.now }
         requires played { IsTrue (is_played step.now) }
-        ensures played { IfOk result (λ world. StepPlayed self.entry world step.now report.new.items) }
-        ensures unplayed { IfErr result (λ e. StepUnplayed self.entry e.0 e.1 step.now report.new.items) }
+        ensures played { IfOk result (λ world. StepPlayed self.entry world step.now
+            report.new.items) }
+        ensures unplayed { IfErr result (λ e. StepUnplayed self.entry e.0 e.1 step.now
+            report.new.items) }
     {
         let World { mut machine } = self;
         match machine.step(step, report) {
@@ -106,7 +111,8 @@ impl<'s, D: Disk> World<'s, D> {
 
     /// What is available, reserved, paid and sold, in units of value.
     pub fn totals(&self) -> Totals
-        ensures { (past : List Entry) → StandsFor self.now past → result ≡ totals (setup_of self.now) past }
+        ensures { (past : List Entry) → StandsFor self.now past → result
+            ≡ totals (setup_of self.now) past }
     {
         self.machine.totals()
     }

@@ -122,7 +122,7 @@ abbrev pub HeldIn : World → ReadSoFar → EpochState → Notes → Type 0
 HeldIn w b Idle notes = ⊥
 HeldIn w b (Running mask c accepts) notes = Held w b mask c notes
 
--- and it looked at the mask: if that was the epoch's, the event counter tells what came; else the acceptor is silent, and
+-- and it looked at the mask: if that was the epoch's, the event counter says what came; else the acceptor is silent, and
 -- no coin came since
 pub record Sees (w : World) (b : ReadSoFar) (mask c : ℕ) (notes : Notes) : Type 0 where
   pub credits : Credits

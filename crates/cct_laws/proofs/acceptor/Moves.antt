@@ -429,7 +429,7 @@ by_fate d past lines c since q asked got again mild is_job keeps replied silence
     keeps_failed d past (heard (Some q) ∷ past) lines c since q again is_job (on_heard d past lines q mild) keeps
 by_fate d past lines c since q asked got again mild is_job keeps replied (answered y gives) = replied y gives
 
--- a job stands at these rows
+-- a job is at these rows
 pub record AtRows (d : DeviceSetup) (past : List Met) (lines : List Line) (c : Command) (since : List Line)
     (rows : List TableRow) : Type 0 where
   pub is_job : job lines ≡ works c since
@@ -477,7 +477,7 @@ next_at d past lines c since r rows q y at ends mild fits =
     (judged_in c (line ∷ since) (epoch lines)))
     (sym (ended_leaves (rows_of d c) (Some q) (Some y) since r rows at.rest_is ends)) fits_now)
 
--- a row tells its request or its record
+-- a row shows its request or its record
 pub request_is : (q r : Request) → sends q ≡ sends r → q ≡ r
 request_is q r row = cc
 

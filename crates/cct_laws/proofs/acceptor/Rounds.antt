@@ -117,7 +117,7 @@ looks d past lines c since behind rows asked got taking at other next held still
 
 -- the accept counter is read
 
--- it tells all coins that were accepted
+-- it shows all coins that were accepted
 count_is : (d : DeviceSetup) (past : List Met) (lines : List Line) → Sound d past lines →
     counted (start_of d.body) (accepted_of d.body past) ≡ count_at (world d past lines)
 count_is d past lines sound = ap (λ coins. count_from (start_of d.body) coins) sound.told.0

@@ -28,7 +28,7 @@ use Rattle.cct_laws.proofs.steps.EitherKind.{for_taker}
 use Rattle.cct_laws.proofs.steps.EachKeeps.{IsRanged}
 use Rattle.cct_laws.proofs.acceptor.Masks.{MaskedIn, Masks, masks_kept, masks_silent, masks_break}
 
--- a credit buffer tells no coin where the events tell none
+-- a credit buffer shows no coin where the events tell none
 front_nil : (xs ys : List Coin) → xs ++ ys ≡ [] → xs ≡ []
 front_nil [] ys none = refl
 front_nil (coin ∷ xs) ys none = absurd cc

@@ -53,7 +53,7 @@ over_put d past lines addr rows end r ends other row shut none sound =
     (subst (λ found. Keeps d past (with_ended found (put (record_of.EpochEnd addr) ∷ lines))) (sym ends)
     (keeps_ended d past _ end other (sound_over d past lines addr shut none sound)))
 
--- only the epoch's end stands after a row that puts what was judged
+-- only the epoch's end is after a row that puts what was judged
 abbrev pub IsOverNext : List TableRow → Type 0
 IsOverNext [] = ⊤
 IsOverNext (puts_due epoch_end (ends_as end) ∷ rows) = IsOtherEnd end

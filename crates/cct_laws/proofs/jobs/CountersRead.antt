@@ -1,4 +1,4 @@
--- The accept counters that a job read tell how many coins had come, as the lines of its device do. So where a reading has
+-- The accept counters that a job read say how many coins had come, as the lines of its device do. So where a reading has
 -- to be made again, a coin came between the two.
 use Rattle.std.proofs.Common.{◌≡◌, ◌≢◌, ℕ, ◌<◌, ◌≤◌, ◌==◌, ◌&&◌, not, Bool, true, false, cond, List, [], ◌∷◌, ◌++◌, length, refl, ap, sym, ◌∙◌, subst, Option, Some, None, arith, rules, eq-eqb}
 use Rattle.std.specs.Prelude.{⊤}

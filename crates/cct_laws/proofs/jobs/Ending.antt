@@ -162,7 +162,7 @@ answer_brings d past c since q y nexts suited (inr waits) replied found enough =
     state_brings d past q y (is_marked since) (ends_first (rest d c since) (Some y)) (row_count d c)
     (done (rows_of d c) since) nexts (paying_of d.body c suited pays) waits.1 replied (found pays) (waits.2 y) enough
 
--- an exchange of a job, what it got being told
+-- an exchange of a job, what it got being reported
 exchanged : (setup : Setup) (d : DeviceSetup) (c : Command) (nexts : ℕ) (past : List Entry) (since : List Line)
     (q : Request) (found : Option Reply) → job (lines_of d past) ≡ works c since →
     asked d.kind (ask d.kind d.addr q) ≡ Some q →

@@ -1,4 +1,4 @@
--- What a legal step tells: what it brought, and after an exchange that was forged the entry that tells so. And how a fact
+-- What a legal step tells: what it brought, and after an exchange that was forged the entry that shows so. And how a fact
 -- that each step keeps goes along all of them.
 use Rattle.std.proofs.Common.{◌≡◌, ◌⊎◌, inl, inr, ℕ, Bool, true, false, cond, List, [], ◌∷◌, ◌++◌, refl, ap, sym, subst, Option, Some, None, All}
 use Rattle.std.specs.Prelude.{⊤}

@@ -113,7 +113,7 @@ came_away e past addr s x m ls other is =
     ap (λ front. front ++ lines_of e past)
     (is.own_is e past ∙ ap (λ b. cond b ls []) (ne_eqb addr e.addr other))
 
--- what stands at another address
+-- what is at another address
 line_away : (addr there : ℕ) (l : Line) (lines : List Line) → addr ≢ there →
     cond (addr == there) (l ∷ []) [] ++ lines ≡ lines
 line_away addr there l lines other = ap (λ b. cond b (l ∷ []) [] ++ lines) (ne_eqb addr there other)

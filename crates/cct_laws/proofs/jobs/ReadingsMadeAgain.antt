@@ -253,7 +253,7 @@ counts_end d c past e (Some end) moved ends at =
 abbrev dosed_lines : DeviceSetup → List Entry → Request → List Line
 dosed_lines d past q = doses_of d past (ask d.kind d.addr q) ++ lines_of d past
 
--- an exchange, what it got being told
+-- an exchange, what it got being reported
 exchanged : (setup : Setup) (d : DeviceSetup) (c : Command) (past : List Entry) (q : Request) (found : Option Reply)
     (at : CountsAt d c past) → asked d.kind (ask d.kind d.addr q) ≡ Some q →
     got_by d (ask d.kind d.addr q) (heard_after setup past (ask d.kind d.addr q)) ≡ found →

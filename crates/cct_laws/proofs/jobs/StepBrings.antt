@@ -701,7 +701,7 @@ restart_brought capacity setup past news None choice told =
     subst (Brought capacity setup past (step.Crash None choice)) (sym told) (lost_power None choice)
 restart_brought capacity setup past news (Some at) choice told = put_lost capacity setup past news at choice _ refl told
 
--- the entries of a step without the one that tells that its exchange was forged: only a `next` has one
+-- the entries of a step without the one that says that its exchange was forged: only a `next` has one
 abbrev pub told_of : Step → List Entry → List Entry
 told_of (step.Next addr) news = without_forged news
 told_of s news = news

@@ -1,4 +1,4 @@
--- Each balance that is told is conserved.
+-- Each balance that is reported is conserved.
 use Rattle.std.proofs.Common.{ℕ, List, [], ◌∷◌, ◌++◌}
 use Rattle.cct_model.specs.terms.wire.TheConstants.{BROADCAST}
 use Rattle.cct_model.specs.terms.device.DeviceSetup.{DeviceSetup}

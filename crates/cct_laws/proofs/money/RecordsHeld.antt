@@ -118,7 +118,7 @@ close_row_closes None life r is = absurd cc
 close_row_closes (Some o) None r is = absurd cc
 close_row_closes (Some o) (Some life) r is = subst ClosesOrder (same_record (close o life) r is) (close_closes o life)
 
--- what stands after the rows of the table
+-- what is after the rows of the table
 
 -- a row that ends the epoch and its job, or none
 abbrev EndsNext : List TableRow → Type 0

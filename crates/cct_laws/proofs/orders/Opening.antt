@@ -66,7 +66,7 @@ sells_none : (d : DeviceSetup) (c : Command) → EachRow SellsNone (rows_of d c)
 sells_none d (command.Ident addr) = each_told SellsNone (λ q. tt) (λ q. tt) (ident_requests d.body)
 sells_none d c = search rules
 
--- a row that is to open an order isn't one that stands after a passed one
+-- a row that is to open an order isn't one that is after a passed one
 from_opens : (id count : ℕ) (rows : List TableRow) (means : Judged) → OneId rows → Opens id count (from rows means) →
     Opens id count rows
 from_opens id count (puts_due reading behind ∷ rows) Nothing one opens =

@@ -113,7 +113,7 @@ left_opened : (d : DeviceSetup) (c : Command) (work : List Line) → is_for_hopp
 left_opened d c work played =
     fact_after AreOpened (before_on OpensFirst) (rows_of d c) (done (rows_of d c) work) (rows_opened d c played)
 
--- after an exchange it stands at no row that is sent once
+-- after an exchange it is at no row that is sent once
 asked_aside : (d : DeviceSetup) (c : Command) (work : List Line) (state : EpochState) (owed : Option OpenOrder)
     (q : Request) (got : Option Reply) → is_for_hopper c ≡ true → row d c work state owed ≡ sends q →
     IsNotAtDispense d (works c (exchange (Some q) got ∷ work))

@@ -219,7 +219,7 @@ asked_next d past lines w owed work q behind y (puts_due due next ∷ rows) payi
     needs_less (view d past lines) w owed rows less needs
 asked_next d past lines w owed work q behind y rows paying less follows needs gives = absurd follows
 
--- a wait ends by a status that tells that nothing is left to fall
+-- a wait ends by a status that says that nothing is left to fall
 none_left : (d : DeviceSetup) (past : List Met) (marked : Bool) (q : Request) (y : Reply) (rows : List TableRow) →
     IsHopper d.body → state_row marked ≡ sends q → reply_of d past q ≡ Some y →
     ends_first (waits_for_coins ∷ rows) (Some y) ≡ true → remaining d.serial past ≡ 0

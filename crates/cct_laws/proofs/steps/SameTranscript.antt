@@ -111,7 +111,7 @@ one_on_wire setup past addr xs ys first second =
     (without_forged ys) first.0 second.0 in
     first.1 ∙ ap (λ told. forged_after past told ++ told) same ∙ sym second.1
 
--- a payment of a session is told by its plan, and at most one plan is chosen
+-- a payment of a session is reported by its plan, and at most one plan is chosen
 entries_paid : (capacity : ℕ) (setup : Setup) (past : List Entry) (s : Session) → ℕ → ℕ → ℕ → List Entry
 entries_paid capacity setup past s addr id count =
     pay_entries s (record { addr = addr; id = id; count = count })

@@ -1,4 +1,4 @@
--- Every entry of a legal transcript is written, so its text tells it.
+-- Every entry of a legal transcript is written, so its text shows it.
 use Rattle.std.proofs.Common.{◌≡◌, ℕ, ◌<◌, ◌==◌, List, [], ◌∷◌, ◌++◌, refl, sym, subst, Option, Some, None, All, arith}
 use Rattle.std.specs.Prelude.{⊤}
 use Rattle.std.proofs.lemmas.List.Elements.{All-head, All-tail, All-nil, All-cons, All-weaker}
@@ -208,7 +208,7 @@ legal_written capacity setup steps transcript sound range bytes legal =
     (λ past addr good. record { told = (tt, good.told); scan = good.scan }) steps (onto [] transcript)
     (all_say steps range bytes) legal (record { told = tt; scan = tt })).told).1
 
--- so a text tells its legal transcript, whatever the journals take
+-- so a text shows its legal transcript, whatever the journals take
 pub legal_text : (capacity room : ℕ) (setup : Setup) (steps others : List Step) (first second : List Entry) →
     IsSoundSetup setup → All IsInRange steps → All HasBytes steps → All IsInRange others → All HasBytes others →
     Legal capacity setup steps first → Legal room setup others second → text first ≡ text second → first ≡ second

@@ -2,7 +2,7 @@
 use Rattle.std.proofs.Common.{◌≡◌, ℕ, suc, ◌+◌, not, Bool, true, false, cond, List, [], ◌∷◌, take, refl, ap, sym, ◌∙◌, arith}
 use Rattle.std.specs.List.{slice_split, before_first, onto_first, position_or_len}
 
--- the first part of a list that is cut is what stands before the first element that passes
+-- the first part of a list that is cut is what is before the first element that passes
 abbrev FirstPart : (List ℕ) → List (List ℕ) → Type 0
 FirstPart part parts = (rest : List (List ℕ)) × (parts ≡ part ∷ rest)
 

@@ -18,7 +18,7 @@ echo_by true s h sent heard rest test later e =
     cc
 echo_by false s h sent heard rest test later e = absurd cc
 
--- where it is found, the rest stands after it
+-- where it is found, the rest is after it
 pub echo_known : (sent heard rest : List ℕ) → after_echo sent heard ≡ Some rest → heard ≡ sent ++ rest
 unfolding after_echo
 echo_known [] heard rest e = same_some heard rest e

@@ -223,7 +223,7 @@ refusal_read kind addr form =
     ap (option_and_then (reply_from form addr)) (written_back kind (replying 1 addr nak) (omega arith) refl)
     ∙ refusal_carried kind addr form
 
--- nothing is got where no such reply stands after the echo
+-- nothing is got where no such reply is after the echo
 none_got : (found : Option ReplyForm) (g : ReplyForm → Option Reply) → ((form : ReplyForm) → g form ≡ None) →
     option_and_then g found ≡ None
 none_got None g none = refl

@@ -85,7 +85,7 @@ pub next_unforged : (hears : List ℕ → List ℕ) (setup : Setup) (past : List
     EntriesOfNext hears setup past addr told → without_forged told ≡ told
 next_unforged hears setup past addr told is = by_device hears past addr (device_at setup.devices addr) told is
 
--- so what is told after them is all that is taken off
+-- so what is reported after them is all that is taken off
 pub forged_off : (past told : List Entry) → without_forged told ≡ told →
     without_forged (forged_after past told ++ told) ≡ told
 forged_off past told same = elim (forged_or_not past told) [

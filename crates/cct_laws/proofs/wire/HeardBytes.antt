@@ -1,4 +1,4 @@
--- What bytes ask of a device: the first tells whom they are for, and the fourth is the header.
+-- What bytes ask of a device: the first says whom they are for, and the fourth is the header.
 use Rattle.std.proofs.Common.{◌≡◌, ◌≢◌, ℕ, ◌==◌, cond, true, false, Bool, List, [], ◌∷◌, slice_index, refl, ap, sym, ◌∙◌, subst, Option, Some, None, option_and_then, eq-eqb}
 use Rattle.std.proofs.lemmas.Bool.{ne_eqb}
 use Rattle.cct_model.specs.terms.wire.CheckKind.{CheckKind}

@@ -31,7 +31,7 @@ plain_told (e ∷ news) past plain told =
     let before = plain_told news past plain.1 told in
     (λ honest. (tt, before.0 honest.1), λ unforged. (tt, before.1 unforged.1))
 
--- an exchange: what is told after it, and its end, if it brought one
+-- an exchange: what is reported after it, and its end, if it brought one
 forged_end : (past : List Entry) (addr : ℕ) (sent piece : List ℕ) (end : Option End) →
     forged_after past (with_end addr (entry.Wire addr sent piece) end)
     ≡ cond (is_honest (pending past) sent) [] (entry.Forged addr ∷ [])

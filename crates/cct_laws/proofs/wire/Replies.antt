@@ -131,7 +131,7 @@ settled_length (pair ∷ newest) = ap suc (settled_length newest)
 settled_credits : (newest : List Pair) → settled_events (credits_in newest) ≡ credits_in (map settled newest)
 settled_credits newest = rw (settled_five newest, settled_length newest) refl
 
--- so it tells the events of the device
+-- so it shows the events of the device
 abbrev pub ToldEvents : DeviceBody → List Met → Request → Reply → Type 0
 ToldEvents body past q y =
     (c : Credits) × (y ≡ reply.credits c) × (judged_as q c ≡ credits_in (events_of body past))

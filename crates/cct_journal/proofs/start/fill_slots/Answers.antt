@@ -7,7 +7,7 @@ use borrow.Rule.Slice.PartMut.{put_mid, post_of}
 use Rattle.cct_journal.specs.Start.{carry_slot}
 use Rattle.cct_journal.proofs.start.fill_slots.Goals as goal
 
--- What is written over a part stands between what was before it and after it.
+-- What is written over a part is between what was before it and after it.
 put_over : (at many : ℕ) (front part back new all : List ℕ) → all ≡ front ++ (part ++ back) → length front ≡ at
     → length part ≡ many → put_mid at many all new ≡ front ++ (new ++ back)
 put_over at many front part back new all is before long =

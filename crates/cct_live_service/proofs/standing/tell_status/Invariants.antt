@@ -4,7 +4,7 @@ use Rattle.cct_host.specs.Host.{setup_of}
 use Rattle.cct_live_service.specs.Reported.{TellsDevices}
 use Rattle.cct_live_service.proofs.standing.tell_status.Given as goal
 
--- The first devices were told.
+-- The first devices were reported.
 abbrev pub invariant-loop-device : goal.invariant-loop-device
 invariant-loop-device g l =
     let sink = g.K.Sink in

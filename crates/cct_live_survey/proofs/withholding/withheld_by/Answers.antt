@@ -1,4 +1,4 @@
--- What is told by a test is the test of the definition.
+-- What is reported by a test is the test of the definition.
 use Rattle.std.proofs.Common.{◌∙◌, sym}
 use Rattle.cct_live_survey.proofs.withholding.withheld_by.Goals as goal
 use Rattle.cct_live_survey.proofs.Chosen.{chosen, unchosen}

@@ -4,7 +4,7 @@ use Rattle.std.proofs.lemmas.List.{append-nil, drop-replicate, drop-take, drop_a
 use borrow.Rule.Slice.PartMut.{put_mid, post_of}
 use Rattle.cct_record.proofs.old.widened.Goals as goal
 
--- What is written over the end of a list stands after what was before it.
+-- What is written over the end of a list is after what was before it.
 put_end : (at many : ℕ) (front end new all : List ℕ) → all ≡ front ++ end → length front ≡ at → length end ≡ many
     → put_mid at many all new ≡ front ++ new
 put_end at many front end new all is before long =

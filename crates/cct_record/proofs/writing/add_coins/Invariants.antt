@@ -1,4 +1,4 @@
--- The number of the coins stands after the fields, and then the coins so far.
+-- The number of the coins is after the fields, and then the coins so far.
 use Rattle.std.proofs.Common.{◌≡◌, ◌+◌, ◌*◌, ◌∷◌, ◌++◌, length, take}
 use Rattle.std.specs.Prelude.{All, flat_map}
 use Rattle.arrayvec.specs.ArrayVec.{array_vec_len}
