@@ -1,7 +1,7 @@
 -- The table of the commands: where each goes, its word, what the fields after that spell, and the
 -- command of such numbers.
-use Rattle.std.specs.Prelude.{ℕ, ◌≤◌, ◌<◌, ◌^◌, List, [], ◌∷◌, if◌then◌else◌, Option, Some, None}
-use Rattle.std.specs.Prelude.{bytes_eq, codes, ⊤}
+use Rattle.std.specs.Prelude.{ℕ, List, [], ◌∷◌, if◌then◌else◌, Option, Some, None}
+use Rattle.std.specs.Prelude.{bytes_eq, codes}
 use Rattle.cct_model_lines.specs.terms.coin.TheConstants.{COIN_PLACES, PATHS}
 use Rattle.cct_model_lines.specs.terms.request.TheConstants.{RETURN_CODE, STACK_CODE}
 use Rattle.cct_model_lines.specs.terms.wire.TheConstants.{BROADCAST, HOST}
@@ -110,17 +110,3 @@ abbrev pub number_of : Field → ℕ
 number_of Nothing = 0
 number_of (Number number least most) = number
 number_of (Mask mask) = mask
-
--- A field may spell this number in the place of its own.
-abbrev pub Holds : Field → ℕ → Type 0
-Holds Nothing n = ⊤
-Holds (Number number least most) n = (least ≤ n) × (n ≤ most)
-Holds (Mask mask) n = (1 ≤ n) × (n < 2 ^ 16)
-
--- A field spells a number that it may.
-abbrev pub HoldsOwn : Field → Type 0
-HoldsOwn field = Holds field (number_of field)
-
--- The numbers of a command are in their ranges.
-abbrev pub IsSpelt : Command → Type 0
-IsSpelt c = HoldsOwn (shape_of c).first × HoldsOwn (shape_of c).second × HoldsOwn (shape_of c).third
