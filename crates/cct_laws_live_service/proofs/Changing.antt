@@ -34,6 +34,7 @@ use Rattle.cct_live_survey.specs.Roll.{Rolled}
 use Rattle.cct_live_service.specs.declared.served.Served.{Served}
 use Rattle.cct_live_service.specs.declared.served.Served.TheVariants as served_as
 use Rattle.cct_live_service.specs.declared.stopping.AtEnd.{AtEnd}
+use Rattle.cct_live_service.specs.declared.watch.Watch.{Watch}
 use Rattle.cct_live_service.specs.Lived.{Lived}
 use Rattle.cct_host_change.specs.Serving.{Asks}
 use Rattle.cct_laws_change.specs.Change.{IsPaid, IsToldRight, IsWithin}
@@ -601,13 +602,14 @@ module _ {L : Type 0} (reads : L → Option (List ℕ) → L → Type 0) (writes
     {K : Type 0} (written : K → Option (List ℕ)) (puts : K → List ℕ → Result (Unit {0}) Failed → K → Type 0)
     {D : Type 0} (size : D → ℕ) (honest : D → Bool) (seen : D → Option (List ℕ)) (may_leave : D → List ℕ → Type 0)
     (moment : D → ℕ) (left_since : D → ℕ → List ℕ → Type 0) (cuts : D → ℕ) where
-  pub service_sessions : (setup : Setup) → IsSoundSetup setup → (first last : Port L) (roll now : Rolled) (left_desk : Desk)
+  pub service_sessions : (setup : Setup) → IsSoundSetup setup → (first last : Port L) (watch watch_then : Watch) (roll now : Rolled) (left_desk : Desk) (missed missed_then : ℕ)
       (ends : AtEnd) (left : Option (List ℕ)) (how : Served) (old new : K) (given back : D) →
       (service : Lived written puts (Gives reads writes) was_sent faults_of size honest seen may_leave moment left_since cuts
-      given back setup roll now (clear_desk setup) left_desk ends left how old new first last) →
+      given back setup roll now (clear_desk setup) left_desk missed missed_then ends left how old new
+      (record { link = first; watch = watch }) (record { link = last; watch = watch_then })) →
       (fallen whole : List Entry) (right : IsRightOver setup fallen (news_of service.told ++ whole)) →
       TellsRight setup right.world (clear_desk setup) [] service.told
-  service_sessions setup sound first last roll now left_desk ends left how old new given back service fallen whole right =
+  service_sessions setup sound first last watch watch_then roll now left_desk missed missed_then ends left how old new given back service fallen whole right =
       let at = followed how (clear_desk setup) left_desk service.told service.at_desk in
       sessions_right setup right.world (right_sure setup fallen (news_of service.told ++ whole) right) sound service.told at.0 whole
       right.over.tells at.1

@@ -29,6 +29,7 @@ use Rattle.cct_laws_live_money.proofs.Living.{lives_alike}
 use Rattle.cct_live_service.specs.declared.served.Served.{Served}
 use Rattle.cct_live_service.specs.declared.served.Served.TheVariants as served
 use Rattle.cct_live_service.specs.declared.stopping.AtEnd.{AtEnd}
+use Rattle.cct_live_service.specs.declared.watch.Watch.{Watch}
 use Rattle.cct_live_service.specs.Found.{FoundOn, Tells}
 use Rattle.cct_live_service.specs.Lived.{LeftBy, Lived}
 use Rattle.cct_live_service.specs.Told.{news_of}
@@ -84,10 +85,11 @@ module _ {L : Type 0} (reads : L → Option (List ℕ) → L → Type 0) (writes
     {D : Type 0} (size : D → ℕ) (honest : D → Bool) (seen : D → Option (List ℕ)) (may_leave : D → List ℕ → Type 0)
     (moment : D → ℕ) (left_since : D → ℕ → List ℕ → Type 0) (cuts : D → ℕ) where
   pub hands_on : (echoes : Bool) (longest : ℕ) (coming : L → List ℕ) (silent : L → ℕ) (setup : Setup) (history : L → List Moment) →
-      IsSoundSetup setup → IsHonestLine reads writes echoes longest coming silent setup history → (first last : Port L)
-      (roll now : Rolled) (desk left_desk : Desk) (ends : AtEnd) (left : Option (List ℕ)) (how : Served) (old new : K) (given back : D) →
+      IsSoundSetup setup → IsHonestLine reads writes echoes longest coming silent setup history → (first last : Port L) (watch watch_then : Watch)
+      (roll now : Rolled) (desk left_desk : Desk) (missed missed_then : ℕ) (ends : AtEnd) (left : Option (List ℕ)) (how : Served) (old new : K) (given back : D) →
       (service : Lived written puts (Gives reads writes) was_sent faults_of size honest seen may_leave moment left_since cuts
-      given back setup roll now desk left_desk ends left how old new first last) →
+      given back setup roll now desk left_desk missed missed_then ends left how old new
+      (record { link = first; watch = watch }) (record { link = last; watch = watch_then })) →
       (found : List Record) (whole : List Entry) → FoundOn honest seen may_leave given setup service.begun found →
       HaveLived reads writes echoes longest coming silent MOST_RECORDS setup history (history (line_of first)) found whole →
       IsPortOf reads writes echoes longest coming silent first → IsTrusted honest seen back → (image : List ℕ) →
@@ -95,7 +97,7 @@ module _ {L : Type 0} (reads : L → Option (List ℕ) → L → Type 0) (writes
       StartsOver setup
       (λ rs all. HaveLived reads writes echoes longest coming silent MOST_RECORDS setup history (history (line_of last)) rs all)
       (news_of service.told ++ whole) image
-  hands_on echoes longest coming silent setup history sound line first last roll now desk left_desk ends left how old new given back service found
+  hands_on echoes longest coming silent setup history sound line first last watch watch_then roll now desk left_desk missed missed_then ends left how old new given back service found
       whole there lives port trusted image may =
       let told = news_of service.told in
       let past = told ++ started found in
@@ -108,8 +110,8 @@ module _ {L : Type 0} (reads : L → Option (List ℕ) → L → Type 0) (writes
       whole lives))
       (life_follow MOST_RECORDS setup found service.steps past sound life.0)
       (life_due_follow MOST_RECORDS setup found service.steps past sound life.0)
-      (service_right reads writes written puts size honest seen may_leave moment left_since cuts echoes longest coming silent setup history sound line first last
-      roll now desk left_desk ends left how old new given back service found whole there lives port).2
+      (service_right reads writes written puts size honest seen may_leave moment left_since cuts echoes longest coming silent setup history sound line first last watch watch_then
+      roll now desk left_desk missed missed_then ends left how old new given back service found whole there lives port).2
       (cut_left honest seen may_leave back setup how past image life.2 trusted may)
 
 -- a disk that holds such an image shows its records

@@ -21,6 +21,7 @@ ghost use Rattle.cct_laws_live_devices.specs.Asked.{Moment, entries};
 ghost use Rattle.cct_laws_live_money.specs.Lives.{HaveLived, IsHonestLine, IsPortOf, IsRightOver};
 ghost use Rattle.cct_live_service.specs.declared.served.Served.{Served};
 ghost use Rattle.cct_live_service.specs.declared.stopping.AtEnd.{AtEnd};
+ghost use Rattle.cct_live_service.specs.declared.watch.Watch.{Watch};
 ghost use Rattle.cct_live_service.specs.Found.{FoundOn, Tells, was_found};
 ghost use Rattle.cct_live_service.specs.Since.{IsMaking};
 ghost use Rattle.cct_laws_live.specs.Live.{started};
@@ -42,10 +43,11 @@ use cct_wire::Link;
 pub fn a_service_over_an_honest_line_is_right<L: Line, K: Sink, D: Disk>()
     ensures { (echoes : Bool) (longest : ℕ) (coming : L → List ℕ) (silent : L → ℕ) (setup : Setup)
         (history : L → List Moment) → IsSoundSetup setup → IsHonestLine L.reads L.writes echoes longest coming silent setup history
-        → (first last : Port L) (roll now : Rolled) (desk left_desk : Desk) (ends : AtEnd) (left : Option (List ℕ)) (how : Served) (old new : K)
+        → (first last : Port L) (watch watch_then : Watch) (roll now : Rolled) (desk left_desk : Desk) (missed missed_then : ℕ) (ends : AtEnd) (left : Option (List ℕ)) (how : Served) (old new : K)
         (given back : D)
         → (service : Lived K.written K.puts (Gives L.reads L.writes) was_sent faults_of D.size D.honest D.seen D.may_leave
-        D.moment D.left_since D.cuts given back setup roll now desk left_desk ends left how old new first last)
+        D.moment D.left_since D.cuts given back setup roll now desk left_desk missed missed_then ends left how old new
+        (record { link = first; watch = watch }) (record { link = last; watch = watch_then }))
         → (found : List Record) (whole : List Entry) → FoundOn D.honest D.seen D.may_leave given setup service.begun found
         → HaveLived L.reads L.writes echoes longest coming silent MOST_RECORDS setup history (history (line_of first)) found whole
         → IsPortOf L.reads L.writes echoes longest coming silent first
@@ -63,10 +65,11 @@ pub fn a_service_over_an_honest_line_is_right<L: Line, K: Sink, D: Disk>()
 /// short, and they are never worth more than its amount. They are all coins that fell up to the end
 /// of the service. A law: its body is empty.
 pub fn a_session_on_an_honest_line_pays_what_it_tells<L: Line, K: Sink, D: Disk>()
-    ensures { (setup : Setup) → IsSoundSetup setup → (first last : Port L) (roll now : Rolled) (left_desk : Desk) (ends : AtEnd)
+    ensures { (setup : Setup) → IsSoundSetup setup → (first last : Port L) (watch watch_then : Watch) (roll now : Rolled) (left_desk : Desk) (missed missed_then : ℕ) (ends : AtEnd)
         (left : Option (List ℕ)) (how : Served) (old new : K) (given back : D)
         → (service : Lived K.written K.puts (Gives L.reads L.writes) was_sent faults_of D.size D.honest D.seen D.may_leave
-        D.moment D.left_since D.cuts given back setup roll now (clear_desk setup) left_desk ends left how old new first last)
+        D.moment D.left_since D.cuts given back setup roll now (clear_desk setup) left_desk missed missed_then ends left how old new
+        (record { link = first; watch = watch }) (record { link = last; watch = watch_then }))
         → (fallen whole : List Entry) (right : IsRightOver setup fallen (news_of service.told ++ whole))
         → TellsRight setup right.world (clear_desk setup) [] service.told }
 {}
@@ -78,10 +81,11 @@ pub fn the_next_service_starts_over_what_is_left<L: Line, K: Sink, D: Disk>()
     ensures { (echoes : Bool) (longest : ℕ) (coming : L → List ℕ) (silent : L → ℕ) (setup : Setup)
         (history : L → List Moment) → IsSoundSetup setup
         → IsHonestLine L.reads L.writes echoes longest coming silent setup history
-        → (first last : Port L) (roll now : Rolled) (desk left_desk : Desk) (ends : AtEnd) (left : Option (List ℕ)) (how : Served) (old new : K)
+        → (first last : Port L) (watch watch_then : Watch) (roll now : Rolled) (desk left_desk : Desk) (missed missed_then : ℕ) (ends : AtEnd) (left : Option (List ℕ)) (how : Served) (old new : K)
         (given back : D)
         → (service : Lived K.written K.puts (Gives L.reads L.writes) was_sent faults_of D.size D.honest D.seen D.may_leave
-        D.moment D.left_since D.cuts given back setup roll now desk left_desk ends left how old new first last)
+        D.moment D.left_since D.cuts given back setup roll now desk left_desk missed missed_then ends left how old new
+        (record { link = first; watch = watch }) (record { link = last; watch = watch_then }))
         → (found : List Record) (whole : List Entry) → FoundOn D.honest D.seen D.may_leave given setup service.begun found
         → HaveLived L.reads L.writes echoes longest coming silent MOST_RECORDS setup history (history (line_of first)) found
         whole
@@ -102,10 +106,11 @@ pub fn a_service_may_be_killed_at_each_moment<L: Line, K: Sink, D: Disk>()
     ensures { (echoes : Bool) (longest : ℕ) (coming : L → List ℕ) (silent : L → ℕ) (setup : Setup)
         (history : L → List Moment) → IsSoundSetup setup
         → IsHonestLine L.reads L.writes echoes longest coming silent setup history
-        → (first last : Port L) (roll now : Rolled) (desk left_desk : Desk) (ends : AtEnd) (left : Option (List ℕ)) (how : Served) (old new : K)
+        → (first last : Port L) (watch watch_then : Watch) (roll now : Rolled) (desk left_desk : Desk) (missed missed_then : ℕ) (ends : AtEnd) (left : Option (List ℕ)) (how : Served) (old new : K)
         (given back : D)
         → (service : Lived K.written K.puts (Gives L.reads L.writes) was_sent faults_of D.size D.honest D.seen D.may_leave
-        D.moment D.left_since D.cuts given back setup roll now desk left_desk ends left how old new first last)
+        D.moment D.left_since D.cuts given back setup roll now desk left_desk missed missed_then ends left how old new
+        (record { link = first; watch = watch }) (record { link = last; watch = watch_then }))
         → (found : List Record) (whole : List Entry) → FoundOn D.honest D.seen D.may_leave given setup service.begun found
         → HaveLived L.reads L.writes echoes longest coming silent MOST_RECORDS setup history (history (line_of first)) found
         whole

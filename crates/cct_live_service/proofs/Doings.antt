@@ -1,6 +1,6 @@
 -- What is done for a line, made of its parts.
 use Rattle.std.proofs.Common.{◌≡◌, ◌≤◌, ◌+◌, ◌∙◌, ◌⊎◌, ℕ, zero, suc, List, [], ◌∷◌, ◌++◌, length, Bool, true, false, Ok, Err, ◌==◌, ◌||◌, refl, eqb-true, sym, ap, subst, inl, inr, append_assoc, arith}
-use Rattle.std.specs.List.{All, list_any}
+use Rattle.std.specs.List.{list_any}
 use Rattle.std.proofs.lemmas.Bool.Decides.{nat_tests}
 use Rattle.std.proofs.lemmas.List.{append-nil}
 use Rattle.std.proofs.lemmas.List.Elements.{All-nil}
@@ -17,12 +17,13 @@ use Rattle.cct_live_survey.specs.declared.finding.Finding.{Finding}
 use Rattle.cct_live_service.specs.declared.attempts.TheConstants.{MOST_ATTEMPTS}
 use Rattle.cct_live_service.specs.declared.attempts.Until.{Until}
 use Rattle.cct_live_service.specs.declared.attempts.Until.TheVariants as until_of
+use Rattle.cct_live_service.specs.declared.served.Served.{Served}
 use Rattle.cct_live_service.specs.declared.stopping.AtEnd.TheVariants as at_end
 use Rattle.cct_live_service.specs.declared.input.InputLine.TheVariants as input
 use Rattle.cct_live_service.specs.declared.notice.Notice.{Notice}
-use Rattle.cct_live_service.specs.Held.{IsAfter}
-use Rattle.cct_live_service.specs.Doing.{AreAttempts, Does, DoesKnown, DoesLine, DoesLines, FrontOf, GoesOn, IsAttempt, IsAttemptWith, IsLastTry, IsStepOf, MakesAttempts, Many, PlaysLines, ServesLines, ServesOn, Tells, TellsOne, Then, ThenBy, Times, is_known}
-use Rattle.cct_live_service.specs.Ends.{is_end, tells_end}
+use Rattle.cct_live_service.specs.Watch.{IsOfWatch}
+use Rattle.cct_live_service.specs.Doing.{AreAttempts, Does, DoesKnown, DoesLine, DoesLines, EndsAs, FrontOf, GoesOn, IsAttempt, IsAttemptWith, IsLastTry, IsStating, IsStepOf, MakesAttempts, Many, PlaysLines, ServesLines, ServesOn, Tells, TellsOne, Then, ThenBy, Times, is_known}
+use Rattle.cct_live_service.specs.Ends.{is_end, is_unanswered, tells_end, tells_some, tells_unanswered}
 use Rattle.cct_live_service.specs.Known.{Knows, Rests}
 use Rattle.cct_live_service.specs.Said.{Said}
 use Rattle.cct_live_service.specs.Told.{Told, as_told, attempt_told, entry, findings_in, notice, notices_told, told_unsent, unheard}
@@ -104,34 +105,94 @@ pub attempt_broken : (sent : Bool) (entries : List Entry) (addr : ℕ) → Front
 attempt_broken sent entries addr = record {
   undone = live.next addr ∷ [];
   untold = attempt_told sent entries ++ [];
-  whole = (refl, ([], (false, All-nil (IsAfter false entries)), refl));
+  whole = (refl, ([], All-nil IsOfWatch, refl));
 }
 
--- what an attempt tells ends its job where one of its entries does
-notices_go_on : (notices : List Notice) → tells_end (notices_told notices) ≡ false
-notices_go_on [] = refl
-notices_go_on (n ∷ notices) = notices_go_on notices
+-- one of the entries that an attempt tells is such where one of its entries is
+module _ (is_such : Entry → Bool) (other : (addr : ℕ) (sent heard : List ℕ) → is_such (entry_of.Wire addr sent heard) ≡ false)
+  where
+    some_notices : (notices : List Notice) → tells_some is_such (notices_told notices) ≡ false
+    some_notices [] = refl
+    some_notices (n ∷ notices) = some_notices notices
 
-as_told_end : (entries : List Entry) (notices : List Notice) →
-    tells_end (as_told entries ++ notices_told notices) ≡ list_any is_end entries
-as_told_end [] notices = notices_go_on notices
-as_told_end (e ∷ entries) notices = ap (λ b. is_end e || b) (as_told_end entries notices)
+    some_as : (entries : List Entry) (notices : List Notice) →
+        tells_some is_such (as_told entries ++ notices_told notices) ≡ list_any is_such entries
+    some_as [] notices = some_notices notices
+    some_as (e ∷ entries) notices = ap (λ b. is_such e || b) (some_as entries notices)
 
-unsent_end : (e : Entry) (told : List Told) → tells_end (told_unsent e (unheard e) ∷ told) ≡ (is_end e || tells_end told)
-unsent_end (entry_of.Wire addr sent []) told = refl
-unsent_end (entry_of.Wire addr sent (byte ∷ heard)) told = refl
-unsent_end e told = refl
+    some_unsent : (e : Entry) (told : List Told) →
+        tells_some is_such (told_unsent e (unheard e) ∷ told) ≡ (is_such e || tells_some is_such told)
+    some_unsent (entry_of.Wire addr sent []) told = ap (λ b. b || tells_some is_such told) (sym (other addr sent []))
+    some_unsent (entry_of.Wire addr sent (byte ∷ heard)) told = refl
+    some_unsent e told = refl
 
-attempt_end : (sent : Bool) (entries : List Entry) (notices : List Notice) →
-    tells_end (attempt_told sent entries ++ notices_told notices) ≡ list_any is_end entries
-attempt_end true entries notices = as_told_end entries notices
-attempt_end false [] notices = notices_go_on notices
-attempt_end false (e ∷ entries) notices =
-    unsent_end e (as_told entries ++ notices_told notices) ∙ ap (λ b. is_end e || b) (as_told_end entries notices)
+    some_attempt : (sent : Bool) (entries : List Entry) (notices : List Notice) →
+        tells_some is_such (attempt_told sent entries ++ notices_told notices) ≡ list_any is_such entries
+    some_attempt true entries notices = some_as entries notices
+    some_attempt false [] notices = some_notices notices
+    some_attempt false (e ∷ entries) notices =
+        some_unsent e (as_told entries ++ notices_told notices) ∙ ap (λ b. is_such e || b) (some_as entries notices)
+
+    some_with : (sent : Bool) (entries : List Entry) (addr : ℕ) (steps : List LiveStep) (told : List Told) →
+        IsAttemptWith sent entries addr steps told → tells_some is_such told ≡ list_any is_such entries
+    some_with sent entries addr steps told h = ap (tells_some is_such) h.1.2 ∙ some_attempt sent entries h.1.0
 
 with_end : (sent : Bool) (entries : List Entry) (addr : ℕ) (steps : List LiveStep) (told : List Told) →
     IsAttemptWith sent entries addr steps told → tells_end told ≡ list_any is_end entries
-with_end sent entries addr steps told h = ap tells_end h.1.2 ∙ attempt_end sent entries h.1.0
+with_end = some_with is_end (λ addr sent heard. refl)
+
+-- an attempt that doesn't end its job isn't the last one for want of an answer
+end_unanswered : (e : Entry) (b : Bool) → is_end e ≡ false → b ≡ false → (is_unanswered e || b) ≡ false
+end_unanswered (entry_of.Ended addr end) b on k = cc on
+end_unanswered e b on k = k
+
+none_unanswered : (told : List Told) → tells_end told ≡ false → tells_unanswered told ≡ false
+none_unanswered [] h = refl
+none_unanswered (entry e ∷ told) h =
+    let parts = apart (is_end e) (tells_end told) h in
+    end_unanswered e (tells_unanswered told) parts.0 (none_unanswered told parts.1)
+  where
+    apart : (b c : Bool) → (b || c) ≡ false → (b ≡ false) × (c ≡ false)
+    apart false c k = (refl, k)
+    apart true c k = cc k
+none_unanswered (what ∷ told) h = none_unanswered told h
+
+unanswered_then : (t1 t2 : List Told) → tells_unanswered t1 ≡ false → tells_unanswered (t1 ++ t2) ≡ tells_unanswered t2
+unanswered_then [] t2 h = refl
+unanswered_then (entry e ∷ t1) t2 h =
+    let parts = apart (is_unanswered e) (tells_unanswered t1) h in
+    ap (λ b. b || tells_unanswered (t1 ++ t2)) parts.0 ∙ unanswered_then t1 t2 parts.1
+  where
+    apart : (b c : Bool) → (b || c) ≡ false → (b ≡ false) × (c ≡ false)
+    apart false c k = (refl, k)
+    apart true c k = cc k
+unanswered_then (what ∷ t1) t2 h = unanswered_then t1 t2 h
+
+pub times_unanswered : (addr n : ℕ) (steps : List LiveStep) (told : List Told) → Times n (GoesOn addr) steps told →
+    tells_unanswered told ≡ false
+times_unanswered addr zero steps told h = ap tells_unanswered h.1
+times_unanswered addr (suc n) steps told h =
+    ap tells_unanswered h.told_is ∙ unanswered_then h.said h.added (times_unanswered addr n h.before h.said h.first)
+    ∙ none_unanswered h.added h.next.1
+
+-- nor are the entries of one
+pub list_unanswered : (entries : List Entry) → list_any is_end entries ≡ false → list_any is_unanswered entries ≡ false
+list_unanswered [] h = refl
+list_unanswered (e ∷ entries) h =
+    let parts = apart (is_end e) (list_any is_end entries) h in
+    end_unanswered e (list_any is_unanswered entries) parts.0 (list_unanswered entries parts.1)
+  where
+    apart : (b c : Bool) → (b || c) ≡ false → (b ≡ false) × (c ≡ false)
+    apart false c k = (refl, k)
+    apart true c k = cc k
+
+-- attempts, and the last one
+pub ended_as : (addr made : ℕ) (sent : Bool) (entries : List Entry) (s1 s2 : List LiveStep) (t1 t2 : List Told) →
+    Times made (GoesOn addr) s1 t1 → IsAttemptWith sent entries addr s2 t2 →
+    tells_unanswered (t1 ++ t2) ≡ list_any is_unanswered entries
+ended_as addr made sent entries s1 s2 t1 t2 h k =
+    unanswered_then t1 t2 (times_unanswered addr made s1 t1 h)
+    ∙ some_with is_unanswered (λ addr sent heard. refl) sent entries addr s2 t2 k
 
 -- attempts, none of which is the last one, and one more
 then_one : (P Q : List LiveStep → List Told → Type 0) (s1 s2 : List LiveStep) (t1 t2 : List Told) → P s1 t1 → Q s2 t2 →
@@ -252,8 +313,13 @@ attempts_broken until addr made few steps told h =
             first = h.first;
             next = (h.next, on);
           })
-          (refl, ([], (false, All-nil (IsAfter false (entry_of.Idle addr ∷ []))), refl));
+          (refl, ([], All-nil IsOfWatch, refl));
     }
+
+-- and where the host doesn't live on, nothing is said of the last one
+pub broken_as : (how : Served) (entries : List Entry) (P : List LiveStep → List Told → Type 0) (steps : List LiveStep)
+    (told : List Told) → FrontOf P steps told → FrontOf (EndsAs (Err how) entries P) steps told
+broken_as how entries P steps told h = record { undone = h.undone; untold = h.untold; whole = (h.whole, tt) }
 
 -- attempts are attempts
 pub none_made : (addr : ℕ) → AreAttempts addr MOST_ATTEMPTS [] []
@@ -332,13 +398,19 @@ known_weaker : (A B : Bool → Type 0) → ((rest : Bool) → A rest → B rest)
 known_weaker A B to true devices findings number said steps told h = does_weaker A B to devices findings said steps told h
 known_weaker A B to false devices findings number said steps told h = h
 
-pub line_weaker : (A B : Bool → Type 0) → ((rest : Bool) → A rest → B rest) → (devices : List DeviceSetup)
-    (findings : List Finding) (number : ℕ) (said : Said) (steps : List LiveStep) (told : List Told) →
-    DoesLine A devices findings number said steps told → DoesLine B devices findings number said steps told
-line_weaker A B to devices findings number (Ok (input.Host said)) steps told h =
+stating_weaker : (M N : Type 0) → (M → N) → (steps : List LiveStep) (told : List Told) → IsStating M steps told →
+    IsStating N steps told
+stating_weaker M N miss steps told (none, inl known) = (none, inl known)
+stating_weaker M N miss steps told (none, inr unread) = (none, inr (unread.0, miss unread.1))
+
+pub line_weaker : (A B : Bool → Type 0) → ((rest : Bool) → A rest → B rest) → (M N : Type 0) → (M → N) →
+    (devices : List DeviceSetup) (findings : List Finding) (number : ℕ) (said : Said) (steps : List LiveStep)
+    (told : List Told) → DoesLine A M devices findings number said steps told →
+    DoesLine B N devices findings number said steps told
+line_weaker A B to M N miss devices findings number (Ok (input.Host said)) steps told h =
     known_weaker A B to (is_known devices said) devices findings number said steps told h
-line_weaker A B to devices findings number (Ok input.State) steps told h = h
-line_weaker A B to devices findings number (Err why) steps told h = h
+line_weaker A B to M N miss devices findings number (Ok input.State) steps told h = stating_weaker M N miss steps told h
+line_weaker A B to M N miss devices findings number (Err why) steps told h = h
 
 -- one thing, and then another one that goes by it
 pub then_by : (P : List LiveStep → List Told → Type 0) (Q : List Told → List LiveStep → List Told → Type 0)
@@ -354,32 +426,50 @@ then_by P Q s1 s2 t1 t2 h k = record {
   next = k;
 }
 
+-- lines, where more was missed
+pub lines_missed : (knows : Knows) (M N : Type 0) → (M → N) → (setup : Setup) (findings : List Finding) (lines : List Said)
+    (steps : List LiveStep) (told : List Told) → DoesLines knows M setup findings lines steps told →
+    DoesLines knows N setup findings lines steps told
+lines_missed knows M N miss setup findings [] steps told h = h
+lines_missed knows M N miss setup findings (said ∷ lines) steps told h = record {
+  before = h.before;
+  after = h.after;
+  said = h.said;
+  added = h.added;
+  steps_are = h.steps_are;
+  told_is = h.told_is;
+  first = lines_missed knows M N miss setup findings lines h.before h.said h.first;
+  next = line_weaker (λ rest. knows h.said (Rests setup rest)) (λ rest. knows h.said (Rests setup rest)) (λ rest k. k) M N miss
+      setup.devices (findings ++ findings_in h.said) (suc (length lines)) said h.after h.added h.next;
+}
+
 -- lines, and the next one, by what is known and was found up to then
-pub line_then : (knows : Knows) (Rested : Bool → Type 0) (setup : Setup) (findings now : List Finding) (lines : List Said)
-    (number : ℕ) (said : Said) → suc (length lines) ≡ number → (s1 s2 : List LiveStep) (t1 t2 : List Told) →
-    ((rest : Bool) → Rested rest → knows t1 (Rests setup rest)) → DoesLines knows setup findings lines s1 t1 →
-    now ≡ findings ++ findings_in t1 → DoesLine Rested setup.devices now number said s2 t2 →
-    DoesLines knows setup findings (said ∷ lines) (s1 ++ s2) (t1 ++ t2)
-line_then knows Rested setup findings now lines number said is s1 s2 t1 t2 to h found k =
-    then_by (DoesLines knows setup findings lines)
-    (λ told. DoesLine (λ rest. knows told (Rests setup rest)) setup.devices (findings ++ findings_in told)
-    (suc (length lines)) said) s1 s2 t1 t2 h
-    (line_weaker Rested (λ rest. knows t1 (Rests setup rest)) to setup.devices (findings ++ findings_in t1)
+pub line_then : (knows : Knows) (Rested : Bool → Type 0) (Before Line Missed : Type 0) → (Before → Missed) →
+    (Line → Missed) → (setup : Setup) (findings now : List Finding) (lines : List Said) (number : ℕ) (said : Said) →
+    suc (length lines) ≡ number → (s1 s2 : List LiveStep) (t1 t2 : List Told) →
+    ((rest : Bool) → Rested rest → knows t1 (Rests setup rest)) → DoesLines knows Before setup findings lines s1 t1 →
+    now ≡ findings ++ findings_in t1 → DoesLine Rested Line setup.devices now number said s2 t2 →
+    DoesLines knows Missed setup findings (said ∷ lines) (s1 ++ s2) (t1 ++ t2)
+line_then knows Rested Before Line Missed before miss setup findings now lines number said is s1 s2 t1 t2 to h found k =
+    then_by (DoesLines knows Missed setup findings lines)
+    (λ told. DoesLine (λ rest. knows told (Rests setup rest)) Missed setup.devices (findings ++ findings_in told)
+    (suc (length lines)) said) s1 s2 t1 t2 (lines_missed knows Before Missed before setup findings lines s1 t1 h)
+    (line_weaker Rested (λ rest. knows t1 (Rests setup rest)) to Line Missed miss setup.devices (findings ++ findings_in t1)
     (suc (length lines)) said s2 t2
-    (subst (λ f. DoesLine Rested setup.devices f (suc (length lines)) said s2 t2) found
-    (subst (λ n. DoesLine Rested setup.devices now n said s2 t2) (sym is) k)))
+    (subst (λ f. DoesLine Rested Line setup.devices f (suc (length lines)) said s2 t2) found
+    (subst (λ n. DoesLine Rested Line setup.devices now n said s2 t2) (sym is) k)))
 
 -- what is reported first, and then lines
-pub opening_then : (knows : Knows) (setup : Setup) (opening : Notice) (findings : List Finding) (lines : List Said)
-    (s1 s2 : List LiveStep) (t1 t2 : List Told) → Tells (notice opening) s1 t1 → DoesLines knows setup findings lines s2 t2 →
-    PlaysLines knows setup opening findings lines (s1 ++ s2) (t1 ++ t2)
-opening_then knows setup opening findings lines =
-    then_one (Tells (notice opening)) (DoesLines knows setup findings lines)
+pub opening_then : (knows : Knows) (Missed : Type 0) (setup : Setup) (opening : Notice) (findings : List Finding) (lines : List Said)
+    (s1 s2 : List LiveStep) (t1 t2 : List Told) → Tells (notice opening) s1 t1 → DoesLines knows Missed setup findings lines s2 t2 →
+    PlaysLines knows Missed setup opening findings lines (s1 ++ s2) (t1 ++ t2)
+opening_then knows Missed setup opening findings lines =
+    then_one (Tells (notice opening)) (DoesLines knows Missed setup findings lines)
 
 -- that alone
-pub opening_alone : (knows : Knows) (setup : Setup) (opening : Notice) (findings : List Finding) (steps : List LiveStep)
-    (told : List Told) → Tells (notice opening) steps told → PlaysLines knows setup opening findings [] steps told
-opening_alone knows setup opening findings steps told h = record {
+pub opening_alone : (knows : Knows) (Missed : Type 0) (setup : Setup) (opening : Notice) (findings : List Finding) (steps : List LiveStep)
+    (told : List Told) → Tells (notice opening) steps told → PlaysLines knows Missed setup opening findings [] steps told
+opening_alone knows Missed setup opening findings steps told h = record {
   before = steps;
   after = [];
   said = told;
@@ -391,10 +481,10 @@ opening_alone knows setup opening findings steps told h = record {
 }
 
 -- lines, and nothing at the end
-pub end_none : (knows : Knows) (setup : Setup) (opening : Notice) (findings : List Finding) (lines : List Said)
-    (steps : List LiveStep) (told : List Told) → PlaysLines knows setup opening findings lines steps told →
-    ServesLines knows setup opening findings at_end.Leave lines steps told
-end_none knows setup opening findings lines steps told h = record {
+pub end_none : (knows : Knows) (Missed : Type 0) (setup : Setup) (opening : Notice) (findings : List Finding) (lines : List Said)
+    (steps : List LiveStep) (told : List Told) → PlaysLines knows Missed setup opening findings lines steps told →
+    ServesLines knows Missed setup opening findings at_end.Leave lines steps told
+end_none knows Missed setup opening findings lines steps told h = record {
   before = steps;
   after = [];
   said = told;

@@ -236,14 +236,16 @@ asking_rest a b added known is len steps told h =
     steps told h
 
 -- lines, and the next one, and what is found then
-pub lines_then : (learned : Knows) (Rested : Bool → Type 0) (first between : Setup) → between ≡ first →
-    (a b c : List Finding) (lines : List Said) (number : ℕ) (said : Said) → suc (length lines) ≡ number →
-    (s1 s2 : List LiveStep) (t1 t2 : List Told) → ((rest : Bool) → Rested rest → learned t1 (Rests first rest)) →
-    Finds a b (DoesLines learned first a lines) s1 t1 → Finds b c (DoesLine Rested between.devices b number said) s2 t2 →
-    Finds a c (DoesLines learned first a (said ∷ lines)) (s1 ++ s2) (t1 ++ t2)
-lines_then learned Rested first between same a b c lines number said is s1 s2 t1 t2 to h k = (
-  line_then learned Rested first a b lines number said is s1 s2 t1 t2 to h.0 h.1
-      (subst (λ setup. DoesLine Rested setup.devices b number said s2 t2) same k.0),
+pub lines_then : (learned : Knows) (Rested : Bool → Type 0) (Before Line Missed : Type 0) → (Before → Missed) →
+    (first between : Setup) → between ≡ first → (a b c : List Finding) (lines : List Said) (number : ℕ) (said : Said) →
+    suc (length lines) ≡ number → (s1 s2 : List LiveStep) (t1 t2 : List Told) →
+    ((rest : Bool) → Rested rest → learned t1 (Rests first rest)) → (Line → Missed) →
+    Finds a b (DoesLines learned Before first a lines) s1 t1 →
+    Finds b c (DoesLine Rested Line between.devices b number said) s2 t2 →
+    Finds a c (DoesLines learned Missed first a (said ∷ lines)) (s1 ++ s2) (t1 ++ t2)
+lines_then learned Rested Before Line Missed before first between same a b c lines number said is s1 s2 t1 t2 to miss h k = (
+  line_then learned Rested Before Line Missed before miss first a b lines number said is s1 s2 t1 t2 to h.0 h.1
+      (subst (λ setup. DoesLine Rested Line setup.devices b number said s2 t2) same k.0),
   found_on a b c t1 t2 h.1 k.1,
 )
 
@@ -251,6 +253,6 @@ pub tells_finds : (n : ℕ) (why : LineKind) (steps : List LiveStep) (told : Lis
     findings_in told ≡ []
 tells_finds n why steps told h = ap findings_in h.1
 
-pub lines_none : (learned : Knows) (setup : Setup) (findings : List Finding) →
-    Finds findings findings (DoesLines learned setup findings []) [] []
-lines_none learned setup findings = ((refl, refl), sym (append-nil findings))
+pub lines_none : (learned : Knows) (Missed : Type 0) (setup : Setup) (findings : List Finding) →
+    Finds findings findings (DoesLines learned Missed setup findings []) [] []
+lines_none learned Missed setup findings = ((refl, refl), sym (append-nil findings))

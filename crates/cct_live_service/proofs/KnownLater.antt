@@ -1,8 +1,6 @@
 -- What is known of a host and a desk is known of those that began before, after what was reported since.
-use Rattle.std.proofs.Common.{◌≡◌, ◌∙◌, List, [], ◌∷◌, ◌++◌, Bool, Option, Result, Ok, refl, sym, ap, subst, append_assoc, ℕ}
+use Rattle.std.proofs.Common.{◌≡◌, ◌≤◌, ◌∙◌, List, [], ◌++◌, Bool, Option, Result, Ok, refl, sym, ap, subst, append_assoc, arith, ℕ}
 use Rattle.cct_edge.specs.declared.fault.Failed.{Failed}
-use Rattle.cct_model.specs.terms.device.Setup.{Setup}
-use Rattle.cct_model.specs.lines.record.Record.{Record}
 use Rattle.cct_model.specs.lines.entry.Entry.{Entry}
 use Rattle.cct_model.specs.Change.{Desk}
 use Rattle.cct_disk.specs.declared.disk.Disk.{Ghosts}
@@ -12,12 +10,16 @@ use Rattle.cct_host.specs.Host.{setup_of}
 use Rattle.cct_laws_live.specs.Life.{IsLife}
 use Rattle.cct_laws_live.specs.LiveStep.{LiveStep}
 use Rattle.cct_live_service.specs.AtDesk.{AtDesk}
-use Rattle.cct_live_service.specs.Known.{IsKnown, KnownAfter, Rested, Rests}
+use Rattle.cct_live_service.specs.Known.{IsKnown, KnownAfter, MissedFrom, Rested, Rests}
 use Rattle.cct_live_service.specs.Parts.{Acts, LifeGoes, Part}
 use Rattle.cct_live_service.specs.Since.{StandsSince}
 use Rattle.cct_live_service.specs.Told.{Told, news_of}
 use Rattle.cct_live_service.proofs.Desks.{desk_then}
 use Rattle.cct_live_service.proofs.Telling.{news_then}
+
+-- a count that never falls
+pub later_then : {a b c : ℕ} → a ≤ b → b ≤ c → a ≤ c
+later_then {a} {b} {c} h k = omega (arith, h, k)
 
 module _ {D : Type 0} {g : Ghosts D} where
   -- what was reported, and the way of a life from one host to another, and from one desk to another
@@ -68,6 +70,20 @@ module _ {D : Type 0} {g : Ghosts D} where
   rested_later host mid same was desk steps told goes rest known =
       known_later host mid was desk steps told goes (Rests (setup_of host) rest)
       (subst (λ setup. IsKnown mid desk (Rests setup rest)) same known)
+
+  -- what was missed
+  pub missed_later : (host mid : Host D g) → setup_of mid ≡ setup_of host → (was desk : Desk) (steps : List LiveStep)
+      (told : List Told) → GoesTo host mid was desk steps told → (M N : Type 0) → (M → N) → MissedFrom mid M →
+      MissedFrom host N
+  missed_later host mid same was desk steps told goes M N to missed given found before past life since trusted =
+      let one = goes.0 given found before past life since in
+      to (missed given found (before ++ steps) (news_of told ++ past)
+      (subst (λ setup. IsLife MOST_RECORDS setup found (before ++ steps) (news_of told ++ past)) (sym same) one.0) one.1
+      trusted)
+
+  pub missed_weaker : (host : Host D g) (M N : Type 0) → (M → N) → MissedFrom host M → MissedFrom host N
+  missed_weaker host M N to missed given found before past life since trusted =
+      to (missed given found before past life since trusted)
 
 -- of a sink with a count of faults
 module _ {K : Type 0} (written : K → Option (List ℕ)) (puts : K → List ℕ → Result (Unit {0}) Failed → K → Type 0)

@@ -1,5 +1,5 @@
 -- What is told of what the journal knows.
-use Rattle.std.proofs.Common.{◌≡◌, ◌∙◌, ℕ, List, [], ◌∷◌, ◌++◌, reverse, map, true, false, Option, Some, None, is_some, Result, Ok, Err, refl, sym, ap, ap₂, subst, inl, inr}
+use Rattle.std.proofs.Common.{◌≡◌, ◌∙◌, ℕ, List, [], ◌∷◌, ◌++◌, ◌&&◌, reverse, map, Bool, true, false, append_assoc, Option, Some, None, is_some, Result, Ok, Err, refl, sym, ap, ap₂, subst, inl, inr}
 use Rattle.std.specs.Prelude.{MatchResult}
 use Rattle.std.specs.Io.KnownBytes.{Appends}
 use Rattle.std.proofs.lemmas.List.{reverse-append, reverse-reverse}
@@ -8,23 +8,31 @@ use Rattle.cct_audit.specs.Writing.{WritesLines, bytes_of}
 use Rattle.cct_edge.specs.Bytes.{AppendsFront}
 use Rattle.cct_edge.specs.declared.fault.Failed.{Failed}
 use Rattle.cct_disk.specs.declared.disk.Disk.{Ghosts}
-use Rattle.cct_journal.specs.Image.{HasFrom}
+use Rattle.cct_disk.specs.Disk.{IsTrusted}
+use Rattle.cct_journal.specs.Image.{HasFrom, IsAlien}
 use Rattle.cct_journal.specs.Journal as journals
 use Rattle.cct_journal.specs.declared.refusal.OpenNo.{OpenNo}
 use Rattle.cct_journal.specs.declared.refusal.OpenNo.TheVariants as opening
 use Rattle.cct_text.specs.Writing.{Puts}
-use Rattle.cct_journal.proofs.Opens.{one_from}
+use Rattle.cct_journal.proofs.Opens.{alien_has_none, bad_has_none, one_from}
+use Rattle.cct_journal_carry.proofs.FitsSetup.{carry_fits}
+use Rattle.cct_journal_carry.proofs.Follows.{follows_carried}
+use Rattle.cct_journal_carry.proofs.Steps.{carry_next}
+use Rattle.cct_laws.proofs.money.EpochsReplayed.{follow_front}
+use Rattle.std.proofs.lemmas.Bool.{and_parts}
 use Rattle.cct_model.specs.terms.device.Setup.{Setup}
 use Rattle.cct_model.specs.lines.carry.Carry.{Carry}
 use Rattle.cct_model.specs.lines.entry.Entry.{Entry}
 use Rattle.cct_model.specs.lines.record.Record.{Record}
-use Rattle.cct_model.specs.Carry.{carry}
+use Rattle.cct_model.specs.Carry.{carry, carry_with, follows_carry}
+use Rattle.cct_model.specs.Following.{all_follow, follows}
+use Rattle.cct_model.specs.Setup.{IsSoundSetup}
 use Rattle.cct_model.specs.Records.{records}
 use Rattle.cct_host.specs.declared.host.Host.{Host}
-use Rattle.cct_host.specs.Host.{disk_of, setup_of}
-use Rattle.cct_bench_state.specs.Books.{state_lines}
+use Rattle.cct_host.specs.Host.{StandsFor, disk_of, setup_of}
+use Rattle.cct_bench_state.specs.Books.{carry_after, follow_after, state_lines}
 use Rattle.cct_bench_state.specs.Known.{any_disk, of_image}
-use Rattle.cct_bench_state.specs.Telling.{Tells}
+use Rattle.cct_bench_state.specs.Telling.{IsBad, IsMisfit, Tells}
 use Rattle.cct_bench_state.specs.declared.telling.StateEnd.{StateEnd}
 use Rattle.cct_bench_state.specs.declared.telling.StateEnd.TheVariants as telling
 use Rattle.cct_laws_live.specs.LiveStep.{LiveStep}
@@ -32,7 +40,7 @@ use Rattle.cct_live_service.specs.Doing.{IsStating}
 use Rattle.cct_live_service.specs.AtDesk.{IsApart}
 use Rattle.cct_live_service.specs.Linked.{AreQuiet}
 use Rattle.cct_live_service.specs.Reported.{AreSoWhere}
-use Rattle.cct_live_service.specs.Stated.{IsStateFor, IsStateOf}
+use Rattle.cct_live_service.specs.Stated.{IsStateFor, IsStateOf, MissedFor, TellsKnown}
 use Rattle.cct_live_service.specs.Told.{Told, WritesTold, findings_in, knows_each, news_of, told_line, told_text}
 
 -- it is no news of the host, and no finding
@@ -44,9 +52,9 @@ pub found_known : (all lines : List (List ℕ)) → findings_in (knows_each all 
 found_known all [] = refl
 found_known all (line ∷ lines) = found_known all lines
 
-pub stating_finds : (steps : List LiveStep) (told : List Told) → IsStating steps told → findings_in told ≡ []
-stating_finds steps told (none, inl known) = ap findings_in known.1 ∙ found_known known.0 known.0
-stating_finds steps told (none, inr unread) = ap findings_in unread
+pub stating_finds : (M : Type 0) (steps : List LiveStep) (told : List Told) → IsStating M steps told → findings_in told ≡ []
+stating_finds M steps told (none, inl known) = ap findings_in known.1 ∙ found_known known.0 known.0
+stating_finds M steps told (none, inr unread) = ap findings_in unread.0
 
 -- nothing goes over the link, and the desk is left as it is
 pub quiet_known : (all lines : List (List ℕ)) → AreQuiet (knows_each all lines)
@@ -114,6 +122,76 @@ module _ {D : Type 0} {g : Ghosts D} (host : Host D g) where
       never : false ≡ true → ⊥
       never e = cc e
 
+-- in a sound setup records that follow one another follow the carry of the first ones
+module _ (setup : Setup) (sound : IsSoundSetup setup) (first : List Record) where
+  since_follow : (since : List Record) → all_follow setup (since ++ first) ≡ true →
+      (carry_after setup (carry setup first) since ≡ carry setup (since ++ first))
+      × (follow_after setup (carry setup first) since ≡ true)
+  since_follow [] follow = (refl, refl)
+  since_follow (r ∷ since) follow =
+      let parts = and_parts (follows setup (since ++ first) r) (all_follow setup (since ++ first)) follow in
+      let one = since_follow since parts.1 in (
+        ap (carry_with setup r) one.0 ∙ carry_next setup (since ++ first) sound r follow,
+        both (follows_carry setup (carry_after setup (carry setup first) since) r)
+            (follow_after setup (carry setup first) since)
+            (ap (λ c. follows_carry setup c r) one.0 ∙ follows_carried setup (since ++ first) sound parts.1 r ∙ parts.0) one.1,
+      )
+    where
+      both : (b c : Bool) → b ≡ true → c ≡ true → (b && c) ≡ true
+      both true c h k = k
+      both false c h k = cc h
+
+  -- so none of them is a misfit
+  none_misfit : (base index : ℕ) (rest : List Record) → all_follow setup (reverse rest ++ first) ≡ true →
+      IsMisfit (Some setup) base (carry setup first) rest index → ⊥
+  none_misfit base index rest follow (inl bad) =
+      bad.0 (carry_fits setup first sound (follow_front setup (reverse rest) first follow), refl)
+  none_misfit base index rest follow (inr (before, r, later, are, at, suits, bad)) =
+      bad (
+        carry_fits setup first sound (follow_front setup (reverse rest) first follow),
+        (since_follow (r ∷ before) (follow_front setup (reverse later) (r ∷ (before ++ first))
+            (ap (all_follow setup) (sym (split before r later)) ∙ ap (λ rs. all_follow setup (reverse rs ++ first)) (sym are)
+            ∙ follow))).1,
+      )
+    where
+      split : (xs : List Record) (y : Record) (zs : List Record) →
+          reverse (reverse xs ++ y ∷ zs) ++ first ≡ reverse zs ++ y ∷ (xs ++ first)
+      split xs y zs =
+          ap (λ rs. rs ++ first)
+          (reverse-append (reverse xs) (y ∷ zs) ∙ ap (λ rs. reverse (y ∷ zs) ++ rs) (reverse-reverse xs)
+          ∙ ap (λ rs. rs ++ xs) (reverse-append (y ∷ []) zs) ∙ append_assoc (reverse zs) (y ∷ []) xs)
+          ∙ append_assoc (reverse zs) (y ∷ xs) first
+
+-- a trusted disk that represents records isn't refused
+module _ {D : Type 0} {g : Ghosts D} (host : Host D g) where
+  never_refused : (image : List ℕ) → g.seen (disk_of host) ≡ Some image → (past : List Entry) → StandsFor host past →
+      all_follow (setup_of host) (records past) ≡ true → IsTrusted g.honest g.seen (disk_of host) →
+      (IsAlien image → ⊥) × ((index : ℕ) → IsBad (of_image image) (Some (setup_of host)) index → ⊥)
+  never_refused image seen past stands follow trusted =
+      let setup = setup_of host in
+      let kept = stands.on_disk trusted in
+      let place = journals.place_of host.journal in
+      let there : HasFrom image place.base place.carry kept.rest =
+      subst (λ i. HasFrom i place.base place.carry kept.rest) (same_Some kept.image image (sym kept.held.tells ∙ seen))
+      (record { second = place.second; generation = place.generation; current = kept.has }) in
+      let first = reverse kept.continues.first in
+      let all = ap (all_follow setup) (sym (split_at (records past) kept.continues.first kept.rest kept.continues.all)) ∙ follow in (
+        λ alien. alien_has_none image place.base place.carry kept.rest alien there,
+        λ index bad. by_reason index first there all kept.continues.carry_is stands.keeps.desks.sound bad,
+      )
+    where
+      by_reason : (index : ℕ) (first : List Record) {base : ℕ} {c : Carry} {rest : List Record} →
+          HasFrom image base c rest → all_follow (setup_of host) (reverse rest ++ first) ≡ true →
+          c ≡ carry (setup_of host) first → IsSoundSetup (setup_of host) →
+          IsBad (of_image image) (Some (setup_of host)) index → ⊥
+      by_reason index first {base} {c} {rest} there all is sound (inl bad) =
+          bad_has_none image index base c rest bad there
+      by_reason index first {base} {c} {rest} there all is sound (inr (b, k, rs, has, misfit)) =
+          let one = one_from image b base k c rs rest has there in
+          none_misfit (setup_of host) sound first b index rest all
+          (subst (λ x. IsMisfit (Some (setup_of host)) b x rest index) (one.carry_is ∙ is)
+          (subst (λ x. IsMisfit (Some (setup_of host)) b k x index) one.rest_is misfit))
+
 -- what was read of a disk that gives the bytes of the host's is the state of its journal
 module _ {D : Type 0} {g : Ghosts D} (host : Host D g) (writes : List (List ℕ) → Result (Unit {0}) Failed → Type 0) where
   whole : (seen : Option (List ℕ)) → seen ≡ g.seen (disk_of host) →
@@ -170,3 +248,32 @@ module _ {D : Type 0} {g : Ghosts D} (host : Host D g) (writes : List (List ℕ)
 
     pub state_none : (why : OpenNo) → how ≡ telling.Unread why → writes [] (Ok tt)
     state_none why is = none (Some (setup_of host)) why (any_as (telling.Unread why) is)
+
+    -- it isn't unread but where the disk failed, if it is trusted
+    pub unread_missed : (why : OpenNo) → how ≡ telling.Unread why → (Missed : Type 0) → (why ≡ opening.Disk → Missed) →
+        MissedFor host Missed
+    unread_missed why is Missed missed past stands follow trusted = by_seen (g.seen (disk_of host)) refl
+      where
+        by_why : (no : OpenNo) → why ≡ no → (image : List ℕ) → g.seen (disk_of host) ≡ Some image →
+            Tells (of_image image) (Some (setup_of host)) (telling.Unread no) writes → Missed
+        by_why opening.Disk same image at told = missed same
+        by_why opening.Alien same image at told =
+            absurd ((never_refused host image at past stands follow trusted).0 told.0)
+        by_why (opening.BadRecord index) same image at told =
+            absurd ((never_refused host image at past stands follow trusted).1 index told.0)
+
+        never : false ≡ true → ⊥
+        never e = cc e
+
+        by_seen : (at : Option (List ℕ)) → g.seen (disk_of host) ≡ at → Missed
+        by_seen None at = absurd (never (subst (λ (s : Option (List ℕ)). is_some s ≡ true) at trusted.1))
+        by_seen (Some image) at =
+            by_why why refl image at (told_as (telling.Unread why) is image (gives ∙ at))
+
+-- the state of a journal was reported, or more was missed
+pub known_weaker : {K : Type 0} (written : K → Option (List ℕ)) (puts : K → List ℕ → Result (Unit {0}) Failed → K → Type 0)
+    {D : Type 0} {g : Ghosts D} (host : Host D g) (M N : Type 0) → (M → N) → (a : K) (result : Result (Unit {0}) Failed)
+    (b : K) → TellsKnown written puts host M a result b → TellsKnown written puts host N a result b
+known_weaker written puts host M N to a result b (inl known) = inl known
+known_weaker written puts host M N to a result b (inr unread) =
+    inr (unread.0, λ past stands follow trusted. to (unread.1 past stands follow trusted))

@@ -1,4 +1,6 @@
 pub mod Suiting
+pub mod Standings
+pub mod Watching
 pub mod Telling
 pub mod Since
 pub mod Reporting

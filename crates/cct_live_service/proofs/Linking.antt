@@ -1,8 +1,7 @@
 -- What goes over a link, one part of a service after another.
-use Rattle.std.proofs.Common.{◌≡◌, ◌==◌, ◌&&◌, ℕ, List, [], ◌∷◌, ◌++◌, reverse, Bool, true, false, not, Option, Some, None, Result, Ok, Err, refl, sym, ap, ◌∙◌, subst, eq-eqb}
-use Rattle.std.specs.List.{All}
-use Rattle.std.proofs.lemmas.List.Elements.{All-head, All-tail}
+use Rattle.std.proofs.Common.{◌≡◌, ◌&&◌, ℕ, List, [], ◌∷◌, ◌++◌, reverse, Bool, true, false, Option, Some, None, Result, Ok, Err, refl, sym, ap, ◌∙◌, subst}
 use Rattle.cct_edge.specs.declared.fault.Failed.{Failed}
+use Rattle.cct_model.specs.lines.entry.End.{End}
 use Rattle.cct_model.specs.lines.entry.Entry.{Entry}
 use Rattle.cct_model.specs.lines.entry.Entry.TheVariants as entry_of
 use Rattle.cct_model.specs.terms.device.DeviceSetup.{DeviceSetup}
@@ -17,18 +16,20 @@ use Rattle.cct_live_survey.specs.declared.roll.Answered.{Answered}
 use Rattle.cct_live_survey.specs.Roll.{AsksRoll, Rolled}
 use Rattle.cct_live_service.specs.declared.notice.Notice.{Notice}
 use Rattle.cct_live_service.specs.declared.notice.Notice.TheVariants as notice_of
+use Rattle.cct_live_service.specs.declared.page.Page.{Page}
 use Rattle.cct_live_service.specs.declared.served.Served.{Served}
 use Rattle.cct_live_service.specs.declared.served.Served.TheVariants as served
+use Rattle.cct_live_service.specs.declared.watch.Watch.{Watch}
 use Rattle.cct_model.specs.Change.{Desk}
 use Rattle.cct_live_service.specs.Asked.{most_asked}
 use Rattle.cct_live_service.specs.AtDesk.{Both, FollowsDesk, FollowsTo, IsApart}
-use Rattle.cct_live_service.specs.Held.{HasExchange, IsAfter}
-use Rattle.cct_live_service.specs.Linked.{AreQuiet, Exchanges, ExchangesSince, UsesLink, are_quiet, asks, goes_on, has_counted, is_quiet, tells}
+use Rattle.cct_live_service.specs.Linked.{AreQuiet, AreStanding, Exchanges, ExchangesSince, UsesLink, Watched, are_quiet, asks, due_next, goes_on, has_counted, is_quiet, tells, watch_next, watched}
 use Rattle.cct_live_service.specs.Parts.{Acts, LivesOn, LivesTo}
 use Rattle.cct_live_service.specs.Said.{IsOfInput}
 use Rattle.cct_live_service.specs.Found.{Begun, found_there, made_new}
 use Rattle.cct_live_service.specs.Opening.{opening_of}
-use Rattle.cct_live_service.specs.Told.{IsOfStatus, Told, attempt_told, entry, notice, notices_told, unsent}
+use Rattle.cct_live_service.specs.Told.{Told, as_told, attempt_told, entry, notice, notices_told, unsent}
+use Rattle.cct_live_service.specs.Watch.{due_after, due_of, ended_at, notices_in, watch_after, watch_of}
 use Rattle.cct_live_service.proofs.Desks.{apart_follows, follows_then, follows_to}
 use Rattle.cct_live_service.proofs.Parts.{acts_linked, acts_none, acts_then, lives_linked, stops_to}
 
@@ -47,186 +48,208 @@ quiet_then (what ∷ t1) t2 h k =
     quiet_parts true c h = (refl, h)
     quiet_parts false c h = cc h
 
--- how a host stands is reported quietly
-status_quiet : (n : Notice) → IsOfStatus n → is_quiet (notice n) ≡ true
-status_quiet notice_of.LineFault h = absurd h
-status_quiet notice_of.LineBack h = absurd h
-status_quiet n h = refl
-
--- and so is what is reported first
+-- what is reported first is quiet
 pub opening_quiet : (setup : Setup) (begun : Begun) → AreQuiet (notice (opening_of setup begun) ∷ [])
 opening_quiet setup made_new = refl
 opening_quiet setup (found_there base c rest) = refl
 
-pub all_status_quiet : (notices : List Notice) → All IsOfStatus notices → AreQuiet (notices_told notices)
-all_status_quiet [] h = refl
-all_status_quiet (n ∷ notices) h =
-    all_quiet (is_quiet (notice n)) (are_quiet (notices_told notices)) (status_quiet n (All-head IsOfStatus n notices h))
-    (all_status_quiet notices (All-tail IsOfStatus n notices h))
-
-module _ {L : Type 0} (gives : L → List ℕ → List ℕ → L → Type 0) (sent : L → Bool) (failures : L → ℕ) where
+-- of a link with devices on it
+module _ {L : Type 0} (gives : L → List ℕ → List ℕ → L → Type 0) (sent : L → Bool) (failures : L → ℕ)
+    (devices : List DeviceSetup) where
   -- nothing goes over a link
-  since_quiet : (last : Option Bool) (line : L) (told : List Told) → AreQuiet told →
-      ExchangesSince gives sent failures last line line told
-  since_quiet last line [] h = refl
-  since_quiet last line (entry (entry_of.Wire addr message heard) ∷ told) h = cc h
-  since_quiet last line (unsent addr message ∷ told) h = cc h
-  since_quiet last line (notice notice_of.LineFault ∷ told) h = cc h
-  since_quiet last line (notice notice_of.LineBack ∷ told) h = cc h
-  since_quiet last line (what ∷ told) h = since_quiet last line told h
+  since_quiet : (line : Watched L) (told : List Told) → AreQuiet told →
+      Exchanges gives sent failures devices line line told
+  since_quiet line [] h = (refl, refl)
+  since_quiet line (entry (entry_of.Wire addr message heard) ∷ told) h = cc h
+  since_quiet line (entry (entry_of.Ended addr end) ∷ told) h = cc h
+  since_quiet line (unsent addr message ∷ told) h = cc h
+  since_quiet line (notice notice_of.LineFault ∷ told) h = cc h
+  since_quiet line (notice notice_of.LineBack ∷ told) h = cc h
+  since_quiet line (notice (notice_of.Held addr place) ∷ told) h = cc h
+  since_quiet line (notice (notice_of.Device addr job epoch order) ∷ told) h = cc h
+  since_quiet line (what ∷ told) h = (tt, since_quiet line told h)
 
-  -- what is so without an exchange before is so with one
-  since_any : (last : Option Bool) (old new : L) (told : List Told) → Exchanges gives sent failures old new told →
-      ExchangesSince gives sent failures last old new told
-  since_any last old new [] h = h
-  since_any last old new (entry (entry_of.Wire addr message heard) ∷ told) h = h
-  since_any last old new (unsent addr message ∷ told) h = h
-  since_any last old new (notice notice_of.LineFault ∷ told) h = cc h.0
-  since_any last old new (notice notice_of.LineBack ∷ told) h = cc h.0
-  since_any last old new (what ∷ told) h = since_any last old new told h
+  -- nor where devices are reported as they stand
+  since_standing : (line : Watched L) (due : List Notice) (told : List Told) → AreStanding line.watch due told →
+      ExchangesSince gives sent failures devices due line line told
+  since_standing line due [] h = (h, refl)
+  since_standing line due (notice n ∷ told) h =
+      (h.0, since_standing line (due_next line.watch due (notice n)) told h.1)
+  since_standing line due (what ∷ told) h = absurd h
 
   -- exchanges, and then more
-  since_then : (last : Option Bool) (old line new : L) (t1 t2 : List Told) →
-      ExchangesSince gives sent failures last old line t1 → Exchanges gives sent failures line new t2 →
-      ExchangesSince gives sent failures last old new (t1 ++ t2)
-  since_then last old line new [] t2 h k =
-      since_any last old new t2 (subst (λ l. Exchanges gives sent failures l new t2) h k)
-  since_then last old line new (entry (entry_of.Wire addr message heard) ∷ t1) t2 h k =
-      (h.0, h.1, h.2, since_then (Some (has_counted failures old h.0)) h.0 line new t1 t2 h.3 k)
-  since_then last old line new (unsent addr message ∷ t1) t2 h k =
-      (h.0, h.1, h.2, since_then (Some (has_counted failures old h.0)) h.0 line new t1 t2 h.3 k)
-  since_then last old line new (notice notice_of.LineFault ∷ t1) t2 h k =
-      (h.0, since_then last old line new t1 t2 h.1 k)
-  since_then last old line new (notice notice_of.LineBack ∷ t1) t2 h k =
-      (h.0, since_then last old line new t1 t2 h.1 k)
-  since_then last old line new (what ∷ t1) t2 h k = since_then last old line new t1 t2 h k
+  since_then : (due : List Notice) (old line new : Watched L) (t1 t2 : List Told) →
+      ExchangesSince gives sent failures devices due old line t1 → Exchanges gives sent failures devices line new t2 →
+      ExchangesSince gives sent failures devices due old new (t1 ++ t2)
+  since_then due old line new [] t2 h k =
+      subst (λ d. ExchangesSince gives sent failures devices d old new t2) (sym h.0)
+      (subst (λ l. Exchanges gives sent failures devices l new t2) h.1 k)
+  since_then due old line new (entry (entry_of.Wire addr message heard) ∷ t1) t2 h k = (
+    h.0,
+    h.1,
+    h.2,
+    h.3,
+    since_then (notices_in (due_of devices old.watch (has_counted failures old.link h.1) addr message heard))
+        (record { link = h.1; watch = watch_of devices old.watch (has_counted failures old.link h.1) addr message heard })
+        line new t1 t2 h.4 k,
+  )
+  since_then due old line new (unsent addr message ∷ t1) t2 h k = (
+    h.0,
+    h.1,
+    h.2,
+    h.3,
+    since_then (notices_in (due_of devices old.watch (has_counted failures old.link h.1) addr message []))
+        (record { link = h.1; watch = watch_of devices old.watch (has_counted failures old.link h.1) addr message [] })
+        line new t1 t2 h.4 k,
+  )
+  since_then due old line new (what ∷ t1) t2 h k = (
+    h.0,
+    since_then (due_next old.watch due what) (record { link = old.link; watch = watch_next old.watch what }) line new t1 t2
+        h.1 k,
+  )
 
-  -- notices after an exchange that failed or not
-  notices_after : (failed : Bool) (entries : List Entry) (line : L) (notices : List Notice) →
-      All (IsAfter failed entries) notices → ExchangesSince gives sent failures (Some failed) line line (notices_told notices)
-  notices_after failed entries line [] h = refl
-  notices_after failed entries line (n ∷ notices) h =
-      notice_then n (All-head (IsAfter failed entries) n notices h)
-      (notices_after failed entries line notices (All-tail (IsAfter failed entries) n notices h))
-    where
-      notice_then : (n : Notice) → IsAfter failed entries n →
-          ExchangesSince gives sent failures (Some failed) line line (notices_told notices) →
-          ExchangesSince gives sent failures (Some failed) line line (notice n ∷ notices_told notices)
-      notice_then notice_of.LineFault is k = (ap (λ b. Some b) is, k)
-      notice_then notice_of.LineBack is k = (ap (λ b. Some b) is.0, k)
-      notice_then n is k = k
+  -- the notices that come next
+  due_told : (due : List Notice) (line : Watched L) →
+      ExchangesSince gives sent failures devices due line line (notices_told due)
+  due_told [] line = (refl, refl)
+  due_told (n ∷ due) line = (refl, due_told due line)
 
-  -- notices where there was no exchange
-  notices_still : (entries : List Entry) → (HasExchange entries → ⊥) → (line : L) (notices : List Notice) →
-      All (IsAfter (has_counted failures line line) entries) notices →
-      Exchanges gives sent failures line line (notices_told notices)
-  notices_still entries none line [] h = refl
-  notices_still entries none line (n ∷ notices) h =
-      notice_then n (All-head (IsAfter (has_counted failures line line) entries) n notices h)
-      (notices_still entries none line notices (All-tail (IsAfter (has_counted failures line line) entries) n notices h))
-    where
-      uncounted : (n m : ℕ) → n ≡ m → not (n == m) ≡ false
-      uncounted n m same = ap (λ b. not b) (eq-eqb n m same)
+  -- after the end of a job
+  ended_told : (due : List Notice) (line : L) (w : Watch) (addr : ℕ) (end : End) →
+      ExchangesSince gives sent failures devices due (record { link = line; watch = w })
+      (record { link = line; watch = ended_at w addr end }) (entry (entry_of.Ended addr end) ∷ notices_told due)
+  ended_told [] line w addr end = (tt, due_told [] (record { link = line; watch = ended_at w addr end }))
+  ended_told (n ∷ due) line w addr end = (tt, due_told (n ∷ due) (record { link = line; watch = ended_at w addr end }))
 
-      notice_then : (n : Notice) → IsAfter (has_counted failures line line) entries n →
-          Exchanges gives sent failures line line (notices_told notices) →
-          Exchanges gives sent failures line line (notice n ∷ notices_told notices)
-      notice_then notice_of.LineFault is k = cc (sym (uncounted (failures line) (failures line) refl) ∙ is)
-      notice_then notice_of.LineBack is k = absurd (none is.1)
-      notice_then n is k = k
+  -- the same link, with what is remembered of it
+  abbrev at_link : Watch → L → Watched L
+  at_link w line = record { link = line; watch = w }
+
+  linked_as : (w : Watch) {a b : L} → a ≡ b → at_link w a ≡ at_link w b
+  linked_as w same = ap (at_link w) same
 
   -- the entries of an attempt, and notices after them
   module _ (nothing : (old : L) (message heard : List ℕ) (new : L) → gives old message heard new → sent new ≡ false
       → heard ≡ []) where
     -- an exchange, as it is reported
-    exchange_told : (is_sent : Bool) (old new : L) (addr : ℕ) (message heard : List ℕ) (more : List Entry) (told : List Told) →
-        is_sent ≡ sent new → gives old message heard new →
-        ExchangesSince gives sent failures (Some (has_counted failures old new)) new new (attempt_told true more ++ told) →
-        Exchanges gives sent failures old new (attempt_told is_sent (entry_of.Wire addr message heard ∷ more) ++ told)
-    exchange_told true old new addr message heard more told is given k = (new, given, sym is, k)
-    exchange_told false old new addr message [] more told is given k = (new, given, sym is, k)
-    exchange_told false old new addr message (byte ∷ heard) more told is given k =
-        cc (nothing old message (byte ∷ heard) new given (sym is))
+    exchange_told : (is_sent : Bool) (old : Watched L) (line : L) (new : Watched L) (addr : ℕ) (message heard : List ℕ)
+        (more : List Entry) (told : List Told) → is_sent ≡ sent line → gives old.link message heard line →
+        ExchangesSince gives sent failures devices
+        (notices_in (due_of devices old.watch (has_counted failures old.link line) addr message heard))
+        (record { link = line; watch = watch_of devices old.watch (has_counted failures old.link line) addr message heard }) new
+        (as_told more ++ told) →
+        Exchanges gives sent failures devices old new (attempt_told is_sent (entry_of.Wire addr message heard ∷ more) ++ told)
+    exchange_told true old line new addr message heard more told is given k = (refl, line, given, sym is, k)
+    exchange_told false old line new addr message [] more told is given k = (refl, line, given, sym is, k)
+    exchange_told false old line new addr message (byte ∷ heard) more told is given k =
+        cc (nothing old.link message (byte ∷ heard) line given (sym is))
 
-    -- no exchange
-    none_told : (is_sent : Bool) (old new : L) (e : Entry) (more : List Entry) → new ≡ old → (notices : List Notice) →
-        All (IsAfter (has_counted failures old new) (e ∷ more)) notices → (HasExchange (e ∷ more) → ⊥) →
-        ((told : List Told) → ExchangesSince gives sent failures None old old told →
-        ExchangesSince gives sent failures None old old (attempt_told is_sent (e ∷ more) ++ told)) →
-        Exchanges gives sent failures old new (attempt_told is_sent (e ∷ more) ++ notices_told notices)
-    none_told is_sent old new e more same notices h none to =
-        subst (λ l. Exchanges gives sent failures old l (attempt_told is_sent (e ∷ more) ++ notices_told notices)) (sym same)
-        (to (notices_told notices) (notices_still (e ∷ more) none old notices
-        (subst (λ l. All (IsAfter (has_counted failures old l) (e ∷ more)) notices) same h)))
-
-    attempt_goes : (old new : L) (addr : ℕ) (what : Attempt) (is_sent : Bool) (notices : List Notice) →
-        Links gives old new what → is_sent ≡ sent new →
-        All (IsAfter (has_counted failures old new) (reverse (attempt.news_of addr what))) notices →
-        Exchanges gives sent failures old new
-        (attempt_told is_sent (reverse (attempt.news_of addr what)) ++ notices_told notices)
-    attempt_goes old new addr idle true notices links is h =
-        none_told true old new (entry_of.Idle addr) [] links notices h (λ x. x) (λ told k. k)
-    attempt_goes old new addr idle false notices links is h =
-        none_told false old new (entry_of.Idle addr) [] links notices h (λ x. x) (λ told k. k)
-    attempt_goes old new addr (asked message heard None) is_sent notices links is h =
-        exchange_told is_sent old new addr message heard [] (notices_told notices) is links
-        (notices_after (has_counted failures old new) (entry_of.Wire addr message heard ∷ []) new notices h)
-    attempt_goes old new addr (asked message heard (Some end)) is_sent notices links is h =
-        exchange_told is_sent old new addr message heard (entry_of.Ended addr end ∷ []) (notices_told notices) is links
-        (notices_after (has_counted failures old new) (entry_of.Wire addr message heard ∷ entry_of.Ended addr end ∷ []) new
-        notices h)
-    attempt_goes old new addr (put r None) true notices links is h =
-        none_told true old new (entry_of.Put r) [] links notices h (λ x. x) (λ told k. k)
-    attempt_goes old new addr (put r None) false notices links is h =
-        none_told false old new (entry_of.Put r) [] links notices h (λ x. x) (λ told k. k)
-    attempt_goes old new addr (put r (Some end)) true notices links is h =
-        none_told true old new (entry_of.Put r) (entry_of.Ended addr end ∷ []) links notices h (λ x. x)
-        (λ told k. k)
-    attempt_goes old new addr (put r (Some end)) false notices links is h =
-        none_told false old new (entry_of.Put r) (entry_of.Ended addr end ∷ []) links notices h (λ x. x)
-        (λ told k. k)
+    attempt_goes : (old new : L) (w : Watch) (addr : ℕ) (what : Attempt) (is_sent : Bool) → Links gives old new what →
+        is_sent ≡ sent new →
+        Exchanges gives sent failures devices (record { link = old; watch = w })
+        (record {
+          link = new;
+          watch = watch_after devices w (has_counted failures old new) (reverse (attempt.news_of addr what));
+        })
+        (attempt_told is_sent (reverse (attempt.news_of addr what))
+        ++ notices_told (notices_in (due_after devices w (has_counted failures old new) (reverse (attempt.news_of addr what)))))
+    attempt_goes old new w addr idle true links is = (tt, (refl, linked_as w links))
+    attempt_goes old new w addr idle false links is = (tt, (refl, linked_as w links))
+    attempt_goes old new w addr (asked message heard None) is_sent links is =
+        let failed = has_counted failures old new in
+        let line : Watched L = record { link = new; watch = watch_of devices w failed addr message heard } in
+        let due = notices_in (due_of devices w failed addr message heard) in
+        exchange_told is_sent (record { link = old; watch = w }) new line addr message heard [] (notices_told due) is links
+        (due_told due line)
+    attempt_goes old new w addr (asked message heard (Some end)) is_sent links is =
+        let failed = has_counted failures old new in
+        let between = watch_of devices w failed addr message heard in
+        let due = notices_in (due_of devices w failed addr message heard) in
+        exchange_told is_sent (record { link = old; watch = w }) new (record { link = new; watch = ended_at between addr end })
+        addr message heard (entry_of.Ended addr end ∷ []) (notices_told due) is links (ended_told due new between addr end)
+    attempt_goes old new w addr (put r None) true links is = (tt, (refl, linked_as w links))
+    attempt_goes old new w addr (put r None) false links is = (tt, (refl, linked_as w links))
+    attempt_goes old new w addr (put r (Some end)) true links is =
+        (tt, (tt, (refl, linked_as (ended_at w addr end) links)))
+    attempt_goes old new w addr (put r (Some end)) false links is =
+        (tt, (tt, (refl, linked_as (ended_at w addr end) links)))
 
     -- an attempt goes over its link as it is reported
-    pub attempt_linked : (old new : L) (addr : ℕ) (what : Attempt) (reported : List Entry) (is_sent failed : Bool)
-        (notices : List Notice) → Links gives old new what → reported ≡ reverse (attempt.news_of addr what) →
-        is_sent ≡ sent new → failed ≡ has_counted failures old new → All (IsAfter failed reported) notices →
-        Exchanges gives sent failures old new (attempt_told is_sent reported ++ notices_told notices)
-    attempt_linked old new addr what reported is_sent failed notices links entries is counted h =
-        subst (λ es. Exchanges gives sent failures old new (attempt_told is_sent es ++ notices_told notices)) (sym entries)
-        (attempt_goes old new addr what is_sent notices links is
-        (subst (λ es. All (IsAfter (has_counted failures old new) es) notices) entries
-        (subst (λ b. All (IsAfter b reported) notices) counted h)))
+    pub attempt_linked : (old new : L) (w : Watch) (addr : ℕ) (what : Attempt) (reported : List Entry)
+        (is_sent failed : Bool) → Links gives old new what → reported ≡ reverse (attempt.news_of addr what) →
+        is_sent ≡ sent new → failed ≡ has_counted failures old new →
+        Exchanges gives sent failures devices (record { link = old; watch = w })
+        (record { link = new; watch = watch_after devices w failed reported })
+        (attempt_told is_sent reported ++ notices_told (notices_in (due_after devices w failed reported)))
+    attempt_linked old new w addr what reported is_sent failed links entries is counted =
+        subst (λ es. Exchanges gives sent failures devices (record { link = old; watch = w })
+        (record { link = new; watch = watch_after devices w failed es })
+        (attempt_told is_sent es ++ notices_told (notices_in (due_after devices w failed es)))) (sym entries)
+        (subst (λ b. Exchanges gives sent failures devices (record { link = old; watch = w })
+        (record { link = new; watch = watch_after devices w b (reverse (attempt.news_of addr what)) })
+        (attempt_told is_sent (reverse (attempt.news_of addr what))
+        ++ notices_told (notices_in (due_after devices w b (reverse (attempt.news_of addr what)))))) (sym counted)
+        (attempt_goes old new w addr what is_sent links is))
 
-  -- exchanges of one part, and then of another
-  pub exchanges_then : (old line new : L) (t1 t2 : List Told) → Exchanges gives sent failures old line t1 →
-      Exchanges gives sent failures line new t2 → Exchanges gives sent failures old new (t1 ++ t2)
-  exchanges_then old line new t1 t2 h k = since_then None old line new t1 t2 h k
+  pub exchanges_quiet : (line : L) (before after : Page) → after.watch ≡ before.watch → (told : List Told) →
+      AreQuiet told → Exchanges gives sent failures devices (watched line before) (watched line after) told
+  exchanges_quiet line before after same told h =
+      subst (λ w. Exchanges gives sent failures devices (watched line before) (record { link = line; watch = w }) told) (sym same)
+      (since_quiet (watched line before) told h)
 
-  pub exchanges_quiet : (line : L) (told : List Told) → AreQuiet told → Exchanges gives sent failures line line told
-  exchanges_quiet line told h = since_quiet None line told h
+  exchanges_standing : (line : L) (before after : Page) → after.watch ≡ before.watch → (told : List Told) →
+      AreStanding before.watch [] told → Exchanges gives sent failures devices (watched line before) (watched line after) told
+  exchanges_standing line before after same told h =
+      subst (λ w. Exchanges gives sent failures devices (watched line before) (record { link = line; watch = w }) told) (sym same)
+      (since_standing (watched line before) [] told h)
+
+  -- nothing went over it
+  pub exchanges_none : (old new : L) (before after : Page) → new ≡ old → after.watch ≡ before.watch →
+      Exchanges gives sent failures devices (watched old before) (watched new after) []
+  exchanges_none old new before after same kept = (
+    refl,
+    linked_as after.watch same ∙ ap {B = Watched L} (λ w. record { link = old; watch = w }) kept,
+  )
 
   -- the use of a link that tells some exchanges, and asks nothing
-  pub uses_told : (devices : List DeviceSetup) (roll : Rolled) (old new : L) (told : List Told) →
-      Exchanges gives sent failures old new told → UsesLink gives sent failures devices roll roll old new told
-  uses_told devices roll old new told h = tells roll old new told h
+  pub uses_told : (roll : Rolled) (old new : Watched L) (told : List Told) →
+      Exchanges gives sent failures devices old new told → UsesLink gives sent failures devices roll roll old new told
+  uses_told roll old new told h = tells roll old new told h
 
-  pub uses_quiet : (devices : List DeviceSetup) (roll : Rolled) (line : L) (told : List Told) → AreQuiet told →
-      UsesLink gives sent failures devices roll roll line line told
-  uses_quiet devices roll line told h = tells roll line line told (exchanges_quiet line told h)
+  pub uses_quiet : (roll : Rolled) (line : L) (before after : Page) → after.watch ≡ before.watch → (told : List Told) →
+      AreQuiet told → UsesLink gives sent failures devices roll roll (watched line before) (watched line after) told
+  uses_quiet roll line before after same told h =
+      tells roll (watched line before) (watched line after) told (exchanges_quiet line before after same told h)
 
-  pub uses_none : (devices : List DeviceSetup) (roll : Rolled) (line : L) →
-      UsesLink gives sent failures devices roll roll line line []
-  uses_none devices roll line = tells roll line line [] refl
+  uses_standing : (roll : Rolled) (line : L) (before after : Page) → after.watch ≡ before.watch → (told : List Told) →
+      AreStanding before.watch [] told →
+      UsesLink gives sent failures devices roll roll (watched line before) (watched line after) told
+  uses_standing roll line before after same told h =
+      tells roll (watched line before) (watched line after) told (exchanges_standing line before after same told h)
+
+  pub uses_none : (roll : Rolled) (line : Watched L) → UsesLink gives sent failures devices roll roll line line []
+  uses_none roll line = tells roll line line [] (refl, refl)
 
   -- questions, and then quiet lines
-  pub uses_asked : (devices : List DeviceSetup) (whom : Option ℕ) (answered : Answered) (roll now : Rolled) (old new : L) →
-      AsksRoll gives devices whom (most_asked whom) roll old answered now new → (told : List Told) → AreQuiet told →
-      UsesLink gives sent failures devices roll now old new told
-  uses_asked devices whom answered roll now old new questions told h =
-      goes_on roll now now old new new [] told (asks whom answered roll now old new questions) (uses_quiet devices now new told h)
+  pub uses_asked : (whom : Option ℕ) (answered : Answered) (roll now : Rolled) (old new : L) (before after : Page) →
+      after.watch ≡ before.watch → AsksRoll gives devices whom (most_asked whom) roll old answered now new →
+      (told : List Told) → AreQuiet told →
+      UsesLink gives sent failures devices roll now (watched old before) (watched new after) told
+  uses_asked whom answered roll now old new before after same questions told h =
+      goes_on roll now now (watched old before) (watched new before) (watched new after) [] told
+      (asks whom answered roll now old new before.watch questions) (uses_quiet now new before after same told h)
+
+module _ {L : Type 0} (gives : L → List ℕ → List ℕ → L → Type 0) (sent : L → Bool) (failures : L → ℕ) where
+  -- exchanges of one part, and then of another
+  pub exchanges_then : (first between : Setup) → between ≡ first → (old line new : Watched L) (t1 t2 : List Told) →
+      Exchanges gives sent failures first.devices old line t1 → Exchanges gives sent failures between.devices line new t2 →
+      Exchanges gives sent failures first.devices old new (t1 ++ t2)
+  exchanges_then first between same old line new t1 t2 h k =
+      since_then gives sent failures first.devices [] old line new t1 t2 h
+      (subst (λ s. Exchanges gives sent failures s.devices line new t2) same k)
 
   -- one use, and then another
-  pub uses_then : (first between : Setup) → between ≡ first → (a b c : Rolled) (old line new : L) (t1 t2 : List Told) →
+  pub uses_then : (first between : Setup) → between ≡ first → (a b c : Rolled) (old line new : Watched L) (t1 t2 : List Told) →
       UsesLink gives sent failures first.devices a b old line t1 →
       UsesLink gives sent failures between.devices b c line new t2 →
       UsesLink gives sent failures first.devices a c old new (t1 ++ t2)
@@ -280,41 +303,53 @@ module _ {K : Type 0} (written : K → Option (List ℕ)) (puts : K → List ℕ
     (faults : K → ℕ) {L : Type 0} (gives : L → List ℕ → List ℕ → L → Type 0) (sent : L → Bool) (failures : L → ℕ)
     {D : Type 0} {g : Ghosts D} where
   -- one part over a link and at a desk, and then another
-  pub link_then : (old line new : L) (was then now : Desk) (result : Result (Unit {0}) Served) (a b c : K)
+  pub link_then : (old line new : Watched L) (was then now : Desk) (result : Result (Unit {0}) Served) (a b c : K)
       (first between last : Host D g) (P Q R : List LiveStep → List Told → Type 0) →
       ((s1 s2 : List LiveStep) (t1 t2 : List Told) → P s1 t1 → Q s2 t2 → R (s1 ++ s2) (t1 ++ t2)) →
-      Acts written puts faults (Both (Exchanges gives sent failures old line) (FollowsDesk (Ok tt) was then)) P (Ok tt) a b first
-      between →
-      Acts written puts faults (Both (Exchanges gives sent failures line new) (FollowsDesk result then now)) Q result b c between
-      last →
-      Acts written puts faults (Both (Exchanges gives sent failures old new) (FollowsDesk result was now)) R result a c first last
-  link_then old line new was then now result =
-      acts_then written puts faults (Both (Exchanges gives sent failures old line) (FollowsDesk (Ok tt) was then))
-      (Both (Exchanges gives sent failures line new) (FollowsDesk result then now))
-      (Both (Exchanges gives sent failures old new) (FollowsDesk result was now))
-      (both_then (Exchanges gives sent failures old line) (Exchanges gives sent failures line new)
-      (Exchanges gives sent failures old new) (FollowsDesk (Ok tt) was then) (FollowsDesk result then now)
-      (FollowsDesk result was now) (exchanges_then gives sent failures old line new) (follows_then result was then now)) result
+      Acts written puts faults (Both (Exchanges gives sent failures (setup_of first).devices old line)
+      (FollowsDesk (Ok tt) was then)) P (Ok tt) a b first between →
+      Acts written puts faults (Both (Exchanges gives sent failures (setup_of between).devices line new)
+      (FollowsDesk result then now)) Q result b c between last →
+      Acts written puts faults (Both (Exchanges gives sent failures (setup_of first).devices old new)
+      (FollowsDesk result was now)) R result a c first last
+  link_then old line new was then now result a b c first between last P Q R to h k =
+      let one = Exchanges gives sent failures (setup_of first).devices old line in
+      let other = Exchanges gives sent failures (setup_of between).devices line new in
+      let all = Exchanges gives sent failures (setup_of first).devices old new in
+      acts_then written puts faults (Both one (FollowsDesk (Ok tt) was then)) (Both other (FollowsDesk result then now))
+      (Both all (FollowsDesk result was now))
+      (both_then one other all (FollowsDesk (Ok tt) was then) (FollowsDesk result then now) (FollowsDesk result was now)
+      (exchanges_then gives sent failures (setup_of first) (setup_of between) h.setup old line new)
+      (follows_then result was then now)) result a b c first between last P Q R to h k
 
   -- nothing is done
-  pub link_none : (line : L) (desk : Desk) (a : K) (host : Host D g) (P : List LiveStep → List Told → Type 0) →
+  pub link_none : (line : Watched L) (desk : Desk) (a : K) (host : Host D g) (P : List LiveStep → List Told → Type 0) →
       has_failed host ≡ false → P [] [] →
-      Acts written puts faults (Both (Exchanges gives sent failures line line) (FollowsDesk (Ok tt) desk desk)) P (Ok tt) a a host
-      host
-  link_none line desk =
-      acts_none written puts faults (Both (Exchanges gives sent failures line line) (FollowsDesk (Ok tt) desk desk)) (refl, refl)
+      Acts written puts faults (Both (Exchanges gives sent failures (setup_of host).devices line line)
+      (FollowsDesk (Ok tt) desk desk)) P (Ok tt) a a host host
+  link_none line desk a host =
+      acts_none written puts faults
+      (Both (Exchanges gives sent failures (setup_of host).devices line line) (FollowsDesk (Ok tt) desk desk))
+      ((refl, refl), refl) a host
 
   -- quiet lines
-  pub link_quiet : (line : L) (desk : Desk) (result : Result (Unit {0}) Served) (a b : K) (old new : Host D g)
-      (P : List LiveStep → List Told → Type 0) → Acts written puts faults (Both AreQuiet IsApart) P result a b old new →
-      Acts written puts faults (Both (Exchanges gives sent failures line line) (FollowsDesk result desk desk)) P result a b old new
-  link_quiet line desk result =
+  pub link_quiet : (line : L) (before after : Page) → after.watch ≡ before.watch → (desk : Desk)
+      (result : Result (Unit {0}) Served) (a b : K) (old new : Host D g) (P : List LiveStep → List Told → Type 0) →
+      Acts written puts faults (Both AreQuiet IsApart) P result a b old new →
+      Acts written puts faults
+      (Both (Exchanges gives sent failures (setup_of old).devices (watched line before) (watched line after))
+      (FollowsDesk result desk desk)) P result a b old new
+  link_quiet line before after same desk result a b old =
       acts_linked written puts faults (Both AreQuiet IsApart)
-      (Both (Exchanges gives sent failures line line) (FollowsDesk result desk desk))
-      (λ told h. (exchanges_quiet gives sent failures line told h.0, apart_follows result desk told h.1)) result
+      (Both (Exchanges gives sent failures (setup_of old).devices (watched line before) (watched line after))
+      (FollowsDesk result desk desk))
+      (λ told h. (
+        exchanges_quiet gives sent failures (setup_of old).devices line before after same told h.0,
+        apart_follows result desk told h.1,
+      )) result a b old
 
   -- one part by the roll, and then another
-  pub roll_then : (roll between_roll now : Rolled) (old line new : L) (V W X : List Told → Type 0) →
+  pub roll_then : (roll between_roll now : Rolled) (old line new : Watched L) (V W X : List Told → Type 0) →
       ((t1 t2 : List Told) → V t1 → W t2 → X (t1 ++ t2)) → (result : Result (Unit {0}) Served) (a b c : K)
       (first between last : Host D g) (P Q R : List LiveStep → List Told → Type 0) →
       ((s1 s2 : List LiveStep) (t1 t2 : List Told) → P s1 t1 → Q s2 t2 → R (s1 ++ s2) (t1 ++ t2)) →
@@ -334,7 +369,7 @@ module _ {K : Type 0} (written : K → Option (List ℕ)) (puts : K → List ℕ
       result a b c first between last P Q R to h k
 
   -- at a desk
-  pub roll_desk : (roll between_roll now : Rolled) (old line new : L) (was then last_desk : Desk)
+  pub roll_desk : (roll between_roll now : Rolled) (old line new : Watched L) (was then last_desk : Desk)
       (result : Result (Unit {0}) Served) (a b c : K) (first between last : Host D g)
       (P Q R : List LiveStep → List Told → Type 0) →
       ((s1 s2 : List LiveStep) (t1 t2 : List Told) → P s1 t1 → Q s2 t2 → R (s1 ++ s2) (t1 ++ t2)) →
@@ -349,7 +384,7 @@ module _ {K : Type 0} (written : K → Option (List ℕ)) (puts : K → List ℕ
       (FollowsDesk result was last_desk) (follows_then result was then last_desk) result
 
   -- nothing is done
-  pub roll_none : (devices : List DeviceSetup) (roll : Rolled) (line : L) (V : List Told → Type 0) → V [] → (a : K)
+  pub roll_none : (devices : List DeviceSetup) (roll : Rolled) (line : Watched L) (V : List Told → Type 0) → V [] → (a : K)
       (host : Host D g) (P : List LiveStep → List Told → Type 0) → has_failed host ≡ false → P [] [] →
       Acts written puts faults (Both (UsesLink gives sent failures devices roll roll line line) V) P (Ok tt) a a host host
   roll_none devices roll line V is =
@@ -357,16 +392,30 @@ module _ {K : Type 0} (written : K → Option (List ℕ)) (puts : K → List ℕ
       (uses_none gives sent failures devices roll line, is)
 
   -- quiet lines
-  pub roll_quiet : (devices : List DeviceSetup) (roll : Rolled) (line : L) (V : List Told → Type 0)
-      (result : Result (Unit {0}) Served) (a b : K) (old new : Host D g) (P : List LiveStep → List Told → Type 0) →
-      Acts written puts faults (Both AreQuiet V) P result a b old new →
-      Acts written puts faults (Both (UsesLink gives sent failures devices roll roll line line) V) P result a b old new
-  roll_quiet devices roll line V =
-      acts_linked written puts faults (Both AreQuiet V) (Both (UsesLink gives sent failures devices roll roll line line) V)
-      (λ told h. (uses_quiet gives sent failures devices roll line told h.0, h.1))
+  pub roll_quiet : (devices : List DeviceSetup) (roll : Rolled) (line : L) (before after : Page) →
+      after.watch ≡ before.watch → (V : List Told → Type 0) (result : Result (Unit {0}) Served) (a b : K) (old new : Host D g)
+      (P : List LiveStep → List Told → Type 0) → Acts written puts faults (Both AreQuiet V) P result a b old new →
+      Acts written puts faults
+      (Both (UsesLink gives sent failures devices roll roll (watched line before) (watched line after)) V) P result a b old new
+  roll_quiet devices roll line before after same V =
+      acts_linked written puts faults (Both AreQuiet V)
+      (Both (UsesLink gives sent failures devices roll roll (watched line before) (watched line after)) V)
+      (λ told h. (uses_quiet gives sent failures devices roll line before after same told h.0, h.1))
+
+  -- devices as they stand
+  pub roll_standing : (devices : List DeviceSetup) (roll : Rolled) (line : L) (before after : Page) →
+      after.watch ≡ before.watch → (V : List Told → Type 0) (result : Result (Unit {0}) Served) (a b : K) (old new : Host D g)
+      (P : List LiveStep → List Told → Type 0) →
+      Acts written puts faults (Both (AreStanding before.watch []) V) P result a b old new →
+      Acts written puts faults
+      (Both (UsesLink gives sent failures devices roll roll (watched line before) (watched line after)) V) P result a b old new
+  roll_standing devices roll line before after same V =
+      acts_linked written puts faults (Both (AreStanding before.watch []) V)
+      (Both (UsesLink gives sent failures devices roll roll (watched line before) (watched line after)) V)
+      (λ told h. (uses_standing gives sent failures devices roll line before after same told h.0, h.1))
 
   -- what has nothing to do with the desk, at a desk
-  pub roll_apart : (devices : List DeviceSetup) (roll now : Rolled) (old new : L) (desk : Desk)
+  pub roll_apart : (devices : List DeviceSetup) (roll now : Rolled) (old new : Watched L) (desk : Desk)
       (result : Result (Unit {0}) Served) (a b : K) (before after : Host D g) (P : List LiveStep → List Told → Type 0) →
       Acts written puts faults (Both (UsesLink gives sent failures devices roll now old new) IsApart) P result a b before after →
       Acts written puts faults (Both (UsesLink gives sent failures devices roll now old new) (FollowsDesk result desk desk)) P
@@ -377,23 +426,30 @@ module _ {K : Type 0} (written : K → Option (List ℕ)) (puts : K → List ℕ
       (λ told h. (h.0, apart_follows result desk told h.1)) result
 
   -- exchanges, and no question
-  pub roll_told : (devices : List DeviceSetup) (roll : Rolled) (old new : L) (was now : Desk)
+  pub roll_told : (devices : List DeviceSetup) (roll : Rolled) (old new : Watched L) (was now : Desk)
       (result : Result (Unit {0}) Served) (a b : K) (before after : Host D g) (P : List LiveStep → List Told → Type 0) →
-      Acts written puts faults (Both (Exchanges gives sent failures old new) (FollowsDesk result was now)) P result a b before
+      Acts written puts faults (Both (Exchanges gives sent failures devices old new) (FollowsDesk result was now)) P result a b before
       after →
       Acts written puts faults (Both (UsesLink gives sent failures devices roll roll old new) (FollowsDesk result was now)) P
       result a b before after
   roll_told devices roll old new was now result =
-      acts_linked written puts faults (Both (Exchanges gives sent failures old new) (FollowsDesk result was now))
+      acts_linked written puts faults (Both (Exchanges gives sent failures devices old new) (FollowsDesk result was now))
       (Both (UsesLink gives sent failures devices roll roll old new) (FollowsDesk result was now))
       (λ told h. (uses_told gives sent failures devices roll old new told h.0, h.1)) result
 
   -- questions, and then quiet lines
-  pub roll_asked : (devices : List DeviceSetup) (whom : Option ℕ) (answered : Answered) (roll now : Rolled) (old new : L) →
+  pub roll_asked : (devices : List DeviceSetup) (whom : Option ℕ) (answered : Answered) (roll now : Rolled) (old new : L)
+      (before after : Page) → after.watch ≡ before.watch →
       AsksRoll gives devices whom (most_asked whom) roll old answered now new → (result : Result (Unit {0}) Served) (a b : K)
-      (before after : Host D g) (P : List LiveStep → List Told → Type 0) →
-      Acts written puts faults (Both AreQuiet IsApart) P result a b before after →
-      Acts written puts faults (Both (UsesLink gives sent failures devices roll now old new) IsApart) P result a b before after
-  roll_asked devices whom answered roll now old new questions =
-      acts_linked written puts faults (Both AreQuiet IsApart) (Both (UsesLink gives sent failures devices roll now old new) IsApart)
-      (λ told h. (uses_asked gives sent failures devices whom answered roll now old new questions told h.0, h.1))
+      (first last : Host D g) (P : List LiveStep → List Told → Type 0) →
+      Acts written puts faults (Both AreQuiet IsApart) P result a b first last →
+      Acts written puts faults
+      (Both (UsesLink gives sent failures devices roll now (watched old before) (watched new after)) IsApart) P result a b first
+      last
+  roll_asked devices whom answered roll now old new before after same questions =
+      acts_linked written puts faults (Both AreQuiet IsApart)
+      (Both (UsesLink gives sent failures devices roll now (watched old before) (watched new after)) IsApart)
+      (λ told h. (
+        uses_asked gives sent failures devices whom answered roll now old new before after same questions told h.0,
+        h.1,
+      ))

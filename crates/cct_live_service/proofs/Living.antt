@@ -1,6 +1,7 @@
 -- A service whose host lived to an end.
 use Rattle.std.proofs.Common.{◌≡◌, ◌+◌, ℕ, Bool, true, List, [], ◌∷◌, ◌++◌, length, length-append, arith, reverse, sym, ap, subst, inl, inr, ◌∙◌, Option, Some, None, Result, Ok, Err}
 use Rattle.std.proofs.lemmas.List.{nil_from_length, reverse-reverse}
+use Rattle.cct_edge.specs.Faults.{Rose}
 use Rattle.cct_edge.specs.declared.fault.Failed.{Failed}
 use Rattle.cct_live_survey.specs.Roll.{Rolled}
 use Rattle.cct_live_service.specs.declared.stopping.AtEnd.{AtEnd}
@@ -28,11 +29,11 @@ use Rattle.cct_live_service.specs.declared.served.Served.TheVariants as served
 use Rattle.cct_live_service.specs.Found.{Begun, FoundOn, found_there, made_new, was_found}
 use Rattle.cct_live_service.specs.Opening.{BegunOn, given_as, opening_of, opening_over}
 use Rattle.cct_live_service.specs.Laws.{IsLawful}
-use Rattle.cct_live_service.specs.Linked.{UsesLink}
-use Rattle.cct_live_service.specs.Lived.{KnownOn, LeftBy, LeftSince, Lived}
+use Rattle.cct_live_service.specs.Linked.{UsesLink, Watched}
+use Rattle.cct_live_service.specs.Lived.{KnownOn, LeftBy, LeftSince, Lived, MissedOn}
 use Rattle.cct_live_service.specs.AtDesk.{Both, FollowsTo}
 use Rattle.cct_live_service.specs.Doing.{FrontOf, ServesLines, ends_by}
-use Rattle.cct_live_service.specs.Known.{KnownAfter}
+use Rattle.cct_live_service.specs.Known.{KnownAfter, MissedFrom}
 use Rattle.cct_live_service.specs.Causes.{SuitsDisk}
 use Rattle.cct_live_service.specs.Parts.{FailedSince, FailedToPut, LivesTo, Part, Plays}
 use Rattle.cct_live_service.specs.Reported.{AreSoWhere}
@@ -63,7 +64,8 @@ none_before more rs is =
 module _ {K : Type 0} (written : K → Option (List ℕ)) (puts : K → List ℕ → Result (Unit {0}) Failed → K → Type 0)
     {L : Type 0} (gives : L → List ℕ → List ℕ → L → Type 0) (sent : L → Bool) (failures : L → ℕ)
     {D : Type 0} {g : Ghosts D} (given back : D) (host last : Host D g) (begun : Begun)
-    (roll now : Rolled) (desk left_desk : Desk) (ends : AtEnd) (left : Option (List ℕ)) (line next : L)
+    (roll now : Rolled) (desk left_desk : Desk) (missed missed_then : ℕ) (ends : AtEnd) (left : Option (List ℕ))
+    (line next : Watched L)
     (same : setup_of host ≡ setup_of last) (sound : IsSoundSetup (setup_of last)) (back_is : back ≡ disk_of last)
     (began : BegunOn g.seen given (setup_of last) begun)
     (numbered : (found : List Record) → FoundOn g.honest g.seen g.may_leave given (setup_of last) begun found
@@ -160,10 +162,19 @@ module _ {K : Type 0} (written : K → Option (List ℕ)) (puts : K → List ℕ
         (life_begins MOST_RECORDS (setup_of last) found follow)) (opens found on []),
   )
 
+  -- and what was missed
+  missed_on : MissedFrom host (Rose missed missed_then) →
+      MissedOn g.honest g.seen g.may_leave given (setup_of last) begun missed missed_then
+  missed_on was found on trusted =
+      let follow = found_follow g.honest g.seen g.may_leave given (setup_of last) begun found sound began on in
+      was (given_as given [] begun) found [] (started found)
+      (subst (λ setup. IsLife MOST_RECORDS setup found [] (started found)) (sym same)
+      (life_begins MOST_RECORDS (setup_of last) found follow)) (opens found on []) trusted
+
   lived_so : (how : Served) (a b : K) →
       Plays written puts (Both (UsesLink gives sent failures (setup_of host).devices roll now line next) (FollowsTo how desk left_desk))
-      (ServesLines (KnownOn g.honest g.seen g.may_leave given (setup_of last) begun desk) (setup_of last) (opening_of (setup_of last) begun) roll.findings (ends_by how ends)) left how a b host last →
-      Lived written puts gives sent failures g.size g.honest g.seen g.may_leave g.moment g.left_since g.cuts given back (setup_of last) roll now desk left_desk ends left how a b
+      (ServesLines (KnownOn g.honest g.seen g.may_leave given (setup_of last) begun desk) (MissedOn g.honest g.seen g.may_leave given (setup_of last) begun missed missed_then) (setup_of last) (opening_of (setup_of last) begun) roll.findings (ends_by how ends)) left how a b host last →
+      Lived written puts gives sent failures g.size g.honest g.seen g.may_leave g.moment g.left_since g.cuts given back (setup_of last) roll now desk left_desk missed missed_then ends left how a b
       line next
   lived_so served.Done a b plays = record {
     begun = begun;
@@ -174,18 +185,18 @@ module _ {K : Type 0} (written : K → Option (List ℕ)) (puts : K → List ℕ
     does = plays.lives.does;
     wrote = plays.lives.wrote;
     lived = λ found on.
-        let l = part_lived a b (Ok tt) (StandsSince last) (Both (UsesLink gives sent failures (setup_of host).devices roll now line next) (FollowsTo served.Done desk left_desk)) (ServesLines (KnownOn g.honest g.seen g.may_leave given (setup_of last) begun desk) (setup_of last) (opening_of (setup_of last) begun) roll.findings (ends_by served.Done ends) plays.lines) plays.lives found on [] in
+        let l = part_lived a b (Ok tt) (StandsSince last) (Both (UsesLink gives sent failures (setup_of host).devices roll now line next) (FollowsTo served.Done desk left_desk)) (ServesLines (KnownOn g.honest g.seen g.may_leave given (setup_of last) begun desk) (MissedOn g.honest g.seen g.may_leave given (setup_of last) begun missed missed_then) (setup_of last) (opening_of (setup_of last) begun) roll.findings (ends_by served.Done ends) plays.lines) plays.lives found on [] in
         (l.0, l.1, left_standing (news_of plays.lives.told ++ started found) l.2.stands);
-    standing = λ found on. part_so a b (Ok tt) (StandsSince last) (Both (UsesLink gives sent failures (setup_of host).devices roll now line next) (FollowsTo served.Done desk left_desk)) (ServesLines (KnownOn g.honest g.seen g.may_leave given (setup_of last) begun desk) (setup_of last) (opening_of (setup_of last) begun) roll.findings (ends_by served.Done ends) plays.lines) plays.lives found on;
+    standing = λ found on. part_so a b (Ok tt) (StandsSince last) (Both (UsesLink gives sent failures (setup_of host).devices roll now line next) (FollowsTo served.Done desk left_desk)) (ServesLines (KnownOn g.honest g.seen g.may_leave given (setup_of last) begun desk) (MissedOn g.honest g.seen g.may_leave given (setup_of last) begun missed missed_then) (setup_of last) (opening_of (setup_of last) begun) roll.findings (ends_by served.Done ends) plays.lines) plays.lives found on;
     at_desk = plays.lives.linked.1;
     linked = devices_same plays.lives.told plays.lives.linked.0;
     on = began;
     numbers = numbered;
     moments = λ found on image holds.
-        let l = part_lived a b (Ok tt) (StandsSince last) (Both (UsesLink gives sent failures (setup_of host).devices roll now line next) (FollowsTo served.Done desk left_desk)) (ServesLines (KnownOn g.honest g.seen g.may_leave given (setup_of last) begun desk) (setup_of last) (opening_of (setup_of last) begun) roll.findings (ends_by served.Done ends) plays.lines) plays.lives found on image in
+        let l = part_lived a b (Ok tt) (StandsSince last) (Both (UsesLink gives sent failures (setup_of host).devices roll now line next) (FollowsTo served.Done desk left_desk)) (ServesLines (KnownOn g.honest g.seen g.may_leave given (setup_of last) begun desk) (MissedOn g.honest g.seen g.may_leave given (setup_of last) begun missed missed_then) (setup_of last) (opening_of (setup_of last) begun) roll.findings (ends_by served.Done ends) plays.lines) plays.lives found on image in
         moments_standing found image (news_of plays.lives.told ++ started found) l.2 holds;
     read = λ found on there whole none.
-        let l = part_lived a b (Ok tt) (StandsSince last) (Both (UsesLink gives sent failures (setup_of host).devices roll now line next) (FollowsTo served.Done desk left_desk)) (ServesLines (KnownOn g.honest g.seen g.may_leave given (setup_of last) begun desk) (setup_of last) (opening_of (setup_of last) begun) roll.findings (ends_by served.Done ends) plays.lines) plays.lives found on [] in
+        let l = part_lived a b (Ok tt) (StandsSince last) (Both (UsesLink gives sent failures (setup_of host).devices roll now line next) (FollowsTo served.Done desk left_desk)) (ServesLines (KnownOn g.honest g.seen g.may_leave given (setup_of last) begun desk) (MissedOn g.honest g.seen g.may_leave given (setup_of last) begun missed missed_then) (setup_of last) (opening_of (setup_of last) begun) roll.findings (ends_by served.Done ends) plays.lines) plays.lives found on [] in
         read_standing found (news_of plays.lives.told ++ started found) l.2 there none;
   }
   lived_so (served.Refused number kind) a b plays = record {
@@ -197,18 +208,18 @@ module _ {K : Type 0} (written : K → Option (List ℕ)) (puts : K → List ℕ
     does = plays.lives.does;
     wrote = plays.lives.wrote;
     lived = λ found on.
-        let l = part_lived a b (Ok tt) (StandsSince last) (Both (UsesLink gives sent failures (setup_of host).devices roll now line next) (FollowsTo (served.Refused number kind) desk left_desk)) (ServesLines (KnownOn g.honest g.seen g.may_leave given (setup_of last) begun desk) (setup_of last) (opening_of (setup_of last) begun) roll.findings (ends_by (served.Refused number kind) ends) plays.lines) plays.lives found on [] in
+        let l = part_lived a b (Ok tt) (StandsSince last) (Both (UsesLink gives sent failures (setup_of host).devices roll now line next) (FollowsTo (served.Refused number kind) desk left_desk)) (ServesLines (KnownOn g.honest g.seen g.may_leave given (setup_of last) begun desk) (MissedOn g.honest g.seen g.may_leave given (setup_of last) begun missed missed_then) (setup_of last) (opening_of (setup_of last) begun) roll.findings (ends_by (served.Refused number kind) ends) plays.lines) plays.lives found on [] in
         (l.0, l.1, left_standing (news_of plays.lives.told ++ started found) l.2.stands);
-    standing = λ found on. part_so a b (Ok tt) (StandsSince last) (Both (UsesLink gives sent failures (setup_of host).devices roll now line next) (FollowsTo (served.Refused number kind) desk left_desk)) (ServesLines (KnownOn g.honest g.seen g.may_leave given (setup_of last) begun desk) (setup_of last) (opening_of (setup_of last) begun) roll.findings (ends_by (served.Refused number kind) ends) plays.lines) plays.lives found on;
+    standing = λ found on. part_so a b (Ok tt) (StandsSince last) (Both (UsesLink gives sent failures (setup_of host).devices roll now line next) (FollowsTo (served.Refused number kind) desk left_desk)) (ServesLines (KnownOn g.honest g.seen g.may_leave given (setup_of last) begun desk) (MissedOn g.honest g.seen g.may_leave given (setup_of last) begun missed missed_then) (setup_of last) (opening_of (setup_of last) begun) roll.findings (ends_by (served.Refused number kind) ends) plays.lines) plays.lives found on;
     at_desk = plays.lives.linked.1;
     linked = devices_same plays.lives.told plays.lives.linked.0;
     on = began;
     numbers = numbered;
     moments = λ found on image holds.
-        let l = part_lived a b (Ok tt) (StandsSince last) (Both (UsesLink gives sent failures (setup_of host).devices roll now line next) (FollowsTo (served.Refused number kind) desk left_desk)) (ServesLines (KnownOn g.honest g.seen g.may_leave given (setup_of last) begun desk) (setup_of last) (opening_of (setup_of last) begun) roll.findings (ends_by (served.Refused number kind) ends) plays.lines) plays.lives found on image in
+        let l = part_lived a b (Ok tt) (StandsSince last) (Both (UsesLink gives sent failures (setup_of host).devices roll now line next) (FollowsTo (served.Refused number kind) desk left_desk)) (ServesLines (KnownOn g.honest g.seen g.may_leave given (setup_of last) begun desk) (MissedOn g.honest g.seen g.may_leave given (setup_of last) begun missed missed_then) (setup_of last) (opening_of (setup_of last) begun) roll.findings (ends_by (served.Refused number kind) ends) plays.lines) plays.lives found on image in
         moments_standing found image (news_of plays.lives.told ++ started found) l.2 holds;
     read = λ found on there whole none.
-        let l = part_lived a b (Ok tt) (StandsSince last) (Both (UsesLink gives sent failures (setup_of host).devices roll now line next) (FollowsTo (served.Refused number kind) desk left_desk)) (ServesLines (KnownOn g.honest g.seen g.may_leave given (setup_of last) begun desk) (setup_of last) (opening_of (setup_of last) begun) roll.findings (ends_by (served.Refused number kind) ends) plays.lines) plays.lives found on [] in
+        let l = part_lived a b (Ok tt) (StandsSince last) (Both (UsesLink gives sent failures (setup_of host).devices roll now line next) (FollowsTo (served.Refused number kind) desk left_desk)) (ServesLines (KnownOn g.honest g.seen g.may_leave given (setup_of last) begun desk) (MissedOn g.honest g.seen g.may_leave given (setup_of last) begun missed missed_then) (setup_of last) (opening_of (setup_of last) begun) roll.findings (ends_by (served.Refused number kind) ends) plays.lines) plays.lives found on [] in
         read_standing found (news_of plays.lives.told ++ started found) l.2 there none;
   }
   lived_so served.Unread a b plays = record {
@@ -220,18 +231,18 @@ module _ {K : Type 0} (written : K → Option (List ℕ)) (puts : K → List ℕ
     does = plays.lives.does;
     wrote = plays.lives.wrote;
     lived = λ found on.
-        let l = part_lived a b (Ok tt) (StandsSince last) (Both (UsesLink gives sent failures (setup_of host).devices roll now line next) (FollowsTo served.Unread desk left_desk)) (ServesLines (KnownOn g.honest g.seen g.may_leave given (setup_of last) begun desk) (setup_of last) (opening_of (setup_of last) begun) roll.findings (ends_by served.Unread ends) plays.lines) plays.lives found on [] in
+        let l = part_lived a b (Ok tt) (StandsSince last) (Both (UsesLink gives sent failures (setup_of host).devices roll now line next) (FollowsTo served.Unread desk left_desk)) (ServesLines (KnownOn g.honest g.seen g.may_leave given (setup_of last) begun desk) (MissedOn g.honest g.seen g.may_leave given (setup_of last) begun missed missed_then) (setup_of last) (opening_of (setup_of last) begun) roll.findings (ends_by served.Unread ends) plays.lines) plays.lives found on [] in
         (l.0, l.1, left_standing (news_of plays.lives.told ++ started found) l.2.stands);
-    standing = λ found on. part_so a b (Ok tt) (StandsSince last) (Both (UsesLink gives sent failures (setup_of host).devices roll now line next) (FollowsTo served.Unread desk left_desk)) (ServesLines (KnownOn g.honest g.seen g.may_leave given (setup_of last) begun desk) (setup_of last) (opening_of (setup_of last) begun) roll.findings (ends_by served.Unread ends) plays.lines) plays.lives found on;
+    standing = λ found on. part_so a b (Ok tt) (StandsSince last) (Both (UsesLink gives sent failures (setup_of host).devices roll now line next) (FollowsTo served.Unread desk left_desk)) (ServesLines (KnownOn g.honest g.seen g.may_leave given (setup_of last) begun desk) (MissedOn g.honest g.seen g.may_leave given (setup_of last) begun missed missed_then) (setup_of last) (opening_of (setup_of last) begun) roll.findings (ends_by served.Unread ends) plays.lines) plays.lives found on;
     at_desk = plays.lives.linked.1;
     linked = devices_same plays.lives.told plays.lives.linked.0;
     on = began;
     numbers = numbered;
     moments = λ found on image holds.
-        let l = part_lived a b (Ok tt) (StandsSince last) (Both (UsesLink gives sent failures (setup_of host).devices roll now line next) (FollowsTo served.Unread desk left_desk)) (ServesLines (KnownOn g.honest g.seen g.may_leave given (setup_of last) begun desk) (setup_of last) (opening_of (setup_of last) begun) roll.findings (ends_by served.Unread ends) plays.lines) plays.lives found on image in
+        let l = part_lived a b (Ok tt) (StandsSince last) (Both (UsesLink gives sent failures (setup_of host).devices roll now line next) (FollowsTo served.Unread desk left_desk)) (ServesLines (KnownOn g.honest g.seen g.may_leave given (setup_of last) begun desk) (MissedOn g.honest g.seen g.may_leave given (setup_of last) begun missed missed_then) (setup_of last) (opening_of (setup_of last) begun) roll.findings (ends_by served.Unread ends) plays.lines) plays.lives found on image in
         moments_standing found image (news_of plays.lives.told ++ started found) l.2 holds;
     read = λ found on there whole none.
-        let l = part_lived a b (Ok tt) (StandsSince last) (Both (UsesLink gives sent failures (setup_of host).devices roll now line next) (FollowsTo served.Unread desk left_desk)) (ServesLines (KnownOn g.honest g.seen g.may_leave given (setup_of last) begun desk) (setup_of last) (opening_of (setup_of last) begun) roll.findings (ends_by served.Unread ends) plays.lines) plays.lives found on [] in
+        let l = part_lived a b (Ok tt) (StandsSince last) (Both (UsesLink gives sent failures (setup_of host).devices roll now line next) (FollowsTo served.Unread desk left_desk)) (ServesLines (KnownOn g.honest g.seen g.may_leave given (setup_of last) begun desk) (MissedOn g.honest g.seen g.may_leave given (setup_of last) begun missed missed_then) (setup_of last) (opening_of (setup_of last) begun) roll.findings (ends_by served.Unread ends) plays.lines) plays.lives found on [] in
         read_standing found (news_of plays.lives.told ++ started found) l.2 there none;
   }
   lived_so served.Unwritten a b plays = record {
@@ -243,18 +254,18 @@ module _ {K : Type 0} (written : K → Option (List ℕ)) (puts : K → List ℕ
     does = plays.lives.1.does;
     wrote = (plays.lives.0, plays.lives.1.wrote);
     lived = λ found on.
-        let l = part_lived a b (Err plays.lives.0) (StandsSince last) (Both (UsesLink gives sent failures (setup_of host).devices roll now line next) (FollowsTo served.Unwritten desk left_desk)) (FrontOf (ServesLines (KnownOn g.honest g.seen g.may_leave given (setup_of last) begun desk) (setup_of last) (opening_of (setup_of last) begun) roll.findings (ends_by served.Unwritten ends) plays.lines)) plays.lives.1 found on [] in
+        let l = part_lived a b (Err plays.lives.0) (StandsSince last) (Both (UsesLink gives sent failures (setup_of host).devices roll now line next) (FollowsTo served.Unwritten desk left_desk)) (FrontOf (ServesLines (KnownOn g.honest g.seen g.may_leave given (setup_of last) begun desk) (MissedOn g.honest g.seen g.may_leave given (setup_of last) begun missed missed_then) (setup_of last) (opening_of (setup_of last) begun) roll.findings (ends_by served.Unwritten ends) plays.lines)) plays.lives.1 found on [] in
         (l.0, l.1, left_standing (news_of plays.lives.1.told ++ started found) l.2.stands);
-    standing = λ found on. part_so a b (Err plays.lives.0) (StandsSince last) (Both (UsesLink gives sent failures (setup_of host).devices roll now line next) (FollowsTo served.Unwritten desk left_desk)) (FrontOf (ServesLines (KnownOn g.honest g.seen g.may_leave given (setup_of last) begun desk) (setup_of last) (opening_of (setup_of last) begun) roll.findings (ends_by served.Unwritten ends) plays.lines)) plays.lives.1 found on;
+    standing = λ found on. part_so a b (Err plays.lives.0) (StandsSince last) (Both (UsesLink gives sent failures (setup_of host).devices roll now line next) (FollowsTo served.Unwritten desk left_desk)) (FrontOf (ServesLines (KnownOn g.honest g.seen g.may_leave given (setup_of last) begun desk) (MissedOn g.honest g.seen g.may_leave given (setup_of last) begun missed missed_then) (setup_of last) (opening_of (setup_of last) begun) roll.findings (ends_by served.Unwritten ends) plays.lines)) plays.lives.1 found on;
     at_desk = plays.lives.1.linked.1;
     linked = devices_same plays.lives.1.told plays.lives.1.linked.0;
     on = began;
     numbers = numbered;
     moments = λ found on image holds.
-        let l = part_lived a b (Err plays.lives.0) (StandsSince last) (Both (UsesLink gives sent failures (setup_of host).devices roll now line next) (FollowsTo served.Unwritten desk left_desk)) (FrontOf (ServesLines (KnownOn g.honest g.seen g.may_leave given (setup_of last) begun desk) (setup_of last) (opening_of (setup_of last) begun) roll.findings (ends_by served.Unwritten ends) plays.lines)) plays.lives.1 found on image in
+        let l = part_lived a b (Err plays.lives.0) (StandsSince last) (Both (UsesLink gives sent failures (setup_of host).devices roll now line next) (FollowsTo served.Unwritten desk left_desk)) (FrontOf (ServesLines (KnownOn g.honest g.seen g.may_leave given (setup_of last) begun desk) (MissedOn g.honest g.seen g.may_leave given (setup_of last) begun missed missed_then) (setup_of last) (opening_of (setup_of last) begun) roll.findings (ends_by served.Unwritten ends) plays.lines)) plays.lives.1 found on image in
         moments_standing found image (news_of plays.lives.1.told ++ started found) l.2 holds;
     read = λ found on there whole none.
-        let l = part_lived a b (Err plays.lives.0) (StandsSince last) (Both (UsesLink gives sent failures (setup_of host).devices roll now line next) (FollowsTo served.Unwritten desk left_desk)) (FrontOf (ServesLines (KnownOn g.honest g.seen g.may_leave given (setup_of last) begun desk) (setup_of last) (opening_of (setup_of last) begun) roll.findings (ends_by served.Unwritten ends) plays.lines)) plays.lives.1 found on [] in
+        let l = part_lived a b (Err plays.lives.0) (StandsSince last) (Both (UsesLink gives sent failures (setup_of host).devices roll now line next) (FollowsTo served.Unwritten desk left_desk)) (FrontOf (ServesLines (KnownOn g.honest g.seen g.may_leave given (setup_of last) begun desk) (MissedOn g.honest g.seen g.may_leave given (setup_of last) begun missed missed_then) (setup_of last) (opening_of (setup_of last) begun) roll.findings (ends_by served.Unwritten ends) plays.lines)) plays.lives.1 found on [] in
         read_standing found (news_of plays.lives.1.told ++ started found) l.2 there none;
   }
   lived_so served.Disk a b plays = record {
@@ -266,15 +277,15 @@ module _ {K : Type 0} (written : K → Option (List ℕ)) (puts : K → List ℕ
     does = plays.lives.does;
     wrote = plays.lives.wrote;
     lived = λ found on.
-        let l = part_lived a b (Ok tt) (FailedSince last) (Both (UsesLink gives sent failures (setup_of host).devices roll now line next) (FollowsTo served.Disk desk left_desk)) (FrontOf (ServesLines (KnownOn g.honest g.seen g.may_leave given (setup_of last) begun desk) (setup_of last) (opening_of (setup_of last) begun) roll.findings (ends_by served.Disk ends) plays.lines)) plays.lives found on [] in
+        let l = part_lived a b (Ok tt) (FailedSince last) (Both (UsesLink gives sent failures (setup_of host).devices roll now line next) (FollowsTo served.Disk desk left_desk)) (FrontOf (ServesLines (KnownOn g.honest g.seen g.may_leave given (setup_of last) begun desk) (MissedOn g.honest g.seen g.may_leave given (setup_of last) begun missed missed_then) (setup_of last) (opening_of (setup_of last) begun) roll.findings (ends_by served.Disk ends) plays.lines)) plays.lives found on [] in
         (l.0, l.1, left_failed (news_of plays.lives.told ++ started found) l.2.failed);
-    standing = λ found on. part_so a b (Ok tt) (FailedSince last) (Both (UsesLink gives sent failures (setup_of host).devices roll now line next) (FollowsTo served.Disk desk left_desk)) (FrontOf (ServesLines (KnownOn g.honest g.seen g.may_leave given (setup_of last) begun desk) (setup_of last) (opening_of (setup_of last) begun) roll.findings (ends_by served.Disk ends) plays.lines)) plays.lives found on;
+    standing = λ found on. part_so a b (Ok tt) (FailedSince last) (Both (UsesLink gives sent failures (setup_of host).devices roll now line next) (FollowsTo served.Disk desk left_desk)) (FrontOf (ServesLines (KnownOn g.honest g.seen g.may_leave given (setup_of last) begun desk) (MissedOn g.honest g.seen g.may_leave given (setup_of last) begun missed missed_then) (setup_of last) (opening_of (setup_of last) begun) roll.findings (ends_by served.Disk ends) plays.lines)) plays.lives found on;
     at_desk = plays.lives.linked.1;
     linked = devices_same plays.lives.told plays.lives.linked.0;
     on = began;
     numbers = numbered;
     moments = λ found on image holds.
-        let l = part_lived a b (Ok tt) (FailedSince last) (Both (UsesLink gives sent failures (setup_of host).devices roll now line next) (FollowsTo served.Disk desk left_desk)) (FrontOf (ServesLines (KnownOn g.honest g.seen g.may_leave given (setup_of last) begun desk) (setup_of last) (opening_of (setup_of last) begun) roll.findings (ends_by served.Disk ends) plays.lines)) plays.lives found on image in
+        let l = part_lived a b (Ok tt) (FailedSince last) (Both (UsesLink gives sent failures (setup_of host).devices roll now line next) (FollowsTo served.Disk desk left_desk)) (FrontOf (ServesLines (KnownOn g.honest g.seen g.may_leave given (setup_of last) begun desk) (MissedOn g.honest g.seen g.may_leave given (setup_of last) begun missed missed_then) (setup_of last) (opening_of (setup_of last) begun) roll.findings (ends_by served.Disk ends) plays.lines)) plays.lives found on image in
         moments_failed found image (news_of plays.lives.told ++ started found) l.2 holds;
     read = λ found on there whole none. absurd (whole tt);
   }
@@ -284,19 +295,21 @@ module _ {K : Type 0} (written : K → Option (List ℕ)) (puts : K → List ℕ
 
   pub lived_by : (how : Served) (a b : K) →
       Plays written puts (Both (UsesLink gives sent failures (setup_of host).devices roll now line next) (FollowsTo how desk left_desk))
-      (ServesLines (KnownAfter host desk) (setup_of last) (opening_of (setup_of last) begun) roll.findings (ends_by how ends)) left how a b host last →
-      Lived written puts gives sent failures g.size g.honest g.seen g.may_leave g.moment g.left_since g.cuts given back (setup_of last) roll now desk left_desk ends left how a b
+      (ServesLines (KnownAfter host desk) (MissedFrom host (Rose missed missed_then)) (setup_of last) (opening_of (setup_of last) begun) roll.findings (ends_by how ends)) left how a b host last →
+      Lived written puts gives sent failures g.size g.honest g.seen g.may_leave g.moment g.left_since g.cuts given back (setup_of last) roll now desk left_desk missed missed_then ends left how a b
       line next
   lived_by how a b plays =
       let opening = opening_of (setup_of last) begun in
       let knows = KnownOn g.honest g.seen g.may_leave given (setup_of last) begun desk in
+      let unread = MissedOn g.honest g.seen g.may_leave given (setup_of last) begun missed missed_then in
       lived_so how a b (record {
         lines = plays.lines;
         lives = lives_to_weaker written puts
             (Both (UsesLink gives sent failures (setup_of host).devices roll now line next) (FollowsTo how desk left_desk)) how a b host last
-            (ServesLines (KnownAfter host desk) (setup_of last) opening roll.findings (ends_by how ends) plays.lines)
-            (ServesLines knows (setup_of last) opening roll.findings (ends_by how ends) plays.lines)
-            (serves_lines_weaker (setup_of last) (KnownAfter host desk) knows known_on opening roll.findings (ends_by how ends) plays.lines)
+            (ServesLines (KnownAfter host desk) (MissedFrom host (Rose missed missed_then)) (setup_of last) opening roll.findings (ends_by how ends) plays.lines)
+            (ServesLines knows unread (setup_of last) opening roll.findings (ends_by how ends) plays.lines)
+            (serves_lines_weaker (setup_of last) (KnownAfter host desk) knows known_on (MissedFrom host (Rose missed missed_then))
+            unread missed_on opening roll.findings (ends_by how ends) plays.lines)
             plays.lives;
         says = plays.says;
       })

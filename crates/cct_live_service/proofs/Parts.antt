@@ -34,6 +34,7 @@ use Rattle.cct_laws_live.specs.Life.{IsLife}
 use Rattle.cct_laws_live.specs.LiveStep.{LiveStep}
 use Rattle.cct_laws_live.specs.LiveStep as live
 use Rattle.cct_laws_live.proofs.Life.{life_balance, life_command, life_next}
+use Rattle.cct_laws_live.proofs.LifeBooks.{life_follow}
 use Rattle.cct_live_service.specs.declared.notice.Notice.{Notice}
 use Rattle.cct_live_service.specs.declared.notice.Notice.TheVariants as notice_of
 use Rattle.cct_live_service.specs.declared.served.Served.{Served}
@@ -42,9 +43,10 @@ use Rattle.cct_live_service.specs.Causes.{DiskServes, EndsBy, IsDiskFault, IsUnw
 use Rattle.cct_live_service.specs.Doing.{FrontOf, IsStating, Tells}
 use Rattle.cct_live_service.specs.Ending.{by_writing}
 use Rattle.cct_live_service.specs.Parts.{Acts, FailedSince, LifeGoes, LivesOn, LivesTo, Part}
-use Rattle.cct_live_service.specs.Held.{IsAfter}
+use Rattle.cct_live_service.specs.Watch.{IsOfWatch}
 use Rattle.cct_live_service.specs.Reported.{AreSo}
-use Rattle.cct_live_service.specs.Stated.{IsStateFor, TellsKnown}
+use Rattle.cct_live_service.specs.Known.{MissedFrom}
+use Rattle.cct_live_service.specs.Stated.{IsStateFor, MissedFor, TellsKnown}
 use Rattle.cct_live_service.specs.Since.{Given, StandsSince}
 use Rattle.cct_live_service.specs.Said.{IsOfInput}
 use Rattle.cct_live_service.specs.Told.{Told, WritesTold, as_told, attempt_told, knows_each, news_of, notice, notices_told, told_line}
@@ -166,13 +168,13 @@ module _ {D : Type 0} {g : Ghosts D} where
   -- an attempt of a job, and its entries
   pub next_goes : {L : Type 0} (gives : L → List ℕ → List ℕ → L → Type 0) →
       ((old : L) (sent heard : List ℕ) (new : L) → gives old sent heard new → length heard ≤ MOST_HEARD) →
-      (old new : L) (addr : ℕ) (before after : Host D g) (reported : List Entry) (is_sent failed : Bool)
-      (notices : List Notice) → All (IsAfter failed reported) notices → setup_of after ≡ setup_of before →
+      (old new : L) (addr : ℕ) (before after : Host D g) (reported : List Entry) (is_sent : Bool) (notices : List Notice) →
+      All IsOfWatch notices → setup_of after ≡ setup_of before →
       GoesOn g.size g.honest g.seen g.cuts (disk_of before) (disk_of after) →
       Nexts gives old new addr before after [] reported →
       LifeGoes g (setup_of before) (StandsSince before) (live.next addr ∷ [])
       (attempt_told is_sent reported ++ notices_told notices) (StandsSince after)
-  next_goes gives few old new addr before after reported is_sent failed notices bears kept on nexts given found steps past life since =
+  next_goes gives few old new addr before after reported is_sent notices bears kept on nexts given found steps past life since =
       let what = nexts.what in
       let news = attempt.news_of addr what in
       let setup = setup_of before in
@@ -189,7 +191,7 @@ module _ {D : Type 0} {g : Ghosts D} where
             (attempt_records addr what past) (nexts.moments past since.stands) (λ none. ap journals.disk_of (nexts.quiet none))
             went.1),
         so_where (IsTrusted g.honest g.seen given.disk) setup past (attempt_told is_sent reported ++ notices_told notices)
-            (so_attempt setup past is_sent failed reported notices bears),
+            (so_attempt setup past is_sent reported notices bears),
       )
 
   -- a command that is answered
@@ -235,6 +237,13 @@ module _ {D : Type 0} {g : Ghosts D} where
         so_known (IsTrusted g.honest g.seen given.disk) setup past lines lines
             (λ trusted. is past since.stands (since.trusted trusted)),
       )
+
+  -- what was missed of a host is so whatever was given and found
+  missed_from : (host : Host D g) (Missed : Type 0) → MissedFor host Missed → MissedFrom host Missed
+  missed_from host Missed missed given found before past life since trusted =
+      missed past since.stands
+      (life_follow MOST_RECORDS (setup_of host) found before past since.stands.keeps.desks.sound life)
+      (since.trusted trusted)
 
   -- a put that failed
   pub put_failed : (before after : Host D g) (addr : ℕ) → setup_of after ≡ setup_of before → Fails before after addr →
@@ -675,13 +684,13 @@ module _ {K : Type 0} (written : K → Option (List ℕ)) (puts : K → List ℕ
       }))
 
   -- what the journal knows
-  pub acts_known : (S : List Told → Type 0) (answer : Result (Unit {0}) Failed) (a b : K) (host : Host D g) →
+  pub acts_known : (S : List Told → Type 0) (Missed : Type 0) (answer : Result (Unit {0}) Failed) (a b : K) (host : Host D g) →
       ((lines : List (List ℕ)) → S (knows_each lines lines)) → S (notice notice_of.StateUnread ∷ []) →
-      TellsKnown written puts host a answer b → has_failed host ≡ false → Serves written faults a b (IsErr answer) →
-      Acts written puts faults S IsStating (by_writing answer) a b host host
-  acts_known S answer a b host linked unread (inl known) whole sink =
+      TellsKnown written puts host Missed a answer b → has_failed host ≡ false → Serves written faults a b (IsErr answer) →
+      Acts written puts faults S (IsStating (MissedFrom host Missed)) (by_writing answer) a b host host
+  acts_known S Missed answer a b host linked unread (inl known) whole sink =
       let lines = known.0 in
-      acts_written S answer a b host host IsStating
+      acts_written S answer a b host host (IsStating (MissedFrom host Missed))
       (record {
         steps = [];
         told = knows_each lines lines;
@@ -692,9 +701,9 @@ module _ {K : Type 0} (written : K → Option (List ℕ)) (puts : K → List ℕ
       })
       whole refl sink
       (disk_none g.size g.honest g.seen g.cuts g.faults (disk_of host) ⊥ (λ fails. fails))
-  acts_known S answer a b host linked unread (inr none) whole sink =
-      acts_told S answer a b host (notice notice_of.StateUnread ∷ []) unread IsStating refl (λ past keeps. (tt, tt)) none whole
-      sink (refl, inr refl)
+  acts_known S Missed answer a b host linked unread (inr none) whole sink =
+      acts_told S answer a b host (notice notice_of.StateUnread ∷ []) unread (IsStating (MissedFrom host Missed)) refl
+      (λ past keeps. (tt, tt)) none.0 whole sink (refl, inr (refl, missed_from host Missed none.1))
 
   -- one line that shows no entry
   pub acts_line : (S : List Told → Type 0) (answer : Result (Unit {0}) Failed) (a b : K) (host : Host D g) (what : Told) →

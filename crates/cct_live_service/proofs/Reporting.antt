@@ -11,10 +11,10 @@ use Rattle.cct_host.specs.Host.{Keeps, setup_of}
 use Rattle.cct_live_service.specs.declared.notice.Notice.{Notice}
 use Rattle.cct_live_service.specs.declared.notice.Notice.TheVariants as notice_of
 use Rattle.cct_live_service.specs.Found.{Begun, found_there, made_new}
-use Rattle.cct_live_service.specs.Held.{IsAfter}
 use Rattle.cct_live_service.specs.Opening.{opening_of}
 use Rattle.cct_live_service.specs.Reported.{AreSo, AreSoWhere, IsSo, IsStatusOf}
 use Rattle.cct_live_service.specs.Told.{Told, answer_news, as_told, attempt_told, entry, falls_short, finding, knows, last, news_of, notice, notices_told, operates, pays, refused, told_unsent, unheard, unsent}
+use Rattle.cct_live_service.specs.Watch.{IsOfWatch}
 
 -- what is reported first and then
 pub so_then : (T : Type 0) (setup : Setup) (past : List Entry) (t1 t2 : List Told) → AreSoWhere T setup past t1 →
@@ -52,29 +52,20 @@ so_where T setup past (operates s e ∷ told) h = so_where T setup past told h
 so_where T setup past (pays p answer ∷ told) h = so_where T setup (answer_news p answer ++ past) told h
 so_where T setup past (falls_short p paid rest ∷ told) h = so_where T setup past told h
 
--- what comes after the entries of an attempt tells nothing of how a host stands
-so_after : (setup : Setup) (past : List Entry) (failed : Bool) (entries : List Entry) (n : Notice) →
-    IsAfter failed entries n → IsSo setup past n
-so_after setup past failed [] (notice_of.Device addr job epoch order) h = absurd h
-so_after setup past failed (entry_of.Wire addr sent heard ∷ entries) (notice_of.Device at job epoch order) h = absurd h
-so_after setup past failed (e ∷ entries) (notice_of.Device addr job epoch order) h = absurd h
-so_after setup past failed [] (notice_of.Last id) h = absurd h
-so_after setup past failed (entry_of.Wire addr sent heard ∷ entries) (notice_of.Last id) h = absurd h
-so_after setup past failed (e ∷ entries) (notice_of.Last id) h = absurd h
-so_after setup past failed [] (notice_of.Room records) h = absurd h
-so_after setup past failed (entry_of.Wire addr sent heard ∷ entries) (notice_of.Room records) h = absurd h
-so_after setup past failed (e ∷ entries) (notice_of.Room records) h = absurd h
-so_after setup past failed [] (notice_of.Order id told) h = absurd h
-so_after setup past failed (entry_of.Wire addr sent heard ∷ entries) (notice_of.Order id told) h = absurd h
-so_after setup past failed (e ∷ entries) (notice_of.Order id told) h = absurd h
-so_after setup past failed entries n h = tt
+-- how the line is, and a bill that is held, tell nothing of how a host stands
+so_watch : (setup : Setup) (past : List Entry) (n : Notice) → IsOfWatch n → IsSo setup past n
+so_watch setup past (notice_of.Device addr job epoch order) h = absurd h
+so_watch setup past (notice_of.Last id) h = absurd h
+so_watch setup past (notice_of.Room records) h = absurd h
+so_watch setup past (notice_of.Order id told) h = absurd h
+so_watch setup past n h = tt
 
-so_notices : (setup : Setup) (past : List Entry) (failed : Bool) (entries : List Entry) (notices : List Notice) →
-    All (IsAfter failed entries) notices → AreSo setup past (notices_told notices)
-so_notices setup past failed entries [] h = tt
-so_notices setup past failed entries (n ∷ notices) h = (
-  so_after setup past failed entries n (All-head (IsAfter failed entries) n notices h),
-  so_notices setup past failed entries notices (All-tail (IsAfter failed entries) n notices h),
+so_notices : (setup : Setup) (past : List Entry) (notices : List Notice) → All IsOfWatch notices →
+    AreSo setup past (notices_told notices)
+so_notices setup past [] h = tt
+so_notices setup past (n ∷ notices) h = (
+  so_watch setup past n (All-head IsOfWatch n notices h),
+  so_notices setup past notices (All-tail IsOfWatch n notices h),
 )
 
 so_as : (setup : Setup) (past : List Entry) (entries : List Entry) (told : List Told) →
@@ -90,15 +81,14 @@ so_unsent setup past (entry_of.Wire addr sent (byte ∷ heard)) told h =
 so_unsent setup past e told h = h (e ∷ past)
 
 -- nor does an attempt
-pub so_attempt : (setup : Setup) (past : List Entry) (sent failed : Bool) (entries : List Entry) (notices : List Notice) →
-    All (IsAfter failed entries) notices → AreSo setup past (attempt_told sent entries ++ notices_told notices)
-so_attempt setup past true failed entries notices h =
-    so_as setup past entries (notices_told notices) (λ later. so_notices setup later failed entries notices h)
-so_attempt setup past false failed [] notices h = so_notices setup past failed [] notices h
-so_attempt setup past false failed (e ∷ entries) notices h =
+pub so_attempt : (setup : Setup) (past : List Entry) (sent : Bool) (entries : List Entry) (notices : List Notice) →
+    All IsOfWatch notices → AreSo setup past (attempt_told sent entries ++ notices_told notices)
+so_attempt setup past true entries notices h =
+    so_as setup past entries (notices_told notices) (λ later. so_notices setup later notices h)
+so_attempt setup past false [] notices h = so_notices setup past notices h
+so_attempt setup past false (e ∷ entries) notices h =
     so_unsent setup past e (as_told entries ++ notices_told notices)
-    (λ later. so_as setup later entries (notices_told notices)
-    (λ after. so_notices setup after failed (e ∷ entries) notices h))
+    (λ later. so_as setup later entries (notices_told notices) (λ after. so_notices setup after notices h))
 
 -- nor what is reported first
 pub so_opening : (setup : Setup) (past : List Entry) (begun : Begun) → AreSo setup past (notice (opening_of setup begun) ∷ [])

@@ -1,5 +1,5 @@
 -- Sessions of change: what a step at the desk tells, and a payment.
-use Rattle.std.proofs.Common.{◌≡◌, ◌≤◌, ◌==◌, ◌∙◌, ◌⊎◌, ℕ, zero, suc, min, List, [], ◌∷◌, ◌++◌, Bool, true, false, Option, Some, None, Ok, refl, sym, ap, subst, inl, inr, arith, cond}
+use Rattle.std.proofs.Common.{◌≡◌, ◌≤◌, ◌==◌, ◌∙◌, ◌⊎◌, ℕ, zero, suc, min, List, [], ◌∷◌, ◌++◌, Bool, true, false, Option, Some, None, refl, sym, ap, subst, inl, inr, arith, cond}
 use Rattle.std.specs.Prelude.{IsTrue, is_some}
 use Rattle.std.specs.Option.{option_map}
 use Rattle.std.proofs.lemmas.List.{append-nil}
@@ -24,7 +24,7 @@ use Rattle.cct_script.specs.declared.live.LiveLine.{LiveLine}
 use Rattle.cct_live_survey.specs.declared.finding.Finding.{Finding}
 use Rattle.cct_live_survey.specs.declared.withholding.Withheld.{Withheld}
 use Rattle.cct_live_survey.specs.Finding.{withheld_by}
-use Rattle.cct_live_service.specs.Doing.{DecidesPay, Does, DoesKnown, DoesPay, Finds, FrontOf, IsAsking, IsNothing, IsOfPoll, IsPoll, IsServing, ServesOn, Tells, TellsStep, Then}
+use Rattle.cct_live_service.specs.Doing.{DecidesPay, Does, DoesKnown, DoesPay, Finds, FrontOf, IsAsking, IsOfPoll, IsPoll, IsServing, ServesOn, Tells, TellsStep, Then}
 use Rattle.cct_live_service.specs.Session.{HasAsked}
 use Rattle.cct_live_service.specs.Told.{Told, falls_short, findings_in, operates, pay_of, pays, refused, refused_for, taken, withheld_for}
 use Rattle.cct_live_service.proofs.Doings.{many_none}

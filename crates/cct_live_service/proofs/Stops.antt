@@ -1,5 +1,5 @@
 -- The end of a service: each acceptor that runs is stopped.
-use Rattle.std.proofs.Common.{◌≡◌, ◌≤◌, ◌+◌, ◌-◌, ◌⊎◌, ℕ, zero, suc, List, [], ◌∷◌, ◌++◌, length, Bool, true, false, Option, Result, Ok, Err, refl, sym, subst, inl, inr, append_assoc, arith}
+use Rattle.std.proofs.Common.{◌≡◌, ◌≤◌, ◌+◌, ◌-◌, ◌⊎◌, ℕ, zero, suc, List, [], ◌∷◌, ◌++◌, length, Bool, true, false, Option, Result, Ok, Err, refl, sym, ◌∙◌, subst, inl, inr, append_assoc, arith}
 use Rattle.std.proofs.lemmas.List.{append-nil}
 use Rattle.std.proofs.lemmas.List.Elements.{All-nil}
 use Rattle.cct_edge.specs.declared.fault.Failed.{Failed}
@@ -23,7 +23,8 @@ use Rattle.cct_live_service.specs.declared.served.Served.TheVariants as served
 use Rattle.cct_live_service.specs.declared.stopping.AtEnd.{AtEnd}
 use Rattle.cct_live_service.specs.declared.stopping.AtEnd.TheVariants as at_end
 use Rattle.cct_live_service.specs.Doing.{AreAttempts, DoesLines, FrontOf, GivesStop, GoesOnTo, MakesAttempts, PlaysLines, ServesLines, StopsAt, StopsBy, StopsRunning, StopsStill, StopsUpTo, TellsOne, ends_by}
-use Rattle.cct_live_service.specs.Held.{IsAfter}
+use Rattle.cct_live_service.specs.Watch.{IsOfWatch}
+use Rattle.cct_live_service.specs.Ends.{tells_unanswered}
 use Rattle.cct_live_service.specs.Known.{HasJob, IsIdle, IsKnown, KnownAfter, Knows, Rests}
 use Rattle.cct_live_service.specs.Parts.{LivesOn, LivesTo}
 use Rattle.cct_live_service.specs.Said.{Said}
@@ -49,7 +50,7 @@ unfolding once
 made_once addr =
     last_made until_of.Ended addr 0 true (entry_of.Idle addr ∷ []) (omega arith) (λ is. refl) [] (live.next addr ∷ []) []
     (attempt_told true (entry_of.Idle addr ∷ []) ++ notices_told []) (refl, refl)
-    (refl, ([], (false, All-nil (IsAfter false (entry_of.Idle addr ∷ []))), refl))
+    (refl, ([], All-nil IsOfWatch, refl))
 
 -- a stop of which the attempts aren't reported
 pub gives_front : (knows : Knows) (setup : Setup) (addr : ℕ) (steps : List LiveStep) (told : List Told) →
@@ -75,23 +76,46 @@ gives_some knows setup addr =
     (λ said. GoesOnTo (knows said (HasJob setup addr false)) until_of.Ended addr) (live.command (command.Stop addr) ∷ [])
     (live.next addr ∷ []) (entry entry_of.Words ∷ []) (once addr) (refl, (entry_of.Words, refl)) (inr (made_once addr))
 
+-- one that is given or not, by what was reported before
+record SomeStill (knows : Knows) (setup : Setup) (addr : ℕ) (said : List Told) : Type 0 where
+  steps : List LiveStep
+  told : List Told
+  still : StopsStill knows setup addr said steps told
+
+still_some : (knows : Knows) (setup : Setup) (addr : ℕ) (said : List Told) → SomeStill knows setup addr said
+still_some knows setup addr said = by_end (tells_unanswered said) refl
+  where
+    by_end : (b : Bool) → tells_unanswered said ≡ b → SomeStill knows setup addr said
+    by_end true is = record { steps = []; told = []; still = inl ((refl, refl), inr is) }
+    by_end false is = record {
+      steps = stop_steps addr;
+      told = stop_told addr;
+      still = inr (gives_some (λ more. knows (said ++ more)) setup addr, is);
+    }
+
 -- the attempts of a job, before the stop is reported
 pub running_front : (knows : Knows) (setup : Setup) (addr : ℕ) (steps : List LiveStep) (told : List Told) →
     GoesOnTo (knows [] (HasJob setup addr false)) until_of.Ended addr steps told →
     FrontOf (StopsRunning knows setup addr) steps told
-running_front knows setup addr steps told h = record {
-  undone = stop_steps addr;
-  untold = stop_told addr;
-  whole = then_by (GoesOnTo (knows [] (HasJob setup addr false)) until_of.Ended addr) (StopsStill knows setup addr) steps
-      (stop_steps addr) told (stop_told addr) h (inr (gives_some (λ more. knows (told ++ more)) setup addr));
-}
+running_front knows setup addr steps told h =
+    let some = still_some knows setup addr told in
+    record {
+      undone = some.steps;
+      untold = some.told;
+      whole = then_by (GoesOnTo (knows [] (HasJob setup addr false)) until_of.Ended addr) (StopsStill knows setup addr) steps
+          some.steps told some.told h some.still;
+    }
+
+once_answered : (addr : ℕ) → tells_unanswered (once addr) ≡ false
+unfolding once
+once_answered addr = refl
 
 some_stop : (knows : Knows) (setup : Setup) (addr : ℕ) →
     StopsAt knows setup addr ((live.next addr ∷ []) ++ stop_steps addr) (once addr ++ stop_told addr)
 some_stop knows setup addr =
     inr (then_by (GoesOnTo (knows [] (HasJob setup addr false)) until_of.Ended addr) (StopsStill knows setup addr)
     (live.next addr ∷ []) (stop_steps addr) (once addr) (stop_told addr) (inr (made_once addr))
-    (inr (gives_some (λ more. knows (once addr ++ more)) setup addr)))
+    (inr (gives_some (λ more. knows (once addr ++ more)) setup addr, once_answered addr)))
 
 -- the first addresses, before the others
 pub more_stop : (many addr end : ℕ) → many + addr ≡ end → (knows : Knows) (setup : Setup) (steps : List LiveStep)
@@ -136,16 +160,16 @@ stops_none : (ends : AtEnd) (knows : Knows) (setup : Setup) → FrontOf (StopsBy
 stops_none at_end.Leave knows setup = front_whole (StopsBy at_end.Leave knows setup) [] [] (refl, refl)
 stops_none at_end.Stop knows setup = all_stop 0 (omega arith) knows setup [] [] (refl, refl)
 
-pub end_front : (knows : Knows) (setup : Setup) (opening : Notice) (findings : List Finding) (ends : AtEnd)
+pub end_front : (knows : Knows) (Missed : Type 0) (setup : Setup) (opening : Notice) (findings : List Finding) (ends : AtEnd)
     (lines : List Said) (steps : List LiveStep) (told : List Told) →
-    PlaysLines knows setup opening findings lines steps told →
-    FrontOf (ServesLines knows setup opening findings ends lines) steps told
-end_front knows setup opening findings ends lines steps told h =
+    PlaysLines knows Missed setup opening findings lines steps told →
+    FrontOf (ServesLines knows Missed setup opening findings ends lines) steps told
+end_front knows Missed setup opening findings ends lines steps told h =
     let k = stops_none ends (λ more. knows (told ++ more)) setup in
     record {
       undone = k.undone;
       untold = k.untold;
-      whole = then_by (PlaysLines knows setup opening findings lines)
+      whole = then_by (PlaysLines knows Missed setup opening findings lines)
           (λ said. StopsBy ends (λ more. knows (said ++ more)) setup) steps k.undone told k.untold h k.whole;
     }
 
@@ -157,26 +181,26 @@ gone_weaker M N by until addr steps told (inr made) = inr made
 
 module _ (A B : Knows) (to : (told : List Told) (Fact : Desk → List Entry → Type 0) → A told Fact → B told Fact)
     (setup : Setup) where
-  lines_weaker : (findings : List Finding) (lines : List Said) (steps : List LiveStep) (told : List Told) →
-      DoesLines A setup findings lines steps told → DoesLines B setup findings lines steps told
-  lines_weaker findings [] steps told h = h
-  lines_weaker findings (said ∷ lines) steps told h = record {
+  lines_weaker : (M N : Type 0) → (M → N) → (findings : List Finding) (lines : List Said) (steps : List LiveStep) (told : List Told) →
+      DoesLines A M setup findings lines steps told → DoesLines B N setup findings lines steps told
+  lines_weaker M N miss findings [] steps told h = h
+  lines_weaker M N miss findings (said ∷ lines) steps told h = record {
     before = h.before;
     after = h.after;
     said = h.said;
     added = h.added;
     steps_are = h.steps_are;
     told_is = h.told_is;
-    first = lines_weaker findings lines h.before h.said h.first;
+    first = lines_weaker M N miss findings lines h.before h.said h.first;
     next = line_weaker (λ rest. A h.said (Rests setup rest)) (λ rest. B h.said (Rests setup rest))
-        (λ rest known. to h.said (Rests setup rest) known) setup.devices (findings ++ findings_in h.said)
+        (λ rest known. to h.said (Rests setup rest) known) M N miss setup.devices (findings ++ findings_in h.said)
         (suc (length lines)) said h.after h.added h.next;
   }
 
-  plays_weaker : (opening : Notice) (findings : List Finding) (lines : List Said) (steps : List LiveStep)
-      (told : List Told) → PlaysLines A setup opening findings lines steps told →
-      PlaysLines B setup opening findings lines steps told
-  plays_weaker opening findings lines steps told h = record {
+  plays_weaker : (M N : Type 0) → (M → N) → (opening : Notice) (findings : List Finding) (lines : List Said) (steps : List LiveStep)
+      (told : List Told) → PlaysLines A M setup opening findings lines steps told →
+      PlaysLines B N setup opening findings lines steps told
+  plays_weaker M N miss opening findings lines steps told h = record {
     before = h.before;
     after = h.after;
     said = h.said;
@@ -184,7 +208,7 @@ module _ (A B : Knows) (to : (told : List Told) (Fact : Desk → List Entry → 
     steps_are = h.steps_are;
     told_is = h.told_is;
     first = h.first;
-    next = lines_weaker findings lines h.after h.added h.next;
+    next = lines_weaker M N miss findings lines h.after h.added h.next;
   }
 
   pub gives_weaker : (addr : ℕ) (steps : List LiveStep) (told : List Told) → GivesStop A setup addr steps told →
@@ -207,13 +231,15 @@ module _ (setup : Setup) where
       StopsStill A setup addr said steps told → StopsStill B setup addr said steps told
   still_weaker A B to addr said steps told (inl none) = inl (none.0, by none.1)
     where
-      by : A said (IsIdle setup addr) ⊎ A [] (HasJob setup addr true) →
-          B said (IsIdle setup addr) ⊎ B [] (HasJob setup addr true)
+      by : A said (IsIdle setup addr) ⊎ (tells_unanswered said ≡ true) →
+          B said (IsIdle setup addr) ⊎ (tells_unanswered said ≡ true)
       by (inl idle) = inl (to said (IsIdle setup addr) idle)
-      by (inr has) = inr (to [] (HasJob setup addr true) has)
-  still_weaker A B to addr said steps told (inr gives) =
-      inr (gives_weaker (λ more. A (said ++ more)) (λ more. B (said ++ more)) (λ more Fact. to (said ++ more) Fact) setup
-      addr steps told gives)
+      by (inr ended) = inr ended
+  still_weaker A B to addr said steps told (inr gives) = inr (
+    gives_weaker (λ more. A (said ++ more)) (λ more. B (said ++ more)) (λ more Fact. to (said ++ more) Fact) setup addr
+        steps told gives.0,
+    gives.1,
+  )
 
   pub at_weaker : (A B : Knows) → ((told : List Told) (Fact : Desk → List Entry → Type 0) → A told Fact → B told Fact) →
       (addr : ℕ) (steps : List LiveStep) (told : List Told) → StopsAt A setup addr steps told →
@@ -254,18 +280,18 @@ module _ (setup : Setup) where
   by_weaker at_end.Stop A B to steps told h = up_to_weaker 256 A B to steps told h
 
   pub serves_lines_weaker : (A B : Knows) →
-      ((told : List Told) (Fact : Desk → List Entry → Type 0) → A told Fact → B told Fact) → (opening : Notice)
-      (findings : List Finding) (ends : AtEnd) (lines : List Said) (steps : List LiveStep) (told : List Told) →
-      ServesLines A setup opening findings ends lines steps told →
-      ServesLines B setup opening findings ends lines steps told
-  serves_lines_weaker A B to opening findings ends lines steps told h = record {
+      ((told : List Told) (Fact : Desk → List Entry → Type 0) → A told Fact → B told Fact) → (M N : Type 0) →
+      (M → N) → (opening : Notice) (findings : List Finding) (ends : AtEnd) (lines : List Said) (steps : List LiveStep) (told : List Told) →
+      ServesLines A M setup opening findings ends lines steps told →
+      ServesLines B N setup opening findings ends lines steps told
+  serves_lines_weaker A B to M N miss opening findings ends lines steps told h = record {
     before = h.before;
     after = h.after;
     said = h.said;
     added = h.added;
     steps_are = h.steps_are;
     told_is = h.told_is;
-    first = plays_weaker A B to setup opening findings lines h.before h.said h.first;
+    first = plays_weaker A B to setup M N miss opening findings lines h.before h.said h.first;
     next = by_weaker ends (λ more. A (h.said ++ more)) (λ more. B (h.said ++ more)) (λ more Fact. to (h.said ++ more) Fact)
         h.after h.added h.next;
   }
@@ -287,26 +313,26 @@ module _ {K : Type 0} (written : K → Option (List ℕ)) (puts : K → List ℕ
   ended_by S (served.BadRecord index) P ends a b old new h = absurd h
 
   -- one before which nothing was stopped
-  pub played_to : (S : List Told → Type 0) (how : Served) → (how ≡ served.Done → ⊥) → (knows : Knows) (setup : Setup)
-      (opening : Notice) (findings : List Finding) (ends : AtEnd) (lines : List Said) (a b : K) (old new : Host D g) →
-      LivesTo written puts S (PlaysLines knows setup opening findings lines) how a b old new →
-      LivesTo written puts S (ServesLines knows setup opening findings (ends_by how ends) lines) how a b old new
-  played_to S served.Done other knows setup opening findings ends lines a b old new h = absurd (other refl)
-  played_to S (served.Refused number kind) other knows setup opening findings ends lines a b old new h =
-      lives_weaker written puts S (Ok tt) a b old new (PlaysLines knows setup opening findings lines)
-      (ServesLines knows setup opening findings at_end.Leave lines) (end_none knows setup opening findings lines) h
-  played_to S served.Unread other knows setup opening findings ends lines a b old new h =
-      lives_weaker written puts S (Ok tt) a b old new (PlaysLines knows setup opening findings lines)
-      (ServesLines knows setup opening findings at_end.Leave lines) (end_none knows setup opening findings lines) h
-  played_to S served.Unwritten other knows setup opening findings ends lines a b old new h =
-      lives_front written puts S served.Unwritten a b old new (PlaysLines knows setup opening findings lines)
-      (ServesLines knows setup opening findings ends lines) (end_front knows setup opening findings ends lines) h
-  played_to S served.Disk other knows setup opening findings ends lines a b old new h =
-      lives_front written puts S served.Disk a b old new (PlaysLines knows setup opening findings lines)
-      (ServesLines knows setup opening findings ends lines) (end_front knows setup opening findings ends lines) h
-  played_to S (served.OtherSize len) other knows setup opening findings ends lines a b old new h = absurd h
-  played_to S served.Alien other knows setup opening findings ends lines a b old new h = absurd h
-  played_to S (served.BadRecord index) other knows setup opening findings ends lines a b old new h = absurd h
+  pub played_to : (S : List Told → Type 0) (how : Served) → (how ≡ served.Done → ⊥) → (knows : Knows)
+      (Missed : Type 0) (setup : Setup) (opening : Notice) (findings : List Finding) (ends : AtEnd) (lines : List Said) (a b : K) (old new : Host D g) →
+      LivesTo written puts S (PlaysLines knows Missed setup opening findings lines) how a b old new →
+      LivesTo written puts S (ServesLines knows Missed setup opening findings (ends_by how ends) lines) how a b old new
+  played_to S served.Done other knows Missed setup opening findings ends lines a b old new h = absurd (other refl)
+  played_to S (served.Refused number kind) other knows Missed setup opening findings ends lines a b old new h =
+      lives_weaker written puts S (Ok tt) a b old new (PlaysLines knows Missed setup opening findings lines)
+      (ServesLines knows Missed setup opening findings at_end.Leave lines) (end_none knows Missed setup opening findings lines) h
+  played_to S served.Unread other knows Missed setup opening findings ends lines a b old new h =
+      lives_weaker written puts S (Ok tt) a b old new (PlaysLines knows Missed setup opening findings lines)
+      (ServesLines knows Missed setup opening findings at_end.Leave lines) (end_none knows Missed setup opening findings lines) h
+  played_to S served.Unwritten other knows Missed setup opening findings ends lines a b old new h =
+      lives_front written puts S served.Unwritten a b old new (PlaysLines knows Missed setup opening findings lines)
+      (ServesLines knows Missed setup opening findings ends lines) (end_front knows Missed setup opening findings ends lines) h
+  played_to S served.Disk other knows Missed setup opening findings ends lines a b old new h =
+      lives_front written puts S served.Disk a b old new (PlaysLines knows Missed setup opening findings lines)
+      (ServesLines knows Missed setup opening findings ends lines) (end_front knows Missed setup opening findings ends lines) h
+  played_to S (served.OtherSize len) other knows Missed setup opening findings ends lines a b old new h = absurd h
+  played_to S served.Alien other knows Missed setup opening findings ends lines a b old new h = absurd h
+  played_to S (served.BadRecord index) other knows Missed setup opening findings ends lines a b old new h = absurd h
 
 -- of hosts and desks, from one to another
 module _ {D : Type 0} {g : Ghosts D} (host mid : Host D g) (same : setup_of mid ≡ setup_of host) (was desk : Desk) where
@@ -334,24 +360,28 @@ module _ {D : Type 0} {g : Ghosts D} (host mid : Host D g) (same : setup_of mid 
   -- a job makes attempts, and then a stop is given
   pub running_then : (addr : ℕ) (s1 s2 : List LiveStep) (t1 t2 : List Told) →
       GoesOnTo (IsKnown host was (HasJob (setup_of host) addr false)) until_of.Ended addr s1 t1 →
-      GoesTo host mid was desk s1 t1 → GivesStop (KnownAfter mid desk) (setup_of mid) addr s2 t2 →
+      GoesTo host mid was desk s1 t1 → tells_unanswered t1 ≡ false →
+      GivesStop (KnownAfter mid desk) (setup_of mid) addr s2 t2 →
       StopsRunning (KnownAfter host was) (setup_of host) addr (s1 ++ s2) (t1 ++ t2)
-  running_then addr s1 s2 t1 t2 h goes k =
+  running_then addr s1 s2 t1 t2 h goes answered k =
       then_by (GoesOnTo (KnownAfter host was [] (HasJob (setup_of host) addr false)) until_of.Ended addr)
       (StopsStill (KnownAfter host was) (setup_of host) addr) s1 s2 t1 t2
       (gone_weaker (IsKnown host was (HasJob (setup_of host) addr false))
       (KnownAfter host was [] (HasJob (setup_of host) addr false))
       (known_now host was (HasJob (setup_of host) addr false)) until_of.Ended addr s1 t1 h)
-      (inr (gives_weaker (KnownAfter mid desk) (λ more. KnownAfter host was (t1 ++ more)) (known_on s1 t1 goes)
-      (setup_of host) addr s2 t2 (subst (λ setup. GivesStop (KnownAfter mid desk) setup addr s2 t2) same k)))
+      (inr (
+        gives_weaker (KnownAfter mid desk) (λ more. KnownAfter host was (t1 ++ more)) (known_on s1 t1 goes) (setup_of host)
+            addr s2 t2 (subst (λ setup. GivesStop (KnownAfter mid desk) setup addr s2 t2) same k),
+        answered,
+      ))
 
   -- or none is given
-  pub running_none : (addr : ℕ) (had : Bool) (s1 : List LiveStep) (t1 : List Told) →
+  pub running_none : (addr : ℕ) (ended : Bool) (s1 : List LiveStep) (t1 : List Told) →
       GoesOnTo (IsKnown host was (HasJob (setup_of host) addr false)) until_of.Ended addr s1 t1 →
-      GoesTo host mid was desk s1 t1 → (had ≡ true → IsKnown host was (HasJob (setup_of host) addr true)) →
-      (had ≡ false → IsKnown mid desk (IsIdle (setup_of mid) addr)) →
+      GoesTo host mid was desk s1 t1 → tells_unanswered t1 ≡ ended →
+      (ended ≡ false → IsKnown mid desk (IsIdle (setup_of mid) addr)) →
       StopsRunning (KnownAfter host was) (setup_of host) addr s1 t1
-  running_none addr had s1 t1 h goes has idle = record {
+  running_none addr ended s1 t1 h goes is idle = record {
     before = s1;
     after = [];
     said = t1;
@@ -361,15 +391,14 @@ module _ {D : Type 0} {g : Ghosts D} (host mid : Host D g) (same : setup_of mid 
     first = gone_weaker (IsKnown host was (HasJob (setup_of host) addr false))
         (KnownAfter host was [] (HasJob (setup_of host) addr false))
         (known_now host was (HasJob (setup_of host) addr false)) until_of.Ended addr s1 t1 h;
-    next = inl ((refl, refl), by_job had refl);
+    next = inl ((refl, refl), by_end ended refl);
   }
     where
-      by_job : (b : Bool) → had ≡ b →
-          KnownAfter host was t1 (IsIdle (setup_of host) addr) ⊎ KnownAfter host was [] (HasJob (setup_of host) addr true)
-      by_job true is = inr (known_now host was (HasJob (setup_of host) addr true) (has is))
-      by_job false is =
+      by_end : (b : Bool) → ended ≡ b → KnownAfter host was t1 (IsIdle (setup_of host) addr) ⊎ (tells_unanswered t1 ≡ true)
+      by_end true end = inr (is ∙ end)
+      by_end false end =
           inl (known_later host mid was desk s1 t1 goes (IsIdle (setup_of host) addr)
-          (subst (λ setup. IsKnown mid desk (IsIdle setup addr)) same (idle is)))
+          (subst (λ setup. IsKnown mid desk (IsIdle setup addr)) same (idle end)))
 
   -- the first addresses, and the next one
   pub up_to_then : (addr next : ℕ) → suc addr ≡ next → (s1 s2 : List LiveStep) (t1 t2 : List Told) →
@@ -384,12 +413,12 @@ module _ {D : Type 0} {g : Ghosts D} (host mid : Host D g) (same : setup_of mid 
       s2 t2 (subst (λ setup. StopsAt (KnownAfter mid desk) setup addr s2 t2) same k)))
 
   -- lines, and the end
-  pub end_then : (opening : Notice) (findings : List Finding) (ends : AtEnd) (lines : List Said) (s1 s2 : List LiveStep)
-      (t1 t2 : List Told) → PlaysLines (KnownAfter host was) (setup_of host) opening findings lines s1 t1 →
+  pub end_then : (Missed : Type 0) (opening : Notice) (findings : List Finding) (ends : AtEnd) (lines : List Said) (s1 s2 : List LiveStep)
+      (t1 t2 : List Told) → PlaysLines (KnownAfter host was) Missed (setup_of host) opening findings lines s1 t1 →
       GoesTo host mid was desk s1 t1 → StopsBy ends (KnownAfter mid desk) (setup_of mid) s2 t2 →
-      ServesLines (KnownAfter host was) (setup_of host) opening findings ends lines (s1 ++ s2) (t1 ++ t2)
-  end_then opening findings ends lines s1 s2 t1 t2 h goes k =
-      then_by (PlaysLines (KnownAfter host was) (setup_of host) opening findings lines)
+      ServesLines (KnownAfter host was) Missed (setup_of host) opening findings ends lines (s1 ++ s2) (t1 ++ t2)
+  end_then Missed opening findings ends lines s1 s2 t1 t2 h goes k =
+      then_by (PlaysLines (KnownAfter host was) Missed (setup_of host) opening findings lines)
       (λ said. StopsBy ends (λ more. KnownAfter host was (said ++ more)) (setup_of host)) s1 s2 t1 t2 h
       (by_weaker (setup_of host) ends (KnownAfter mid desk) (λ more. KnownAfter host was (t1 ++ more)) (known_on s1 t1 goes)
       s2 t2 (subst (λ setup. StopsBy ends (KnownAfter mid desk) setup s2 t2) same k))

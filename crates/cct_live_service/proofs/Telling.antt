@@ -1,10 +1,9 @@
 -- What writing does to a sink, one part of what is reported after another.
-use Rattle.std.proofs.Common.{◌≡◌, ◌≤◌, ◌-◌, ◌+◌, ◌<◌, ℕ, zero, suc, take, drop, get_or, length, arith, List, [], ◌∷◌, ◌++◌, map, reverse, Bool, true, false, Option, Some, None, Result}
+use Rattle.std.proofs.Common.{◌≡◌, ◌≤◌, ◌-◌, ◌+◌, ◌<◌, ℕ, zero, suc, take, drop, get_or, length, arith, List, [], ◌∷◌, ◌++◌, map, reverse, Bool, true, false, Option, None, Result}
 use Rattle.std.proofs.Common.{Ok, Err, refl, ap, sym, ◌∙◌, subst, append_assoc, inl, inr}
 use Rattle.std.specs.Prelude.{OnOk, OnErr, MatchResult}
 use Rattle.std.specs.Io.KnownBytes.{Appends}
-use Rattle.std.specs.List.{All}
-use Rattle.std.specs.Option.{IfSome, option_to_list}
+use Rattle.std.specs.Option.{option_to_list}
 use Rattle.std.proofs.lemmas.List.{append-nil, flat_map_more, map-append, reverse-append, reverse-reverse, take-append-drop, take_all, take_more}
 use Rattle.std.proofs.lemmas.List.Concat.{flat_map-append}
 use Rattle.std.proofs.lemmas.List.Elements.{All-append, All-cons, All-nil}
@@ -22,8 +21,10 @@ use Rattle.cct_disk.specs.declared.disk.Disk.{Ghosts}
 use Rattle.cct_host.specs.declared.host.Host.{Host}
 use Rattle.cct_host.specs.Host.{setup_of}
 use Rattle.cct_live_service.specs.Reported.{IsStatusOf, TellsDevice, TellsDevices, TellsStatus, WritesStatus}
-use Rattle.cct_live_service.specs.Status.{Stand, addresses_in, addresses_told, end_notices, stand_notices, stands_notices}
+use Rattle.cct_live_service.specs.declared.watch.Watch.{Watch}
+use Rattle.cct_live_service.specs.Status.{HoldsAs, Stand, addresses_in, addresses_told, end_notices, stand_notices, stands_notices}
 use Rattle.cct_live_service.specs.Told.{Told, WritesTold, answer_news, as_told, attempt_told, entry, falls_short, finding, knows, last, maybe_told, news_of, notice, notices_told, operates, pays, refused, told_line, told_text, told_unsent, unheard, unsent}
+use Rattle.cct_live_service.proofs.Standings.{stands_stand, status_stands}
 
 -- the news of what is reported first and then
 pub news_then : (first then : List Told) → news_of (first ++ then) ≡ news_of then ++ news_of first
@@ -206,34 +207,44 @@ module _ {K : Type 0} (written : K → Option (List ℕ)) (puts : K → List ℕ
       put_short (inl put) = cc put.2.0
       put_short (inr put) = inr put
 
-  -- entries, and no notice after them
-  pub told_alone : (a b : K) (told : List Told) (result : Result (Unit {0}) Failed) →
-      WritesTold written puts a told result b → WritesTold written puts a (told ++ notices_told []) result b
-  told_alone a b told result h = subst (λ all. WritesTold written puts a all result b) (sym (append-nil told)) h
+  -- a part that was cut short, before others
+  pub told_broken : (a b : K) (xs ys : List Told) (failed : Failed) → WritesTold written puts a xs (Err failed) b →
+      WritesTold written puts a (xs ++ ys) (Err failed) b
+  told_broken a b xs ys failed h = record {
+    put = subst (λ lines. Puts puts a lines (Err failed) b) (sym (map-append told_line xs ys))
+        (put_broken a (map told_line xs) (map told_line ys) h.put);
+    bytes = (
+      h.bytes.0,
+      h.bytes.1 ++ told_text ys,
+      flat_map-append told_line xs ys ∙ ap (λ bytes. bytes ++ told_text ys) h.bytes.2
+          ∙ append_assoc h.bytes.0 h.bytes.1 (told_text ys),
+      h.bytes.3,
+    );
+  }
+    where
+      put_broken : (from : K) (ls more : List (List ℕ)) → Puts puts from ls (Err failed) b →
+          Puts puts from (ls ++ more) (Err failed) b
+      put_broken from [] more h = cc h.0
+      put_broken from (l ∷ ls) more (inl h) = inl (h.0, h.1, put_broken h.0 ls more h.2)
+      put_broken from (l ∷ ls) more (inr h) = inr h
 
-  -- and one notice or none after them
-  pub told_maybe : (a b c : K) (told : List Told) (n : Option Notice) (result : Result (Unit {0}) Failed) →
-      WritesTold written puts a told (Ok tt) b → WritesTold written puts b (maybe_told n) result c →
-      WritesTold written puts a (told ++ notices_told (option_to_list n)) result c
-  told_maybe a b c told n result h k = told_then a b c told (maybe_told n) result h k
-
-  -- and another one
-  pub told_two : (a b c : K) (told : List Told) (first second : Option Notice) (result : Result (Unit {0}) Failed) →
-      WritesTold written puts a (told ++ notices_told (option_to_list first)) (Ok tt) b →
-      WritesTold written puts b (maybe_told second) result c →
-      WritesTold written puts a (told ++ notices_told (option_to_list first ++ option_to_list second)) result c
-  told_two a b c told first second result h k =
-      let one = option_to_list first in
-      let two = option_to_list second in
+  -- one notice or none, and then another
+  pub told_two : (a b c : K) (first second : Option Notice) (result : Result (Unit {0}) Failed) →
+      WritesTold written puts a (maybe_told first) (Ok tt) b → WritesTold written puts b (maybe_told second) result c →
+      WritesTold written puts a (notices_told (option_to_list first ++ option_to_list second)) result c
+  told_two a b c first second result h k =
       subst (λ all. WritesTold written puts a all result c)
-      (append_assoc told (notices_told one) (notices_told two)
-      ∙ ap (λ more. told ++ more) (sym (map-append (λ n. notice n) one two)))
-      (told_then a b c (told ++ notices_told one) (maybe_told second) result h k)
+      (sym (map-append (λ n. notice n) (option_to_list first) (option_to_list second)))
+      (told_then a b c (maybe_told first) (maybe_told second) result h k)
 
--- what holds of a notice, if there is one
-pub all_maybe : (P : Notice → Type 0) (n : Option Notice) → IfSome n P → All P (option_to_list n)
-all_maybe P None h = All-nil P
-all_maybe P (Some n) h = All-cons P n [] h (All-nil P)
+  -- or not the other
+  pub told_first : (a b : K) (first second : Option Notice) (failed : Failed) →
+      WritesTold written puts a (maybe_told first) (Err failed) b →
+      WritesTold written puts a (notices_told (option_to_list first ++ option_to_list second)) (Err failed) b
+  told_first a b first second failed h =
+      subst (λ all. WritesTold written puts a all (Err failed) b)
+      (sym (map-append (λ n. notice n) (option_to_list first) (option_to_list second)))
+      (told_broken a b (maybe_told first) (maybe_told second) failed h)
 
 -- a device of which nothing is known but where it is
 blank_at : DeviceSetup → Stand
@@ -267,29 +278,31 @@ module _ {K : Type 0} (written : K → Option (List ℕ)) (puts : K → List ℕ
       (All-cons (IsStatusOf host) n (m ∷ []) is (All-cons (IsStatusOf host) m [] also (All-nil (IsStatusOf host))), wrote)
 
   -- no device, and one more
-  pub devices_none : (a : K) → TellsDevices written puts host [] a (Ok tt) a
-  devices_none a = ([], refl, (All-nil (IsStatusOf host), told_none written puts a))
+  pub devices_none : (w : Watch) (a : K) → TellsDevices written puts host w [] a (Ok tt) a
+  devices_none w a = ([], refl, All-nil (HoldsAs w), (All-nil (IsStatusOf host), told_none written puts a))
 
-  pub devices_more : (ds : List DeviceSetup) (i : ℕ) (d : DeviceSetup) (a b c : K) (answer : Result (Unit {0}) Failed) →
-      i < length ds → d ≡ get_or ds i d → TellsDevices written puts host (take i ds) a (Ok tt) b →
-      TellsDevice written puts host d.addr b answer c → TellsDevices written puts host (take (i + 1) ds) a answer c
-  devices_more ds i d a b c answer within at h k = (
+  pub devices_more : (w : Watch) (ds : List DeviceSetup) (i : ℕ) (d : DeviceSetup) (a b c : K)
+      (answer : Result (Unit {0}) Failed) → i < length ds → d ≡ get_or ds i d →
+      TellsDevices written puts host w (take i ds) a (Ok tt) b → TellsDevice written puts host w d.addr b answer c →
+      TellsDevices written puts host w (take (i + 1) ds) a answer c
+  devices_more w ds i d a b c answer within at h k = (
     h.0 ++ k.0 ∷ [],
     map-append (λ (s : Stand). s.addr) h.0 (k.0 ∷ []) ∙ ap (λ all. all ++ k.0.addr ∷ []) h.1
         ∙ ap (λ addr. addresses_in (take i ds) ++ addr ∷ []) k.1
         ∙ sym (map-append (λ (e : DeviceSetup). e.addr) (take i ds) (d ∷ [])) ∙ ap addresses_in (sym more),
+    All-append (HoldsAs w) h.0 (k.0 ∷ []) h.2 (All-cons (HoldsAs w) k.0 [] k.2 (All-nil (HoldsAs w))),
     subst (λ all. WritesStatus written puts host a all answer c) (flat_map_more stand_notices [] h.0 k.0)
-        (writes_then a b c (stands_notices h.0) (stand_notices k.0) answer h.2 k.2),
+        (writes_then a b c (stands_notices h.0) (stand_notices k.0) answer h.3 k.3),
   )
     where
       more : take (i + 1) ds ≡ take i ds ++ d ∷ []
       more = take_more ds i d within ∙ ap (λ x. take i ds ++ x ∷ []) (sym at)
 
   -- the first devices, of which the last one couldn't be reported
-  pub status_broken : (n : ℕ) (a b : K) (failed : Failed) →
-      TellsDevices written puts host (take n (setup_of host).devices) a (Err failed) b →
-      TellsStatus written puts host a (Err failed) b
-  status_broken n a b failed h =
+  pub status_broken : (w : Watch) (n : ℕ) (a b : K) (failed : Failed) →
+      TellsDevices written puts host w (take n (setup_of host).devices) a (Err failed) b →
+      TellsStatus written puts host w a (Err failed) b
+  status_broken w n a b failed h =
       let ds = (setup_of host).devices in
       let rest = map blank_at (drop n ds) in (
         stands_notices h.0,
@@ -306,15 +319,16 @@ module _ {K : Type 0} (written : K → Option (List ℕ)) (puts : K → List ℕ
           sym (append_assoc (stands_notices h.0) (stands_notices rest) (end_notices 0 0))
               ∙ ap (λ all. all ++ end_notices 0 0) (sym (flat_map-append stand_notices h.0 rest)),
         ),
-        h.2,
+        stands_stand w h.0 h.2,
+        h.3,
       )
 
   -- all devices, and then the last id and the room
-  pub status_ended : (n : ℕ) (a b c : K) (id records : ℕ) (answer : Result (Unit {0}) Failed) →
+  pub status_ended : (w : Watch) (n : ℕ) (a b c : K) (id records : ℕ) (answer : Result (Unit {0}) Failed) →
       length (setup_of host).devices ≤ n →
-      TellsDevices written puts host (take n (setup_of host).devices) a (Ok tt) b →
-      WritesStatus written puts host b (end_notices id records) answer c → TellsStatus written puts host a answer c
-  status_ended n a b c id records answer all h k = (
+      TellsDevices written puts host w (take n (setup_of host).devices) a (Ok tt) b →
+      WritesStatus written puts host b (end_notices id records) answer c → TellsStatus written puts host w a answer c
+  status_ended w n a b c id records answer all h k = (
     stands_notices h.0 ++ end_notices id records,
     [],
     none_left answer,
@@ -325,7 +339,8 @@ module _ {K : Type 0} (written : K → Option (List ℕ)) (puts : K → List ℕ
       h.1 ∙ ap addresses_in (take_all n (setup_of host).devices all),
       append-nil (stands_notices h.0 ++ end_notices id records),
     ),
-    writes_then a b c (stands_notices h.0) (end_notices id records) answer h.2 k,
+    status_stands w h.0 id records h.2,
+    writes_then a b c (stands_notices h.0) (end_notices id records) answer h.3 k,
   )
     where
       none : List Notice

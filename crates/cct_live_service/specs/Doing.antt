@@ -1,7 +1,7 @@
 -- What a host does for each line of its input, and what is told of it.
 use Rattle.std.specs.Prelude.{◌≡◌, ◌≤◌, ◌⊎◌, ℕ, zero, suc, Bool, true, false, List, [], ◌∷◌, ◌++◌}
-use Rattle.std.specs.Prelude.{length, Option, Some, None, Ok, Err}
-use Rattle.std.specs.List.{All}
+use Rattle.std.specs.Prelude.{length, Option, Some, None, OnOk, Result, Ok, Err}
+use Rattle.std.specs.List.{All, list_any}
 use Rattle.cct_model.specs.lines.command.Command.{Command}
 use Rattle.cct_model.specs.lines.command.Command.TheVariants as command
 use Rattle.cct_model.specs.lines.command.CommandNo.{CommandNo}
@@ -31,14 +31,14 @@ use Rattle.cct_live_service.specs.declared.served.Served.{Served}
 use Rattle.cct_live_service.specs.declared.served.Served.TheVariants as served
 use Rattle.cct_live_service.specs.declared.stopping.AtEnd.{AtEnd}
 use Rattle.cct_live_service.specs.declared.stopping.AtEnd.TheVariants as at_end
-use Rattle.cct_live_service.specs.Ends.{tells_end}
-use Rattle.cct_live_service.specs.Held.{IsAfter}
+use Rattle.cct_live_service.specs.Ends.{is_unanswered, tells_end, tells_unanswered}
 use Rattle.cct_live_service.specs.Known.{HasJob, IsIdle, Knows, Rests}
 use Rattle.cct_live_service.specs.Said.{Said}
 use Rattle.cct_live_service.specs.Status.{AreOfStatus}
 use Rattle.cct_live_service.specs.Told.{Told, attempt_told, entry, falls_short, findings_in}
 use Rattle.cct_live_service.specs.Told.{found_told, knows_each, notice, notices_told, operates}
 use Rattle.cct_live_service.specs.Told.{pay_of, pays, refused, refused_for, taken, withheld_for}
+use Rattle.cct_live_service.specs.Watch.{IsOfWatch}
 
 -- One thing is done and told, and then another one, which goes by what was reported.
 pub record ThenBy (First : List LiveStep → List Told → Type 0)
@@ -92,10 +92,10 @@ abbrev pub Many : (List LiveStep → List Told → Type 0) → List LiveStep →
 Many Each steps told = (n : ℕ) × Times n Each steps told
 
 -- What is told of an attempt, whose message was written or not, where it made an exchange: its
--- entries, and notices that the exchange bears out, which failed or not.
+-- entries, and then of the line and the bills that are held. `Exchanges` says what.
 abbrev pub TellsAttempt : Bool → List Entry → List Told → Type 0
 TellsAttempt is_sent entries told =
-    (notices : List Notice) × ((has_failed : Bool) × All (IsAfter has_failed entries) notices)
+    (notices : List Notice) × All IsOfWatch notices
     × (told ≡ attempt_told is_sent entries ++ notices_told notices)
 
 -- The job at an address makes one attempt with these entries, whose message was written or not,
@@ -172,12 +172,12 @@ IsOrder id steps told =
     (steps ≡ []) × ((known : OrderTold) × (told ≡ notice (notice_of.Order id known) ∷ []))
 
 -- Nothing is done, and it is reported what the journal knows: all of it, a line each; or that it
--- couldn't be read.
-abbrev pub IsStating : List LiveStep → List Told → Type 0
-IsStating steps told =
+-- couldn't be read, where that was missed.
+abbrev pub IsStating : Type 0 → List LiveStep → List Told → Type 0
+IsStating Missed steps told =
     (steps ≡ [])
     × (((lines : List (List ℕ)) × (told ≡ knows_each lines lines))
-    ⊎ (told ≡ notice notice_of.StateUnread ∷ []))
+    ⊎ ((told ≡ notice notice_of.StateUnread ∷ []) × Missed))
 
 -- A step at the operator's desk, which gives the host nothing, and its entry is reported. `AtDesk`
 -- says which that is.
@@ -239,22 +239,23 @@ abbrev pub DoesKnown : (Bool → Type 0) → Bool → List DeviceSetup → List 
 DoesKnown Rested true devices findings number said = Does Rested devices findings said
 DoesKnown Rested false devices findings number said = Tells (refused number kind.Device)
 
--- What is done for the line of a number, by the devices of the setup; or it is reported that it
--- says nothing.
-abbrev pub DoesLine : (Bool → Type 0) → List DeviceSetup → List Finding → ℕ → Said → List LiveStep →
-    List Told → Type 0
-DoesLine Rested devices findings number (Ok (input.Host said)) =
+-- What is done for the line of a number, by what is missed where the journal can't be read, and by
+-- the devices of the setup; or it is reported that it says nothing.
+abbrev pub DoesLine : (Bool → Type 0) → Type 0 → List DeviceSetup → List Finding → ℕ → Said →
+    List LiveStep → List Told → Type 0
+DoesLine Rested Missed devices findings number (Ok (input.Host said)) =
     DoesKnown Rested (is_known devices said) devices findings number said
-DoesLine Rested devices findings number (Ok input.State) = IsStating
-DoesLine Rested devices findings number (Err why) = Tells (refused number why)
+DoesLine Rested Missed devices findings number (Ok input.State) = IsStating Missed
+DoesLine Rested Missed devices findings number (Err why) = Tells (refused number why)
 
 -- What was done for lines, newest first: each one is done after those before it, by what is known
 -- and was found up to then.
-abbrev pub DoesLines : Knows → Setup → List Finding → List Said → List LiveStep → List Told → Type 0
-DoesLines knows setup findings [] = IsNothing
-DoesLines knows setup findings (said ∷ before) =
-    ThenBy (DoesLines knows setup findings before)
-    (λ told. DoesLine (λ rest. knows told (Rests setup rest)) setup.devices
+abbrev pub DoesLines : Knows → Type 0 → Setup → List Finding → List Said → List LiveStep →
+    List Told → Type 0
+DoesLines knows Missed setup findings [] = IsNothing
+DoesLines knows Missed setup findings (said ∷ before) =
+    ThenBy (DoesLines knows Missed setup findings before)
+    (λ told. DoesLine (λ rest. knows told (Rests setup rest)) Missed setup.devices
     (findings ++ findings_in told)
     (suc (length before)) said)
 
@@ -262,6 +263,14 @@ DoesLines knows setup findings (said ∷ before) =
 abbrev pub Finds : List Finding → List Finding → (List LiveStep → List Told → Type 0) →
     List LiveStep → List Told → Type 0
 Finds before now Doing steps told = Doing steps told × (now ≡ before ++ findings_in told)
+
+-- It is done so. And where the host lives on, an entry of the last attempt says that its job ended
+-- for want of an answer exactly where one does among all that is reported.
+abbrev pub EndsAs : Result (Unit {0}) Served → List Entry → (List LiveStep → List Told → Type 0) →
+    List LiveStep → List Told
+    → Type 0
+EndsAs result entries Doing steps told =
+    Doing steps told × OnOk result (tells_unanswered told ≡ list_any is_unanswered entries)
 
 -- The job at an address makes attempts up to there, where one is; where none is, nothing is done.
 abbrev pub GoesOnTo : Type 0 → Until → ℕ → List LiveStep → List Told → Type 0
@@ -274,12 +283,13 @@ GivesStop knows setup addr =
     ThenBy (TellsOne (live.command (command.Stop addr)))
     (λ said. GoesOnTo (knows said (HasJob setup addr false)) until_of.Ended addr)
 
--- An acceptor that runs still after this is stopped. One at which a job was may be left so, since
--- it may have ended for want of an answer.
+-- An acceptor that runs still after this is stopped, unless the job that was there ended for want
+-- of an answer. Else nothing is done.
 abbrev pub StopsStill : Knows → Setup → ℕ → List Told → List LiveStep → List Told → Type 0
 StopsStill knows setup addr said steps told =
-    (IsNothing steps told × (knows said (IsIdle setup addr) ⊎ knows [] (HasJob setup addr true)))
-    ⊎ GivesStop (λ more. knows (said ++ more)) setup addr steps told
+    (IsNothing steps told × (knows said (IsIdle setup addr) ⊎ (tells_unanswered said ≡ true)))
+    ⊎ (GivesStop (λ more. knows (said ++ more)) setup addr steps told
+    × (tells_unanswered said ≡ false))
 
 -- The job at an address makes attempts up to its end, and then the acceptor is stopped.
 abbrev pub StopsRunning : Knows → Setup → ℕ → List LiveStep → List Told → Type 0
@@ -311,14 +321,14 @@ ends_by served.Disk ends = ends
 ends_by how ends = at_end.Leave
 
 -- What a service does for lines, newest first, up to its end: it tells first what it begins with.
-abbrev pub PlaysLines : Knows → Setup → Notice → List Finding → List Said → List LiveStep →
+abbrev pub PlaysLines : Knows → Type 0 → Setup → Notice → List Finding → List Said → List LiveStep →
     List Told → Type 0
-PlaysLines knows setup opening findings lines =
-    Then (Tells (notice opening)) (DoesLines knows setup findings lines)
+PlaysLines knows Missed setup opening findings lines =
+    Then (Tells (notice opening)) (DoesLines knows Missed setup findings lines)
 
 -- And what it does at the end.
-abbrev pub ServesLines : Knows → Setup → Notice → List Finding → AtEnd → List Said → List LiveStep →
-    List Told → Type 0
-ServesLines knows setup opening findings ends lines =
-    ThenBy (PlaysLines knows setup opening findings lines)
+abbrev pub ServesLines : Knows → Type 0 → Setup → Notice → List Finding → AtEnd → List Said →
+    List LiveStep → List Told → Type 0
+ServesLines knows Missed setup opening findings ends lines =
+    ThenBy (PlaysLines knows Missed setup opening findings lines)
     (λ said. StopsBy ends (λ more. knows (said ++ more)) setup)

@@ -1,5 +1,6 @@
 -- By what a job is at its end.
 use Rattle.std.specs.Prelude.{Bool, true, false, ◌||◌, List, [], ◌∷◌}
+use Rattle.cct_model.specs.lines.entry.End.TheVariants as end_of
 use Rattle.cct_model.specs.lines.entry.Entry.{Entry}
 use Rattle.cct_model.specs.lines.entry.Entry.TheVariants as entry_of
 use Rattle.cct_live_service.specs.Told.{Told, entry}
@@ -10,8 +11,21 @@ is_end (entry_of.Ended addr end) = true
 is_end (entry_of.Idle addr) = true
 is_end e = false
 
--- An entry among what is reported does.
+-- An entry says that a job ended for want of an answer.
+abbrev pub is_unanswered : Entry → Bool
+is_unanswered (entry_of.Ended addr end_of.NoAnswer) = true
+is_unanswered e = false
+
+-- One of the entries among what is reported is such.
+abbrev pub tells_some : (Entry → Bool) → List Told → Bool
+tells_some is_such [] = false
+tells_some is_such (entry e ∷ told) = is_such e || tells_some is_such told
+tells_some is_such (what ∷ told) = tells_some is_such told
+
+-- An entry among what is reported says that no job is left.
 abbrev pub tells_end : List Told → Bool
-tells_end [] = false
-tells_end (entry e ∷ told) = is_end e || tells_end told
-tells_end (what ∷ told) = tells_end told
+tells_end = tells_some is_end
+
+-- And one that a job ended for want of an answer.
+abbrev pub tells_unanswered : List Told → Bool
+tells_unanswered = tells_some is_unanswered

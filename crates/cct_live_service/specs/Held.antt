@@ -1,8 +1,6 @@
 -- The bill that a reading of a bill acceptor shows as held.
-use Rattle.std.specs.Prelude.{◌≡◌, ℕ, ◌==◌, ◌&&◌, not, Bool, true, false, List, [], ◌∷◌}
-use Rattle.std.specs.Prelude.{if◌then◌else◌, Option, Some, None, ⊤}
-use Rattle.cct_model.specs.lines.entry.Entry.{Entry}
-use Rattle.cct_model.specs.lines.entry.Entry.TheVariants as entry_of
+use Rattle.std.specs.Prelude.{ℕ, ◌==◌, ◌&&◌, ◌||◌, not, Bool, true, false, List, [], ◌∷◌}
+use Rattle.std.specs.Prelude.{if◌then◌else◌, Option, Some, None}
 use Rattle.cct_model.specs.terms.coin.Credits.{Credits}
 use Rattle.cct_model.specs.terms.coin.Pair.{Pair}
 use Rattle.cct_model.specs.terms.request.ReplyForm.TheVariants as form
@@ -10,8 +8,6 @@ use Rattle.cct_model.specs.terms.wire.CheckKind.{CheckKind}
 use Rattle.cct_model.specs.Exchange.{got}
 use Rattle.cct_model.specs.Reply.{Reply, credits}
 use Rattle.cct_live_service.specs.declared.holds.Hold.{Hold}
-use Rattle.cct_live_service.specs.declared.notice.Notice.{Notice}
-use Rattle.cct_live_service.specs.declared.notice.Notice.TheVariants as notice_of
 
 -- A message asks for a bill acceptor's events: its header is 159.
 abbrev pub asks_bills : List ℕ → Bool
@@ -44,24 +40,9 @@ hold_in counter (event ∷ older) = hold_by counter event
 abbrev pub newest_hold : Credits → Option Hold
 newest_hold told = hold_in told.counter told.pairs
 
--- A bill of this place is held, by the newest event of the reply to this exchange.
-abbrev pub IsHeard : ℕ → List ℕ → List ℕ → ℕ → Type 0
-IsHeard addr sent heard place =
-    (kind : CheckKind) × (told : Credits) × (hold : Hold)
-    × (bills_told kind addr sent heard ≡ Some told)
-    × (newest_hold told ≡ Some hold) × (hold.place ≡ place)
-
--- Entries begin with an exchange.
-abbrev pub HasExchange : List Entry → Type 0
-HasExchange (entry_of.Wire addr sent heard ∷ entries) = ⊤
-HasExchange entries = ⊥
-
--- A notice may come after the entries of an attempt whose exchange failed or not: that the line is
--- lost where it did, that it is back where there was one and it didn't, or a bill that its exchange
--- shows as held.
-abbrev pub IsAfter : Bool → List Entry → Notice → Type 0
-IsAfter has_failed entries notice_of.LineFault = has_failed ≡ true
-IsAfter has_failed entries notice_of.LineBack = (has_failed ≡ false) × HasExchange entries
-IsAfter has_failed (entry_of.Wire addr sent heard ∷ entries) (notice_of.Held at place) =
-    (at ≡ addr) × IsHeard addr sent heard place
-IsAfter has_failed entries n = ⊥
+-- A bill that is held is another one than the one that was held before: of another place, or by
+-- another event counter.
+abbrev pub is_other : Hold → Option Hold → Bool
+is_other hold None = true
+is_other hold (Some before) =
+    not (hold.place == before.place) || not (hold.counter == before.counter)

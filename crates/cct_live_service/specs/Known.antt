@@ -8,6 +8,7 @@ use Rattle.cct_model.specs.declared.change.Phase.{Phase}
 use Rattle.cct_model.specs.declared.change.Phase.TheVariants.{Begun, Opened}
 use Rattle.cct_model.specs.declared.change.Session.{Session}
 use Rattle.cct_model.specs.Change.{Desk}
+use Rattle.cct_disk.specs.Disk.{IsTrusted}
 use Rattle.cct_disk.specs.declared.disk.Disk.{Ghosts}
 use Rattle.cct_journal.specs.declared.format.TheConstants.{MOST_RECORDS}
 use Rattle.cct_host.specs.declared.host.Host.{Host}
@@ -73,3 +74,11 @@ module _ {D : Type 0} {g : Ghosts D} where
   -- Whether the session has nothing to do.
   abbrev pub Rested : Host D g → Desk → Bool → Type 0
   Rested host desk rest = IsKnown host desk (Rests (setup_of host) rest)
+
+  -- This was missed since a host was so, whatever was given and found, if the disk that was given
+  -- is trusted.
+  abbrev pub MissedFrom : Host D g → Type 0 → Type 0
+  MissedFrom host Missed =
+      (given : Given D) (found : List Record) (before : List LiveStep) (past : List Entry)
+      → IsLife MOST_RECORDS (setup_of host) found before past → StandsSince host given found past
+      → IsTrusted g.honest g.seen given.disk → Missed

@@ -1,6 +1,7 @@
 pub mod Input
 pub mod Notice
 pub mod Held
+pub mod Watch
 pub mod Told
 pub mod Status
 pub mod Said

@@ -1,6 +1,7 @@
 -- What a service of a host leaves: what it told of its life, what is on its disk, and how it ended.
 use Rattle.std.specs.Prelude.{◌≡◌, ◌⊎◌, Bool, true, ℕ, List, ◌∷◌, ◌++◌, Option, Some, None, Result}
 use Rattle.std.specs.Prelude.{Ok, Err, reverse}
+use Rattle.cct_edge.specs.Faults.{Rose}
 use Rattle.cct_edge.specs.declared.fault.Failed.{Failed}
 use Rattle.cct_live_survey.specs.Roll.{Rolled}
 use Rattle.cct_live_service.specs.declared.stopping.AtEnd.{AtEnd}
@@ -25,7 +26,7 @@ use Rattle.cct_live_service.specs.Ending.{IsOfDisk, closed_by, last_told}
 use Rattle.cct_live_service.specs.Found.{Begun, FoundOn, was_found}
 use Rattle.cct_live_service.specs.Known.{Knows}
 use Rattle.cct_live_service.specs.Laws.{IsLawful}
-use Rattle.cct_live_service.specs.Linked.{UsesLink}
+use Rattle.cct_live_service.specs.Linked.{UsesLink, Watched}
 use Rattle.cct_live_service.specs.Opening.{BegunOn, opening_of, opening_over}
 use Rattle.cct_live_service.specs.Reported.{AreSoWhere}
 use Rattle.cct_live_service.specs.Since.{MayStand}
@@ -89,6 +90,16 @@ KnownOn honest seen may_leave given setup begun desk told Fact =
     × ((found : List Record) → FoundOn honest seen may_leave given setup begun found →
     Fact now (news_of told ++ started found))
 
+-- A count of what was missed rose, or is at its last value, if the disk that was given is trusted,
+-- whichever records were found.
+abbrev pub MissedOn : {D : Type 0} → (D → Bool) → (D → Option (List ℕ)) → (D → List ℕ → Type 0) →
+    D → Setup → Begun → ℕ → ℕ
+    → Type 0
+MissedOn honest seen may_leave given setup begun missed missed_then =
+    (found : List Record) → FoundOn honest seen may_leave given setup begun found →
+    IsTrusted honest seen given
+    → Rose missed missed_then
+
 -- of a sink, of a link, and of a disk as it was given and as it came back
 module _ {K : Type 0} (written : K → Option (List ℕ))
     (puts : K → List ℕ → Result (Unit {0}) Failed → K → Type 0)
@@ -101,15 +112,16 @@ module _ {K : Type 0} (written : K → Option (List ℕ))
   -- entries among it are those of the steps of one life over the records that were found on the
   -- disk, whichever these are; and the disk has the records of that life. What went over the link
   -- are the exchanges that were reported, and questions of the roll.
-  pub record Lived (setup : Setup) (roll now : Rolled) (desk left_desk : Desk) (ends : AtEnd)
-      (left : Option (List ℕ)) (how : Served) (old new : K)
-      (line last : L) : Type 0 where
+  pub record Lived (setup : Setup) (roll now : Rolled) (desk left_desk : Desk)
+      (missed missed_then : ℕ) (ends : AtEnd) (left : Option (List ℕ))
+      (how : Served) (old new : K) (line last : Watched L) : Type 0 where
     pub begun : Begun
     pub lines : List Said
     pub steps : List LiveStep
     pub told : List Told
     pub says : Says left lines how
-    pub does : DoesTo (ServesLines (KnownOn honest seen may_leave given setup begun desk) setup
+    pub does : DoesTo (ServesLines (KnownOn honest seen may_leave given setup begun desk)
+        (MissedOn honest seen may_leave given setup begun missed missed_then) setup
         (opening_of setup begun)
         roll.findings (ends_by how ends) lines) how steps told
     pub wrote : TellsTo written puts how old told new
@@ -142,19 +154,21 @@ module _ {K : Type 0} (written : K → Option (List ℕ))
 
   -- A host lived; or none was started, by what the disk had, nothing was reported, and the link
   -- wasn't used.
-  abbrev pub LivedOrNot : Setup → Rolled → Rolled → Desk → Desk → AtEnd → Option (List ℕ) → Served →
-      K → K → L → L → Type 0
-  LivedOrNot setup roll now desk left_desk ends left how old new line last =
-      Lived setup roll now desk left_desk ends left how old new line last
+  abbrev pub LivedOrNot : Setup → Rolled → Rolled → Desk → Desk → ℕ → ℕ → AtEnd → Option (List ℕ) →
+      Served → K → K → Watched L → Watched L → Type 0
+  LivedOrNot setup roll now desk left_desk missed missed_then ends left how old new line last =
+      Lived setup roll now desk left_desk missed missed_then ends left how old new line last
       ⊎ (IsOfDisk how × (new ≡ old) × (now ≡ roll) × (left_desk ≡ desk) × (last ≡ line))
 
   -- And then the last line was reported, where there is one.
-  pub record Closed (setup : Setup) (roll now : Rolled) (desk left_desk : Desk) (ends : AtEnd)
+  pub record Closed (setup : Setup) (roll now : Rolled) (desk left_desk : Desk)
+      (missed missed_then : ℕ) (ends : AtEnd)
       (left : Option (List ℕ)) (result : Served)
-      (old new : K) (line last : L) : Type 0 where
+      (old new : K) (line last : Watched L) : Type 0 where
     pub how : Served
     pub between : K
     pub answer : Result (Unit {0}) Failed
-    pub lived : LivedOrNot setup roll now desk left_desk ends left how old between line last
+    pub lived : LivedOrNot setup roll now desk left_desk missed missed_then ends left how old
+        between line last
     pub wrote : WritesTold written puts between (last_told how) answer new
     pub result_is : result ≡ closed_by answer how

@@ -20,7 +20,9 @@ use Rattle.cct_live_service.specs.declared.notice.Notice.TheVariants as notice_o
 use Rattle.cct_live_service.specs.declared.outside.OrderTold.{OrderTold}
 use Rattle.cct_live_service.specs.declared.outside.OrderTold.TheVariants as order_of
 use Rattle.cct_live_service.specs.Stated.{IsStateOf}
-use Rattle.cct_live_service.specs.Status.{AreStatus, Stand, addresses_in, addresses_told}
+use Rattle.cct_live_service.specs.declared.watch.Watch.{Watch}
+use Rattle.cct_live_service.specs.Linked.{AreStanding}
+use Rattle.cct_live_service.specs.Status.{AreStatus, HoldsAs, Stand, addresses_in, addresses_told}
 use Rattle.cct_live_service.specs.Status.{stand_notices, stands_notices}
 use Rattle.cct_live_service.specs.Told.{IsOfStatus, Told, WritesTold, answer_news, entry, knows}
 use Rattle.cct_live_service.specs.Told.{notice, notices_told, pays, unsent}
@@ -94,27 +96,29 @@ module _ {D : Type 0} {g : Ghosts D} where
       All (IsStatusOf host) notices × WritesTold written puts before (notices_told notices) result
       now
 
-  -- It was written how the device at an address stands.
+  -- It was written how the device at an address stands, and the bill that is remembered there.
   abbrev pub TellsDevice : {K : Type 0} → (K → Option (List ℕ)) →
       (K → List ℕ → Result (Unit {0}) Failed → K → Type 0)
-      → Host D g → ℕ → K → Result (Unit {0}) Failed → K → Type 0
-  TellsDevice written puts host addr before result now =
-      (s : Stand) × (s.addr ≡ addr) × WritesStatus written puts host before (stand_notices s) result
-      now
+      → Host D g → Watch → ℕ → K → Result (Unit {0}) Failed → K → Type 0
+  TellsDevice written puts host w addr before result now =
+      (s : Stand) × (s.addr ≡ addr) × HoldsAs w s
+      × WritesStatus written puts host before (stand_notices s) result now
 
   -- It was written how these devices stand.
   abbrev pub TellsDevices : {K : Type 0} → (K → Option (List ℕ)) →
       (K → List ℕ → Result (Unit {0}) Failed → K → Type 0)
-      → Host D g → List DeviceSetup → K → Result (Unit {0}) Failed → K → Type 0
-  TellsDevices written puts host devices before result now =
+      → Host D g → Watch → List DeviceSetup → K → Result (Unit {0}) Failed → K → Type 0
+  TellsDevices written puts host w devices before result now =
       (stands : List Stand) × (addresses_told stands ≡ addresses_in devices)
+      × All (HoldsAs w) stands
       × WritesStatus written puts host before (stands_notices stands) result now
 
   -- Its status was written, or the first notices of one, up to one that couldn't be.
   abbrev pub TellsStatus : {K : Type 0} → (K → Option (List ℕ)) →
       (K → List ℕ → Result (Unit {0}) Failed → K → Type 0)
-      → Host D g → K → Result (Unit {0}) Failed → K → Type 0
-  TellsStatus written puts host before result now =
+      → Host D g → Watch → K → Result (Unit {0}) Failed → K → Type 0
+  TellsStatus written puts host w before result now =
       (notices : List Notice) × (others : List Notice) × OnOk result (others ≡ [])
       × AreStatus (setup_of host).devices (notices ++ others)
+      × AreStanding w [] (notices_told notices)
       × WritesStatus written puts host before notices result now

@@ -1,5 +1,5 @@
 -- What is told of what the journal knows, against all that was reported before it.
-use Rattle.std.specs.Prelude.{◌≡◌, ◌⊎◌, ℕ, List, [], ◌∷◌, ◌++◌, Option, Some, Result}
+use Rattle.std.specs.Prelude.{◌≡◌, ◌⊎◌, ℕ, true, List, [], ◌∷◌, ◌++◌, Option, Some, Result}
 use Rattle.cct_edge.specs.declared.fault.Failed.{Failed}
 use Rattle.cct_disk.specs.declared.disk.Disk.{Ghosts}
 use Rattle.cct_disk.specs.Disk.{IsTrusted}
@@ -7,6 +7,7 @@ use Rattle.cct_model.specs.terms.device.Setup.{Setup}
 use Rattle.cct_model.specs.lines.entry.Entry.{Entry}
 use Rattle.cct_model.specs.lines.record.Record.{Record}
 use Rattle.cct_model.specs.Carry.{carry}
+use Rattle.cct_model.specs.Following.{all_follow}
 use Rattle.cct_model.specs.Records.{records}
 use Rattle.cct_host.specs.declared.host.Host.{Host}
 use Rattle.cct_host.specs.Host.{StandsFor, disk_of, setup_of}
@@ -38,11 +39,20 @@ abbrev pub IsUnread : {K : Type 0} → (K → Option (List ℕ)) →
 IsUnread written puts before result now =
     WritesTold written puts before (notice notice_of.StateUnread ∷ []) result now
 
--- The whole state of the journal of a host was reported, or that it couldn't be read.
+module _ {D : Type 0} {g : Ghosts D} where
+  -- This was missed, if a host stands for a past whose records follow one another, and its disk is
+  -- trusted.
+  abbrev pub MissedFor : Host D g → Type 0 → Type 0
+  MissedFor host Missed =
+      (past : List Entry) → StandsFor host past → all_follow (setup_of host) (records past) ≡ true
+      → IsTrusted g.honest g.seen (disk_of host) → Missed
+
+-- The whole state of the journal of a host was reported; or that it couldn't be read, since this
+-- was missed.
 abbrev pub TellsKnown : {K : Type 0} → (K → Option (List ℕ)) →
     (K → List ℕ → Result (Unit {0}) Failed → K → Type 0)
-    → {D : Type 0} → {g : Ghosts D} → Host D g → K → Result (Unit {0}) Failed → K → Type 0
-TellsKnown written puts host before result now =
+    → {D : Type 0} → {g : Ghosts D} → Host D g → Type 0 → K → Result (Unit {0}) Failed → K → Type 0
+TellsKnown written puts host Missed before result now =
     ((lines : List (List ℕ)) × IsStateFor host lines
     × WritesTold written puts before (knows_each lines lines) result now)
-    ⊎ IsUnread written puts before result now
+    ⊎ (IsUnread written puts before result now × MissedFor host Missed)

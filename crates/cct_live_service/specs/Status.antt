@@ -7,7 +7,9 @@ use Rattle.cct_model.specs.declared.judging.EpochState.{EpochState}
 use Rattle.cct_model.specs.declared.judging.OpenOrder.{OpenOrder}
 use Rattle.cct_live_service.specs.declared.notice.Notice.{Notice}
 use Rattle.cct_live_service.specs.declared.notice.Notice.TheVariants as notice_of
+use Rattle.cct_live_service.specs.declared.watch.Watch.{Watch}
 use Rattle.cct_live_service.specs.Told.{Told, notices_told}
+use Rattle.cct_live_service.specs.Watch.{place_at}
 
 -- What is told of a device: the job at its address, its epoch, its open order, and the place of the
 -- bill that it holds, if it holds one.
@@ -17,6 +19,10 @@ pub record Stand : Type 0 where
   pub epoch : EpochState
   pub order : Option OpenOrder
   pub held : Option ℕ
+
+-- The bill that it holds is the one that is remembered.
+abbrev pub HoldsAs : Watch → Stand → Type 0
+HoldsAs w s = s.held ≡ place_at w s.addr
 
 -- The bill that is held at an address is reported, if one is.
 abbrev pub held_notices : ℕ → Option ℕ → List Notice

@@ -1,8 +1,7 @@
 -- What a host on a real line tells, and what writing it does to a sink.
-use Rattle.std.specs.Prelude.{◌≡◌, ℕ, List, [], ◌∷◌, ◌++◌, flat_map, map, Bool, true, false, Option}
+use Rattle.std.specs.Prelude.{ℕ, List, [], ◌∷◌, ◌++◌, flat_map, map, Bool, true, false, Option}
 use Rattle.std.specs.Prelude.{Some, None, Result, MatchResult, ⊤}
 use Rattle.std.specs.Io.KnownBytes.{Appends}
-use Rattle.std.specs.List.{All}
 use Rattle.std.specs.Option.{option_to_list}
 use Rattle.cct_edge.specs.Bytes.{AppendsFront}
 use Rattle.cct_edge.specs.declared.fault.Failed.{Failed}

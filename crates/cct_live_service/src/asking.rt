@@ -6,7 +6,7 @@ ghost use Rattle.cct_live_survey.specs.Roll.{AsksRoll};
 ghost use Rattle.cct_live_service.specs.Asked.{AsksAt, asked_before, most_asked};
 ghost use Rattle.cct_live_service.specs.AtDesk.{Both, IsApart};
 ghost use Rattle.cct_live_service.specs.Doing.{Finds, IsAsking, IsFound, Tells};
-ghost use Rattle.cct_live_service.specs.Linked.{AreQuiet, UsesLink};
+ghost use Rattle.cct_live_service.specs.Linked.{AreQuiet, UsesLink, watched};
 ghost use Rattle.cct_live_service.specs.Parts.{Acts};
 ghost use Rattle.cct_live_service.specs.Told.{finding};
 
@@ -34,7 +34,8 @@ pub(crate) fn ask_some<K: Sink, D: Disk, L: CountedLink>(
 ) -> Result<(), Served>
     requires whole { has_failed host.old ≡ false }
     ensures acts { Acts K.written K.puts K.faults
-        (Both (UsesLink L.gives L.sent L.failures (setup_of host.old).devices roll.old roll.new link.old link.new)
+        (Both (UsesLink L.gives L.sent L.failures (setup_of host.old).devices roll.old roll.new
+        (watched link.old page.old) (watched link.new page.new))
         IsApart)
         (Finds roll.old.findings roll.new.findings IsAsking) result out.old out.new host.old host.new }
 {
@@ -68,7 +69,8 @@ pub(crate) fn ask_before<K: Sink, D: Disk, L: CountedLink>(
 ) -> Result<(), Served>
     requires whole { has_failed host.old ≡ false }
     ensures acts { Acts K.written K.puts K.faults
-        (Both (UsesLink L.gives L.sent L.failures (setup_of host.old).devices roll.old roll.new link.old link.new)
+        (Both (UsesLink L.gives L.sent L.failures (setup_of host.old).devices roll.old roll.new
+        (watched link.old page.old) (watched link.new page.new))
         IsApart)
         (Finds roll.old.findings roll.new.findings IsAsking) result out.old out.new host.old host.new }
     ensures asks { AsksAt L.gives (setup_of host.old).devices (asked_before command.now) roll.old
@@ -102,7 +104,8 @@ fn ask_at<K: Sink, D: Disk, L: CountedLink>(
 ) -> Result<(), Served>
     requires whole { has_failed host.old ≡ false }
     ensures acts { Acts K.written K.puts K.faults
-        (Both (UsesLink L.gives L.sent L.failures (setup_of host.old).devices roll.old roll.new link.old link.new)
+        (Both (UsesLink L.gives L.sent L.failures (setup_of host.old).devices roll.old roll.new
+        (watched link.old page.old) (watched link.new page.new))
         IsApart)
         (Finds roll.old.findings roll.new.findings IsAsking) result out.old out.new host.old host.new }
     ensures asks { AsksAt L.gives (setup_of host.old).devices (Some addr) roll.old link.old roll.new
@@ -126,6 +129,7 @@ fn tell_new<K: Sink, D: Disk>(
     requires some { known ≤ length roll.now.findings }
     ensures acts { Acts K.written K.puts K.faults (Both AreQuiet IsApart) (IsFound (drop known roll.now.findings))
         result out.old out.new host.old host.new }
+    ensures watch { page.new.watch ≡ page.old.watch }
 {
     tell_all(host, &roll.findings()[known..], out, page)
 }
@@ -140,6 +144,7 @@ fn tell_all<K: Sink, D: Disk>(
     requires whole { has_failed host.old ≡ false }
     ensures acts { Acts K.written K.puts K.faults (Both AreQuiet IsApart) (IsFound findings.now)
         result out.old out.new host.old host.new }
+    ensures watch { page.new.watch ≡ page.old.watch }
 {
     for found in findings {
         match tell_one(host, found, out, page) {
@@ -160,6 +165,7 @@ fn tell_one<K: Sink, D: Disk>(
     requires whole { has_failed host.old ≡ false }
     ensures acts { Acts K.written K.puts K.faults (Both AreQuiet IsApart) (Tells (finding found.now))
         result out.old out.new host.old host.new }
+    ensures watch { page.new.watch ≡ page.old.watch }
 {
     by_writing(write_finding(found, &mut page.line, out))
 }

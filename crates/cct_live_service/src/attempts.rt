@@ -5,10 +5,10 @@ ghost use Rattle.cct_disk.specs.Disk.{GoesOn};
 ghost use Rattle.cct_edge.specs.Faults.{HasCause};
 ghost use Rattle.cct_host.specs.Host.{Fails, FailsBetween, Nexts, disk_of, has_failed, setup_of};
 ghost use Rattle.cct_live_service.specs.AtDesk.{Both, FollowsDesk};
-ghost use Rattle.cct_live_service.specs.Doing.{GoesOnTo, IsAttemptWith, MakesAttempts};
+ghost use Rattle.cct_live_service.specs.Doing.{EndsAs, GoesOnTo, IsAttemptWith, MakesAttempts};
 ghost use Rattle.cct_live_service.specs.Ends.{is_end};
 ghost use Rattle.cct_live_service.specs.Known.{HasJob, IsKnown};
-ghost use Rattle.cct_live_service.specs.Linked.{Exchanges, HasGone};
+ghost use Rattle.cct_live_service.specs.Linked.{Exchanges, HasGone, watched};
 ghost use Rattle.cct_live_service.specs.Parts.{Acts};
 
 use crate::page::{Page, Went};
@@ -44,7 +44,8 @@ pub(crate) fn attempt<K: Sink, D: Disk, L: CountedLink>(
     page: &mut Page,
 ) -> Result<(), Served>
     requires whole { has_failed host.old ≡ false }
-    ensures acts { Acts K.written K.puts K.faults (Both (Exchanges L.gives L.sent L.failures link.old link.new)
+    ensures acts { Acts K.written K.puts K.faults (Both (Exchanges L.gives L.sent L.failures (setup_of host.old).devices
+        (watched link.old page.old) (watched link.new page.new))
         (FollowsDesk result desk.old desk.new))
         (IsAttemptWith (L.sent link.new) page.new.report.items addr) result out.old out.new host.old host.new }
 {
@@ -68,6 +69,7 @@ fn make<D: Disk, L: CountedLink>(
     requires whole { has_failed host.old ≡ false }
     ensures whole { OnOk result (has_failed host.new ≡ false) }
     ensures setup { setup_of host.new ≡ setup_of host.old }
+    ensures watch { page.new.watch ≡ page.old.watch }
     ensures nexts { OnOk result (Nexts L.gives link.old link.new addr host.old host.new []
         page.new.report.items) }
     ensures went { IfOk result (HasGone L.sent L.failures link.old link.new) }
@@ -101,9 +103,10 @@ pub(crate) fn attempts<K: Sink, D: Disk, L: CountedLink>(
     page: &mut Page,
 ) -> Result<(), Served>
     requires whole { has_failed host.old ≡ false }
-    ensures acts { Acts K.written K.puts K.faults (Both (Exchanges L.gives L.sent L.failures link.old link.new)
+    ensures acts { Acts K.written K.puts K.faults (Both (Exchanges L.gives L.sent L.failures (setup_of host.old).devices
+        (watched link.old page.old) (watched link.new page.new))
         (FollowsDesk result desk.old desk.new))
-        (MakesAttempts until addr) result out.old out.new host.old host.new }
+        (EndsAs result page.new.report.items (MakesAttempts until addr)) result out.old out.new host.old host.new }
 {
     for _made in 0..MOST_ATTEMPTS {
         match attempt(host, addr, desk, link, out, page) {
@@ -144,7 +147,8 @@ fn is_end(entry: &Entry) -> bool
 }
 
 /// The job at an address, if there is one, makes attempts until it has ended, or up to a failed
-/// try, or the most.
+/// try, or the most. The entries of the last one are then the report, which is empty where none was
+/// made.
 pub(crate) fn go_on<K: Sink, D: Disk, L: CountedLink>(
     host: &mut Host<'_, D>,
     addr: u8,
@@ -155,13 +159,16 @@ pub(crate) fn go_on<K: Sink, D: Disk, L: CountedLink>(
     page: &mut Page,
 ) -> Result<(), Served>
     requires whole { has_failed host.old ≡ false }
-    ensures acts { Acts K.written K.puts K.faults (Both (Exchanges L.gives L.sent L.failures link.old link.new)
+    ensures acts { Acts K.written K.puts K.faults (Both (Exchanges L.gives L.sent L.failures (setup_of host.old).devices
+        (watched link.old page.old) (watched link.new page.new))
         (FollowsDesk result desk.old desk.new))
-        (GoesOnTo (IsKnown host.old desk.old (HasJob (setup_of host.old) addr false)) until addr) result out.old out.new host.old host.new }
+        (EndsAs result page.new.report.items (GoesOnTo (IsKnown host.old desk.old (HasJob (setup_of host.old) addr false)) until addr))
+        result out.old out.new host.old host.new }
 {
     if host.command_at(addr).is_some() {
         attempts(host, addr, until, desk, link, out, page)
     } else {
+        page.report.clear();
         Ok(())
     }
 }

@@ -1,12 +1,12 @@
 //! What is answered at once: commands, the balance, the standing of the devices, and orders.
-ghost use Rattle.std.specs.Prelude.{◌≡◌, ◌∷◌, [], List, false};
+ghost use Rattle.std.specs.Prelude.{◌≡◌, ◌≤◌, ◌∷◌, [], List, false};
 ghost use Rattle.cct_host.specs.Host.{Keeps, disk_of, has_failed, setup_of};
 ghost use Rattle.cct_laws_live.specs.LiveStep as live;
 ghost use Rattle.cct_model.specs.Script.{IsCommand};
 ghost use Rattle.cct_model.specs.lines.entry.Entry.{Entry};
 ghost use Rattle.cct_live_service.specs.AtDesk.{Both, IsApart};
 ghost use Rattle.cct_live_service.specs.Doing.{DoesCommand, IsOrder, IsStatus, TellsOne};
-ghost use Rattle.cct_live_service.specs.Linked.{AreQuiet};
+ghost use Rattle.cct_live_service.specs.Linked.{AreQuiet, AreStanding};
 ghost use Rattle.cct_live_service.specs.Parts.{Acts, HostGoes};
 ghost use Rattle.cct_live_service.specs.Reported.{IsJust, open_by, open_in};
 ghost use Rattle.cct_live_service.specs.Told.{as_told};
@@ -36,6 +36,7 @@ pub(crate) fn answer_or_withhold<K: Sink, D: Disk>(
     ensures acts { Acts K.written K.puts K.faults (Both AreQuiet IsApart)
         (DoesCommand command.now (withheld_by findings.now command.now))
         result out.old out.new host.old host.new }
+    ensures watch { page.new.watch ≡ page.old.watch }
 {
     match withheld_by(findings, command) {
         None => answer(host, command, out, page),
@@ -54,6 +55,7 @@ fn withhold<K: Sink, D: Disk>(
     requires whole { has_failed host.old ≡ false }
     ensures acts { Acts K.written K.puts K.faults (Both AreQuiet IsApart) (DoesCommand command.now (Some why))
         result out.old out.new host.old host.new }
+    ensures watch { page.new.watch ≡ page.old.watch }
 {
     let notice = Notice::Withheld {
         command: *command,
@@ -73,6 +75,7 @@ pub(crate) fn answer<K: Sink, D: Disk>(
     requires told { IsCommand command.now }
     ensures acts { Acts K.written K.puts K.faults (Both AreQuiet IsApart) (TellsOne (live.command command.now))
         result out.old out.new host.old host.new }
+    ensures watch { page.new.watch ≡ page.old.watch }
 {
     page.report.clear();
     page.report.push(answer_of(host, command));
@@ -107,6 +110,7 @@ pub(crate) fn balance<K: Sink, D: Disk>(
     requires whole { has_failed host.old ≡ false }
     ensures acts { Acts K.written K.puts K.faults (Both AreQuiet IsApart) (TellsOne live.balance)
         result out.old out.new host.old host.new }
+    ensures watch { page.new.watch ≡ page.old.watch }
 {
     page.report.clear();
     page.report.push(Entry::Balance(host.totals()));
@@ -120,8 +124,9 @@ pub(crate) fn status<K: Sink, D: Disk>(
     page: &mut Page,
 ) -> Result<(), Served>
     requires whole { has_failed host.old ≡ false }
-    ensures acts { Acts K.written K.puts K.faults (Both AreQuiet IsApart) (IsStatus (setup_of host.old).devices)
-        result out.old out.new host.old host.new }
+    ensures acts { Acts K.written K.puts K.faults (Both (AreStanding page.old.watch []) IsApart)
+        (IsStatus (setup_of host.old).devices) result out.old out.new host.old host.new }
+    ensures watch { page.new.watch ≡ page.old.watch }
 {
     by_writing(tell_status(host, out, page))
 }
@@ -137,6 +142,8 @@ pub(crate) fn order<K: Sink, D: Disk, O: Outside>(
     requires whole { has_failed host.old ≡ false }
     ensures acts { Acts K.written K.puts K.faults (Both AreQuiet IsApart) (IsOrder id) result
         out.old out.new host.old host.new }
+    ensures watch { page.new.watch ≡ page.old.watch }
+    ensures later { O.misses outside.old ≤ O.misses outside.new }
 {
     let told = order_told(host, id, outside);
     by_writing(tell(out, &mut page.line, &Notice::Order { id, told }))
@@ -146,6 +153,7 @@ pub(crate) fn order<K: Sink, D: Disk, O: Outside>(
 fn order_told<D: Disk, O: Outside>(host: &Host<'_, D>, id: u32, outside: &mut O) -> OrderTold
     ensures known { (past : List Entry) → Keeps host.now past →
         IsJust (open_in (setup_of host.now) past id) result }
+    ensures later { O.misses outside.old ≤ O.misses outside.new }
 {
     match open_order(host, id) {
         Some(told) => told,

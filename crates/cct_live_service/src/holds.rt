@@ -67,36 +67,3 @@ pub(crate) fn newest_hold(credits: Credits) -> Option<Hold>
         None
     }
 }
-
-/// The bill that each bill acceptor holds, by address, as its last reading told it.
-#[derive(Drop)]
-pub(crate) struct Holds {
-    held: [Option<Hold>; 256],
-}
-
-impl Holds {
-    /// None is known.
-    pub(crate) fn new() -> Holds {
-        Holds { held: [None; 256] }
-    }
-
-    /// The place of the bill that is held at an address.
-    pub(crate) fn place_at(&self, addr: u8) -> Option<u8> {
-        match self.held[usize::from(addr)] {
-            Some(hold) => Some(hold.place),
-            None => None,
-        }
-    }
-
-    /// A reading at an address shows this. Whether it is a bill that wasn't reported yet.
-    pub(crate) fn note(&mut self, addr: u8, hold: Option<Hold>) -> bool {
-        let is_new = hold.is_some() && hold != self.held[usize::from(addr)];
-        self.held[usize::from(addr)] = hold;
-        is_new
-    }
-
-    /// No bill is held at an address any more.
-    pub(crate) fn clear(&mut self, addr: u8) {
-        self.held[usize::from(addr)] = None;
-    }
-}

@@ -1,9 +1,11 @@
 //! What the journal knows now, read beside the host that goes on with it.
-ghost use Rattle.std.specs.Prelude.{◌≡◌, IfSome, IsErr, false};
+ghost use Rattle.std.specs.Prelude.{◌≡◌, ◌≢◌, ◌≤◌, IsErr, false};
 ghost use Rattle.cct_edge.specs.Bytes.{Serves};
+ghost use Rattle.cct_edge.specs.Faults.{Caused, Rose};
 ghost use Rattle.cct_host.specs.Host.{disk_of, has_failed};
 ghost use Rattle.cct_live_service.specs.AtDesk.{Both, IsApart};
 ghost use Rattle.cct_live_service.specs.Doing.{IsStating};
+ghost use Rattle.cct_live_service.specs.Known.{MissedFrom};
 ghost use Rattle.cct_live_service.specs.Linked.{AreQuiet};
 ghost use Rattle.cct_live_service.specs.Parts.{Acts};
 ghost use Rattle.cct_live_service.specs.Stated.{IsUnread, TellsKnown};
@@ -16,6 +18,7 @@ use cct_bench_state::{StateEnd, tell_state};
 use cct_disk::Disk;
 use cct_edge::{Failed, Sink};
 use cct_host::Host;
+use cct_journal::OpenNo;
 use cct_text::TextLine;
 
 /// Says what the journal knows now, in the lines of a bench's `state`. The host doesn't go on
@@ -27,47 +30,69 @@ pub(crate) fn state<K: Sink, D: Disk + Drop, O: Beside<D>>(
     page: &mut Page,
 ) -> Result<(), Served>
     requires whole { has_failed host.old ≡ false }
-    ensures acts { Acts K.written K.puts K.faults (Both AreQuiet IsApart) IsStating result out.old
-        out.new host.old host.new }
+    ensures acts { Acts K.written K.puts K.faults (Both AreQuiet IsApart)
+        (IsStating (MissedFrom host.old (Rose (O.misses outside.old) (O.misses outside.new))))
+        result out.old out.new host.old host.new }
+    ensures watch { page.new.watch ≡ page.old.watch }
+    ensures later { O.misses outside.old ≤ O.misses outside.new }
 {
-    let disk = outside.beside(host.disk());
-    by_writing(tell_known(host, disk, out, &mut page.line))
+    by_writing(tell_known(host, outside, out, &mut page.line))
 }
 
-/// Says what the journal knows by a disk that gives the bytes of the host's, or that there is none.
-fn tell_known<K: Sink, D: Disk + Drop>(
+/// Says what the journal knows by a disk that gives the bytes of the host's, or that it couldn't be
+/// read.
+fn tell_known<K: Sink, D: Disk + Drop, O: Beside<D>>(
     host: &Host<'_, D>,
-    disk: Option<D>,
+    outside: &mut O,
     out: &mut K,
     line: &mut TextLine,
 ) -> Result<(), Failed>
-    requires same { IfSome disk (λ other. D.seen other ≡ D.seen (disk_of host.now)) }
-    ensures tells { TellsKnown K.written K.puts host.now out.old result out.new }
+    ensures tells { TellsKnown K.written K.puts host.now (Rose (O.misses outside.old) (O.misses outside.new)) out.old result
+        out.new }
     ensures serves { Serves K.written K.faults out.old out.new (IsErr result) }
+    ensures later { O.misses outside.old ≤ O.misses outside.new }
 {
-    match disk {
-        Some(disk) => tell_disk(host, disk, out, line),
+    match outside.beside(host.disk()) {
+        Some(disk) => tell_disk(host, disk, outside, out, line),
         None => tell_unread(out, line),
     }
 }
 
 /// Says what the journal on a disk knows, which gives the bytes of the host's; or that it can't be
 /// read.
-fn tell_disk<K: Sink, D: Disk + Drop>(
+fn tell_disk<K: Sink, D: Disk + Drop, O: Beside<D>>(
     host: &Host<'_, D>,
     disk: D,
+    outside: &mut O,
     out: &mut K,
     line: &mut TextLine,
 ) -> Result<(), Failed>
     requires same { D.seen disk ≡ D.seen (disk_of host.now) }
-    ensures tells { TellsKnown K.written K.puts host.now out.old result out.new }
+    requires new { D.faults disk ≡ 0 }
+    ensures tells { TellsKnown K.written K.puts host.now (Rose (O.misses outside.old) (O.misses outside.new)) out.old result
+        out.new }
     ensures serves { Serves K.written K.faults out.old out.new (IsErr result) }
+    ensures later { O.misses outside.old ≤ O.misses outside.new }
 {
-    let (how, _) = tell_state(out, line, Some(host.setup()), disk);
+    let (how, disk) = tell_state(out, line, Some(host.setup()), disk);
     match how {
         StateEnd::Done => Ok(()),
         StateEnd::Unwritten => Err(Failed),
-        StateEnd::Unread(_) => tell_unread(out, line),
+        StateEnd::Unread(why) => {
+            count_miss(why, disk, outside);
+            tell_unread(out, line)
+        }
+    }
+}
+
+/// Counts a miss, where a call of the disk failed by which the journal isn't read.
+fn count_miss<D: Disk + Drop, O: Beside<D>>(why: OpenNo, disk: D, outside: &mut O)
+    requires failed { why ≡ OpenNo.Disk → D.faults disk ≢ 0 }
+    ensures missed { Caused (O.misses outside.old) (O.misses outside.new) (why ≡ OpenNo.Disk) }
+{
+    match why {
+        OpenNo::Disk => outside.failed(disk),
+        _ => {}
     }
 }
 

@@ -24,6 +24,7 @@ mod standing;
 mod stopping;
 mod unsent;
 mod visit;
+mod watch;
 
 pub use beside::Beside;
 pub use holds::Hold;
@@ -34,3 +35,4 @@ pub use page::Page;
 pub use served::Served;
 pub use serving::serve;
 pub use stopping::AtEnd;
+pub use watch::{Due, Watch};

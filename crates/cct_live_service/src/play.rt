@@ -1,7 +1,8 @@
 //! What the input says is done, line by line, and each entry is written before the next line is
 //! read.
-ghost use Rattle.std.specs.Prelude.{◌≡◌, false, Ok, IfErr, IfOk};
+ghost use Rattle.std.specs.Prelude.{◌≡◌, ◌≤◌, false, Ok, IfErr, IfOk};
 ghost use Rattle.cct_edge.specs.Bytes.{Serves};
+ghost use Rattle.cct_edge.specs.Faults.{Rose};
 ghost use Rattle.cct_host.specs.Host.{disk_of, has_failed, setup_of};
 ghost use Rattle.cct_model.specs.Exchange.{device_at, hopper_there};
 ghost use Rattle.cct_model.specs.Script.{IsCommand};
@@ -14,8 +15,8 @@ ghost use Rattle.cct_live_service.specs.Causes.{DiskServes, EndsBy, IsDiskFault,
 ghost use Rattle.cct_live_service.specs.Causes.{IsUnwritten};
 ghost use Rattle.cct_live_service.specs.Doing.{Decides, Does, DoesLine, DoesLines, Finds};
 ghost use Rattle.cct_live_service.specs.Doing.{IsAttempt, MakesAttempts, Tells, is_known};
-ghost use Rattle.cct_live_service.specs.Known.{KnownAfter, Rested};
-ghost use Rattle.cct_live_service.specs.Linked.{AreQuiet, Exchanges, UsesLink};
+ghost use Rattle.cct_live_service.specs.Known.{KnownAfter, MissedFrom, Rested};
+ghost use Rattle.cct_live_service.specs.Linked.{AreQuiet, Exchanges, UsesLink, watched};
 ghost use Rattle.cct_live_service.specs.Parts.{Acts, Plays};
 ghost use Rattle.cct_live_service.specs.Said.{ComesNext, IsOfInput, IsSayable, stopped_by};
 ghost use Rattle.cct_live_service.specs.Said.{unless_end};
@@ -59,13 +60,16 @@ pub(crate) fn play<S: Source, K: Sink, D: Disk + Drop, L: CountedLink, O: Beside
     ensures whole { IsOfInput result → has_failed host.new ≡ false }
     ensures setup { setup_of host.new ≡ setup_of host.old }
     ensures plays { Plays K.written K.puts
-        (Both (UsesLink L.gives L.sent L.failures (setup_of host.old).devices roll.old roll.new link.old link.new)
+        (Both (UsesLink L.gives L.sent L.failures (setup_of host.old).devices roll.old roll.new
+        (watched link.old page.old) (watched link.new page.new))
         (FollowsTo result desk.old desk.new))
-        (DoesLines (KnownAfter host.old desk.old) (setup_of host.old) roll.old.findings) (S.left input.old) result out.old out.new host.old host.new }
+        (DoesLines (KnownAfter host.old desk.old)
+        (MissedFrom host.old (Rose (O.misses outside.old) (O.misses outside.new))) (setup_of host.old) roll.old.findings) (S.left input.old) result out.old out.new host.old host.new }
     ensures input { Serves S.left S.faults input.old input.new (IsUnread result) }
     ensures sink { Serves K.written K.faults out.old out.new (IsUnwritten result) }
     ensures disk { DiskServes D.size D.honest D.seen D.cuts D.faults (disk_of host.old) (disk_of host.new)
         (IsDiskFault result) }
+    ensures later { O.misses outside.old ≤ O.misses outside.new }
 {
     let mut lines = EndlessLines::new();
     for number in 1..u32::MAX {
@@ -97,6 +101,7 @@ fn next_line<S: Source, O: Outside>(
     ensures sayable { IfOk result IsSayable }
     ensures ends { IfErr result IsOfInput }
     ensures serves { Serves S.left S.faults input.old input.new (EndsBy IsUnread result) }
+    ensures later { O.misses outside.old ≤ O.misses outside.new }
 {
     match lines.line(input) {
         Ok(NextLine::Text(line)) => {
@@ -123,7 +128,9 @@ fn tell_refusal<O: Outside>(
     number: u32,
     line: &[u8],
     outside: &mut O,
-) {
+)
+    ensures later { O.misses outside.old ≤ O.misses outside.new }
+{
     match said {
         Ok(_) => {}
         Err(kind) => outside.refused(number, kind, line),
@@ -168,10 +175,13 @@ fn take_line<K: Sink, D: Disk + Drop, L: CountedLink, O: Beside<D>>(
     requires whole { has_failed host.old ≡ false }
     requires sayable { IsSayable line.now }
     ensures acts { Acts K.written K.puts K.faults
-        (Both (UsesLink L.gives L.sent L.failures (setup_of host.old).devices roll.old roll.new link.old link.new)
+        (Both (UsesLink L.gives L.sent L.failures (setup_of host.old).devices roll.old roll.new
+        (watched link.old page.old) (watched link.new page.new))
         (FollowsDesk result desk.old desk.new))
-        (Finds roll.old.findings roll.new.findings (DoesLine (Rested host.old desk.old) (setup_of host.old).devices roll.old.findings number line.now))
+        (Finds roll.old.findings roll.new.findings (DoesLine (Rested host.old desk.old)
+        (MissedFrom host.old (Rose (O.misses outside.old) (O.misses outside.new))) (setup_of host.old).devices roll.old.findings number line.now))
         result out.old out.new host.old host.new }
+    ensures later { O.misses outside.old ≤ O.misses outside.new }
 {
     match line {
         Ok(InputLine::Host(said)) => {
@@ -218,6 +228,8 @@ fn refuse_unknown<K: Sink, D: Disk, O: Outside>(
     requires whole { has_failed host.old ≡ false }
     ensures acts { Acts K.written K.puts K.faults (Both AreQuiet IsApart) (Tells (refused number kind.Device))
         result out.old out.new host.old host.new }
+    ensures watch { page.new.watch ≡ page.old.watch }
+    ensures later { O.misses outside.old ≤ O.misses outside.new }
 {
     write_stock(&mut page.line, said);
     outside.refused(number, LineKind::Device, page.line.as_slice());
@@ -245,6 +257,7 @@ fn refuse<K: Sink, D: Disk>(
     requires whole { has_failed host.old ≡ false }
     ensures acts { Acts K.written K.puts K.faults (Both AreQuiet IsApart) (Tells (refused number kind))
         result out.old out.new host.old host.new }
+    ensures watch { page.new.watch ≡ page.old.watch }
 {
     by_writing(write_entry(out, &mut page.line, &Entry::Line { number, kind }))
 }
@@ -263,10 +276,12 @@ fn obey<K: Sink, D: Disk, L: CountedLink, O: Outside>(
     requires whole { has_failed host.old ≡ false }
     requires sayable { IsSayable (Ok (input.Host said.now)) }
     ensures acts { Acts K.written K.puts K.faults
-        (Both (UsesLink L.gives L.sent L.failures (setup_of host.old).devices roll.old roll.new link.old link.new)
+        (Both (UsesLink L.gives L.sent L.failures (setup_of host.old).devices roll.old roll.new
+        (watched link.old page.old) (watched link.new page.new))
         (FollowsDesk result desk.old desk.new))
         (Finds roll.old.findings roll.new.findings (Does (Rested host.old desk.old) (setup_of host.old).devices roll.old.findings said.now))
         result out.old out.new host.old host.new }
+    ensures later { O.misses outside.old ≤ O.misses outside.new }
 {
     match said {
         LiveLine::Command(command) => decide(host, roll, command, out, link, page),
@@ -296,7 +311,8 @@ fn decide<K: Sink, D: Disk, L: CountedLink>(
     requires whole { has_failed host.old ≡ false }
     requires told { IsCommand command.now }
     ensures acts { Acts K.written K.puts K.faults
-        (Both (UsesLink L.gives L.sent L.failures (setup_of host.old).devices roll.old roll.new link.old link.new)
+        (Both (UsesLink L.gives L.sent L.failures (setup_of host.old).devices roll.old roll.new
+        (watched link.old page.old) (watched link.new page.new))
         IsApart)
         (Finds roll.old.findings roll.new.findings (Decides roll.old.findings command.now))
         result out.old out.new host.old host.new }
@@ -320,7 +336,8 @@ fn next<K: Sink, D: Disk, L: CountedLink>(
     page: &mut Page,
 ) -> Result<(), Served>
     requires whole { has_failed host.old ≡ false }
-    ensures acts { Acts K.written K.puts K.faults (Both (Exchanges L.gives L.sent L.failures link.old link.new)
+    ensures acts { Acts K.written K.puts K.faults (Both (Exchanges L.gives L.sent L.failures (setup_of host.old).devices
+        (watched link.old page.old) (watched link.new page.new))
         (FollowsDesk result desk.old desk.new))
         (IsAttempt addr) result out.old out.new host.old host.new }
 {
@@ -338,7 +355,8 @@ fn do_job<K: Sink, D: Disk, L: CountedLink>(
     page: &mut Page,
 ) -> Result<(), Served>
     requires whole { has_failed host.old ≡ false }
-    ensures acts { Acts K.written K.puts K.faults (Both (Exchanges L.gives L.sent L.failures link.old link.new)
+    ensures acts { Acts K.written K.puts K.faults (Both (Exchanges L.gives L.sent L.failures (setup_of host.old).devices
+        (watched link.old page.old) (watched link.new page.new))
         (FollowsDesk result desk.old desk.new))
         (MakesAttempts Until.Ended addr) result out.old out.new host.old host.new }
 {

@@ -4,7 +4,7 @@ ghost use Rattle.cct_host.specs.Host.{has_failed, setup_of};
 ghost use Rattle.cct_live_service.specs.AtDesk.{Both, FollowsDesk, IsApart};
 ghost use Rattle.cct_live_service.specs.Doing.{Finds, IsPoll, IsVisit, ServesOn, Then};
 ghost use Rattle.cct_live_service.specs.Known.{Rested};
-ghost use Rattle.cct_live_service.specs.Linked.{Exchanges, UsesLink};
+ghost use Rattle.cct_live_service.specs.Linked.{Exchanges, UsesLink, watched};
 ghost use Rattle.cct_live_service.specs.Parts.{Acts};
 
 use crate::asking::ask_some;
@@ -36,7 +36,8 @@ pub(crate) fn poll<K: Sink, D: Disk, L: CountedLink>(
 ) -> Result<(), Served>
     requires whole { has_failed host.old ≡ false }
     ensures acts { Acts K.written K.puts K.faults
-        (Both (UsesLink L.gives L.sent L.failures (setup_of host.old).devices roll.old roll.new link.old link.new)
+        (Both (UsesLink L.gives L.sent L.failures (setup_of host.old).devices roll.old roll.new
+        (watched link.old page.old) (watched link.new page.new))
         (FollowsDesk result desk.old desk.new))
         (Finds roll.old.findings roll.new.findings (Then (ServesOn (Rested host.old desk.old) roll.old.findings) IsPoll))
         result out.old out.new host.old host.new }
@@ -59,7 +60,8 @@ fn visit_all<K: Sink, D: Disk, L: CountedLink>(
 ) -> Result<(), Served>
     requires whole { has_failed host.old ≡ false }
     ensures acts { Acts K.written K.puts K.faults
-        (Both (UsesLink L.gives L.sent L.failures (setup_of host.old).devices roll.old roll.new link.old link.new)
+        (Both (UsesLink L.gives L.sent L.failures (setup_of host.old).devices roll.old roll.new
+        (watched link.old page.old) (watched link.new page.new))
         (FollowsDesk result desk.old desk.new))
         (Finds roll.old.findings roll.new.findings IsPoll) result out.old out.new host.old host.new }
 {
@@ -79,7 +81,8 @@ fn visit_sound<K: Sink, D: Disk, L: CountedLink>(
     page: &mut Page,
 ) -> Result<(), Served>
     requires whole { has_failed host.old ≡ false }
-    ensures acts { Acts K.written K.puts K.faults (Both (Exchanges L.gives L.sent L.failures link.old link.new)
+    ensures acts { Acts K.written K.puts K.faults (Both (Exchanges L.gives L.sent L.failures (setup_of host.old).devices
+        (watched link.old page.old) (watched link.new page.new))
         (FollowsDesk result desk.old desk.new))
         IsVisit result out.old out.new host.old host.new }
 {
@@ -109,7 +112,8 @@ fn visit_if_sound<K: Sink, D: Disk, L: CountedLink>(
     page: &mut Page,
 ) -> Result<(), Served>
     requires whole { has_failed host.old ≡ false }
-    ensures acts { Acts K.written K.puts K.faults (Both (Exchanges L.gives L.sent L.failures link.old link.new)
+    ensures acts { Acts K.written K.puts K.faults (Both (Exchanges L.gives L.sent L.failures (setup_of host.old).devices
+        (watched link.old page.old) (watched link.new page.new))
         (FollowsDesk result desk.old desk.new))
         IsVisit result out.old out.new host.old host.new }
 {
@@ -132,7 +136,8 @@ fn try_others<K: Sink, D: Disk, L: CountedLink>(
 ) -> Result<(), Served>
     requires whole { has_failed host.old ≡ false }
     ensures acts { Acts K.written K.puts K.faults
-        (Both (UsesLink L.gives L.sent L.failures (setup_of host.old).devices roll.old roll.new link.old link.new)
+        (Both (UsesLink L.gives L.sent L.failures (setup_of host.old).devices roll.old roll.new
+        (watched link.old page.old) (watched link.new page.new))
         (FollowsDesk result desk.old desk.new))
         (Finds roll.old.findings roll.new.findings IsPoll) result out.old out.new host.old host.new }
 {
@@ -155,7 +160,8 @@ fn ask_then_visit<K: Sink, D: Disk, L: CountedLink>(
 ) -> Result<(), Served>
     requires whole { has_failed host.old ≡ false }
     ensures acts { Acts K.written K.puts K.faults
-        (Both (UsesLink L.gives L.sent L.failures (setup_of host.old).devices roll.old roll.new link.old link.new)
+        (Both (UsesLink L.gives L.sent L.failures (setup_of host.old).devices roll.old roll.new
+        (watched link.old page.old) (watched link.new page.new))
         (FollowsDesk result desk.old desk.new))
         (Finds roll.old.findings roll.new.findings IsPoll) result out.old out.new host.old host.new }
 {
@@ -177,7 +183,8 @@ fn visit_then_ask<K: Sink, D: Disk, L: CountedLink>(
 ) -> Result<(), Served>
     requires whole { has_failed host.old ≡ false }
     ensures acts { Acts K.written K.puts K.faults
-        (Both (UsesLink L.gives L.sent L.failures (setup_of host.old).devices roll.old roll.new link.old link.new)
+        (Both (UsesLink L.gives L.sent L.failures (setup_of host.old).devices roll.old roll.new
+        (watched link.old page.old) (watched link.new page.new))
         (FollowsDesk result desk.old desk.new))
         (Finds roll.old.findings roll.new.findings IsPoll) result out.old out.new host.old host.new }
 {
@@ -197,7 +204,8 @@ fn ask_if_unspent<K: Sink, D: Disk, L: CountedLink>(
 ) -> Result<(), Served>
     requires whole { has_failed host.old ≡ false }
     ensures acts { Acts K.written K.puts K.faults
-        (Both (UsesLink L.gives L.sent L.failures (setup_of host.old).devices roll.old roll.new link.old link.new)
+        (Both (UsesLink L.gives L.sent L.failures (setup_of host.old).devices roll.old roll.new
+        (watched link.old page.old) (watched link.new page.new))
         IsApart)
         (Finds roll.old.findings roll.new.findings IsPoll) result out.old out.new host.old host.new }
 {
@@ -217,7 +225,8 @@ fn visit_doubtful<K: Sink, D: Disk, L: CountedLink>(
     page: &mut Page,
 ) -> Result<(), Served>
     requires whole { has_failed host.old ≡ false }
-    ensures acts { Acts K.written K.puts K.faults (Both (Exchanges L.gives L.sent L.failures link.old link.new)
+    ensures acts { Acts K.written K.puts K.faults (Both (Exchanges L.gives L.sent L.failures (setup_of host.old).devices
+        (watched link.old page.old) (watched link.new page.new))
         (FollowsDesk result desk.old desk.new))
         IsVisit result out.old out.new host.old host.new }
 {

@@ -10,9 +10,9 @@ ghost use Rattle.cct_live_service.specs.Causes.{DiskServes, IsDiskFault, IsUnrea
 ghost use Rattle.cct_live_service.specs.Causes.{SuitsDisk};
 ghost use Rattle.cct_live_service.specs.Doing.{PlaysLines, ServesLines, ends_by};
 ghost use Rattle.cct_live_service.specs.Found.{Begun, was_found};
-ghost use Rattle.cct_live_service.specs.Known.{KnownAfter};
+ghost use Rattle.cct_live_service.specs.Known.{KnownAfter, MissedFrom};
 ghost use Rattle.cct_live_service.specs.Lived.{Closed, LivedOrNot};
-ghost use Rattle.cct_live_service.specs.Linked.{UsesLink};
+ghost use Rattle.cct_live_service.specs.Linked.{UsesLink, watched};
 ghost use Rattle.cct_live_service.specs.Opening.{HasBegun, opening_of};
 ghost use Rattle.cct_live_service.specs.Parts.{Plays};
 ghost use Rattle.cct_live_service.specs.Said.{IsOfInput};
@@ -59,8 +59,9 @@ pub fn serve<S: Source, K: Sink, D: Disk + Drop, L: CountedLink, O: Beside<D>>(
     // those of the records that were found. What went over the link are the exchanges that were
     // told, and the questions of the roll, and nothing else.
     ensures lived { Closed K.written K.puts L.gives L.sent L.failures D.size D.honest D.seen D.may_leave D.moment
-        D.left_since D.cuts disk result.1 setup.now roll.old roll.new desk.old desk.new ends (S.left input.old) result.0 out.old
-        out.new link.old link.new }
+        D.left_since D.cuts disk result.1 setup.now roll.old roll.new desk.old desk.new (O.misses outside.old)
+        (O.misses outside.new) ends (S.left input.old) result.0 out.old out.new
+        (watched link.old page.old) (watched link.new page.new) }
 
     // Each end has its cause; the input's own are in the clause above.
     ensures read_cause { result.0 ≡ Served.Unread → Rose (S.faults input.old) (S.faults input.new) }
@@ -99,8 +100,9 @@ fn live<S: Source, K: Sink, D: Disk + Drop, L: CountedLink, O: Beside<D>>(
 ) -> (Served, D)
     requires sound { IsSoundSetup setup.now }
     ensures lived { LivedOrNot K.written K.puts L.gives L.sent L.failures D.size D.honest D.seen D.may_leave D.moment
-        D.left_since D.cuts disk result.1 setup.now roll.old roll.new desk.old desk.new ends (S.left input.old) result.0 out.old
-        out.new link.old link.new }
+        D.left_since D.cuts disk result.1 setup.now roll.old roll.new desk.old desk.new (O.misses outside.old)
+        (O.misses outside.new) ends (S.left input.old) result.0 out.old out.new
+        (watched link.old page.old) (watched link.new page.new) }
     ensures suits { SuitsDisk D.size D.honest D.seen D.may_leave D.moment D.left_since D.cuts disk result.1 setup.now
         result.0 }
     ensures size { D.size disk ≢ files.MADE_LEN → result.0 ≡ Served.OtherSize (D.size disk) }
@@ -137,9 +139,11 @@ fn live_on<S: Source, K: Sink, D: Disk + Drop, L: CountedLink, O: Beside<D>>(
     requires whole { has_failed host.old ≡ false }
     ensures setup { setup_of host.new ≡ setup_of host.old }
     ensures plays { (begun : Begun) → HasBegun host.old begun → was_there ≡ was_found begun → Plays K.written K.puts
-        (Both (UsesLink L.gives L.sent L.failures (setup_of host.old).devices roll.old roll.new link.old link.new)
+        (Both (UsesLink L.gives L.sent L.failures (setup_of host.old).devices roll.old roll.new
+        (watched link.old page.old) (watched link.new page.new))
         (FollowsTo result desk.old desk.new))
-        (ServesLines (KnownAfter host.old desk.old) (setup_of host.old) (opening_of (setup_of host.old) begun) roll.old.findings (ends_by result ends)) (S.left input.old) result out.old out.new
+        (ServesLines (KnownAfter host.old desk.old)
+        (MissedFrom host.old (Rose (O.misses outside.old) (O.misses outside.new))) (setup_of host.old) (opening_of (setup_of host.old) begun) roll.old.findings (ends_by result ends)) (S.left input.old) result out.old out.new
         host.old host.new }
     ensures input { Serves S.left S.faults input.old input.new (IsUnread result) }
     ensures sink { Serves K.written K.faults out.old out.new (IsUnwritten result) }
@@ -171,9 +175,11 @@ fn open_and_play<S: Source, K: Sink, D: Disk + Drop, L: CountedLink, O: Beside<D
     ensures whole { IsOfInput result → has_failed host.new ≡ false }
     ensures setup { setup_of host.new ≡ setup_of host.old }
     ensures plays { (begun : Begun) → HasBegun host.old begun → was_there ≡ was_found begun → Plays K.written K.puts
-        (Both (UsesLink L.gives L.sent L.failures (setup_of host.old).devices roll.old roll.new link.old link.new)
+        (Both (UsesLink L.gives L.sent L.failures (setup_of host.old).devices roll.old roll.new
+        (watched link.old page.old) (watched link.new page.new))
         (FollowsTo result desk.old desk.new))
-        (PlaysLines (KnownAfter host.old desk.old) (setup_of host.old) (opening_of (setup_of host.old) begun) roll.old.findings) (S.left input.old) result out.old out.new
+        (PlaysLines (KnownAfter host.old desk.old)
+        (MissedFrom host.old (Rose (O.misses outside.old) (O.misses outside.new))) (setup_of host.old) (opening_of (setup_of host.old) begun) roll.old.findings) (S.left input.old) result out.old out.new
         host.old host.new }
     ensures input { Serves S.left S.faults input.old input.new (IsUnread result) }
     ensures sink { Serves K.written K.faults out.old out.new (IsUnwritten result) }

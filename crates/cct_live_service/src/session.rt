@@ -23,7 +23,7 @@ ghost use Rattle.cct_live_service.specs.AtDesk.{Both, FollowsDesk, GivesAt};
 ghost use Rattle.cct_live_service.specs.Doing.{DecidesPay, DoesPay, Finds, IsServing, ServesOn};
 ghost use Rattle.cct_live_service.specs.Doing.{TellsStep};
 ghost use Rattle.cct_live_service.specs.Known.{Rested};
-ghost use Rattle.cct_live_service.specs.Linked.{AreQuiet, UsesLink};
+ghost use Rattle.cct_live_service.specs.Linked.{AreQuiet, UsesLink, watched};
 ghost use Rattle.cct_live_service.specs.Parts.{Acts, HostGoes};
 ghost use Rattle.cct_live_service.specs.Session.{HasAsked};
 ghost use Rattle.cct_live_service.specs.Told.{WritesTold, as_told, falls_short, pay_of, pays};
@@ -56,6 +56,7 @@ pub(crate) fn count_stock<K: Sink, D: Disk>(
     ensures acts { Acts K.written K.puts K.faults (Both AreQuiet (FollowsDesk result desk.old desk.new))
         (TellsStep (step.Stock addr count))
         result out.old out.new host.old host.new }
+    ensures watch { page.new.watch ≡ page.old.watch }
 {
     desk.stock(addr, count);
     tell_desk(host, &Entry::Stock { addr, count }, out, page)
@@ -76,6 +77,7 @@ pub(crate) fn begin_session<K: Sink, D: Disk>(
     ensures acts { Acts K.written K.puts K.faults (Both AreQuiet (FollowsDesk result desk.old desk.new))
         (TellsStep (step.Change first amount))
         result out.old out.new host.old host.new }
+    ensures watch { page.new.watch ≡ page.old.watch }
 {
     let began = desk.change(first, amount);
     tell_desk(host, &change_entry(first, amount, began), out, page)
@@ -103,7 +105,8 @@ pub(crate) fn serve_session<K: Sink, D: Disk, L: CountedLink>(
 ) -> Result<(), Served>
     requires whole { has_failed host.old ≡ false }
     ensures acts { Acts K.written K.puts K.faults
-        (Both (UsesLink L.gives L.sent L.failures (setup_of host.old).devices roll.old roll.new link.old link.new)
+        (Both (UsesLink L.gives L.sent L.failures (setup_of host.old).devices roll.old roll.new
+        (watched link.old page.old) (watched link.new page.new))
         (FollowsDesk result desk.old desk.new))
         (Finds roll.old.findings roll.new.findings (IsServing roll.old.findings))
         result out.old out.new host.old host.new }
@@ -123,7 +126,8 @@ pub(crate) fn go_on_with_session<K: Sink, D: Disk, L: CountedLink>(
 ) -> Result<(), Served>
     requires whole { has_failed host.old ≡ false }
     ensures acts { Acts K.written K.puts K.faults
-        (Both (UsesLink L.gives L.sent L.failures (setup_of host.old).devices roll.old roll.new link.old link.new)
+        (Both (UsesLink L.gives L.sent L.failures (setup_of host.old).devices roll.old roll.new
+        (watched link.old page.old) (watched link.new page.new))
         (FollowsDesk result desk.old desk.new))
         (Finds roll.old.findings roll.new.findings (ServesOn (Rested host.old desk.old) roll.old.findings))
         result out.old out.new host.old host.new }
@@ -154,7 +158,8 @@ fn act_on<K: Sink, D: Disk, L: CountedLink>(
     requires whole { has_failed host.old ≡ false }
     requires asked { HasAsked serving desk.old }
     ensures acts { (old : change.Desk) → ServesBy serving old desk.old → Acts K.written K.puts K.faults
-        (Both (UsesLink L.gives L.sent L.failures (setup_of host.old).devices roll.old roll.new link.old link.new)
+        (Both (UsesLink L.gives L.sent L.failures (setup_of host.old).devices roll.old roll.new
+        (watched link.old page.old) (watched link.new page.new))
         (FollowsDesk result old desk.new))
         (Finds roll.old.findings roll.new.findings (IsServing roll.old.findings))
         result out.old out.new host.old host.new }
@@ -179,6 +184,7 @@ fn tell_desk<K: Sink, D: Disk>(
     requires whole { has_failed host.old ≡ false }
     ensures acts { (s : Step) (old new : change.Desk) → GivesAt old s entry.now → new ≡ desk_after s (entry.now ∷ []) old → Acts K.written K.puts K.faults
         (Both AreQuiet (FollowsDesk result old new)) (TellsStep s) result out.old out.new host.old host.new }
+    ensures watch { page.new.watch ≡ page.old.watch }
 {
     by_writing(write_entry(out, &mut page.line, entry))
 }
@@ -198,7 +204,8 @@ fn pay<K: Sink, D: Disk, L: CountedLink>(
     requires payable { IsCommand (pay_of payment) }
     requires waits { option_map (λ s. s.next) desk.old.session ≡ Some payment.id }
     ensures acts { (old : change.Desk) → Asks old desk.old payment → Acts K.written K.puts K.faults
-        (Both (UsesLink L.gives L.sent L.failures (setup_of host.old).devices roll.old roll.new link.old link.new)
+        (Both (UsesLink L.gives L.sent L.failures (setup_of host.old).devices roll.old roll.new
+        (watched link.old page.old) (watched link.new page.new))
         (FollowsDesk result old desk.new))
         (Finds roll.old.findings roll.new.findings (DecidesPay roll.old.findings payment))
         result out.old out.new host.old host.new }
@@ -236,6 +243,7 @@ fn give_or_withhold<K: Sink, D: Disk>(
     requires waits { option_map (λ s. s.next) desk.old.session ≡ Some payment.id }
     ensures acts { (old : change.Desk) → Asks old desk.old payment → Acts K.written K.puts K.faults
         (Both AreQuiet (FollowsDesk result old desk.new)) (DoesPay payment (withheld_by findings.now (pay_of payment))) result out.old out.new host.old host.new }
+    ensures watch { page.new.watch ≡ page.old.watch }
 {
     match withheld_by(findings, &command_of(payment)) {
         None => give(host, desk, payment, out, page),
@@ -257,6 +265,7 @@ fn give<K: Sink, D: Disk>(
     ensures acts { (old : change.Desk) → Asks old desk.old payment → Acts K.written K.puts K.faults
         (Both AreQuiet (FollowsDesk result old desk.new)) (DoesPay payment None)
         result out.old out.new host.old host.new }
+    ensures watch { page.new.watch ≡ page.old.watch }
 {
     page.report.clear();
     match ask_host(host, payment) {
@@ -326,6 +335,7 @@ fn withhold<K: Sink, D: Disk>(
     ensures acts { (old : change.Desk) → Asks old desk.old payment → Acts K.written K.puts K.faults
         (Both AreQuiet (FollowsDesk result old desk.new)) (DoesPay payment (Some why))
         result out.old out.new host.old host.new }
+    ensures watch { page.new.watch ≡ page.old.watch }
 {
     let shortfall = desk.refused();
     let notice = Notice::Withheld {

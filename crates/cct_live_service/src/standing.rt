@@ -91,7 +91,8 @@ pub(crate) fn tell_status<K: Sink, D: Disk>(
     out: &mut K,
     page: &mut Page,
 ) -> Result<(), Failed>
-    ensures tells { TellsStatus K.written K.puts host.now out.old result out.new }
+    ensures tells { TellsStatus K.written K.puts host.now page.old.watch out.old result out.new }
+    ensures watch { page.new.watch ≡ page.old.watch }
     ensures serves { Serves K.written K.faults out.old out.new (IsErr result) }
 {
     for device in host.setup().devices.as_slice() {
@@ -114,7 +115,8 @@ fn tell_device<K: Sink, D: Disk>(
     out: &mut K,
     page: &mut Page,
 ) -> Result<(), Failed>
-    ensures tells { TellsDevice K.written K.puts host.now addr out.old result out.new }
+    ensures tells { TellsDevice K.written K.puts host.now page.old.watch addr out.old result out.new }
+    ensures watch { page.new.watch ≡ page.old.watch }
     ensures serves { Serves K.written K.faults out.old out.new (IsErr result) }
 {
     let stands = Notice::Device {

@@ -1,14 +1,16 @@
 //! The acceptors that run are stopped at the end.
-ghost use Rattle.std.specs.Prelude.{◌≡◌, List, false};
+ghost use Rattle.std.specs.Prelude.{◌≡◌, List, false, true};
+ghost use Rattle.std.specs.List.{list_any};
 ghost use Rattle.cct_host.specs.Host.{Keeps, has_failed, setup_of};
 ghost use Rattle.cct_host.specs.Standing.{epoch_at};
 ghost use Rattle.cct_model.specs.lines.entry.Entry.{Entry};
 ghost use Rattle.cct_live_service.specs.AtDesk.{Both, FollowsDesk};
 ghost use Rattle.cct_live_service.specs.Doing.{GivesStop, StopsAt, StopsBy, StopsRunning};
 ghost use Rattle.cct_live_service.specs.Doing.{StopsUpTo};
+ghost use Rattle.cct_live_service.specs.Ends.{is_unanswered};
 ghost use Rattle.cct_live_service.specs.Known.{KnownAfter};
 ghost use Rattle.cct_live_service.specs.Opening.{is_running};
-ghost use Rattle.cct_live_service.specs.Linked.{Exchanges};
+ghost use Rattle.cct_live_service.specs.Linked.{Exchanges, watched};
 ghost use Rattle.cct_live_service.specs.Parts.{Acts};
 
 use crate::attempts::{Until, go_on};
@@ -43,7 +45,8 @@ pub(crate) fn stop_at_end<K: Sink, D: Disk, L: CountedLink>(
     page: &mut Page,
 ) -> Result<(), Served>
     requires whole { has_failed host.old ≡ false }
-    ensures acts { Acts K.written K.puts K.faults (Both (Exchanges L.gives L.sent L.failures link.old link.new)
+    ensures acts { Acts K.written K.puts K.faults (Both (Exchanges L.gives L.sent L.failures (setup_of host.old).devices
+        (watched link.old page.old) (watched link.new page.new))
         (FollowsDesk result desk.old desk.new))
         (StopsBy ends (KnownAfter host.old desk.old) (setup_of host.old)) result out.old out.new host.old host.new }
 {
@@ -62,7 +65,8 @@ fn stop_all<K: Sink, D: Disk, L: CountedLink>(
     page: &mut Page,
 ) -> Result<(), Served>
     requires whole { has_failed host.old ≡ false }
-    ensures acts { Acts K.written K.puts K.faults (Both (Exchanges L.gives L.sent L.failures link.old link.new)
+    ensures acts { Acts K.written K.puts K.faults (Both (Exchanges L.gives L.sent L.failures (setup_of host.old).devices
+        (watched link.old page.old) (watched link.new page.new))
         (FollowsDesk result desk.old desk.new))
         (StopsUpTo 256 (KnownAfter host.old desk.old) (setup_of host.old)) result out.old out.new host.old host.new }
 {
@@ -85,7 +89,8 @@ fn stop_if_running<K: Sink, D: Disk, L: CountedLink>(
     page: &mut Page,
 ) -> Result<(), Served>
     requires whole { has_failed host.old ≡ false }
-    ensures acts { Acts K.written K.puts K.faults (Both (Exchanges L.gives L.sent L.failures link.old link.new)
+    ensures acts { Acts K.written K.puts K.faults (Both (Exchanges L.gives L.sent L.failures (setup_of host.old).devices
+        (watched link.old page.old) (watched link.new page.new))
         (FollowsDesk result desk.old desk.new))
         (StopsAt (KnownAfter host.old desk.old) (setup_of host.old) addr) result out.old out.new host.old host.new }
 {
@@ -107,42 +112,49 @@ fn stop<K: Sink, D: Disk, L: CountedLink>(
     page: &mut Page,
 ) -> Result<(), Served>
     requires whole { has_failed host.old ≡ false }
-    ensures acts { Acts K.written K.puts K.faults (Both (Exchanges L.gives L.sent L.failures link.old link.new)
+    ensures acts { Acts K.written K.puts K.faults (Both (Exchanges L.gives L.sent L.failures (setup_of host.old).devices
+        (watched link.old page.old) (watched link.new page.new))
         (FollowsDesk result desk.old desk.new))
         (StopsRunning (KnownAfter host.old desk.old) (setup_of host.old) addr) result out.old out.new host.old host.new }
 {
-    let had_job = host.command_at(addr).is_some();
     match go_on(host, addr, Until::Ended, desk, link, out, page) {
         Ok(()) => {}
         Err(how) => return Err(how),
     }
-    if is_to_stop(host, addr, had_job, page) {
+    if is_to_stop(host, addr, page) {
         stop_idle(host, addr, desk, link, out, page)
     } else {
         Ok(())
     }
 }
 
-/// Whether the acceptor at an address still runs, and the job that was there, if one was, didn't
-/// end for want of an answer.
-fn is_to_stop<D: Disk>(host: &Host<'_, D>, addr: u8, had_job: bool, page: &Page) -> bool
-    ensures stays { result ≡ false → had_job ≡ false
+/// Whether the acceptor at an address still runs, and no job there has just ended for want of an
+/// answer.
+fn is_to_stop<D: Disk>(host: &Host<'_, D>, addr: u8, page: &Page) -> bool
+    ensures stops { result ≡ true → list_any is_unanswered page.now.report.items ≡ false }
+    ensures stays { result ≡ false → list_any is_unanswered page.now.report.items ≡ false
         → (past : List Entry) → Keeps host.now past → is_running (epoch_at (setup_of host.now) past addr) ≡ false }
 {
-    runs(host.epoch_at(addr)) && !(had_job && is_unanswered(page.report.as_slice()))
+    runs(host.epoch_at(addr)) && !has_unanswered(page.report.as_slice())
 }
 
-/// Whether the last of these entries says that a job got no answer.
-fn is_unanswered(entries: &[Entry]) -> bool {
+/// Whether one of these entries says that a job ended for want of an answer.
+fn has_unanswered(entries: &[Entry]) -> bool
+    ensures { result ≡ list_any is_unanswered entries.now }
+{
+    entries.iter().any(|entry| is_unanswered(entry))
+}
+
+/// Whether an entry says that a job ended for want of an answer.
+fn is_unanswered(entry: &Entry) -> bool
+    ensures { result ≡ is_unanswered entry.now }
+{
     matches!(
-        entries,
-        [
-            ..,
-            Entry::Ended {
-                end: End::NoAnswer,
-                ..
-            }
-        ]
+        entry,
+        Entry::Ended {
+            end: End::NoAnswer,
+            ..
+        }
     )
 }
 
@@ -156,7 +168,8 @@ fn stop_idle<K: Sink, D: Disk, L: CountedLink>(
     page: &mut Page,
 ) -> Result<(), Served>
     requires whole { has_failed host.old ≡ false }
-    ensures acts { Acts K.written K.puts K.faults (Both (Exchanges L.gives L.sent L.failures link.old link.new)
+    ensures acts { Acts K.written K.puts K.faults (Both (Exchanges L.gives L.sent L.failures (setup_of host.old).devices
+        (watched link.old page.old) (watched link.new page.new))
         (FollowsDesk result desk.old desk.new))
         (GivesStop (KnownAfter host.old desk.old) (setup_of host.old) addr) result out.old out.new host.old host.new }
 {

@@ -1,9 +1,9 @@
 //! What a poll does at one device.
 ghost use Rattle.std.specs.Prelude.{◌≡◌, false};
-ghost use Rattle.cct_host.specs.Host.{has_failed};
+ghost use Rattle.cct_host.specs.Host.{has_failed, setup_of};
 ghost use Rattle.cct_live_service.specs.AtDesk.{Both, FollowsDesk, IsApart};
 ghost use Rattle.cct_live_service.specs.Doing.{IsVisit};
-ghost use Rattle.cct_live_service.specs.Linked.{AreQuiet, Exchanges};
+ghost use Rattle.cct_live_service.specs.Linked.{AreQuiet, Exchanges, watched};
 ghost use Rattle.cct_live_service.specs.Parts.{Acts};
 
 use crate::attempts::{Until, attempt, go_on};
@@ -64,7 +64,8 @@ pub(crate) fn visit<K: Sink, D: Disk, L: CountedLink>(
     page: &mut Page,
 ) -> Result<(), Served>
     requires whole { has_failed host.old ≡ false }
-    ensures acts { Acts K.written K.puts K.faults (Both (Exchanges L.gives L.sent L.failures link.old link.new)
+    ensures acts { Acts K.written K.puts K.faults (Both (Exchanges L.gives L.sent L.failures (setup_of host.old).devices
+        (watched link.old page.old) (watched link.new page.new))
         (FollowsDesk result desk.old desk.new))
         IsVisit result out.old out.new host.old host.new }
 {
@@ -86,7 +87,8 @@ fn read_out<K: Sink, D: Disk, L: CountedLink>(
     page: &mut Page,
 ) -> Result<(), Served>
     requires whole { has_failed host.old ≡ false }
-    ensures acts { Acts K.written K.puts K.faults (Both (Exchanges L.gives L.sent L.failures link.old link.new)
+    ensures acts { Acts K.written K.puts K.faults (Both (Exchanges L.gives L.sent L.failures (setup_of host.old).devices
+        (watched link.old page.old) (watched link.new page.new))
         (FollowsDesk result desk.old desk.new))
         IsVisit result out.old out.new host.old host.new }
 {
@@ -128,7 +130,8 @@ fn round<K: Sink, D: Disk, L: CountedLink>(
     page: &mut Page,
 ) -> Result<(), Served>
     requires whole { has_failed host.old ≡ false }
-    ensures acts { Acts K.written K.puts K.faults (Both (Exchanges L.gives L.sent L.failures link.old link.new)
+    ensures acts { Acts K.written K.puts K.faults (Both (Exchanges L.gives L.sent L.failures (setup_of host.old).devices
+        (watched link.old page.old) (watched link.new page.new))
         (FollowsDesk result desk.old desk.new))
         IsVisit result out.old out.new host.old host.new }
 {
@@ -148,6 +151,7 @@ fn begin_round<K: Sink, D: Disk>(
     requires whole { has_failed host.old ≡ false }
     ensures acts { Acts K.written K.puts K.faults (Both AreQuiet IsApart) IsVisit result out.old
         out.new host.old host.new }
+    ensures watch { page.new.watch ≡ page.old.watch }
 {
     if host.command_at(addr).is_none() {
         answer(host, &Command::Round { addr }, out, page)

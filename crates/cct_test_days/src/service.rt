@@ -79,6 +79,10 @@ impl CountedLink for Counted {
 struct Nobody;
 
 impl Outside for Nobody {
+    ghost use Rattle.cct_edge.specs.Faults.{last_count};
+
+    ghost misses = { λ nobody. last_count };
+
     fn refused(&mut self, _: u32, _: LineKind, _: &[u8]) {}
 
     fn order(&mut self, _: u32) -> OrderTold {
@@ -90,6 +94,8 @@ impl Beside<MemDisk> for Nobody {
     fn beside(&mut self, _: &MemDisk) -> Option<MemDisk> {
         None
     }
+
+    fn failed(&mut self, _: MemDisk) {}
 }
 
 /// A blank disk for a journal.

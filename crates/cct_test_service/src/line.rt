@@ -127,6 +127,10 @@ pub(crate) struct Around {
 }
 
 impl Outside for Around {
+    ghost use Rattle.cct_edge.specs.Faults.{last_count};
+
+    ghost misses = { λ around. last_count };
+
     fn refused(&mut self, _: u32, _: LineKind, line: &[u8]) {
         self.refused = self.refused.wrapping_add(1);
         self.first = line.first().copied();
@@ -145,6 +149,8 @@ impl Beside<MemDisk> for Around {
     fn beside(&mut self, _: &MemDisk) -> Option<MemDisk> {
         None
     }
+
+    fn failed(&mut self, _: MemDisk) {}
 }
 
 /// What a service writes for these lines over a new journal, and what is around it then. The

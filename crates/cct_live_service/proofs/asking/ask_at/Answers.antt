@@ -21,7 +21,8 @@ returns g c =
     c.args.link.now asked.result asked.new.self asked.new.link) c.setup.ensures asked.ensures.asks in
     record {
       acts = roll_asked sink.written sink.puts sink.faults g.L.Link.gives link.sent link.failures (setup_of host).devices
-          (Some c.args.addr) asked.result c.args.roll.now asked.new.self c.args.link.now asked.new.link asks
+          (Some c.args.addr) asked.result c.args.roll.now asked.new.self c.args.link.now asked.new.link c.args.page.now
+          c.tell_new.new.page c.tell_new.ensures.watch asks
           c.tell_new.result c.args.out.now c.tell_new.new.out host c.tell_new.new.host (Finds old now IsAsking)
           (acts_weaker sink.written sink.puts sink.faults c.tell_new.result c.args.out.now c.tell_new.new.out
           host c.tell_new.new.host (IsFound (drop known now)) (Finds old now IsAsking)

@@ -3,6 +3,7 @@ use Rattle.cct_host.specs.Host.{setup_of}
 use Rattle.cct_live_service.specs.Asked.{AsksAt}
 use Rattle.cct_live_service.specs.AtDesk.{IsApart}
 use Rattle.cct_live_service.specs.Doing.{Finds, IsAsking}
+use Rattle.cct_live_service.specs.Linked.{watched}
 use Rattle.cct_live_service.proofs.Found.{asking_none}
 use Rattle.cct_live_service.proofs.Linking.{roll_none}
 use Rattle.cct_live_service.proofs.asking.ask_before.Goals as goal
@@ -23,7 +24,8 @@ returns-in-None g c =
     let line = c.args.link.now in
     let link = g.L.CountedLink in
     record {
-      acts = roll_none sink.written sink.puts sink.faults g.L.Link.gives link.sent link.failures (setup_of host).devices roll line IsApart (λ desk. refl) c.args.out.now host (Finds known known IsAsking) c.requires.whole
+      acts = roll_none sink.written sink.puts sink.faults g.L.Link.gives link.sent link.failures (setup_of host).devices roll
+          (watched line c.args.page.now) IsApart (λ desk. refl) c.args.out.now host (Finds known known IsAsking) c.requires.whole
           (asking_none known);
       asks = subst (λ whom. AsksAt g.L.Link.gives (setup_of host).devices whom roll line roll line)
           (sym c.in-None.is ∙ c.asked_before.ensures) (refl, refl);

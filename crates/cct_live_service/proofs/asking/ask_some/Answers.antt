@@ -20,7 +20,8 @@ returns g c =
     let host = c.args.host.now in
     record {
       acts = roll_asked sink.written sink.puts sink.faults g.L.Link.gives link.sent link.failures (setup_of host).devices whom
-          asked.result c.args.roll.now asked.new.roll c.args.link.now asked.new.link
+          asked.result c.args.roll.now asked.new.roll c.args.link.now asked.new.link c.args.page.now c.tell_new.new.page
+          c.tell_new.ensures.watch
           (subst (λ setup. AsksRoll g.L.Link.gives setup.devices whom (most_asked whom) c.args.roll.now c.args.link.now
           asked.result asked.new.roll asked.new.link) c.setup.ensures asked.ensures.asks)
           c.tell_new.result c.args.out.now c.tell_new.new.out host c.tell_new.new.host (Finds old now IsAsking)

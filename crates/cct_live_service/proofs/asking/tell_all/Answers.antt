@@ -14,7 +14,11 @@ use Rattle.cct_live_service.proofs.asking.tell_all.Goals as goal
 pub loop-found-init : goal.loop-found-init
 loop-found-init g c =
     let sink = g.K.Sink in
-    acts_none sink.written sink.puts sink.faults (Both AreQuiet IsApart) (refl, λ desk. refl) c.args.out.now c.args.host.now (IsFound []) c.requires.whole (refl, refl)
+    record {
+      acts = acts_none sink.written sink.puts sink.faults (Both AreQuiet IsApart) (refl, λ desk. refl) c.args.out.now
+          c.args.host.now (IsFound []) c.requires.whole (refl, refl);
+      watch = refl;
+    }
 
 pub loop-found-preserved : goal.loop-found-preserved
 loop-found-preserved g c =
@@ -23,12 +27,15 @@ loop-found-preserved g c =
     let i = c.loop-found.found-index in
     let f = c.found-item.result in
     let more = take_more fs i f (omega arith) ∙ ap (λ x. take i fs ++ x ∷ []) (sym c.found-item.is) in
-    subst (λ told. Acts sink.written sink.puts sink.faults (Both AreQuiet IsApart) (IsFound told) (Ok tt) c.args.out.now c.tell_one.new.out
-    c.args.host.now c.tell_one.new.host) (sym more)
-    (acts_then sink.written sink.puts sink.faults (Both AreQuiet IsApart) (Both AreQuiet IsApart) (Both AreQuiet IsApart)
-    (both_then AreQuiet AreQuiet AreQuiet IsApart IsApart IsApart quiet_then apart_then) (Ok tt) c.args.out.now c.loop-found.out c.tell_one.new.out
-    c.args.host.now c.loop-found.host c.tell_one.new.host (IsFound (take i fs)) (Tells (finding f))
-    (IsFound (take i fs ++ f ∷ [])) (found_more f (take i fs)) c.loop-found.invariant c.in-Ok.ensures.acts)
+    record {
+      acts = subst (λ told. Acts sink.written sink.puts sink.faults (Both AreQuiet IsApart) (IsFound told) (Ok tt) c.args.out.now c.tell_one.new.out
+          c.args.host.now c.tell_one.new.host) (sym more)
+          (acts_then sink.written sink.puts sink.faults (Both AreQuiet IsApart) (Both AreQuiet IsApart) (Both AreQuiet IsApart)
+          (both_then AreQuiet AreQuiet AreQuiet IsApart IsApart IsApart quiet_then apart_then) (Ok tt) c.args.out.now c.loop-found.out c.tell_one.new.out
+          c.args.host.now c.loop-found.host c.tell_one.new.host (IsFound (take i fs)) (Tells (finding f))
+          (IsFound (take i fs ++ f ∷ [])) (found_more f (take i fs)) c.loop-found.invariant.acts c.in-Ok.ensures.acts);
+      watch = c.in-Ok.ensures.watch ∙ c.loop-found.invariant.watch;
+    }
 
 pub returns-in-Err : goal.returns-in-Err
 returns-in-Err g c =
@@ -48,5 +55,6 @@ returns-in-Err g c =
           (acts_then sink.written sink.puts sink.faults (Both AreQuiet IsApart) (Both AreQuiet IsApart) (Both AreQuiet IsApart)
           (both_then AreQuiet AreQuiet AreQuiet IsApart IsApart IsApart quiet_then apart_then) (Err how) c.args.out.now c.loop-found.out c.tell_one.new.out
           c.args.host.now c.loop-found.host c.tell_one.new.host (IsFound (take i fs)) (Tells (finding f)) (IsFound first)
-          (found_more f (take i fs)) c.loop-found.invariant c.in-Err.ensures.acts));
+          (found_more f (take i fs)) c.loop-found.invariant.acts c.in-Err.ensures.acts));
+      watch = c.in-Err.ensures.watch ∙ c.loop-found.invariant.watch;
     }

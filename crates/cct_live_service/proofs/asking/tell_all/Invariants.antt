@@ -1,4 +1,4 @@
-use Rattle.std.proofs.Common.{Ok, take}
+use Rattle.std.proofs.Common.{◌≡◌, Ok, take}
 use Rattle.cct_live_service.specs.AtDesk.{Both, IsApart}
 use Rattle.cct_live_service.specs.Doing.{IsFound}
 use Rattle.cct_live_service.specs.Linked.{AreQuiet}
@@ -9,4 +9,8 @@ use Rattle.cct_live_service.proofs.asking.tell_all.Given as goal
 abbrev pub invariant-loop-found : goal.invariant-loop-found
 invariant-loop-found g l =
     let sink = g.K.Sink in
-    Acts sink.written sink.puts sink.faults (Both AreQuiet IsApart) (IsFound (take l.found-index l.findings)) (Ok tt) l.fn.out l.out l.fn.host l.host
+    record {
+      acts : Acts sink.written sink.puts sink.faults (Both AreQuiet IsApart) (IsFound (take l.found-index l.findings)) (Ok tt)
+          l.fn.out l.out l.fn.host l.host;
+      watch : l.page.watch ≡ l.fn.page.watch;
+    }

@@ -17,4 +17,5 @@ returns g c =
           host host) (sym c.by_writing.ensures)
           (acts_line sink.written sink.puts sink.faults (Both AreQuiet IsApart) c.write_finding.result c.args.out.now c.write_finding.new.out host
           what (refl, λ desk. refl) refl (λ past. tt) c.write_finding.ensures.puts c.requires.whole c.write_finding.ensures.serves);
+      watch = refl;
     }

@@ -30,4 +30,5 @@ returns g c =
           c.answer_of.ensures.setup c.write_report.ensures.serves
           (disk_same disk.size disk.honest disk.seen disk.cuts disk.faults (disk_of host) (disk_of after)
           c.answer_of.ensures.disk));
+      watch = c.write_report.ensures.watch;
     }

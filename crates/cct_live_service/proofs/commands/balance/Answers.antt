@@ -29,4 +29,5 @@ returns g c =
           (balance_goes host told c.totals.ensures) (refl, (Balance told, refl)) c.requires.whole refl
           c.write_report.ensures.serves
           (disk_same disk.size disk.honest disk.seen disk.cuts disk.faults (disk_of host) (disk_of host) refl));
+      watch = c.write_report.ensures.watch;
     }

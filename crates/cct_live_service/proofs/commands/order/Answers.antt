@@ -24,4 +24,6 @@ returns g c =
           (IsOrder c.args.id)
           refl (λ past keeps. (c.order_told-told.ensures.known past keeps, tt)) (told_one sink.written sink.puts out c.tell.new.out what c.tell.result c.tell.ensures.puts) c.requires.whole
           c.tell.ensures.serves (refl, (known, refl)));
+      watch = refl;
+      later = c.order_told-told.ensures.later;
     }

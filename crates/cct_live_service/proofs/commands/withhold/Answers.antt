@@ -19,4 +19,5 @@ returns g c =
           (sym c.by_writing.ensures)
           (acts_line sink.written sink.puts sink.faults (Both AreQuiet IsApart) c.tell.result c.args.out.now c.tell.new.out host what (refl, λ desk. refl) refl
           (λ past. (tt, tt)) c.tell.ensures.puts c.requires.whole c.tell.ensures.serves);
+      watch = refl;
     }

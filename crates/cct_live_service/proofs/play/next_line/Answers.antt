@@ -1,4 +1,4 @@
-use Rattle.std.proofs.Common.{◌≡◌, ◌∙◌, Err, Ok, ap, sym, subst}
+use Rattle.std.proofs.Common.{◌≡◌, ◌∙◌, Err, Ok, ap, arith, sym, subst}
 use Rattle.std.specs.Prelude.{IfErr, IfOk}
 use Rattle.cct_edge.specs.Bytes.{Serves}
 use Rattle.cct_script.specs.declared.lines.LinesNo.TheVariants.{Read}
@@ -31,6 +31,7 @@ returns-in-Ok-Text g c =
           (said_not_unread said)
           (serves_weaker source.left source.faults c.args.input.now c.line.new.source (c.line.result ≡ Err Read) ⊥
           (λ never. absurd never) c.line.ensures.serves));
+      later = c.tell_refusal.ensures.later;
     }
 
 pub returns-in-Ok-Long-clause-comes : goal.returns-in-Ok-Long-clause-comes
@@ -62,4 +63,5 @@ returns-in-Err g c =
           (serves_weaker source.left source.faults c.args.input.now c.line.new.source (c.line.result ≡ Err Read)
           (IsUnread (stopped_by c.args.number why))
           (λ fails. c.in-Err.is ∙ ap (λ w. Err w) (stopped_unread c.args.number why fails)) c.line.ensures.serves);
+      later = omega arith;
     }

@@ -17,4 +17,5 @@ returns g c =
           host) (sym c.by_writing.ensures)
           (acts_line sink.written sink.puts sink.faults (Both AreQuiet IsApart) c.write_entry.result c.args.out.now c.write_entry.new.out host
           what (refl, λ desk. refl) refl (λ past. tt) c.write_entry.ensures.puts c.requires.whole c.write_entry.ensures.serves);
+      watch = refl;
     }

@@ -2,6 +2,7 @@ use Rattle.std.proofs.Common.{refl}
 use Rattle.cct_host.specs.Host.{setup_of}
 use Rattle.cct_live_service.specs.AtDesk.{IsApart}
 use Rattle.cct_live_service.specs.Doing.{Finds, IsAsking, IsPoll}
+use Rattle.cct_live_service.specs.Linked.{watched}
 use Rattle.cct_live_service.proofs.Found.{asking_finds_polled, poll_none_finds}
 use Rattle.cct_live_service.proofs.Linking.{roll_none}
 use Rattle.cct_live_service.proofs.Parts.{acts_weaker}
@@ -14,7 +15,7 @@ returns-then-is_spent g c =
     let known = c.args.roll.now.findings in
     record {
       acts = roll_none sink.written sink.puts sink.faults g.L.Link.gives link.sent link.failures (setup_of c.args.host.now).devices
-          c.args.roll.now c.args.link.now IsApart (λ desk. refl) c.args.out.now c.args.host.now (Finds known known IsPoll)
+          c.args.roll.now (watched c.args.link.now c.args.page.now) IsApart (λ desk. refl) c.args.out.now c.args.host.now (Finds known known IsPoll)
           c.requires.whole (poll_none_finds known);
     }
 

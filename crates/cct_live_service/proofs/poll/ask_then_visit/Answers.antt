@@ -1,6 +1,7 @@
 use Rattle.std.proofs.Common.{Ok, Err}
 use Rattle.cct_host.specs.Host.{setup_of}
 use Rattle.cct_live_service.specs.Doing.{Finds, IsOfPoll, IsPoll, IsVisit}
+use Rattle.cct_live_service.specs.Linked.{watched}
 use Rattle.cct_live_service.proofs.Doings.{many_then}
 use Rattle.cct_live_service.proofs.Found.{finds_then, visit_finds_polled}
 use Rattle.cct_live_service.proofs.Linking.{roll_apart, roll_desk, roll_told}
@@ -14,8 +15,8 @@ returns-in-Ok g c =
     let known = c.args.roll.now.findings in
     let roll = c.ask_if_unspent.new.roll in
     let now = roll.findings in
-    let line = c.ask_if_unspent.new.link in
-    let last = c.visit_doubtful.new.link in
+    let line = watched c.ask_if_unspent.new.link c.ask_if_unspent.new.page in
+    let last = watched c.visit_doubtful.new.link c.visit_doubtful.new.page in
     let desk = c.args.desk.now in
     let new = c.visit_doubtful.new.desk in
     let result = c.visit_doubtful.result in
@@ -25,11 +26,11 @@ returns-in-Ok g c =
     let host = c.visit_doubtful.new.host in
     record {
       acts = roll_desk sink.written sink.puts sink.faults g.L.Link.gives link.sent link.failures c.args.roll.now roll roll
-          c.args.link.now line last desk desk new result c.args.out.now between out c.args.host.now mid host
+          (watched c.args.link.now c.args.page.now) line last desk desk new result c.args.out.now between out c.args.host.now mid host
           (Finds known now IsPoll) (Finds now now IsPoll) (Finds known now IsPoll)
           (finds_then known now now IsPoll IsPoll IsPoll (many_then IsOfPoll))
           (roll_apart sink.written sink.puts sink.faults g.L.Link.gives link.sent link.failures (setup_of c.args.host.now).devices
-          c.args.roll.now roll c.args.link.now line desk (Ok tt) c.args.out.now between c.args.host.now mid
+          c.args.roll.now roll (watched c.args.link.now c.args.page.now) line desk (Ok tt) c.args.out.now between c.args.host.now mid
           (Finds known now IsPoll) c.in-Ok.ensures.acts)
           (roll_told sink.written sink.puts sink.faults g.L.Link.gives link.sent link.failures (setup_of mid).devices roll line
           last desk new result between out mid host (Finds now now IsPoll)
@@ -45,7 +46,7 @@ returns-in-Err g c =
     let now = c.ask_if_unspent.new.roll.findings in
     record {
       acts = roll_apart sink.written sink.puts sink.faults g.L.Link.gives link.sent link.failures
-          (setup_of c.args.host.now).devices c.args.roll.now c.ask_if_unspent.new.roll c.args.link.now
-          c.ask_if_unspent.new.link c.args.desk.now (Err c.in-Err.how) c.args.out.now c.ask_if_unspent.new.out c.args.host.now
+          (setup_of c.args.host.now).devices c.args.roll.now c.ask_if_unspent.new.roll (watched c.args.link.now c.args.page.now)
+          (watched c.ask_if_unspent.new.link c.ask_if_unspent.new.page) c.args.desk.now (Err c.in-Err.how) c.args.out.now c.ask_if_unspent.new.out c.args.host.now
           c.ask_if_unspent.new.host (Finds known now IsPoll) c.in-Err.ensures.acts;
     }

@@ -1,7 +1,7 @@
 use Rattle.std.proofs.Common.{Err}
-use Rattle.cct_host.specs.Host.{setup_of}
 use Rattle.cct_live_service.specs.Doing.{Finds, IsPoll, ServesOn, Then}
 use Rattle.cct_live_service.specs.Known.{Rested}
+use Rattle.cct_live_service.specs.Linked.{watched}
 use Rattle.cct_live_service.proofs.Found.{finds_then}
 use Rattle.cct_live_service.proofs.Linking.{roll_desk}
 use Rattle.cct_live_service.proofs.Parts.{acts_weaker}
@@ -19,7 +19,7 @@ returns-in-Ok g c =
     let now = c.visit_all.new.roll.findings in
     record {
       acts = roll_desk sink.written sink.puts sink.faults g.L.Link.gives link.sent link.failures roll mid c.visit_all.new.roll
-          c.args.link.now c.go_on_with_session.new.link c.visit_all.new.link c.args.desk.now c.go_on_with_session.new.desk
+          (watched c.args.link.now c.args.page.now) (watched c.go_on_with_session.new.link c.go_on_with_session.new.page) (watched c.visit_all.new.link c.visit_all.new.page) c.args.desk.now c.go_on_with_session.new.desk
           c.visit_all.new.desk c.visit_all.result c.args.out.now
           c.go_on_with_session.new.out c.visit_all.new.out c.args.host.now c.go_on_with_session.new.host c.visit_all.new.host
           (Finds known mid.findings (ServesOn rested known)) (Finds mid.findings now IsPoll)

@@ -1,6 +1,7 @@
 use Rattle.std.proofs.Common.{Ok, Err}
 use Rattle.cct_host.specs.Host.{setup_of}
 use Rattle.cct_live_service.specs.Doing.{Finds, IsOfPoll, IsPoll, IsVisit}
+use Rattle.cct_live_service.specs.Linked.{watched}
 use Rattle.cct_live_service.proofs.Doings.{many_then}
 use Rattle.cct_live_service.proofs.Found.{finds_then, visit_finds_polled}
 use Rattle.cct_live_service.proofs.Linking.{roll_apart, roll_desk, roll_told}
@@ -14,23 +15,23 @@ returns-in-Ok g c =
     let roll = c.args.roll.now in
     let known = roll.findings in
     let now = c.ask_if_unspent.new.roll.findings in
-    let line = c.visit_doubtful.new.link in
+    let line = watched c.visit_doubtful.new.link c.visit_doubtful.new.page in
     let desk = c.visit_doubtful.new.desk in
     let between = c.visit_doubtful.new.out in
     let host = c.args.host.now in
     let mid = c.visit_doubtful.new.host in
     record {
       acts = roll_desk sink.written sink.puts sink.faults g.L.Link.gives link.sent link.failures roll roll
-          c.ask_if_unspent.new.roll c.args.link.now line c.ask_if_unspent.new.link c.args.desk.now desk desk
+          c.ask_if_unspent.new.roll (watched c.args.link.now c.args.page.now) line (watched c.ask_if_unspent.new.link c.ask_if_unspent.new.page) c.args.desk.now desk desk
           c.ask_if_unspent.result c.args.out.now between
           c.ask_if_unspent.new.out host mid c.ask_if_unspent.new.host (Finds known known IsPoll) (Finds known now IsPoll)
           (Finds known now IsPoll) (finds_then known known now IsPoll IsPoll IsPoll (many_then IsOfPoll))
           (roll_told sink.written sink.puts sink.faults g.L.Link.gives link.sent link.failures (setup_of host).devices roll
-          c.args.link.now line c.args.desk.now desk (Ok tt) c.args.out.now between host mid (Finds known known IsPoll)
+          (watched c.args.link.now c.args.page.now) line c.args.desk.now desk (Ok tt) c.args.out.now between host mid (Finds known known IsPoll)
           (acts_weaker sink.written sink.puts sink.faults (Ok tt) c.args.out.now between host mid IsVisit
           (Finds known known IsPoll) (visit_finds_polled known) c.in-Ok.ensures.acts))
           (roll_apart sink.written sink.puts sink.faults g.L.Link.gives link.sent link.failures (setup_of mid).devices roll
-          c.ask_if_unspent.new.roll line c.ask_if_unspent.new.link desk c.ask_if_unspent.result between c.ask_if_unspent.new.out mid
+          c.ask_if_unspent.new.roll line (watched c.ask_if_unspent.new.link c.ask_if_unspent.new.page) desk c.ask_if_unspent.result between c.ask_if_unspent.new.out mid
           c.ask_if_unspent.new.host (Finds known now IsPoll) c.ask_if_unspent.ensures.acts);
     }
 
@@ -46,7 +47,7 @@ returns-in-Err g c =
     let mid = c.visit_doubtful.new.host in
     record {
       acts = roll_told sink.written sink.puts sink.faults g.L.Link.gives link.sent link.failures (setup_of host).devices roll
-          c.args.link.now c.visit_doubtful.new.link c.args.desk.now c.visit_doubtful.new.desk (Err how) c.args.out.now out host mid (Finds known known IsPoll)
+          (watched c.args.link.now c.args.page.now) (watched c.visit_doubtful.new.link c.visit_doubtful.new.page) c.args.desk.now c.visit_doubtful.new.desk (Err how) c.args.out.now out host mid (Finds known known IsPoll)
           (acts_weaker sink.written sink.puts sink.faults (Err how) c.args.out.now out host mid IsVisit
           (Finds known known IsPoll) (visit_finds_polled known) c.in-Err.ensures.acts);
     }

@@ -1,12 +1,13 @@
 use Rattle.std.proofs.Common.{◌≡◌, inl, inr, refl, sym, ◌∙◌, subst}
+use Rattle.cct_edge.specs.Faults.{Rose}
 use Rattle.cct_host.specs.Host.{disk_of, setup_of}
 use Rattle.cct_model.specs.Setup.{IsSoundSetup}
 use Rattle.cct_live_service.specs.Causes.{DiskServes, IsDiskFault, IsUnread, IsUnwritten}
 use Rattle.cct_live_service.specs.AtDesk.{Both, FollowsTo}
 use Rattle.cct_live_service.specs.Doing.{ServesLines, ends_by}
 use Rattle.cct_live_service.specs.Found.{FoundOn}
-use Rattle.cct_live_service.specs.Known.{KnownAfter}
-use Rattle.cct_live_service.specs.Linked.{UsesLink}
+use Rattle.cct_live_service.specs.Known.{KnownAfter, MissedFrom}
+use Rattle.cct_live_service.specs.Linked.{UsesLink, watched}
 use Rattle.cct_live_service.specs.Lived.{Lived}
 use Rattle.cct_live_service.specs.Opening.{BegunOn, opening_of, opening_over}
 use Rattle.cct_live_service.specs.Parts.{Plays}
@@ -29,9 +30,12 @@ returns g c =
     let link = g.L.CountedLink in
     let roll = c.args.roll.now in
     let now = c.live_on-how.new.roll in
-    let line = c.args.link.now in
-    let next = c.live_on-how.new.link in
+    let line = watched c.args.link.now c.args.page.now in
+    let next = watched c.live_on-how.new.link c.live_on-how.new.page in
     let ends = c.args.ends in
+    let missed = g.O.Outside.misses c.args.outside.now in
+    let missed_then = g.O.Outside.misses c.live_on-how.new.outside in
+    let unread = MissedFrom host (Rose missed missed_then) in
     let desk = c.args.desk.now in
     let left_desk = c.live_on-how.new.desk in
     let linked = Both (UsesLink g.L.Link.gives link.sent link.failures (setup_of host).devices roll now line next)
@@ -41,9 +45,9 @@ returns g c =
     let p = c.live_on-how.ensures.setup ∙ c.in-Ok.ensures.setup in
     record {
       lived = inl (subst (λ s. Lived sink.written sink.puts g.L.Link.gives link.sent link.failures disk.size disk.honest
-          disk.seen disk.may_leave disk.moment disk.left_since disk.cuts c.args.disk back s roll now desk left_desk ends left how c.args.out.now c.live_on-how.new.out line next) p
+          disk.seen disk.may_leave disk.moment disk.left_since disk.cuts c.args.disk back s roll now desk left_desk missed missed_then ends left how c.args.out.now c.live_on-how.new.out line next) p
           (lived_by sink.written sink.puts g.L.Link.gives link.sent link.failures c.args.disk back host last begun roll now
-          desk left_desk ends left line next
+          desk left_desk missed missed_then ends left line next
           (sym c.live_on-how.ensures.setup) (subst IsSoundSetup (sym p) c.requires.sound) c.into_disk.ensures
           (subst (λ s. BegunOn disk.seen c.args.disk s begun) (sym p) opened.on)
           (λ found on. subst (λ s. opening_of s begun ≡ opening_over s begun found) (sym p)
@@ -53,10 +57,10 @@ returns g c =
           (subst (λ s. FoundOn disk.honest disk.seen disk.may_leave c.args.disk s begun found) p on))
           how c.args.out.now c.live_on-how.new.out
           (subst (λ s. Plays sink.written sink.puts
-          linked (ServesLines (KnownAfter host desk) s (opening_of s begun) roll.findings (ends_by how ends)) left how c.args.out.now c.live_on-how.new.out host last)
+          linked (ServesLines (KnownAfter host desk) unread s (opening_of s begun) roll.findings (ends_by how ends)) left how c.args.out.now c.live_on-how.new.out host last)
           (sym c.live_on-how.ensures.setup) plays)));
       suits = lived_suits sink.written sink.puts {g = disk} c.args.disk back c.args.setup.now
-          linked (ServesLines (KnownAfter host desk) (setup_of host) opening roll.findings (ends_by how ends) plays.lines) how c.args.out.now c.live_on-how.new.out host last plays.lives;
+          linked (ServesLines (KnownAfter host desk) unread (setup_of host) opening roll.findings (ends_by how ends) plays.lines) how c.args.out.now c.live_on-how.new.out host last plays.lives;
       size = λ other. absurd (other c.in-Ok.ensures.sized);
       input = c.live_on-how.ensures.input;
       sink = c.live_on-how.ensures.sink;

@@ -1,10 +1,11 @@
 use Rattle.std.proofs.Common.{◌∙◌, Ok, Err, inr}
+use Rattle.cct_edge.specs.Faults.{Rose}
 use Rattle.cct_host.specs.Host.{disk_of, setup_of}
 use Rattle.cct_live_service.specs.Causes.{IsDiskFault, IsUnread, IsUnwritten}
 use Rattle.cct_live_service.specs.AtDesk.{Both, FollowsDesk, FollowsTo}
 use Rattle.cct_live_service.specs.Doing.{PlaysLines, ServesLines, StopsBy, ends_by}
-use Rattle.cct_live_service.specs.Known.{KnownAfter}
-use Rattle.cct_live_service.specs.Linked.{UsesLink}
+use Rattle.cct_live_service.specs.Known.{KnownAfter, MissedFrom}
+use Rattle.cct_live_service.specs.Linked.{UsesLink, watched}
 use Rattle.cct_live_service.specs.Opening.{opening_of}
 use Rattle.cct_live_service.proofs.Causing.{unread_of_input}
 use Rattle.cct_live_service.proofs.Desks.{follows_then}
@@ -28,6 +29,8 @@ returns-in-Ok g c =
     let host = c.args.host.now in
     let devices = (setup_of host).devices in
     let knows = KnownAfter host c.args.desk.now in
+    let misses = g.O.Outside.misses in
+    let missed = MissedFrom host (Rose (misses c.args.outside.now) (misses c.open_and_play.new.outside)) in
     let mid = c.open_and_play.new.host in
     let last = c.stop_at_end.new.host in
     let out = c.args.out.now in
@@ -36,9 +39,9 @@ returns-in-Ok g c =
     let before = c.in-Done.ensures in
     let roll = c.args.roll.now in
     let between_roll = c.open_and_play.new.roll in
-    let line = c.args.link.now in
-    let between_line = c.open_and_play.new.link in
-    let last_line = c.stop_at_end.new.link in
+    let line = watched c.args.link.now c.args.page.now in
+    let between_line = watched c.open_and_play.new.link c.open_and_play.new.page in
+    let last_line = watched c.stop_at_end.new.link c.stop_at_end.new.page in
     let was = c.args.desk.now in
     let between_desk = c.open_and_play.new.desk in
     let last_desk = c.stop_at_end.new.desk in
@@ -61,12 +64,12 @@ returns-in-Ok g c =
           let plays = before.plays begun has there in
           let lines = plays.lines in
           let opening = opening_of (setup_of host) begun in
-          let plays_so = PlaysLines knows (setup_of host) opening known lines in
+          let plays_so = PlaysLines knows missed (setup_of host) opening known lines in
           record {
             lines = lines;
             lives = lives_then sink.written sink.puts first then all links (Ok tt) out between told host mid last (Knowing plays_so first host mid)
-                (StopsBy ends (KnownAfter mid between_desk) (setup_of mid)) (ServesLines knows (setup_of host) opening known ends lines)
-                (λ s1 s2 t1 t2 h k. end_then host mid before.setup was between_desk opening known ends lines s1 s2 t1 t2 h.0
+                (StopsBy ends (KnownAfter mid between_desk) (setup_of mid)) (ServesLines knows missed (setup_of host) opening known ends lines)
+                (λ s1 s2 t1 t2 h k. end_then host mid before.setup was between_desk missed opening known ends lines s1 s2 t1 t2 h.0
                 (h.2, h.1.1) k) before.setup
                 (part_knowing sink.written sink.puts sink.faults first out between host mid plays_so plays.lives) acts.lives;
             says = plays.says;
@@ -88,6 +91,8 @@ returns-in-Err g c =
     let host = c.args.host.now in
     let devices = (setup_of host).devices in
     let knows = KnownAfter host c.args.desk.now in
+    let misses = g.O.Outside.misses in
+    let missed = MissedFrom host (Rose (misses c.args.outside.now) (misses c.open_and_play.new.outside)) in
     let mid = c.open_and_play.new.host in
     let last = c.stop_at_end.new.host in
     let out = c.args.out.now in
@@ -97,9 +102,9 @@ returns-in-Err g c =
     let how = c.in-Err.how in
     let roll = c.args.roll.now in
     let between_roll = c.open_and_play.new.roll in
-    let line = c.args.link.now in
-    let between_line = c.open_and_play.new.link in
-    let last_line = c.stop_at_end.new.link in
+    let line = watched c.args.link.now c.args.page.now in
+    let between_line = watched c.open_and_play.new.link c.open_and_play.new.page in
+    let last_line = watched c.stop_at_end.new.link c.stop_at_end.new.page in
     let was = c.args.desk.now in
     let between_desk = c.open_and_play.new.desk in
     let last_desk = c.stop_at_end.new.desk in
@@ -123,15 +128,15 @@ returns-in-Err g c =
           let plays = before.plays begun has there in
           let lines = plays.lines in
           let opening = opening_of (setup_of host) begun in
-          let plays_so = PlaysLines knows (setup_of host) opening known lines in
+          let plays_so = PlaysLines knows missed (setup_of host) opening known lines in
           record {
             lines = lines;
-            lives = lives_end sink.written sink.puts uses how was last_desk (ServesLines knows (setup_of host) opening known (ends_by how ends) lines) out told host last
-                (ended_by sink.written sink.puts all how (λ e. ServesLines knows (setup_of host) opening known e lines) ends out told host last
+            lives = lives_end sink.written sink.puts uses how was last_desk (ServesLines knows missed (setup_of host) opening known (ends_by how ends) lines) out told host last
+                (ended_by sink.written sink.puts all how (λ e. ServesLines knows missed (setup_of host) opening known e lines) ends out told host last
                 (lives_then sink.written sink.puts first then all links (Err how) out between told host mid last
                 (Knowing plays_so first host mid) (StopsBy ends (KnownAfter mid between_desk) (setup_of mid))
-                (ServesLines knows (setup_of host) opening known ends lines)
-                (λ s1 s2 t1 t2 h k. end_then host mid before.setup was between_desk opening known ends lines s1 s2 t1 t2 h.0
+                (ServesLines knows missed (setup_of host) opening known ends lines)
+                (λ s1 s2 t1 t2 h k. end_then host mid before.setup was between_desk missed opening known ends lines s1 s2 t1 t2 h.0
                 (h.2, h.1.1) k) before.setup
                 (part_knowing sink.written sink.puts sink.faults first out between host mid plays_so plays.lives) acts.lives));
             says = said_ended how (source.left c.args.input.now) lines other plays.says;
@@ -153,9 +158,11 @@ returns-in_default g c =
     let host = c.args.host.now in
     let devices = (setup_of host).devices in
     let knows = KnownAfter host c.args.desk.now in
+    let misses = g.O.Outside.misses in
+    let missed = MissedFrom host (Rose (misses c.args.outside.now) (misses c.open_and_play.new.outside)) in
     let before = c.open_and_play.ensures in
     let uses = Both (UsesLink g.L.Link.gives link.sent link.failures devices c.args.roll.now c.open_and_play.new.roll
-    c.args.link.now c.open_and_play.new.link) (FollowsTo c.open_and_play.result c.args.desk.now c.open_and_play.new.desk) in
+    (watched c.args.link.now c.args.page.now) (watched c.open_and_play.new.link c.open_and_play.new.page)) (FollowsTo c.open_and_play.result c.args.desk.now c.open_and_play.new.desk) in
     record {
       setup = before.setup;
       plays = λ begun has there.
@@ -164,7 +171,7 @@ returns-in_default g c =
           let opening = opening_of (setup_of host) begun in
           record {
             lines = lines;
-            lives = played_to sink.written sink.puts uses c.open_and_play.result c.in_default.not-Done knows (setup_of host)
+            lives = played_to sink.written sink.puts uses c.open_and_play.result c.in_default.not-Done knows missed (setup_of host)
                 opening known ends lines c.args.out.now c.open_and_play.new.out host c.open_and_play.new.host plays.lives;
             says = plays.says;
           };

@@ -1,7 +1,6 @@
-use Rattle.std.proofs.Common.{◌∷◌, [], ap, subst, sym}
+use Rattle.std.proofs.Common.{subst, sym}
 use Rattle.cct_host.specs.Host.{setup_of}
 use Rattle.cct_model.specs.lines.command.Step.TheVariants as step
-use Rattle.cct_model.specs.lines.entry.Entry.TheVariants as entry_of
 use Rattle.cct_host_change.specs.Serving.{Ends, ServesBy}
 use Rattle.cct_live_service.specs.AtDesk.{FollowsDesk}
 use Rattle.cct_live_service.specs.Doing.{DecidesPay, Finds, IsServing, TellsStep}
@@ -43,7 +42,8 @@ returns-in-Idle g c =
       acts = λ old serves.
           let ends = subst (λ serving. ServesBy serving old new) c.in-Idle.is serves in
           roll_quiet sink.written sink.puts sink.faults g.L.Link.gives link.sent link.failures (setup_of host).devices roll
-          c.args.link.now (FollowsDesk result old new) result c.args.out.now c.tell_desk.new.out host c.tell_desk.new.host
+          c.args.link.now c.args.page.now c.tell_desk.new.page c.tell_desk.ensures.watch (FollowsDesk result old new) result
+          c.args.out.now c.tell_desk.new.out host c.tell_desk.new.host
           (Finds known known (IsServing known))
           (acts_weaker sink.written sink.puts sink.faults result c.args.out.now c.tell_desk.new.out host
           c.tell_desk.new.host (TellsStep step.Serve) (Finds known known (IsServing known))
@@ -65,7 +65,8 @@ returns-in-Wait g c =
       acts = λ old serves.
           let ends = subst (λ serving. ServesBy serving old new) c.in-Wait.is serves in
           roll_quiet sink.written sink.puts sink.faults g.L.Link.gives link.sent link.failures (setup_of host).devices roll
-          c.args.link.now (FollowsDesk result old new) result c.args.out.now c.tell_desk-in-Wait.new.out host c.tell_desk-in-Wait.new.host
+          c.args.link.now c.args.page.now c.tell_desk-in-Wait.new.page c.tell_desk-in-Wait.ensures.watch (FollowsDesk result old new) result
+          c.args.out.now c.tell_desk-in-Wait.new.out host c.tell_desk-in-Wait.new.host
           (Finds known known (IsServing known))
           (acts_weaker sink.written sink.puts sink.faults result c.args.out.now c.tell_desk-in-Wait.new.out host
           c.tell_desk-in-Wait.new.host (TellsStep step.Serve) (Finds known known (IsServing known))
@@ -87,7 +88,8 @@ returns-in-Odd g c =
       acts = λ old serves.
           let ends = subst (λ serving. ServesBy serving old new) c.in-Odd.is serves in
           roll_quiet sink.written sink.puts sink.faults g.L.Link.gives link.sent link.failures (setup_of host).devices roll
-          c.args.link.now (FollowsDesk result old new) result c.args.out.now c.tell_desk-in-Odd.new.out host c.tell_desk-in-Odd.new.host
+          c.args.link.now c.args.page.now c.tell_desk-in-Odd.new.page c.tell_desk-in-Odd.ensures.watch (FollowsDesk result old new) result
+          c.args.out.now c.tell_desk-in-Odd.new.out host c.tell_desk-in-Odd.new.host
           (Finds known known (IsServing known))
           (acts_weaker sink.written sink.puts sink.faults result c.args.out.now c.tell_desk-in-Odd.new.out host
           c.tell_desk-in-Odd.new.host (TellsStep step.Serve) (Finds known known (IsServing known))
@@ -109,7 +111,8 @@ returns-in-Served g c =
       acts = λ old serves.
           let ends = subst (λ serving. ServesBy serving old new) c.in-Served.is serves in
           roll_quiet sink.written sink.puts sink.faults g.L.Link.gives link.sent link.failures (setup_of host).devices roll
-          c.args.link.now (FollowsDesk result old new) result c.args.out.now c.tell_desk-in-Served.new.out host c.tell_desk-in-Served.new.host
+          c.args.link.now c.args.page.now c.tell_desk-in-Served.new.page c.tell_desk-in-Served.ensures.watch (FollowsDesk result old new) result
+          c.args.out.now c.tell_desk-in-Served.new.out host c.tell_desk-in-Served.new.host
           (Finds known known (IsServing known))
           (acts_weaker sink.written sink.puts sink.faults result c.args.out.now c.tell_desk-in-Served.new.out host
           c.tell_desk-in-Served.new.host (TellsStep step.Serve) (Finds known known (IsServing known))
@@ -132,7 +135,8 @@ returns-in-Short g c =
           let ends = subst (Ends old new) (sym c.short_entry.ensures)
           (subst (λ serving. ServesBy serving old new) c.in-Short.is serves) in
           roll_quiet sink.written sink.puts sink.faults g.L.Link.gives link.sent link.failures (setup_of host).devices roll
-          c.args.link.now (FollowsDesk result old new) result c.args.out.now c.tell_desk-in-Short.new.out host c.tell_desk-in-Short.new.host
+          c.args.link.now c.args.page.now c.tell_desk-in-Short.new.page c.tell_desk-in-Short.ensures.watch (FollowsDesk result old new) result
+          c.args.out.now c.tell_desk-in-Short.new.out host c.tell_desk-in-Short.new.host
           (Finds known known (IsServing known))
           (acts_weaker sink.written sink.puts sink.faults result c.args.out.now c.tell_desk-in-Short.new.out host
           c.tell_desk-in-Short.new.host (TellsStep step.Serve) (Finds known known (IsServing known))

@@ -13,4 +13,5 @@ returns g c =
           (subst (GivesAt old s) (sym c.change_entry.ensures)
           (change_gives c.args.first c.args.amount old c.change-began.result (c.change-began.ensures.told c.requires.ids)))
           (c.change-began.ensures.desk c.requires.ids (c.change_entry.result ∷ []));
+      watch = c.tell_desk.ensures.watch;
     }

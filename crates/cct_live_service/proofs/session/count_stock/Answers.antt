@@ -7,4 +7,5 @@ pub returns : goal.returns
 returns g c = record {
   acts = c.tell_desk.ensures.acts (step.Stock c.args.addr c.args.count) c.args.desk.now c.stock.new.self
       (tt, λ capacity setup past. refl) (c.stock.ensures (entry_of.Stock c.args.addr c.args.count ∷ []));
+  watch = c.tell_desk.ensures.watch;
 }

@@ -39,6 +39,7 @@ returns-in-Ok g c =
           c.in-Ok.ensures.setup c.write_report.ensures.serves
           (disk_same disk.size disk.honest disk.seen disk.cuts disk.faults (disk_of host) (disk_of after)
           c.in-Ok.ensures.disk));
+      watch = c.write_report.ensures.watch;
     }
 
 pub returns-in-Err : goal.returns-in-Err
@@ -71,6 +72,7 @@ returns-in-Err g c =
           c.in-Err.ensures.setup c.write_report-in-Err.ensures.serves
           (disk_same disk.size disk.honest disk.seen disk.cuts disk.faults (disk_of host) (disk_of after)
           c.in-Err.ensures.disk));
+      watch = c.write_report-in-Err.ensures.watch;
     }
 
 pub refused-shortfall-requires : goal.refused-shortfall-requires

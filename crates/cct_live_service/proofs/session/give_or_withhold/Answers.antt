@@ -18,6 +18,7 @@ returns-in-None g c =
       acts = λ old asks. subst (λ why. Acts sink.written sink.puts sink.faults
           (Both AreQuiet (FollowsDesk c.give.result old c.give.new.desk)) (DoesPay p why) c.give.result c.args.out.now
           c.give.new.out c.args.host.now c.give.new.host) (sym is) (c.give.ensures.acts old asks);
+      watch = c.give.ensures.watch;
     }
 
 pub returns-in-Some : goal.returns-in-Some
@@ -31,4 +32,5 @@ returns-in-Some g c =
       acts = λ old asks. subst (λ why. Acts sink.written sink.puts sink.faults
           (Both AreQuiet (FollowsDesk c.withhold.result old c.withhold.new.desk)) (DoesPay p why) c.withhold.result c.args.out.now
           c.withhold.new.out c.args.host.now c.withhold.new.host) (sym is) (c.withhold.ensures.acts old asks);
+      watch = c.withhold.ensures.watch;
     }

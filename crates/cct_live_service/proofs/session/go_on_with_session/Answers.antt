@@ -5,6 +5,7 @@ use Rattle.cct_host_change.specs.Serving.{ServesBy}
 use Rattle.cct_live_service.specs.AtDesk.{FollowsDesk}
 use Rattle.cct_live_service.specs.Doing.{Finds, IsServing, ServesOn, TellsStep}
 use Rattle.cct_live_service.specs.Known.{Rested}
+use Rattle.cct_live_service.specs.Linked.{watched}
 use Rattle.cct_live_service.proofs.Desks.{idle_rests, idle_same, serves_unrested, wait_rests, wait_same}
 use Rattle.cct_live_service.proofs.Found.{finds_none, finds_weaker}
 use Rattle.cct_live_service.proofs.Linking.{roll_none, roll_quiet}
@@ -24,7 +25,7 @@ returns-in-Idle g c =
     let new = c.serve.new.self in
     record {
       acts = roll_none sink.written sink.puts sink.faults g.L.Link.gives link.sent link.failures setup.devices
-          roll c.args.link.now (FollowsDesk (Ok tt) old new)
+          roll (watched c.args.link.now c.args.page.now) (FollowsDesk (Ok tt) old new)
           (idle_same setup old new (subst (λ serving. ServesBy serving old new) c.in-Idle.is c.serve.ensures))
           c.args.out.now c.args.host.now (Finds known known (ServesOn rested known)) c.requires.whole
           (may_rest rested (λ past keeps. idle_rests setup past old new
@@ -43,7 +44,7 @@ returns-then-is_some g c =
     let new = c.serve.new.self in
     record {
       acts = roll_none sink.written sink.puts sink.faults g.L.Link.gives link.sent link.failures setup.devices
-          roll c.args.link.now (FollowsDesk (Ok tt) old new)
+          roll (watched c.args.link.now c.args.page.now) (FollowsDesk (Ok tt) old new)
           (wait_same setup c.in-Wait.addr old new (subst (λ serving. ServesBy serving old new) c.in-Wait.is c.serve.ensures))
           c.args.out.now c.args.host.now (Finds known known (ServesOn rested known)) c.requires.whole
           (may_rest rested (λ past keeps. wait_rests setup past c.in-Wait.addr true old new
@@ -66,7 +67,8 @@ returns-else-is_some g c =
     let ends = subst (λ serving. ServesBy serving old new) c.in-Wait.is c.serve.ensures in
     record {
       acts = roll_quiet sink.written sink.puts sink.faults g.L.Link.gives link.sent link.failures (setup_of host).devices roll
-          c.args.link.now (FollowsDesk result old new) result c.args.out.now c.tell_desk.new.out host c.tell_desk.new.host
+          c.args.link.now c.args.page.now c.tell_desk.new.page c.tell_desk.ensures.watch (FollowsDesk result old new) result
+          c.args.out.now c.tell_desk.new.out host c.tell_desk.new.host
           (Finds known known serves)
           (acts_weaker sink.written sink.puts sink.faults result c.args.out.now c.tell_desk.new.out host
           c.tell_desk.new.host (TellsStep step.Serve) (Finds known known serves)

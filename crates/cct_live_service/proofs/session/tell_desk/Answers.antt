@@ -25,4 +25,5 @@ returns g c =
           (acts_line sink.written sink.puts sink.faults linked c.write_entry.result c.args.out.now c.write_entry.new.out host
           (operates s e) (refl, follows result old new (operates s e ∷ []) (gives, is)) refl (λ past. tt) c.write_entry.ensures.puts
           c.requires.whole c.write_entry.ensures.serves));
+      watch = refl;
     }

@@ -1,4 +1,4 @@
-use Rattle.std.proofs.Common.{◌∷◌, [], Err, Ok, ap, subst, sym}
+use Rattle.std.proofs.Common.{◌∷◌, [], Err, Ok, subst}
 use Rattle.cct_model.specs.Text.{line_of}
 use Rattle.cct_text.specs.Writing.{PutsLine}
 use Rattle.cct_live_service.specs.Notice.{notice_line}

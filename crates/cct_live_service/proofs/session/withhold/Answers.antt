@@ -33,6 +33,7 @@ returns g c =
           (c.tell_then.ensures.writes p why short.paid short.rest (ap (λ k. notice_of.Withheld k why) c.command_of.ensures)
           c.short_entry.ensures)
           c.requires.whole c.tell_then.ensures.serves (refl, (short.paid, short.rest, refl)));
+      watch = refl;
     }
 
 pub refused-shortfall-requires : goal.refused-shortfall-requires

@@ -3,7 +3,7 @@ use Rattle.cct_host.specs.Host.{setup_of}
 use Rattle.cct_live_service.specs.AtDesk.{Both, FollowsDesk}
 use Rattle.cct_live_service.specs.Doing.{StopsAt, StopsUpTo}
 use Rattle.cct_live_service.specs.Known.{KnownAfter}
-use Rattle.cct_live_service.specs.Linked.{Exchanges}
+use Rattle.cct_live_service.specs.Linked.{Exchanges, watched}
 use Rattle.cct_live_service.specs.Parts.{Acts}
 use Rattle.cct_live_service.proofs.KnownLater.{Knowing, acts_knowing}
 use Rattle.cct_live_service.proofs.Linking.{link_none, link_then}
@@ -19,7 +19,7 @@ loop-addr-init g c =
     let sink = g.K.Sink in
     let link = g.L.CountedLink in
     let host = c.args.host.now in
-    link_none sink.written sink.puts sink.faults g.L.Link.gives link.sent link.failures c.args.link.now c.args.desk.now
+    link_none sink.written sink.puts sink.faults g.L.Link.gives link.sent link.failures (watched c.args.link.now c.args.page.now) c.args.desk.now
     c.args.out.now host (StopsUpTo 0 (KnownAfter host c.args.desk.now) (setup_of host)) c.requires.whole (refl, refl)
 
 pub returns-in-Err : goal.returns-in-Err
@@ -33,12 +33,12 @@ returns-in-Err g c =
     let between = c.loop-addr.desk in
     let addr = c.loop-addr.addr in
     let out = c.args.out.now in
-    let went = Both (Exchanges gives link.sent link.failures c.args.link.now c.loop-addr.link)
+    let went = Both (Exchanges gives link.sent link.failures (setup_of c.args.host.now).devices (watched c.args.link.now c.args.page.now) (watched c.loop-addr.link c.loop-addr.page))
     (FollowsDesk (Ok tt) desk between) in
     let before = StopsUpTo addr (KnownAfter host desk) (setup_of host) in
     let next = StopsUpTo (addr + 1) (KnownAfter host desk) (setup_of host) in
-    let acts = link_then sink.written sink.puts sink.faults gives link.sent link.failures c.args.link.now c.loop-addr.link
-    c.stop_if_running.new.link desk between c.stop_if_running.new.desk (Err c.in-Err.how) out c.loop-addr.out c.stop_if_running.new.out
+    let acts = link_then sink.written sink.puts sink.faults gives link.sent link.failures (watched c.args.link.now c.args.page.now) (watched c.loop-addr.link c.loop-addr.page)
+    (watched c.stop_if_running.new.link c.stop_if_running.new.page) desk between c.stop_if_running.new.desk (Err c.in-Err.how) out c.loop-addr.out c.stop_if_running.new.out
     host mid c.stop_if_running.new.host (Knowing before went host mid)
     (StopsAt (KnownAfter mid between) (setup_of mid) addr) next
     (λ s1 s2 t1 t2 h k. up_to_then host mid c.loop-addr.invariant.setup desk between addr (addr + 1) (one_more addr) s1 s2 t1 t2
@@ -62,12 +62,12 @@ loop-addr-preserved g c =
     let between = c.loop-addr.desk in
     let addr = c.loop-addr.addr in
     let out = c.args.out.now in
-    let went = Both (Exchanges gives link.sent link.failures c.args.link.now c.loop-addr.link)
+    let went = Both (Exchanges gives link.sent link.failures (setup_of c.args.host.now).devices (watched c.args.link.now c.args.page.now) (watched c.loop-addr.link c.loop-addr.page))
     (FollowsDesk (Ok tt) desk between) in
     let before = StopsUpTo addr (KnownAfter host desk) (setup_of host) in
     let next = StopsUpTo (addr + 1) (KnownAfter host desk) (setup_of host) in
-    let acts = link_then sink.written sink.puts sink.faults gives link.sent link.failures c.args.link.now c.loop-addr.link
-    c.stop_if_running.new.link desk between c.stop_if_running.new.desk (Ok tt) out c.loop-addr.out c.stop_if_running.new.out
+    let acts = link_then sink.written sink.puts sink.faults gives link.sent link.failures (watched c.args.link.now c.args.page.now) (watched c.loop-addr.link c.loop-addr.page)
+    (watched c.stop_if_running.new.link c.stop_if_running.new.page) desk between c.stop_if_running.new.desk (Ok tt) out c.loop-addr.out c.stop_if_running.new.out
     host mid c.stop_if_running.new.host (Knowing before went host mid)
     (StopsAt (KnownAfter mid between) (setup_of mid) addr) next
     (λ s1 s2 t1 t2 h k. up_to_then host mid c.loop-addr.invariant.setup desk between addr (addr + 1) (one_more addr) s1 s2 t1 t2
@@ -87,12 +87,12 @@ returns-in-Ok g c =
     let between = c.loop-addr.desk in
     let addr = c.loop-addr.addr in
     let out = c.args.out.now in
-    let went = Both (Exchanges gives link.sent link.failures c.args.link.now c.loop-addr.link)
+    let went = Both (Exchanges gives link.sent link.failures (setup_of c.args.host.now).devices (watched c.args.link.now c.args.page.now) (watched c.loop-addr.link c.loop-addr.page))
     (FollowsDesk (Ok tt) desk between) in
     let before = StopsUpTo addr (KnownAfter host desk) (setup_of host) in
     let next = StopsUpTo (addr + 1) (KnownAfter host desk) (setup_of host) in
-    let acts = link_then sink.written sink.puts sink.faults gives link.sent link.failures c.args.link.now c.loop-addr.link
-    c.stop_if_running.new.link desk between c.stop_if_running.new.desk (Ok tt) out c.loop-addr.out c.stop_if_running.new.out
+    let acts = link_then sink.written sink.puts sink.faults gives link.sent link.failures (watched c.args.link.now c.args.page.now) (watched c.loop-addr.link c.loop-addr.page)
+    (watched c.stop_if_running.new.link c.stop_if_running.new.page) desk between c.stop_if_running.new.desk (Ok tt) out c.loop-addr.out c.stop_if_running.new.out
     host mid c.stop_if_running.new.host (Knowing before went host mid)
     (StopsAt (KnownAfter mid between) (setup_of mid) addr) next
     (λ s1 s2 t1 t2 h k. up_to_then host mid c.loop-addr.invariant.setup desk between addr (addr + 1) (one_more addr) s1 s2 t1 t2
@@ -102,7 +102,7 @@ returns-in-Ok g c =
     let all : addr + 1 ≡ 256 = omega (arith, c.loop-addr-test.true) in
     record {
       acts = subst (λ n. Acts sink.written sink.puts sink.faults
-          (Both (Exchanges gives link.sent link.failures c.args.link.now c.stop_if_running.new.link)
+          (Both (Exchanges gives link.sent link.failures (setup_of c.args.host.now).devices (watched c.args.link.now c.args.page.now) (watched c.stop_if_running.new.link c.stop_if_running.new.page))
           (FollowsDesk (Ok tt) desk c.stop_if_running.new.desk))
           (StopsUpTo n (KnownAfter host desk) (setup_of host)) (Ok tt) out c.stop_if_running.new.out host
           c.stop_if_running.new.host) all acts;

@@ -4,7 +4,7 @@ use Rattle.cct_live_service.specs.declared.stopping.AtEnd.TheVariants as at_end
 use Rattle.cct_live_service.specs.AtDesk.{Both, FollowsDesk}
 use Rattle.cct_live_service.specs.Doing.{StopsBy}
 use Rattle.cct_live_service.specs.Known.{KnownAfter}
-use Rattle.cct_live_service.specs.Linked.{Exchanges}
+use Rattle.cct_live_service.specs.Linked.{Exchanges, watched}
 use Rattle.cct_live_service.specs.Parts.{Acts}
 use Rattle.cct_live_service.proofs.Linking.{link_none}
 use Rattle.cct_live_service.proofs.stopping.stop_at_end.Goals as goal
@@ -15,10 +15,10 @@ returns-in-Leave g c =
     let link = g.L.CountedLink in
     let out = c.args.out.now in
     let host = c.args.host.now in
-    let line = c.args.link.now in
+    let line = watched c.args.link.now c.args.page.now in
     let desk = c.args.desk.now in
     record {
-      acts = subst (λ ends. Acts sink.written sink.puts sink.faults (Both (Exchanges g.L.Link.gives link.sent link.failures line line) (FollowsDesk (Ok tt) desk desk)) (StopsBy ends (KnownAfter host desk) (setup_of host)) (Ok tt) out out host host)
+      acts = subst (λ ends. Acts sink.written sink.puts sink.faults (Both (Exchanges g.L.Link.gives link.sent link.failures (setup_of host).devices line line) (FollowsDesk (Ok tt) desk desk)) (StopsBy ends (KnownAfter host desk) (setup_of host)) (Ok tt) out out host host)
           (sym c.in-Leave.is)
           (link_none sink.written sink.puts sink.faults g.L.Link.gives link.sent link.failures line desk out host (StopsBy at_end.Leave (KnownAfter host desk) (setup_of host)) c.requires.whole (refl, refl));
     }
@@ -29,12 +29,12 @@ returns-in-Stop g c =
     let link = g.L.CountedLink in
     let out = c.args.out.now in
     let host = c.args.host.now in
-    let line = c.args.link.now in
+    let line = watched c.args.link.now c.args.page.now in
     let desk = c.args.desk.now in
     let result = c.stop_all.result in
     record {
       acts = subst (λ ends. Acts sink.written sink.puts sink.faults
-          (Both (Exchanges g.L.Link.gives link.sent link.failures line c.stop_all.new.link)
+          (Both (Exchanges g.L.Link.gives link.sent link.failures (setup_of host).devices line (watched c.stop_all.new.link c.stop_all.new.page))
           (FollowsDesk result desk c.stop_all.new.desk))
           (StopsBy ends (KnownAfter host desk) (setup_of host)) result out c.stop_all.new.out host c.stop_all.new.host)
           (sym c.in-Stop.is) c.stop_all.ensures.acts;

@@ -3,6 +3,7 @@ use Rattle.cct_host.specs.Host.{setup_of}
 use Rattle.cct_live_service.specs.Doing.{StopsAt, StopsRunning}
 use Rattle.cct_live_service.specs.Known.{IsIdle, KnownAfter}
 use Rattle.cct_live_service.specs.Opening.{is_running}
+use Rattle.cct_live_service.specs.Linked.{watched}
 use Rattle.cct_live_service.proofs.KnownLater.{known_now}
 use Rattle.cct_live_service.proofs.Linking.{link_none}
 use Rattle.cct_live_service.proofs.Parts.{acts_weaker}
@@ -29,7 +30,7 @@ returns-else-runs g c =
     let desk = c.args.desk.now in
     let setup = setup_of host in
     record {
-      acts = link_none sink.written sink.puts sink.faults g.L.Link.gives link.sent link.failures c.args.link.now desk
+      acts = link_none sink.written sink.puts sink.faults g.L.Link.gives link.sent link.failures (watched c.args.link.now c.args.page.now) desk
           c.args.out.now host (StopsAt (KnownAfter host desk) setup addr) c.requires.whole
           (inl (
             (refl, refl),

@@ -15,6 +15,7 @@ returns-then-is_none g c =
       acts = acts_weaker sink.written sink.puts sink.faults c.answer.result c.args.out.now c.answer.new.out c.args.host.now
           c.answer.new.host (TellsOne (live.command (command.Round c.args.addr))) IsVisit
           (command_step (λ addr. command.Round addr) c.args.addr) c.answer.ensures.acts;
+      watch = c.answer.ensures.watch;
     }
 
 pub returns-else-is_none : goal.returns-else-is_none
@@ -23,4 +24,5 @@ returns-else-is_none g c =
     record {
       acts = acts_none sink.written sink.puts sink.faults (Both AreQuiet IsApart) (refl, λ desk. refl) c.args.out.now c.args.host.now IsVisit c.requires.whole
           (many_none (IsStepOf (λ addr. command.Round addr)));
+      watch = refl;
     }

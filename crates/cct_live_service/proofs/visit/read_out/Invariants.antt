@@ -1,7 +1,8 @@
 use Rattle.std.proofs.Common.{Ok}
+use Rattle.cct_host.specs.Host.{setup_of}
 use Rattle.cct_live_service.specs.AtDesk.{Both, FollowsDesk}
 use Rattle.cct_live_service.specs.Doing.{IsVisit}
-use Rattle.cct_live_service.specs.Linked.{Exchanges}
+use Rattle.cct_live_service.specs.Linked.{Exchanges, watched}
 use Rattle.cct_live_service.specs.Parts.{Acts}
 use Rattle.cct_live_service.proofs.visit.read_out.Given as goal
 
@@ -10,5 +11,5 @@ abbrev pub invariant-loop-round : goal.invariant-loop-round
 invariant-loop-round g l =
     let sink = g.K.Sink in
     let link = g.L.CountedLink in
-    Acts sink.written sink.puts sink.faults (Both (Exchanges g.L.Link.gives link.sent link.failures l.fn.link l.link) (FollowsDesk (Ok tt) l.fn.desk l.desk))
+    Acts sink.written sink.puts sink.faults (Both (Exchanges g.L.Link.gives link.sent link.failures (setup_of l.fn.host).devices (watched l.fn.link l.fn.page) (watched l.link l.page)) (FollowsDesk (Ok tt) l.fn.desk l.desk))
     IsVisit (Ok tt) l.fn.out l.out l.fn.host l.host
