@@ -1,6 +1,7 @@
 //! The calls of a queue, made on a part in their order: all that its caller owes.
 ghost use Rattle.std.specs.Prelude.{◌≡◌, ◌∷◌, [], List, ℕ, length, map, reverse, OnOk};
 ghost use Rattle.cct_disk.specs.Disk.{GoesOn, Holds, LeavesOnly};
+ghost use Rattle.cct_edge.specs.Faults.{HasCause};
 ghost use Rattle.cct_disk_queue.specs.Calls.{Act, AreIn, AreWithin, Since, called};
 ghost use Rattle.cct_disk_queue.specs.Obeyed.{HasMade};
 
@@ -21,6 +22,8 @@ pub fn make_calls<D: Disk>(queue: &QueueDisk, part: &mut D) -> Result<(), Failed
     ensures made { OnOk result ((base : List ℕ) → Holds D.honest D.seen D.may_leave part.old base
         → HasMade D.honest D.seen D.may_leave part.new base queue.now.calls) }
     ensures goes_on { GoesOn D.size D.honest D.seen D.cuts part.old part.new }
+    // It stops only where a call of the part failed.
+    ensures cause { HasCause (D.faults part.old) (D.faults part.new) result }
 {
     let (notes, kept) = queue.parts();
     make_noted(notes, kept, part)
@@ -36,6 +39,7 @@ fn make_noted<D: Disk>(notes: &[Note], kept: &[u8], part: &mut D) -> Result<(), 
     ensures made { OnOk result ((base : List ℕ) → Holds D.honest D.seen D.may_leave part.old base
         → HasMade D.honest D.seen D.may_leave part.new base (map (called kept.now) (reverse notes.now))) }
     ensures goes_on { GoesOn D.size D.honest D.seen D.cuts part.old part.new }
+    ensures cause { HasCause (D.faults part.old) (D.faults part.new) result }
 {
     match notes {
         [] => Ok(()),
@@ -56,6 +60,7 @@ fn make_one<D: Disk>(note: Note, kept: &[u8], part: &mut D) -> Result<(), Failed
         → HasMade D.honest D.seen D.may_leave part.old base before
         → HasMade D.honest D.seen D.may_leave part.new base (called kept.now note ∷ before)) }
     ensures goes_on { GoesOn D.size D.honest D.seen D.cuts part.old part.new }
+    ensures cause { HasCause (D.faults part.old) (D.faults part.new) result }
 {
     match note {
         Note::Write { at, from, len } => part.write(at, &kept[from..from + len]),

@@ -8,7 +8,7 @@ use Rattle.cct_host.specs.Attempt.{Attempt, HeardBy, Links, asked, idle, news_of
 use Rattle.cct_host.specs.Host.{Nexts}
 use Rattle.cct_poll.specs.declared.canned.Canned.{Canned}
 use Rattle.cct_poll.specs.Canned.{Gave}
-use Rattle.cct_poll.specs.Steps.{Sends, Steps}
+use Rattle.cct_poll.specs.Steps.{Sends, SentOther, Steps}
 
 abbrev gives : Canned → List ℕ → List ℕ → Canned → Type 0
 gives before sent heard after = Gave before.heard.now sent heard after.sent.items
@@ -25,6 +25,23 @@ sends_as old new idle piece links none sent_is = sym sent_is ∙ ap (λ (c : Can
 sends_as old new (asked sent heard end) piece links none sent_is = sym links.noted_is ∙ sent_is
 sends_as old new (put r end) piece links none sent_is = sym sent_is ∙ ap (λ (c : Canned). c.sent.items) links ∙ none
 
+sent_by : (old new : Canned) (what : Attempt) (piece : List ℕ) → Links gives old new what
+    → old.sent.items ≡ [] → Sends piece what → new.sent.items ≡ piece
+sent_by old new idle piece links none sends = ap (λ (c : Canned). c.sent.items) links ∙ none ∙ sym sends
+sent_by old new (asked sent heard end) piece links none sends = links.noted_is ∙ sends
+sent_by old new (put r end) piece links none sends = ap (λ (c : Canned). c.sent.items) links ∙ none ∙ sym sends
+
+-- one that didn't send the piece sent another
+pub other_of : {D : Type 0} {g : Ghosts D} (old new : Canned) (addr : ℕ) (before after : Host D g)
+    (report reported : List Entry) (piece : List ℕ) → Nexts gives old new addr before after report reported
+    → report ≡ [] → old.sent.items ≡ [] → (new.sent.items ≡ piece → ⊥) → SentOther piece addr reported
+other_of old new addr before after report reported piece nexts empty none differs = record {
+  what = nexts.what;
+  told_is = nexts.reported_is ∙ ap (λ (l : List Entry). l ++ reverse (news_of addr nexts.what)) empty;
+  other = λ sends. differs (sent_by old new nexts.what piece nexts.link none sends);
+}
+
+-- one that did is a step
 pub steps_of : {D : Type 0} {g : Ghosts D} (old new : Canned) (addr : ℕ) (before after : Host D g)
     (report reported : List Entry) (piece heard : List ℕ) → Nexts gives old new addr before after report reported
     → report ≡ [] → length heard ≤ MOST_HEARD → old.heard.now ≡ heard → old.sent.items ≡ [] → new.sent.items ≡ piece

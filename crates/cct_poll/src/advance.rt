@@ -2,7 +2,7 @@
 ghost use Rattle.std.specs.Prelude.{◌≡◌, ◌≤◌, [], false, true, length};
 ghost use Rattle.cct_model.specs.terms.wire.TheConstants.{MOST_HEARD};
 ghost use Rattle.cct_host.specs.Host.{has_failed, setup_of};
-ghost use Rattle.cct_poll.specs.Steps.{Steps};
+ghost use Rattle.cct_poll.specs.Steps.{Loses, Steps};
 
 use crate::canned::Canned;
 use arrayvec::ArrayVec;
@@ -28,6 +28,7 @@ pub(crate) fn advance(
     ensures whole { result ≡ true → has_failed host.new ≡ false }
     ensures steps { result ≡ true → Steps piece.now heard.now addr host.old host.new
         report.new.items }
+    ensures loses { result ≡ false → Loses piece.now addr host.old host.new report.new.items }
 {
     let mut link = Canned::new(heard);
     match host.next(addr, &mut link, report) {

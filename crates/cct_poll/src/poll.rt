@@ -1,16 +1,20 @@
 //! The host, step by step.
 ghost use Rattle.std.specs.Prelude.{◌≡◌, ◌<◌, ◌≤◌, ◌+◌, ℕ, [], false, true, length, IfErr, IfOk};
-ghost use Rattle.std.specs.Prelude.{IsTrue, ◌↔◌, ◌⊎◌, OnOk, List, Some, None, reverse, slice_get};
-ghost use Rattle.std.specs.Option.{option_map};
-ghost use Rattle.cct_host.specs.Host.{StandsFor, disk_of, has_failed, setup_of};
+ghost use Rattle.std.specs.Prelude.{IsOk, IsTrue, is_some, ◌↔◌, ◌≢◌, ◌⊎◌, OnErr, OnOk, List, Some};
+ghost use Rattle.std.specs.Prelude.{None, reverse, slice_get};
+ghost use Rattle.std.specs.Option.{IfSome, option_map};
+ghost use Rattle.cct_host.specs.Desks.{sending_on};
+ghost use Rattle.cct_host.specs.Host.{Keeps, StandsFor, disk_of, has_failed, setup_of};
 ghost use Rattle.cct_journal.specs.Journal as journals;
+ghost use Rattle.cct_model.specs.Exchange as exchanges;
+ghost use Rattle.cct_model.specs.Money.{totals};
 ghost use Rattle.cct_model.specs.Setup.{IsSoundSetup};
 ghost use Rattle.cct_model.specs.terms.device.Setup.{Setup};
 ghost use Rattle.cct_model.specs.lines.entry.Entry.{Entry};
 ghost use Rattle.cct_model.specs.terms.wire.TheConstants.{MOST_HEARD};
 ghost use Rattle.cct_disk_queue.specs.Calls.{act_of};
 ghost use Rattle.cct_poll.specs.Starts.{RefusesStart, Starts, WasFound, WasMade, untouched};
-ghost use Rattle.cct_poll.specs.Steps.{Steps, Says, Tells};
+ghost use Rattle.cct_poll.specs.Steps.{Loses, Says, Steps, Tells};
 
 use crate::advance::advance;
 use crate::refusal::{NotNow, PollNo};
@@ -59,14 +63,16 @@ pub struct Poll<'s> {
 }
 
 impl<'s> Poll<'s> {
+    ghost use Rattle.cct_poll.specs.Asks.{Asks, IsQuiet, IsSettled, IsTold};
+
     /// A host over what a part holds: the journal that is there, or a new one where each byte is 0.
     /// The calls that make a new one are the first that are to be made. Nothing is to be made where
     /// none is started.
     pub fn start(setup: &'s Setup, part: Vec<u8>) -> Result<Poll<'s>, PollNo>
         requires sound { IsSoundSetup setup.now }
         ensures setup { IfOk result (λ poll. setup_of poll.host ≡ setup.now) }
-        ensures begins { IfOk result (λ poll. (poll.over ≡ false) × (poll.asked ≡ None)
-            × (poll.report.items ≡ [])) }
+        ensures begins { IfOk result (λ poll. (poll.over ≡ false) × (poll.asked ≡ None) × (poll.report.items ≡ [])
+            × (poll.told ≡ 0) × (poll.made ≡ 0)) }
         // It begins with the records that the part holds. A journal is made only where no byte but
         // 0 is.
         ensures starts { IfOk result (λ poll. Starts setup.now part.items poll.host) }
@@ -97,6 +103,13 @@ impl<'s> Poll<'s> {
         ensures once { result ≡ Ask.Send → self.old.asked ≡ None }
         ensures host { self.new.host ≡ self.old.host }
         ensures over { self.new.over ≡ self.old.over }
+        ensures asks { Asks result self.old addr }
+        // It is the request that the job there sends next.
+        ensures piece { result ≡ Ask.Send → IfSome (sending_on self.old.host.desks addr) (λ s. self.new.piece.items
+            ≡ exchanges.ask s.kind s.to s.request) }
+        ensures rest { (self.new.report ≡ self.old.report) × (self.new.told ≡ self.old.told)
+            × (self.new.made ≡ self.old.made) }
+        ensures stays { result ≢ Ask.Send → self.new ≡ self.old }
     {
         if self.over {
             return Ask::Over;
@@ -154,6 +167,12 @@ impl<'s> Poll<'s> {
         ensures setup { setup_of self.new.host ≡ setup_of self.old.host }
         ensures said { OnOk result ((past : List Entry) → StandsFor self.old.host past
             → Says command.now past self.old.host self.new.host self.new.report.items) }
+        // None of its entries was taken yet.
+        ensures fresh { OnOk result ((self.new.told ≡ 0) × (self.new.asked ≡ None)
+            × (self.new.made ≡ self.old.made)) }
+        ensures over { self.new.over ≡ self.old.over }
+        ensures due { IsOk result ↔ IsQuiet self.old }
+        ensures stays { OnErr result (self.new ≡ self.old) }
     {
         if !self.is_quiet() {
             return Err(NotNow);
@@ -183,11 +202,19 @@ impl<'s> Poll<'s> {
         // whatever happened before.
         ensures steps { OnOk result ((addr : ℕ) × (self.old.asked ≡ Some addr) × (self.new.over ≡ false
             → Steps self.old.piece.items bytes.now addr self.old.host self.new.host self.new.report.items)) }
+        // It is over only for a reason.
+        ensures loses { OnOk result (self.new.over ≡ true → (addr : ℕ) × (self.old.asked ≡ Some addr)
+            × Loses self.old.piece.items addr self.old.host self.new.host self.new.report.items) }
+        // None of its entries was taken yet.
+        ensures fresh { OnOk result ((self.new.told ≡ 0) × (self.new.asked ≡ None)
+            × (self.new.made ≡ self.old.made)) }
+        ensures due { IsOk result ↔ (IsTold self.old × (is_some self.old.asked ≡ true)) }
+        ensures stays { OnErr result (self.new ≡ self.old) }
     {
         let Some(addr) = self.asked else {
             return Err(NotNow);
         };
-        if self.over || !self.is_settled() || self.told < self.report.len() {
+        if !self.is_told() {
             return Err(NotNow);
         }
         self.asked = None;
@@ -210,6 +237,13 @@ impl<'s> Poll<'s> {
         // One attempt of the host at the address, which sent nothing.
         ensures steps { OnOk result (self.new.over ≡ false
             → Steps [] [] addr self.old.host self.new.host self.new.report.items) }
+        ensures loses { OnOk result (self.new.over ≡ true
+            → Loses [] addr self.old.host self.new.host self.new.report.items) }
+        // None of its entries was taken yet.
+        ensures fresh { OnOk result ((self.new.told ≡ 0) × (self.new.asked ≡ None)
+            × (self.new.made ≡ self.old.made)) }
+        ensures due { IsOk result ↔ IsQuiet self.old }
+        ensures stays { OnErr result (self.new ≡ self.old) }
     {
         if !self.is_quiet() {
             return Err(NotNow);
@@ -231,6 +265,12 @@ impl<'s> Poll<'s> {
             × (self.new.made ≡ self.old.made + 1) × (self.new.host ≡ self.old.host))
             ⊎ ((self.old.made + 1 ≡ length (disk_of self.old.host).calls)
             × (self.new.made ≡ 0) × ((disk_of self.new.host).calls ≡ []))) }
+        // What is reported and heard stays.
+        ensures rest { (self.new.report ≡ self.old.report) × (self.new.told ≡ self.old.told)
+            × (self.new.asked ≡ self.old.asked) × (self.new.piece ≡ self.old.piece) }
+        ensures due { IsOk result
+            ↔ ((self.old.over ≡ false) × (self.old.made < length (disk_of self.old.host).calls)) }
+        ensures stays { OnErr result (self.new ≡ self.old) }
     {
         let many = self.host.disk().count();
         if self.over || self.made >= many {
@@ -246,7 +286,10 @@ impl<'s> Poll<'s> {
 
     /// A call failed, or the caller can't say whether it was done: the host is over.
     pub fn lost(&mut self)
-        ensures { self.new.over ≡ true }
+        ensures over { self.new.over ≡ true }
+        ensures rest { (self.new.host ≡ self.old.host) × (self.new.report ≡ self.old.report)
+            × (self.new.told ≡ self.old.told) × (self.new.made ≡ self.old.made) × (self.new.asked ≡ self.old.asked)
+            × (self.new.piece ≡ self.old.piece) }
     {
         self.over = true;
     }
@@ -256,8 +299,13 @@ impl<'s> Poll<'s> {
         ensures settled { OnOk result ((disk_of self.old.host).calls ≡ []) }
         ensures next { OnOk result (self.new.told ≡ self.old.told + 1) }
         ensures host { self.new.host ≡ self.old.host }
+        ensures rest { (self.new.report ≡ self.old.report) × (self.new.made ≡ self.old.made)
+            × (self.new.asked ≡ self.old.asked) × (self.new.piece ≡ self.old.piece) × (self.new.over ≡ self.old.over) }
+        ensures due { IsOk result ↔ (IsSettled self.old
+            × (self.old.told < length self.old.report.items)) }
+        ensures stays { OnErr result (self.new ≡ self.old) }
     {
-        if self.over || !self.is_settled() || self.told >= self.report.len() {
+        if !self.is_settled() || self.told >= self.report.len() {
             return Err(NotNow);
         }
         self.told += 1;
@@ -265,20 +313,37 @@ impl<'s> Poll<'s> {
     }
 
     /// What is available, reserved, paid and sold, in units of value.
-    pub fn totals(&self) -> Totals {
+    pub fn totals(&self) -> Totals
+        // Also after a call was lost.
+        ensures { (past : List Entry) → Keeps self.now.host past → result
+            ≡ totals (setup_of self.now.host) past }
+    {
         self.host.totals()
     }
 
     /// Whether nothing is to be made, taken or heard, and no call was lost.
     fn is_quiet(&self) -> bool
-        ensures settled { IsTrue result → (disk_of self.now.host).calls ≡ [] }
-        ensures running { IsTrue result → self.now.over ≡ false }
+        ensures { IsTrue result ↔ IsQuiet self.now }
     {
-        self.is_settled() && !self.over && self.told >= self.report.len() && self.asked.is_none()
+        self.is_told() && self.asked.is_none()
+    }
+
+    /// Whether nothing is to be made or taken, and no call was lost.
+    fn is_told(&self) -> bool
+        ensures { IsTrue result ↔ IsTold self.now }
+    {
+        self.is_settled() && self.told >= self.report.len()
+    }
+
+    /// Whether no call was lost, and none is noted.
+    fn is_settled(&self) -> bool
+        ensures { IsTrue result ↔ IsSettled self.now }
+    {
+        !self.over && self.has_made_all()
     }
 
     /// Whether no call is noted.
-    fn is_settled(&self) -> bool
+    fn has_made_all(&self) -> bool
         ensures { IsTrue result ↔ ((disk_of self.now.host).calls ≡ []) }
     {
         self.host.disk().count() == 0
