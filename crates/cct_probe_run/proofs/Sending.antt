@@ -1,16 +1,19 @@
 -- What was sent, joined.
-use Rattle.std.proofs.Common.{◌≡◌, ◌⊎◌, inl, inr, ◌&&◌, ℕ, List, [], ◌∷◌, ◌++◌, Option, Result, arith, cond, true, false, subst, sym}
+use Rattle.std.proofs.Common.{◌≡◌, ◌⊎◌, ◌<◌, ◌≤◌, ◌-◌, inl, inr, ◌&&◌, ℕ, List, [], ◌∷◌, ◌++◌, length, take, drop, get_or, refl, Option, Result, arith, cond, true, false, subst, sym}
+use Rattle.std.proofs.Math.Seq.{take-length}
 use Rattle.std.specs.List.{Contains}
 use Rattle.cct_edge.specs.declared.fault.Failed.{Failed}
 use Rattle.cct_model_wire.specs.declared.device.DeviceSetup.{DeviceSetup}
 use Rattle.cct_model_wire.specs.declared.device.Setup.{Setup}
-use Rattle.cct_probe_plan.specs.Closing.{all_said, closes, closing, is_for}
+use Rattle.cct_probe_plan.specs.Closing.{all_said, closes, closing, is_for, said_in}
 use Rattle.cct_probe_plan.specs.declared.plan.Ending.{Ending}
+use Rattle.cct_probe_plan.specs.declared.plan.Ending.TheVariants as ending
 use Rattle.cct_probe_plan.specs.declared.plan.Say.{Say}
+use Rattle.cct_probe_plan.specs.declared.plan.Step.{Step}
 use Rattle.cct_probe_plan.specs.declared.plan.Trial.{Trial}
 use Rattle.cct_probe_run.specs.declared.bench.Bench.{Bench}
 use Rattle.cct_probe_run.specs.Plays.{Exchanges, IsNoOrder, IsOfPlan, IsRow, Plays, Tells, TellsBroken, exchanged, not_begun, told}
-use Rattle.cct_probe_run.specs.Leaving.{OrderNone, Rests, Sends, Sent}
+use Rattle.cct_probe_run.specs.Leaving.{Leaves, OrderNone, Rests, Sends, Sent}
 
 -- a plan without a trial has no row
 only_listens : (trials : List Trial) (said : Say) → IsOfPlan [] said → IsOfPlan trials said
@@ -26,6 +29,11 @@ no_trial trials tells = absurd (none tells.of_plan)
   where
     none : {t : Trial} → Contains [] t → ⊥
     none (at, within, is) = absurd (omega (arith, within))
+
+-- the others of a list, whose number is reported by the length
+others_whole : {X : Type 0} (x : X) (xs : List X) → take (length (x ∷ xs) - 1) xs ≡ xs
+others_whole x xs =
+    let less : length (x ∷ xs) - 1 ≡ length xs = omega arith in rw less (take-length xs)
 
 pub first_none : (xs ys : List Say) → OrderNone (xs ++ ys) → OrderNone xs
 first_none [] ys none = tt
@@ -113,8 +121,59 @@ module _ {L K : Type 0} (reads : L → Option (List ℕ) → L → Type 0) (writ
       (cond b (all_said trial.steps.now ++ closing ending device.body trials) (closing ending device.body trials)) first last)
       (sym is) more
 
-  -- what was sent by one exchange, after which it was only listened
-  pub sends_one : (device : DeviceSetup) (round : ℕ) (said : Say) (first mid last : Bench L K) →
-      Sent reads writes puts setup device round said first mid → Rests reads writes puts setup mid last →
-      Sends reads writes puts setup device round (said ∷ []) first last
-  sends_one device round said first mid last sent rests = (first, mid, not_begun, sent, rests)
+  -- what is sent for a list, by its length, its first and the others
+  pub empty_said : (device : DeviceSetup) (round : ℕ) (steps : List Step) (bench : Bench L K) → length steps < 1 →
+      OrderNone (all_said steps) → Sends reads writes puts setup device round (all_said steps) bench bench
+  empty_said device round [] bench few none = not_begun
+  empty_said device round (this ∷ steps) bench few none = absurd (omega (arith, few))
+
+  pub more_said : (device : DeviceSetup) (round : ℕ) (steps : List Step) (default : Step) (first mid last : Bench L K) → 1 ≤ length steps →
+      (OrderNone (said_in (get_or steps 0 default)) →
+      Sends reads writes puts setup device round (said_in (get_or steps 0 default)) first mid) →
+      (OrderNone (all_said (take (length steps - 1) (drop 1 steps))) →
+      Sends reads writes puts setup device round (all_said (take (length steps - 1) (drop 1 steps))) mid last) →
+      OrderNone (all_said steps) → Sends reads writes puts setup device round (all_said steps) first last
+  more_said device round [] default first mid last some sends more = absurd (omega (arith, some))
+  more_said device round (this ∷ steps) default first mid last some sends more =
+      sends_all device round (said_in this) (all_said steps) first mid last sends
+      (subst (λ ss. OrderNone (all_said ss) → Sends reads writes puts setup device round (all_said ss) mid last)
+      (others_whole this steps) more)
+
+  pub empty_closes : (device : DeviceSetup) (ending : Ending) (trials : List Trial) (bench : Bench L K) → length trials < 1 →
+      OrderNone (closing ending device.body trials) →
+      Sends reads writes puts setup device 0 (closing ending device.body trials) bench bench
+  empty_closes device ending [] bench few none = not_begun
+  empty_closes device ending (trial ∷ trials) bench few none = absurd (omega (arith, few))
+
+  pub more_closes : (device : DeviceSetup) (ending : Ending) (trials : List Trial) (default : Trial) (first mid last : Bench L K) →
+      1 ≤ length trials →
+      (closes ending (get_or trials 0 default).part && is_for (get_or trials 0 default).who device.body) ≡ true →
+      (OrderNone (all_said (get_or trials 0 default).steps.now) →
+      Sends reads writes puts setup device 0 (all_said (get_or trials 0 default).steps.now) first mid) →
+      (OrderNone (closing ending device.body (take (length trials - 1) (drop 1 trials))) →
+      Sends reads writes puts setup device 0 (closing ending device.body (take (length trials - 1) (drop 1 trials))) mid last) →
+      OrderNone (closing ending device.body trials) →
+      Sends reads writes puts setup device 0 (closing ending device.body trials) first last
+  more_closes device ending [] default first mid last some is sends more = absurd (omega (arith, some))
+  more_closes device ending (trial ∷ trials) default first mid last some is sends more =
+      one_closes device ending trial trials first mid last is sends
+      (subst (λ ts. OrderNone (closing ending device.body ts) →
+      Sends reads writes puts setup device 0 (closing ending device.body ts) mid last) (others_whole trial trials) more)
+
+  pub empty_left : (trials : List Trial) (devices : List DeviceSetup) (bench : Bench L K) → length devices < 1 →
+      Leaves reads writes puts setup trials devices bench bench
+  empty_left trials [] bench few = not_begun
+  empty_left trials (device ∷ devices) bench few = absurd (omega (arith, few))
+
+  pub more_left : (trials : List Trial) (devices : List DeviceSetup) (d : DeviceSetup) (first mid last : Bench L K) → 1 ≤ length devices →
+      d ≡ get_or devices 0 d →
+      (OrderNone (closing ending.Run d.body trials) → Sends reads writes puts setup d 0 (closing ending.Run d.body trials) first mid) →
+      Leaves reads writes puts setup trials (take (length devices - 1) (drop 1 devices)) mid last →
+      Leaves reads writes puts setup trials devices first last
+  more_left trials [] d first mid last some is sends leaves = absurd (omega (arith, some))
+  more_left trials (device ∷ devices) d first mid last some is sends leaves = (
+    mid,
+    subst (λ e. OrderNone (closing ending.Run e.body trials) →
+        Sends reads writes puts setup e 0 (closing ending.Run e.body trials) first mid) is sends,
+    subst (λ ds. Leaves reads writes puts setup trials ds mid last) (others_whole device devices) leaves,
+  )

@@ -162,9 +162,9 @@ fn wait<L: Line, K: Sink>(
         IfOk result (ShowsIf plan.entry.setup.now trials turn.entry.premise bench.new.sent.items) }
 {
     let say = Say::Ask(Ask::Plain { header: STATUS });
-    let turn = turn.slow();
+    let slow = turn.slow();
     for _ in 0..MOST_WAITS {
-        match bench.exchange(plan, say, turn) {
+        match bench.exchange(plan, say, slow) {
             Exchanged::Heard => {}
             Exchanged::NoCoins => return Ok(Done::Untried(Why::Coins)),
             Exchanged::Fault => return Err(Stop::PortFault),

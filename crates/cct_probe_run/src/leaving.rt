@@ -1,8 +1,8 @@
 //! Devices are left as they may stay: for a while after each trial, and on each way out.
-ghost use Rattle.std.specs.Prelude.{[], ◌∷◌};
+ghost use Rattle.std.specs.Prelude.{◌≡◌, ◌&&◌, [], ◌∷◌};
 ghost use Rattle.std.specs.List.{Contains};
 ghost use Rattle.cct_model_wire.specs.declared.device.DeviceSetup.{DeviceSetup};
-ghost use Rattle.cct_probe_plan.specs.Closing.{all_said, closing, said_in};
+ghost use Rattle.cct_probe_plan.specs.Closing.{all_said, closes, closing, is_for, said_in};
 ghost use Rattle.cct_probe_plan.specs.declared.plan.Step.{Step};
 ghost use Rattle.cct_probe_plan.specs.declared.plan.Trial.{Trial};
 ghost use Rattle.cct_probe_run.specs.Leaving.{Leaves, OrderNone, Rests, Sends};
@@ -78,6 +78,7 @@ pub(crate) fn close<L: Line, K: Sink>(
 }
 
 /// Does what these trials have for it.
+#[tactic(auto, using(crate::proofs::Sending::none_closes))]
 fn close_all<L: Line, K: Sink>(
     bench: &mut Bench<L, K>,
     plan: Plan<'_>,
@@ -99,7 +100,7 @@ fn close_all<L: Line, K: Sink>(
     match trials {
         [] => Ok(()),
         [trial, trials @ ..] => {
-            if trial.part.closes(ending) && trial.who.has(&device.body) {
+            if is_closing(trial, ending, device) {
                 let closed = close_by(bench, plan, device, gap, trial);
                 let others = close_all(bench, plan, device, ending, gap, trials);
                 first_stop(closed, others)
@@ -108,6 +109,13 @@ fn close_all<L: Line, K: Sink>(
             }
         }
     }
+}
+
+/// Whether a trial is done at a device where this ends.
+fn is_closing(trial: &Trial, ending: Ending, device: &DeviceSetup) -> bool
+    ensures { result ≡ (closes ending trial.now.part && is_for trial.now.who device.now.body) }
+{
+    trial.part.closes(ending) && trial.who.has(&device.body)
 }
 
 /// Makes the exchanges of a trial, whatever comes.
