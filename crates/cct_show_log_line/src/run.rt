@@ -66,6 +66,7 @@ impl Run {
         if !add_word(&mut self.bytes, word.text, base)
             && !add_word(&mut self.bytes, value_in(word.text), base)
             && !add_word(&mut self.bytes, without_angles(word.text), base)
+            && !add_word(&mut self.bytes, without_line_end(word.text), base)
         {
             return false;
         }
@@ -152,6 +153,12 @@ fn value_in(word: &[u8]) -> &[u8] {
         }
         _ => b"",
     }
+}
+
+/// A word without the escapes of a line's end after it, as they stand in a text of JSON.
+fn without_line_end(word: &[u8]) -> &[u8] {
+    let word = word.strip_suffix(b"\\n").unwrap_or(word);
+    word.strip_suffix(b"\\r").unwrap_or(word)
 }
 
 /// Whether a word has marks alone, as an arrow or a stroke between a request and its reply.

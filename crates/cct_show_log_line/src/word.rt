@@ -31,7 +31,7 @@ fn is_gap(byte: u8) -> bool {
     match byte {
         b' ' | b'\t' | b',' | b';' | b'|' => true,
         b'[' | b']' | b'{' | b'}' | b'(' | b')' => true,
-        b'"' | b'\'' | b'`' | b'\\' => true,
+        b'"' | b'\'' | b'`' => true,
         _ => false,
     }
 }

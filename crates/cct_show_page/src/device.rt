@@ -17,6 +17,8 @@ pub(crate) struct Device {
     /// Whether any row names it.
     pub(crate) is_there: bool,
     pub(crate) kind: LaneKind,
+    /// Whether it, or the host, had a job.
+    pub(crate) has_job: bool,
     pub(crate) exchanges: u64,
     /// The exchanges without a wanted reply.
     pub(crate) bad: u64,
@@ -53,6 +55,7 @@ impl Device {
             addr: 0,
             is_there: false,
             kind: LaneKind::Unknown,
+            has_job: false,
             exchanges: 0,
             bad: 0,
             posted: 0,
@@ -73,6 +76,11 @@ impl Device {
             Some(order) => order.id == id,
             None => false,
         }
+    }
+
+    /// Whether it had a job or has a sum; not if rows only name it.
+    pub(crate) fn is_busy(&self) -> bool {
+        self.is_there && (self.has_job || self.has_sum())
     }
 
     /// Counts what a reading posts.
@@ -107,9 +115,15 @@ impl Devices {
         if device.is_there { Some(device) } else { None }
     }
 
-    /// How many devices rows name.
+    /// How many devices had a job, or have a sum.
     pub(crate) fn count(&self) -> usize {
-        self.list.iter().filter(|device| device.is_there).count()
+        self.list.iter().filter(|device| device.is_busy()).count()
+    }
+
+    /// Learns that a job begins at an address.
+    pub(crate) fn begin_job(&mut self, addr: u8) {
+        self.learn(addr, LaneKind::Unknown);
+        self.list[usize::from(addr)].has_job = true;
     }
 
     /// Counts an exchange with a device.

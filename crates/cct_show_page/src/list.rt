@@ -6,10 +6,14 @@ use crate::row::{Row, Tone};
 use cct_edge::Sink;
 use cct_show_pen::Pen;
 
+/// The most rows of a list, after which the next one begins: browsers number long ones slowly.
+const MOST_ROWS: u32 = 200;
+
 /// A list while its rows are written. A row has its number by itself where it is the next one.
 #[derive(Clone, Copy)]
 pub(crate) struct List {
     is_begun: bool,
+    rows: u32,
     next: u64,
 }
 
@@ -18,6 +22,7 @@ impl List {
     pub(crate) fn new() -> List {
         List {
             is_begun: false,
+            rows: 0,
             next: 1,
         }
     }
@@ -32,9 +37,13 @@ impl List {
         place: usize,
         row: &Row,
     ) {
+        if self.rows >= MOST_ROWS {
+            self.end(pen);
+        }
         if !self.is_begun {
             self.begin(pen, number);
         }
+        self.rows = self.rows.saturating_add(1);
         pen.push(b"<li");
         if let Some(number) = number
             && number != self.next

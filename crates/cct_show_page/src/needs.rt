@@ -78,7 +78,7 @@ impl Needs {
 
     /// Whether a device has a row in the table: it has a sum, or can be chosen there.
     pub(crate) fn has_device(&self, device: &Device) -> bool {
-        self.choose_devices || device.has_sum()
+        device.has_sum() || self.choose_devices && device.is_busy()
     }
 }
 

@@ -253,7 +253,7 @@ impl Page {
     /// Begins the job at an address with the line of its command.
     fn begin_job(&mut self, place: Place, line: &[u8], addr: u8) -> Result<(), AllocError> {
         self.lines = place.line;
-        self.devices.learn(addr, LaneKind::Unknown);
+        self.devices.begin_job(addr);
         let index = self.jobs.len();
         let first = self.rows.len();
         let row = self.row_of(place, Some(addr), Tone::Plain, Body::Job(index));

@@ -87,7 +87,7 @@ pub(crate) fn write_style<K: Sink>(pen: &mut Pen<'_, K>, page: &Page, needs: &Ne
     write_kind_rules(pen, needs);
     push_rule(pen, needs.folds && needs.has_kind_choice(), CHOSEN);
     if needs.choose_devices {
-        write_device_rules(pen, page);
+        write_device_rules(pen, page, needs);
     }
 }
 
@@ -114,11 +114,13 @@ fn write_kind_rules<K: Sink>(pen: &mut Pen<'_, K>, needs: &Needs) {
 }
 
 /// Writes the rules that hide the rows and folds of all other devices, where one is chosen.
-fn write_device_rules<K: Sink>(pen: &mut Pen<'_, K>, page: &Page) {
+fn write_device_rules<K: Sink>(pen: &mut Pen<'_, K>, page: &Page, needs: &Needs) {
     pen.push(b"main>details,main>ol>*{");
     let mut before: &[u8] = b"";
     for addr in 1..=u8::MAX {
-        if page.devices.there(addr).is_some() {
+        if let Some(device) = page.devices.there(addr)
+            && needs.has_device(device)
+        {
             pen.push(before);
             pen.push(b":has(#a");
             pen.push_number(addr);

@@ -29,7 +29,7 @@ const SIGNED: u32 = 12;
 const PLAIN: &[u8] = b"stroke:#047";
 
 /// How wide a letter of the words is; those of some fonts are less wide.
-const LETTER: u32 = 6;
+const LETTER: usize = 6;
 
 /// From a lane to the tab at which its name stands, and the host's words.
 const NAME_GAP: u32 = 4;
@@ -166,10 +166,12 @@ fn is_of_device(row: &Row) -> bool {
     )
 }
 
-/// Whether a row is drawn: not if it is only words at the host that are no record.
+/// Whether a row is drawn: not a command, a good end or a line without a mark of its own, which are
+/// only words at the host.
 fn is_drawn(row: &Row) -> bool {
     match &row.mark {
-        Mark::Note(_) | Mark::Taken(_) | Mark::Ended(_) | Mark::Began(_) | Mark::Waits(_) => false,
+        Mark::Note(_) | Mark::Taken(_) | Mark::Refused(_) => false,
+        Mark::Ended(_) | Mark::Began(_) | Mark::Waits(_) => false,
         _ => true,
     }
 }
@@ -257,11 +259,15 @@ fn name_of_lane(sheet: &Sheet<'_>, addr: u8) -> Label {
 }
 
 impl Tabs {
-    /// How many tabs stand after the name of a lane.
+    /// How many tabs stand after the name of a lane, up to the next one: one less where the name
+    /// passes a tab.
     fn after(self, name: &Label) -> u32 {
-        let letters = name.as_slice().len() as u32;
-        let passed = letters.saturating_mul(LETTER).checked_div(self.width);
-        self.next.saturating_sub(passed.unwrap_or(0)).max(1)
+        let width = name.as_slice().len().saturating_mul(LETTER);
+        if self.next > 1 && width >= self.width as usize {
+            self.next - 1
+        } else {
+            self.next
+        }
     }
 }
 
@@ -288,13 +294,20 @@ fn draw_style<K: Sink>(pen: &mut Pen<'_, K>, sheet: &Sheet<'_>, style: &[u8], ro
     let mut tops = Tops::new();
     for row in rows.iter().filter(|row| is_drawn(row)) {
         let top = tops.take(row);
+        let mut is_asked = false;
         for stroke in strokes_of(sheet, &row.mark).iter().flatten() {
             if is_of_style(stroke.class, style) {
                 if !is_there {
                     begin_style(pen, style);
                 }
                 is_there = true;
-                push_stroke(pen, stroke, top);
+                if is_asked {
+                    pen.push(FROM_REQUEST);
+                } else {
+                    push_place(pen, stroke, top);
+                }
+                push_stroke(pen, stroke);
+                is_asked = stroke.head == REQUEST_HEAD;
             }
         }
     }
@@ -320,16 +333,14 @@ fn begin_style<K: Sink>(pen: &mut Pen<'_, K>, style: &[u8]) {
     pen.push(b"d=\"");
 }
 
-/// Writes a line of a row with this top.
-fn push_stroke<K: Sink>(pen: &mut Pen<'_, K>, stroke: &Stroke, top: u32) {
-    push_pair(
-        pen,
-        b"M",
-        stroke.from,
-        b" ",
-        top.saturating_add(stroke.line),
-        b"",
-    );
+/// Writes where a line begins, in a row with this top.
+fn push_place<K: Sink>(pen: &mut Pen<'_, K>, stroke: &Stroke, top: u32) {
+    let height = top.saturating_add(stroke.line);
+    push_pair(pen, b"M", stroke.from, b" ", height, b"");
+}
+
+/// Writes a line from where it begins.
+fn push_stroke<K: Sink>(pen: &mut Pen<'_, K>, stroke: &Stroke) {
     if stroke.to != stroke.from {
         push_numbered(pen, b"H", stroke.to, b"");
     }
@@ -366,7 +377,7 @@ fn strokes_of(sheet: &Sheet<'_>, mark: &Mark) -> [Option<Stroke>; 3] {
 /// The sign at the lane of the host, of what somebody is to look at: other words stand there alone.
 fn host_stroke(sheet: &Sheet<'_>, mark: &Mark) -> Option<Stroke> {
     match said_of_host(mark)?.shape? {
-        shape @ (Shape::Refused | Shape::Alarm) => Some(sign(shape.class(), sheet.host)),
+        Shape::Alarm => Some(sign(Shape::Alarm.class(), sheet.host)),
         _ => None,
     }
 }
@@ -420,10 +431,15 @@ fn arrow(arrow: Arrow, from: u32, to: u32) -> Stroke {
     }
 }
 
+/// The head of a request, and from its end to where what was heard begins.
+const REQUEST_HEAD: &[u8] = b"l-7 4";
+
+const FROM_REQUEST: &[u8] = b"m7 10";
+
 /// The head of an arrow, a stroke below it.
 fn head_of(arrow: Arrow) -> &'static [u8] {
     match arrow {
-        Arrow::Request => b"l-7 4",
+        Arrow::Request => REQUEST_HEAD,
         _ if arrow.head().is_empty() => b"",
         _ => b"l7 4",
     }
