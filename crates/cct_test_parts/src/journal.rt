@@ -1,6 +1,7 @@
 // A journal on a disk in memory, in its first half: a put that is cut short, a failure of each disk
 // call, and a journal that is full.
 ghost use Rattle.std.specs.Prelude.{◌≡◌, false, IfOk, OnOk};
+ghost use Rattle.cct_model.specs.Setup.{IsSoundSetup};
 ghost use Rattle.cct_model_lines.specs.Carried.{IsRightly};
 ghost use Rattle.cct_record.specs.Body.{Encodable};
 ghost use Rattle.cct_journal.specs.Journal.{has_failed, used_of};
@@ -10,7 +11,7 @@ use cct_disk::{Disk, MemDisk};
 use cct_edge::Failed;
 use cct_journal::{CreateNo, Journal, JournalNo, OpenNo, Replay};
 use cct_journal_carry::Tally;
-use cct_model_lines::{Carry, Record};
+use cct_model_lines::{Carry, Record, Setup};
 use std::alloc::{AllocError, Global};
 use std::process::Abort;
 use std::test::Fail;
@@ -133,6 +134,25 @@ pub(crate) fn put<D: Disk>(
     Ok(())
 }
 
+// Puts a record where it is due.
+pub(crate) fn put_if<D: Disk>(
+    rt: &impl Abort,
+    journal: &mut Journal<D>,
+    tally: &mut Tally<'_>,
+    is_due: bool,
+    entry: &Record,
+) -> Result<(), Fail>
+    requires whole { has_failed journal.old ≡ false }
+    requires encodable { Encodable entry.now }
+    ensures { OnOk result (has_failed journal.new ≡ false) }
+{
+    if is_due {
+        put(rt, journal, tally, entry)
+    } else {
+        Ok(())
+    }
+}
+
 // The carry of all records of a journal whose current half has none.
 fn carry_of(rt: &impl Abort, journal: &Journal<MemDisk>) -> Carry
     ensures { IsRightly (used_of journal.now) result }
@@ -197,15 +217,9 @@ fn filled(
     let setup = setup();
     let mut tally = Tally::new(&setup);
     let mut journal = created(alloc, THREE_EACH, fails)?;
-    if records > 0 {
-        put(rt, &mut journal, &mut tally, &ENTRY)?;
-    }
-    if records > 1 {
-        put(rt, &mut journal, &mut tally, &ENTRY)?;
-    }
-    if records > 2 {
-        put(rt, &mut journal, &mut tally, &ENTRY)?;
-    }
+    put_if(rt, &mut journal, &mut tally, records > 0, &ENTRY)?;
+    put_if(rt, &mut journal, &mut tally, records > 1, &ENTRY)?;
+    put_if(rt, &mut journal, &mut tally, records > 2, &ENTRY)?;
     Ok(journal)
 }
 
@@ -233,22 +247,41 @@ fn found(disk: MemDisk) -> Result<u32, Fail> {
     Ok(opened(disk)?.used())
 }
 
+// The disk of a new journal after a power cut within its first put.
+fn disk_after(rt: &impl Abort, alloc: Global, calls: u8, choice: u64) -> Result<MemDisk, Fail> {
+    let journal = created(alloc, ONE_EACH, &[])?;
+    let mut disk = cut_short(rt, journal, calls)?;
+    disk.power_cut(choice)?;
+    Ok(disk)
+}
+
+// Whether a disk has this gate, this body and so many records.
+fn is_left(
+    rt: &impl Abort,
+    disk: MemDisk,
+    gate: u8,
+    body: &[u8; 31],
+    records: u32,
+) -> Result<bool, Fail> {
+    let mut disk = disk;
+    let image = image_of(rt, &mut disk)?;
+    let is_same = image == image_with(gate, body);
+    let many = found(disk)?;
+    Ok(is_same && many == records)
+}
+
 // Each way to cut a put short: by the disk that it leaves, and in place.
 #[test]
 fn a_power_cut_leaves_the_record_or_not(rt: HostRuntime) -> Result<(), Fail> {
     let alloc = rt.alloc();
     for (calls, choice, gate, body, records) in CUTS {
-        let mut disk = cut_short(&rt, created(alloc, ONE_EACH, &[])?, calls)?;
-        disk.power_cut(choice)?;
-        let image = image_of(&rt, &mut disk)?;
+        let disk = disk_after(&rt, alloc, calls, choice)?;
         assert!(rt;
-            image == image_with(gate, body),
+            is_left(&rt, disk, gate, body, records)?,
             "{calls} calls, choice {choice}"
         );
-        assert_eq!(rt; found(disk)?, records, "{calls} calls, choice {choice}");
-        assert_eq!(rt;
-            restarted(&rt, created(alloc, ONE_EACH, &[])?, calls, choice)?,
-            records,
+        assert!(rt;
+            restarted(&rt, created(alloc, ONE_EACH, &[])?, calls, choice)? == records,
             "in place, {calls} calls, choice {choice}"
         );
     }
@@ -261,43 +294,68 @@ fn a_power_cut_leaves_the_record_or_not(rt: HostRuntime) -> Result<(), Fail> {
 // gate.
 const LAST_CALLS: [(u32, u64); 4] = [(0, 10), (1, 15), (2, 20), (3, 24)];
 
+// How many records are found and replayed after a power cut in no put; none where the call of this
+// number fails.
+fn counted(
+    rt: &impl Abort,
+    alloc: Global,
+    records: u32,
+    fails: u64,
+) -> Result<Option<(u32, u32)>, Fail> {
+    let mut shown = Shown::default();
+    let mut journal = filled(rt, alloc, records, &[fails])?;
+    match journal.restart(&None, &Carry::empty(), 0, 1, &mut shown) {
+        Ok(found) => Ok(Some((found, shown.records))),
+        Err(OpenNo::Disk) => Ok(None),
+        Err(why) => Err(Fail::from(why)),
+    }
+}
+
 #[test]
 fn a_power_cut_costs_one_reading(rt: HostRuntime) -> Result<(), Fail> {
     let alloc = rt.alloc();
     for (records, last) in LAST_CALLS {
-        let mut journal = filled(&rt, alloc, records, &[last])?;
+        let fewer = counted(&rt, alloc, records, last)?;
+        assert!(rt; fewer.is_none(), "{records} records, fewer calls");
+        let more = counted(&rt, alloc, records, last + 1)?;
         assert!(rt;
-            matches!(
-                journal.restart(&None, &Carry::empty(), 0, 1, &mut Shown::default()),
-                Err(OpenNo::Disk)
-            ),
-            "{records} records, fewer calls"
-        );
-        let mut shown = Shown::default();
-        let mut journal = filled(&rt, alloc, records, &[last + 1])?;
-        assert_eq!(rt;
-            journal.restart(&None, &Carry::empty(), 0, 1, &mut shown)?,
-            records,
+            more == Some((records, records)),
             "{records} records, more calls"
         );
-        assert_eq!(rt; shown.records, records);
     }
     Ok(())
+}
+
+// Why no journal is created on a disk of so many bytes whose calls with these numbers fail; none
+// where one is.
+fn refused(alloc: Global, len: u64, fails: &[u64]) -> Result<Option<CreateNo>, Fail> {
+    let disk = disk(alloc, len, fails)?;
+    match Journal::create(disk) {
+        Ok(_) => Ok(None),
+        Err((_, why)) => Ok(Some(why)),
+    }
+}
+
+// Whether no journal is found on a blank disk of so many bytes.
+fn is_alien(alloc: Global, len: u64) -> Result<bool, Fail> {
+    let disk = disk(alloc, len, &[])?;
+    match Journal::reopen(disk) {
+        Err((_, OpenNo::Alien)) => Ok(true),
+        _ => Ok(false),
+    }
 }
 
 #[test]
 fn a_disk_may_be_too_small(rt: HostRuntime) -> Result<(), Fail> {
     let alloc = rt.alloc();
     for len in [0, 32, 2367] {
-        match Journal::create(disk(alloc, len, &[])?) {
-            Err((_, CreateNo::Small { len: told })) => assert_eq!(rt; told, len),
+        match refused(alloc, len, &[])? {
+            Some(CreateNo::Small { len: told }) => assert_eq!(rt; told, len),
             _ => panic!(rt; "{len} bytes are enough"),
         }
-        let Err((_, OpenNo::Alien)) = Journal::reopen(disk(alloc, len, &[])?) else {
-            panic!(rt; "a journal on {len} bytes");
-        };
+        assert!(rt; is_alien(alloc, len)?, "{len} bytes");
     }
-    assert!(rt; Journal::create(disk(alloc, ONE_EACH, &[])?).is_ok());
+    assert!(rt; refused(alloc, ONE_EACH, &[])?.is_none());
     Ok(())
 }
 
@@ -316,29 +374,38 @@ fn nearly_full(rt: &impl Abort, alloc: Global) -> Result<Journal<MemDisk>, Fail>
     opened(disk)
 }
 
+// The tally of a journal whose current half has no record.
+fn resumed<'s>(rt: &impl Abort, setup: &'s Setup, journal: &Journal<MemDisk>) -> Tally<'s>
+    requires { IsSoundSetup setup.now }
+{
+    let Some(tally) = Tally::resume(setup, journal.base(), journal.carry()) else {
+        panic!(rt; "the empty carry fits");
+    };
+    tally
+}
+
+// One record more is refused.
+fn takes_no_more(rt: &impl Abort, journal: &mut Journal<MemDisk>, tally: &Tally<'_>)
+    requires { has_failed journal.old ≡ false }
+{
+    assert!(rt; tally.many() == journal.used());
+    match journal.put(&ENTRY, tally.carry()) {
+        Err(JournalNo::Full { used }) => assert!(rt; used == 4_294_967_295),
+        _ => panic!(rt; "one more record is taken"),
+    }
+}
+
 #[test]
 fn a_full_journal_takes_no_more(rt: HostRuntime) -> Result<(), Fail> {
     let setup = setup();
     let mut journal = nearly_full(&rt, rt.alloc())?;
-    assert_eq!(rt;
-        (journal.used(), journal.base()),
-        (4_294_967_294, 4_294_967_294)
-    );
-    let Some(mut tally) = Tally::resume(&setup, journal.base(), journal.carry()) else {
-        panic!(rt; "the empty carry fits");
-    };
+    assert!(rt; journal.used() == 4_294_967_294 && journal.base() == 4_294_967_294);
+    let mut tally = resumed(&rt, &setup, &journal);
     put(&rt, &mut journal, &mut tally, &ENTRY)?;
-    assert_eq!(rt;
-        (journal.used(), journal.base()),
-        (4_294_967_295, 4_294_967_294)
-    );
-    assert!(rt; tally.many() == journal.used());
-    match journal.put(&ENTRY, tally.carry()) {
-        Err(JournalNo::Full { used }) => assert_eq!(rt; used, 4_294_967_295),
-        _ => panic!(rt; "one more record is taken"),
-    }
+    assert!(rt; journal.used() == 4_294_967_295 && journal.base() == 4_294_967_294);
+    takes_no_more(&rt, &mut journal, &tally);
     // What was refused changed nothing, and the last record stands.
-    assert_eq!(rt; found(journal.into_disk())?, 4_294_967_295);
+    assert!(rt; found(journal.into_disk())? == 4_294_967_295);
     Ok(())
 }
 
@@ -346,15 +413,12 @@ fn a_full_journal_takes_no_more(rt: HostRuntime) -> Result<(), Fail> {
 fn a_failure_is_told_by_create(rt: HostRuntime) -> Result<(), Fail> {
     let alloc = rt.alloc();
     for call in 1..6 {
-        let disk = disk(alloc, ONE_EACH, &[call])?;
-        assert!(rt;
-            matches!(Journal::create(disk), Err((_, CreateNo::Disk))),
-            "call {call}"
-        );
+        let why = refused(alloc, ONE_EACH, &[call])?;
+        assert!(rt; matches!(why, Some(CreateNo::Disk)), "call {call}");
     }
     // 5,000 bytes are read in two pieces, so a journal on them takes six calls
-    assert!(rt; Journal::create(disk(alloc, 5000, &[6])?).is_err());
-    assert!(rt; Journal::create(disk(alloc, 5000, &[7])?).is_ok());
+    assert!(rt; refused(alloc, 5000, &[6])?.is_some());
+    assert!(rt; refused(alloc, 5000, &[7])?.is_none());
     Ok(())
 }
 
@@ -397,6 +461,18 @@ fn is_read(journal: &mut Journal<MemDisk>) -> Option<bool> {
     }
 }
 
+// The disk of a journal, on which a power cut failed and then an opening.
+fn fails_twice(rt: &impl Abort, journal: Journal<MemDisk>) -> Result<MemDisk, Failed> {
+    let Err((mut disk, Failed)) = journal.power_cut(1) else {
+        panic!(rt; "a power cut that failed");
+    };
+    disk.power_cut(1)?;
+    match Journal::reopen(disk) {
+        Err((disk, OpenNo::Disk)) => Ok(disk),
+        _ => panic!(rt; "an opening that failed"),
+    }
+}
+
 // A read, a power cut and an opening, each once more after a failure.
 #[test]
 fn a_failure_is_told_once(rt: HostRuntime) -> Result<(), Fail> {
@@ -404,13 +480,7 @@ fn a_failure_is_told_once(rt: HostRuntime) -> Result<(), Fail> {
     let mut journal = filled(&rt, alloc, 1, &[10, 12, 14])?;
     assert_eq!(rt; is_read(&mut journal), None);
     assert_eq!(rt; is_read(&mut journal), Some(true));
-    let Err((mut disk, Failed)) = journal.power_cut(1) else {
-        panic!(rt; "a power cut that failed");
-    };
-    disk.power_cut(1)?;
-    let Err((disk, OpenNo::Disk)) = Journal::reopen(disk) else {
-        panic!(rt; "an opening that failed");
-    };
+    let disk = fails_twice(&rt, journal)?;
     assert_eq!(rt; found(disk)?, 1);
     Ok(())
 }

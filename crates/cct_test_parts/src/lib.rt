@@ -1,5 +1,5 @@
 //! Tests of the parts by themselves: those that take memory, with ample memory; and a journal, how
-//! it is opened and how it turns, on a disk whose calls fail and whose power is cut.
+//! its records are put and how it turns, on a disk whose calls fail and whose power is cut.
 #![tactic(auto)]
 
 #[cfg(test)]
@@ -8,7 +8,5 @@ mod journal;
 mod machine;
 #[cfg(test)]
 mod memory;
-#[cfg(test)]
-mod opening;
 #[cfg(test)]
 mod turns;

@@ -9,10 +9,11 @@ ghost use Rattle.cct_journal_carry.specs.Tally.{many_of};
 ghost use Rattle.cct_ledger.specs.Ledger.{applied};
 ghost use Rattle.cct_journal.specs.Journal.{has_failed, used_of};
 
-use crate::journal::{ONE_EACH, created_on, opened, put};
+use crate::journal::{ONE_EACH, created_on, opened, put_if};
 use crate::machine::{five_coins, one_coin, setup};
 use cct_disk::{Disk, TornDisk};
-use cct_journal::{Journal, JournalNo, Replay};
+use cct_edge::Failed;
+use cct_journal::{Journal, JournalNo, OpenNo, Replay};
 use cct_journal_carry::Tally;
 use cct_ledger::Ledger;
 use cct_model::{Carry, CarryEpoch, CarryEpochs, CarryOrder, CarryOrders, Record, Setup, Totals};
@@ -97,7 +98,7 @@ fn carry_of(records: u32) -> Carry {
 /// What is found of a journal each of whose halves takes one record: how many stood before its
 /// current half, how many there are, the carry of the former, and the record of that half, if it
 /// has one.
-#[derive(Debug, Drop, PartialEq, Eq)]
+#[derive(Drop, PartialEq, Eq)]
 struct Found {
     base: u32,
     used: u32,
@@ -154,15 +155,9 @@ fn filled(
     ensures { IfOk result (λ journal. has_failed journal ≡ false) }
 {
     let mut journal = created_on(disk(alloc, ONE_EACH, fails)?)?;
-    if records > 0 {
-        put(rt, &mut journal, tally, &record(0))?;
-    }
-    if records > 1 {
-        put(rt, &mut journal, tally, &record(1))?;
-    }
-    if records > 2 {
-        put(rt, &mut journal, tally, &record(2))?;
-    }
+    put_if(rt, &mut journal, tally, records > 0, &record(0))?;
+    put_if(rt, &mut journal, tally, records > 1, &record(1))?;
+    put_if(rt, &mut journal, tally, records > 2, &record(2))?;
     Ok(journal)
 }
 
@@ -243,18 +238,26 @@ fn go_on(rt: &impl Abort, journal: &mut Journal<TornDisk>) -> Result<(), Fail>
     let setup = setup();
     let mut tally = tally_of(rt, &setup, journal);
     let used = journal.used();
-    if used < 1 {
-        put(rt, journal, &mut tally, &record(0))?;
-    }
-    if used < 2 {
-        put(rt, journal, &mut tally, &record(1))?;
-    }
-    if used < 3 {
-        put(rt, journal, &mut tally, &record(2))?;
-    }
-    if used < 4 {
-        put(rt, journal, &mut tally, &record(3))?;
-    }
+    put_if(rt, journal, &mut tally, used < 1, &record(0))?;
+    put_if(rt, journal, &mut tally, used < 2, &record(1))?;
+    put_if(rt, journal, &mut tally, used < 3, &record(2))?;
+    put_if(rt, journal, &mut tally, used < 4, &record(3))
+}
+
+/// What is found of a journal: these counts, of the records before its current half and of all.
+fn holds(
+    rt: &impl Abort,
+    alloc: Global,
+    journal: &mut Journal<TornDisk>,
+    counts: (u32, u32),
+    what: &str,
+) -> Result<(), Fail>
+    ensures { has_failed journal.new ≡ has_failed journal.old }
+{
+    let (base, used) = counts;
+    let found = look_at(alloc, journal)?;
+    let wanted = wanted(alloc, base, used)?;
+    assert!(rt; found == wanted, "{what}");
     Ok(())
 }
 
@@ -267,18 +270,31 @@ fn stands(
     what: &str,
 ) -> Result<(), Fail> {
     let mut journal = opened(disk)?;
-    assert_eq!(rt;
-        look_at(alloc, &mut journal)?,
-        wanted(alloc, base, used)?,
-        "{what}"
-    );
+    holds(rt, alloc, &mut journal, (base, used), what)?;
     go_on(rt, &mut journal)?;
-    assert_eq!(rt;
-        look_at(alloc, &mut journal)?,
-        wanted(alloc, 3, 4)?,
-        "{what}"
+    holds(rt, alloc, &mut journal, (3, 4), what)
+}
+
+/// The disk of a journal in whose next put it fails, after which the power is cut.
+fn cut_in_a_put(
+    rt: &impl Abort,
+    journal: Journal<TornDisk>,
+    tally: &Tally<'_>,
+    records: u32,
+    choice: u64,
+) -> Result<TornDisk, Failed>
+    requires { has_failed journal ≡ false }
+{
+    let mut journal = journal;
+    assert!(rt; tally.many() == journal.used());
+    let put = journal.put(&record(records), tally.carry());
+    assert!(rt;
+        matches!(put, Err(JournalNo::Disk)),
+        "a put after {records} that failed"
     );
-    Ok(())
+    let mut disk = journal.into_disk();
+    disk.power_cut(choice)?;
+    Ok(disk)
 }
 
 /// One record is put after so many, the disk fails after so many of the calls of turn and put, by a
@@ -293,14 +309,9 @@ fn fails(
     let setup = setup();
     let mut tally = Tally::new(&setup);
     let call = before.saturating_add(made).saturating_add(1);
-    let mut journal = filled(rt, alloc, &mut tally, records, (&[call], torn))?;
+    let journal = filled(rt, alloc, &mut tally, records, (&[call], torn))?;
+    let disk = cut_in_a_put(rt, journal, &tally, records, choice)?;
     let what = format!(in alloc; "record {records}, call {call}, choices {torn} and {choice}")?;
-    assert!(rt; tally.many() == journal.used());
-    let Err(JournalNo::Disk) = journal.put(&record(records), tally.carry()) else {
-        panic!(rt; "a put that failed: {what}");
-    };
-    let mut disk = journal.into_disk();
-    disk.power_cut(choice)?;
     let found = left(records, made, Some(torn), choice);
     stands(rt, alloc, disk, found, what.as_str())
 }
@@ -337,19 +348,13 @@ fn fails_again(
     let mut tally = Tally::new(&setup);
     let first = before.saturating_add(made).saturating_add(1);
     let second = first.saturating_add(1 + OPENING + 1).saturating_add(again);
-    let mut journal = filled(rt, alloc, &mut tally, records, (&[first, second], torn))?;
-    assert!(rt; tally.many() == journal.used());
-    assert!(rt; journal.put(&record(records), tally.carry()).is_err());
-    let mut disk = journal.into_disk();
-    disk.power_cut(choice)?;
+    let journal = filled(rt, alloc, &mut tally, records, (&[first, second], torn))?;
+    let disk = cut_in_a_put(rt, journal, &tally, records, choice)?;
 
-    let mut journal = opened(disk)?;
+    let journal = opened(disk)?;
     let tally = tally_of(rt, &setup, &journal);
     let is_full = journal.base() < journal.used();
-    assert!(rt; tally.many() == journal.used());
-    assert!(rt; journal.put(&record(records), tally.carry()).is_err());
-    let mut disk = journal.into_disk();
-    disk.power_cut(last)?;
+    let disk = cut_in_a_put(rt, journal, &tally, records, last)?;
     let turn = if is_full { 0 } else { TURN };
     let found = left(records, again.saturating_add(turn), Some(torn), last);
     let what = format!(in alloc; "record {records}: {made}, {choice}, {again}, {last}, {torn}")?;
@@ -411,24 +416,15 @@ fn cut_short(
         .map_err(|(_, failed)| failed)?;
     disk.power_cut(choice)?;
     let what = format!(in alloc; "record {records}, {calls} calls, choice {choice}")?;
-    stands(
-        rt,
-        alloc,
-        disk,
-        left_by(records, calls, choice),
-        what.as_str(),
-    )
-}
-
-/// What is left by so many calls of a put; the turn before it is made whole.
-fn left_by(records: u32, calls: u8, choice: u64) -> (u32, u32) {
+    // The turn before the put is made whole.
     let turn = if records == 0 { 0 } else { TURN };
-    left(records, turn + u64::from(calls), None, choice)
+    let found = left(records, turn + u64::from(calls), None, choice);
+    stands(rt, alloc, disk, found, what.as_str())
 }
 
 /// What was replayed: the carry of so many records, and how many there are with those after them,
 /// each at its index.
-#[derive(Debug, Drop, PartialEq, Eq)]
+#[derive(Drop)]
 struct Replayed {
     base: u32,
     carry: Carry,
@@ -451,6 +447,30 @@ impl Replay for Replayed {
     }
 }
 
+/// What a power cut in the put of one record after so many leaves: how many there are, and what is
+/// replayed.
+fn replayed_by(
+    rt: &impl Abort,
+    journal: &mut Journal<TornDisk>,
+    tally: &Tally<'_>,
+    records: u32,
+    cut: (u8, u64),
+) -> Result<(u32, Replayed), OpenNo>
+    requires { has_failed journal.old ≡ false }
+{
+    let (calls, choice) = cut;
+    let carry = carry_before(rt, journal, tally);
+    assert!(rt; calls <= 4 && journal.used() < journal.capacity());
+    let mut replayed = Replayed {
+        base: 9,
+        carry: Carry::empty(),
+        used: 9,
+    };
+    let put = Some(record(records));
+    let counted = journal.restart(&put, &carry, calls, choice, &mut replayed)?;
+    Ok((counted, replayed))
+}
+
 /// The same in place.
 fn restarts(
     rt: &impl Abort,
@@ -462,25 +482,14 @@ fn restarts(
     let setup = setup();
     let mut tally = Tally::new(&setup);
     let mut journal = filled(rt, alloc, &mut tally, records, (&[], 0))?;
-    let carry = carry_before(rt, &journal, &tally);
-    assert!(rt; calls <= 4 && journal.used() < journal.capacity());
-    let mut replayed = Replayed {
-        base: 9,
-        carry: Carry::empty(),
-        used: 9,
-    };
-    let put = Some(record(records));
-    let counted = journal.restart(&put, &carry, calls, choice, &mut replayed)?;
-    let (base, used) = left_by(records, calls, choice);
+    let (counted, replayed) = replayed_by(rt, &mut journal, &tally, records, (calls, choice))?;
+    let turn = if records == 0 { 0 } else { TURN };
+    let (base, used) = left(records, turn + u64::from(calls), None, choice);
     let what = format!(in alloc; "record {records}, {calls} calls, choice {choice}")?;
-    assert_eq!(rt; counted, used, "{what}");
-    assert_eq!(rt;
-        look_at(alloc, &mut journal)?,
-        wanted(alloc, base, used)?,
-        "{what}"
-    );
-    let carry = carry_of(base);
-    assert_eq!(rt; replayed, Replayed { base, carry, used }, "{what}");
+    assert!(rt; counted == used, "{what}");
+    holds(rt, alloc, &mut journal, (base, used), what.as_str())?;
+    assert!(rt; (replayed.base, replayed.used) == (base, used), "{what}");
+    assert!(rt; replayed.carry == carry_of(base), "{what}");
     stands(rt, alloc, journal.into_disk(), (base, used), what.as_str())
 }
 
@@ -718,27 +727,32 @@ const LAST: Totals = Totals {
     sold: 990,
 };
 
+/// The books after so many rounds, one at least.
+fn is_right(rt: &impl Abort, books: &Books<'_>, round: u32) {
+    let base = round.saturating_mul(4);
+    assert!(rt; books.journal.base() == base && books.journal.used() == base.saturating_add(4));
+    if round > 1 {
+        assert!(rt;
+            *books.journal.carry() == carry_after(round - 1),
+            "round {round}"
+        );
+    }
+    assert!(rt; *books.tally.carry() == carry_after(round), "round {round}");
+    assert!(rt;
+        books.ledger.totals() == totals_after(round),
+        "round {round}"
+    );
+}
+
 #[test]
 fn a_journal_turns_a_hundred_times(rt: HostRuntime) -> Result<(), Fail> {
     let alloc = rt.alloc();
     let setup = setup();
     let mut books = Books::new(&rt, alloc, &setup)?.begin(&rt)?;
-    assert_eq!(rt; (books.journal.base(), books.journal.used()), (0, 4));
+    assert!(rt; books.journal.base() == 0 && books.journal.used() == 4);
     for round in 1..100u32 {
         books = books.round(&rt, round)?;
-        assert_eq!(rt;
-            (books.journal.base(), books.journal.used()),
-            (4 * round, 4 * round + 4)
-        );
-        if round > 1 {
-            assert_eq!(rt;
-                *books.journal.carry(),
-                carry_after(round - 1),
-                "round {round}"
-            );
-        }
-        assert_eq!(rt; *books.tally.carry(), carry_after(round), "round {round}");
-        assert_eq!(rt; books.ledger.totals(), totals_after(round), "round {round}");
+        is_right(&rt, &books, round);
     }
     let Books {
         journal,

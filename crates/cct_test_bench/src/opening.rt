@@ -118,8 +118,25 @@ fn check_found(
     base: u32,
     used: u32,
 ) -> Result<(), Fail> {
-    assert_eq!(rt; found(disk_with(alloc, image, &[])?)?, (base, used));
+    let disk = disk_with(alloc, image, &[])?;
+    let told = found(disk)?;
+    assert!(rt; told == (base, used), "{base}, {used}");
     Ok(())
+}
+
+// Whether no journal of today is found in an image.
+fn is_alien(alloc: Global, image: &[u8]) -> Result<bool, Fail> {
+    let disk = disk_with(alloc, image, &[])?;
+    Ok(matches!(found(disk), Err(OpenNo::Alien)))
+}
+
+// Whether no older journal is.
+fn is_alien_of_old(alloc: Global, image: &[u8]) -> Result<bool, Fail> {
+    let disk = disk_with(alloc, image, &[])?;
+    match OldJournal::open(disk) {
+        Err((_, OldNo::Alien)) => Ok(true),
+        _ => Ok(false),
+    }
 }
 
 // One byte of the header or of the carry, and what makes it wrong there.
@@ -164,37 +181,25 @@ fn a_damaged_start_is_alien(rt: HostRuntime) -> Result<(), Fail> {
     let alloc = rt.alloc();
     for (at, byte) in DAMAGES {
         let image = changed(new_journal(), &[(at, byte)]);
-        assert!(rt;
-            matches!(found(disk_with(alloc, &image, &[])?), Err(OpenNo::Alien)),
-            "byte {at} is {byte}"
-        );
+        assert!(rt; is_alien(alloc, &image)?, "byte {at} is {byte}");
     }
     Ok(())
+}
+
+// The first so many bytes of an image.
+fn front(image: &[u8], len: usize) -> &[u8] {
+    image.get(..len).unwrap_or(b"")
 }
 
 #[test]
 fn a_short_disk_is_alien(rt: HostRuntime) -> Result<(), Fail> {
     let alloc = rt.alloc();
     let image = new_journal();
-    let short = image.get(..2367).ok_or("2,367 bytes")?;
-    assert!(rt; matches!(found(disk_with(alloc, short, &[])?), Err(OpenNo::Alien)));
-    let least = image.get(..2368).ok_or("2,368 bytes")?;
-    check_found(&rt, alloc, least, 0, 0)
-}
-
-#[test]
-fn a_short_disk_has_no_older_journal(rt: HostRuntime) -> Result<(), Fail> {
-    let alloc = rt.alloc();
-    let image = changed(new_journal(), &[(15, 1), (24, 0)]);
-    let short = image.get(..2367).ok_or("2,367 bytes")?;
-    assert!(rt;
-        matches!(
-            OldJournal::open(disk_with(alloc, short, &[])?),
-            Err((_, OldNo::Alien))
-        )
-    );
-    let least = image.get(..2368).ok_or("2,368 bytes")?;
-    assert!(rt; OldJournal::open(disk_with(alloc, least, &[])?).is_ok());
+    assert!(rt; is_alien(alloc, front(&image, 2367))?);
+    check_found(&rt, alloc, front(&image, 2368), 0, 0)?;
+    let image = changed(image, &[(15, 1), (24, 0)]);
+    assert!(rt; is_alien_of_old(alloc, front(&image, 2367))?);
+    assert!(rt; !is_alien_of_old(alloc, front(&image, 2368))?);
     Ok(())
 }
 
@@ -214,7 +219,7 @@ fn the_current_half_counts(rt: HostRuntime) -> Result<(), Fail> {
     // one turn more than there are records, and two
     check_found(&rt, alloc, &changed(image, &[(16, 2), (20, 1)]), 1, 1)?;
     let twice = changed(image, &[(16, 4), (20, 2)]);
-    assert!(rt; matches!(found(disk_with(alloc, &twice, &[])?), Err(OpenNo::Alien)));
+    assert!(rt; is_alien(alloc, &twice)?);
     // an older half never is in for a current one that begins with no header and carry
     for damage in [
         [(1409, 6), (0, 0xa5)],
@@ -224,7 +229,7 @@ fn the_current_half_counts(rt: HostRuntime) -> Result<(), Fail> {
         [(16, 3), (20, 3)],
     ] {
         let image = changed(image, &damage);
-        assert!(rt; matches!(found(disk_with(alloc, &image, &[])?), Err(OpenNo::Alien)));
+        assert!(rt; is_alien(alloc, &image)?);
     }
     Ok(())
 }
@@ -236,7 +241,7 @@ fn a_base_bounds_the_sums(rt: HostRuntime) -> Result<(), Fail> {
     let image = changed(new_journal(), &[(20, 1), (42, 1)]);
     check_found(&rt, alloc, &image, 1, 1)?;
     let image = changed(image, &[(38, 1)]);
-    assert!(rt; matches!(found(disk_with(alloc, &image, &[])?), Err(OpenNo::Alien)));
+    assert!(rt; is_alien(alloc, &image)?);
     Ok(())
 }
 
@@ -270,20 +275,38 @@ fn a_bad_record_is_told_by_its_index(rt: HostRuntime) -> Result<(), Fail> {
     check_found(&rt, alloc, &changed(image, &[(2464, 0xa5)]), 2, 3)
 }
 
+// The journal on a disk.
+fn opened(disk: MemDisk) -> Result<Journal<MemDisk>, OpenNo> {
+    match Journal::reopen(disk) {
+        Ok((journal, _)) => Ok(journal),
+        Err((_, why)) => Err(why),
+    }
+}
+
+// The third record of a journal.
+fn third(rt: &impl Abort, journal: &mut Journal<MemDisk>) -> Result<Record, ReadNo> {
+    assert!(rt; journal.base() <= 2 && 2 < journal.used());
+    journal.read_at(2)
+}
+
 #[test]
 fn a_base_and_a_carry_are_told(rt: HostRuntime) -> Result<(), Fail> {
     let alloc = rt.alloc();
     // two looks, a start and two slots are read, and then a record
     let disk = disk_with(alloc, &turned_journal(), &[7])?;
-    let (mut journal, used) = Journal::reopen(disk).map_err(|(_, why)| why)?;
-    assert_eq!(rt; (journal.base(), used, journal.used()), (2, 3, 3));
-    assert_eq!(rt; journal.capacity(), 4_294_967_295);
+    let mut journal = opened(disk)?;
+    assert!(rt; journal.base() == 2 && journal.used() == 3);
+    assert!(rt; journal.capacity() == 4_294_967_295);
     assert!(rt; *journal.carry() == carry_of_two());
-    assert!(rt; journal.base() <= 2 && 2 < journal.used());
-    assert!(rt; matches!(journal.read_at(2), Err(ReadNo::Disk)));
-    assert!(rt; journal.base() <= 2 && 2 < journal.used());
-    assert!(rt; matches!(journal.read_at(2), Ok(Record::EpochEnd { addr: 9 })));
+    assert!(rt; matches!(third(&rt, &mut journal), Err(ReadNo::Disk)));
+    assert!(rt; matches!(third(&rt, &mut journal), Ok(Record::EpochEnd { addr: 9 })));
     Ok(())
+}
+
+// Whether an opening fails whose call of this number fails.
+fn fails_at(alloc: Global, image: &[u8], call: u64) -> Result<bool, Fail> {
+    let disk = disk_with(alloc, image, &[call])?;
+    Ok(matches!(found(disk), Err(OpenNo::Disk)))
 }
 
 // The fronts of both halves and the start of the current one are read, and then each slot once, up
@@ -294,14 +317,16 @@ fn each_slot_is_read_once(rt: HostRuntime) -> Result<(), Fail> {
     let one = turned_journal();
     let two = changed(one, &[(2432, 0xa5), (2433, 4)]);
     let three = changed(two, &[(2464, 0xa5), (2465, 4)]);
-    for (image, last, used) in [(one, 6, 3), (two, 7, 4), (three, 7, 5)] {
+    for (image, last, used) in [(&one, 6, 3), (&two, 7, 4), (&three, 7, 5)] {
         for call in 2..=last {
             assert!(rt;
-                matches!(found(disk_with(alloc, &image, &[call])?), Err(OpenNo::Disk)),
+                fails_at(alloc, image, call)?,
                 "call {call}, {used} records"
             );
         }
-        assert_eq!(rt; found(disk_with(alloc, &image, &[last + 1])?)?, (2, used));
+        let disk = disk_with(alloc, image, &[last + 1])?;
+        let told = found(disk)?;
+        assert!(rt; told == (2, used), "{used} records");
     }
     Ok(())
 }
