@@ -1,4 +1,4 @@
-/* The memory of device cores, over malloc. A board without one has its own two functions in place of these. */
+/* The memory of cores and hosts, over malloc. A board without one has its own two functions in place of these. */
 #include "litchihull.h"
 
 #include <stdlib.h>

@@ -122,7 +122,11 @@ int main(int count, char **words) {
     line.port = open_port(words[1]);
     line.address = (uint8_t)atoi(words[2]);
     line.echoes = count > 4 && strcmp(words[4], "echo") == 0;
-    if (line.port < 0 || !begin(&line)) {
+    if (line.port < 0) {
+        fprintf(stderr, "%s can't be opened\n", words[1]);
+        return 1;
+    }
+    if (!begin(&line)) {
         fprintf(stderr, "no acceptor answers\n");
         return 1;
     }

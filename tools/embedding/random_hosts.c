@@ -92,7 +92,7 @@ static void start(Box *box) {
 
 /* What both devices make of a message: its echo, and then an answer. Some of it may be lost or wrong. */
 static uint32_t hear(Box *box, const uint8_t *sent, size_t count) {
-    uint8_t heard[LH_MOST_HEARD + 8], *at;
+    uint8_t heard[LH_MOST_HEARD + 8] = {0}, *at;
     size_t written = 0, got = count, i;
     memcpy(heard, sent, count);
     if (lh_core_hear(&box->acceptor, sent, count, heard + got, LH_MOST, &written) == LH_OK) got += written;
