@@ -38,6 +38,7 @@ broken {address} reset {first_tap} {last_tap}|acceptor {address} let money in af
 broken {address} serial {first_tap} {last_tap}|hopper {address} showed another serial number than before, or took a dispense request under another, by taps {first_tap} and {last_tap}
 broken {address} enable {first_tap} {last_tap}|hopper {address} took a dispense request after a reset or when disabled, before it was enabled, by taps {first_tap} and {last_tap}
 broken {address} life {first_tap} {last_tap}|the life count of hopper {address} rose by more than could fall or by less than was paid, by taps {first_tap} and {last_tap}
+broken {address} counter {first_tap} {last_tap}|the event counter of hopper {address} fits neither the dispense requests since, nor those since a reset, by taps {first_tap} and {last_tap}
 broken {address} alone {first_tap} {last_tap}|device {address} was asked and another one answered, by taps {first_tap} and {last_tap}
 broken {address} {premise} {trial}|the premise {premise} is broken at {address}, in trial {trial}: the next line shows it
 change no {reason}|
