@@ -28,10 +28,11 @@ use Rattle.cct_model.specs.Records.{id_of}
 use Rattle.cct_model.specs.Scan.{end_of_scan}
 use Rattle.cct_model.specs.Transcript.{lines_of, owner, sale_lines, scan_line, sold_line}
 use Rattle.cct_jobs.specs.declared.job.Job.{Job}
+use Rattle.cct_jobs.specs.declared.job.Job.TheVariants as jobs
 use Rattle.cct_jobs.specs.declared.job.Need.TheVariants as need
 use Rattle.cct_jobs.specs.declared.owed.Owed.{Owed}
 use Rattle.cct_host.specs.declared.orders.OrderState.{OrderState}
-use Rattle.cct_jobs.specs.Jobs.{ClosesItsOwn, Needs, PutsNext, Stands, after_put, line_heard, need_of, order_of, owed_after}
+use Rattle.cct_jobs.specs.Jobs.{ClosesItsOwn, Needs, PutsNext, Stands, after_put, line_heard, need_of, order_of, owed_after, sending_of}
 use Rattle.cct_jobs.specs.Sales.{NeedsSale, StandsSale}
 use Rattle.cct_jobs.specs.Scans.{NeedsScan, StandsScan}
 use Rattle.cct_jobs.proofs.Epochs.{put_leaves}
@@ -42,7 +43,7 @@ use Rattle.cct_host.specs.declared.desk.JobDesk.{JobDesk}
 use Rattle.cct_host.specs.Attempt as attempt
 use Rattle.cct_host.specs.Desk.{Attempts, Goes, Keeps, Knows, Works}
 use Rattle.cct_host.specs.Exchange.{Converses, Ends, Exchanges, Puts, Talks}
-use Rattle.cct_host.specs.Held.{due_by}
+use Rattle.cct_host.specs.Held.{due_by, piece_of}
 use Rattle.cct_host.specs.Place.{Asks, AsksNext, NextAt, OwnsAt, Place, StandsAt, addr_of, device, end_at, line_at, lines_at, sales, scans}
 use Rattle.cct_host.specs.Running.{Settles, is_running, orders_left}
 use Rattle.cct_host.proofs.Holding.{asks_where_none}
@@ -102,6 +103,15 @@ reported_with report told reported addr e (Some end) new kept told_is settled =
     settled.1 ∙ ap (λ es. es ++ entry.Ended addr end ∷ []) told_is
     ∙ append_assoc report (e ∷ []) (entry.Ended addr end ∷ [])
 
+-- a job that puts a record sends nothing
+pub puts_alone : (job : Job) (r : Record) → due_by (Some job) ≡ Some r → sending_of job ≡ None
+puts_alone (jobs.Asks target stage failed) r due = absurd cc
+puts_alone (jobs.ScanCallsSimple failed) r due = absurd cc
+puts_alone (jobs.ScanCallsCrc failed listed) r due = absurd cc
+puts_alone (jobs.ScanPollsSimple addr left listed) r due = absurd cc
+puts_alone (jobs.ScanPollsCrc addr left listed) r due = absurd cc
+puts_alone job r due = refl
+
 -- no job: the address is idle
 idle_by : (hears : List ℕ → List ℕ) (place : Place) (past : List Entry) (state : EpochState) (owed : Option OpenOrder)
     (j : model.Job) → Works place None j state owed → NextAt hears place past j (entry.Idle (addr_of place) ∷ [])
@@ -128,6 +138,7 @@ idle_attempts gives link addr state owed desk report reported none same ordered 
   reported_is = is;
   link = refl;
   put_is = refl;
+  sent_is = refl;
   used_is = refl;
   goes = λ hears place past heard at keeps owns.
       subst (λ a. Goes hears place past (entry.Idle a ∷ []) desk.job desk.epoch desk.orders) at
@@ -226,6 +237,7 @@ ask_attempts gives before after addr old new state owed desk end report told rep
           talk.reported_is settled;
       link = talk.goes;
       put_is = sym none;
+      sent_is = sym talk.asks;
       used_is = refl;
       goes = λ hears place past heard_is at keeps owns.
           let news = with_end addr (entry.Wire addr talk.sent talk.heard) end in
@@ -308,6 +320,7 @@ put_attempts gives link addr old new r state owed moves desk used end report tol
       reported_is = reported_with report told reported addr (entry.Put r) end new desk.job told_is settled;
       link = refl;
       put_is = sym due;
+      sent_is = sym (ap piece_of (puts_alone old r due));
       used_is = used_is;
       goes = λ hears place past heard_is at keeps owns.
           subst (λ o. Goes hears place past (with_end addr (entry.Put r) end) desk.job desk.epoch o) (sym left)

@@ -1,6 +1,5 @@
 -- That the accept counter of an epoch, as a desk has it, fits three bytes.
 use Rattle.std.proofs.Common.{◌≡◌, ℕ, ◌^◌, ◌<◌, ◌==◌, Bool, true, false, cond, List, [], ◌∷◌, Option, Some, None, sym, subst, ◌∙◌, arith}
-use Rattle.std.proofs.lemmas.Option.{same_Some}
 use Rattle.std.specs.List.{All}
 use Rattle.std.proofs.lemmas.List.Elements.{All-head, All-tail}
 use Rattle.cct_model.specs.lines.carry.Carry.{Carry}
@@ -24,12 +23,7 @@ counted_after : (r : Record) (state : EpochState) → Encodable r → accepts_of
 counted_after (record_of.Epoch addr mask accepts) state fits few = fits
 counted_after (record_of.Reading addr counter lost accepts posted) Idle fits few = few
 counted_after (record_of.Reading addr counter lost accepts posted) (Running mask before earlier) fits few = fits.1
-counted_after (record_of.Broken addr seen counter lost accepts posted) state fits few = omega arith
-counted_after (record_of.EpochEnd addr) state fits few = omega arith
-counted_after (record_of.Opened id addr count life) state fits few = few
-counted_after (record_of.Closed id paid unpaid) state fits few = few
-counted_after (record_of.Odd id life_before life_after) state fits few = few
-counted_after (record_of.Sold id price) state fits few = few
+counted_after r state fits few = omega (arith, few)
 
 -- after the record that a job was about to put
 pub counted_by : (job : Option Job) (due : Option Record) (r : Record) (state after : EpochState) → due ≡ due_by job

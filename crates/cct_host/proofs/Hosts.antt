@@ -110,6 +110,7 @@ module _ {D : Type 0} {g : Ghosts D} where
         what = nexts.what;
         reported_is = nexts.reported_is;
         link = nexts.link;
+        sent_is = nexts.sent_is;
         counts = advances.counts ∙ ap (λ d. journals.used_of old.journal + length (put_by d)) (sym nexts.put_is);
         goes = λ hears past heard stands suits.
             let turned = nexts.goes hears past heard stands.keeps.desks suits.owned in (

@@ -1,4 +1,5 @@
 pub mod Testing
+pub mod Alone
 pub mod Attempts
 pub mod Begun
 pub mod Commands
@@ -12,9 +13,11 @@ pub mod Losses
 pub mod Money
 pub mod Owned
 pub mod Places
+pub mod Fills
 pub mod Putting
 pub mod Quiet
 pub mod Replaying
+pub mod Reports
 pub mod Records
 pub mod Standing
 pub mod Starting

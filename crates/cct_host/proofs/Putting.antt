@@ -87,7 +87,7 @@ sale_records past model.free news is = after_is past news _ (records past) is re
 sale_records past (model.works c since) news is = sale_row_records past c since _ news is
 
 -- an address without a device
-all_is_no_host : (addr : ℕ) → (addr == BROADCAST) ≡ true → (addr == HOST) ≡ false
+pub all_is_no_host : (addr : ℕ) → (addr == BROADCAST) ≡ true → (addr == HOST) ≡ false
 all_is_no_host addr is = grind (arith, nat_tests)
 
 bare_records : (hears : List ℕ → List ℕ) (past : List Entry) (addr : ℕ) (all host : Bool) (news : List Entry)

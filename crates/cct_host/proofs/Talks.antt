@@ -1,5 +1,5 @@
 -- What one exchange of a job does, told by what its calls make.
-use Rattle.std.proofs.Common.{Option, ◌≡◌, ℕ, List, [], ◌∷◌, ◌++◌, length, set, refl, ap, subst, ◌∙◌}
+use Rattle.std.proofs.Common.{Option, ◌≡◌, ℕ, List, [], ◌∷◌, ◌++◌, ◌-◌, ◌≤◌, length, set, refl, ap, subst, ◌∙◌}
 use Rattle.cct_model.specs.terms.wire.CheckKind.{CheckKind}
 use Rattle.cct_model.specs.terms.request.Request.{Request}
 use Rattle.cct_model.specs.lines.command.Command.{Command}
@@ -16,6 +16,8 @@ use Rattle.cct_jobs.specs.Onward.{HearsDevice, HearsPolled, SendsPoll, SendsToDe
 use Rattle.cct_jobs.proofs.Needs.{end_known, scan_end_known}
 use Rattle.cct_jobs.proofs.Sales.{sale_end_known}
 use Rattle.cct_host.specs.Exchange.{Converses, Ends, Fills, Talks}
+use Rattle.cct_host.specs.Report.{kept}
+use Rattle.cct_host.proofs.Reports.{told_over}
 use Rattle.cct_host.specs.Place.{Place, StandsAt, device, line_at, sales, scans}
 
 -- what was spelled
@@ -56,20 +58,16 @@ talks old new s sent heard piece rest asks polls is_ask piece_is rest_is hears s
 talks old new s sent heard piece rest asks polls is_ask piece_is rest_is hears scanned sales c since state owed stands needs =
     absurd needs
 
-last_set : (report : List Entry) (e said : Entry) → set (report ++ e ∷ []) (length report) said ≡ report ++ said ∷ []
-last_set [] e said = refl
-last_set (x ∷ xs) e said = ap (λ es. x ∷ es) (last_set xs e said)
-
--- an exchange whose entry was filled where it is in the report
+-- an exchange whose entry was filled where it is in the report, in the place of the last one
 pub converses : {L : Type 0} (gives : L → List ℕ → List ℕ → L → Type 0) (before after : L) (addr : ℕ) (old new : Job)
-    (report pushed : List Entry) (e said : Entry) (index : ℕ)
-    → index ≡ length report → pushed ≡ report ++ e ∷ [] → Fills gives before after addr old new said
-    → Converses gives before after addr old new report (set pushed index said)
-converses gives before after addr old new report pushed e said index index_is pushed_is fills = record {
+    (report : List Entry) (said : Entry) (index : ℕ)
+    → 1 ≤ length report → index ≡ length report - 1 → Fills gives before after addr old new said
+    → Converses gives before after addr old new (kept report) (set report index said)
+converses gives before after addr old new report said index some index_is fills = record {
   sent = fills.sent;
   heard = fills.heard;
-  reported_is = ap (λ i. set pushed i said) index_is ∙ ap (λ es. set es (length report) said) pushed_is
-      ∙ last_set report e said ∙ ap (λ x. report ++ x ∷ []) fills.said_is;
+  reported_is = told_over report said index some index_is ∙ ap (λ x. kept report ++ x ∷ []) fills.said_is;
+  asks = fills.asks;
   goes = fills.goes;
   talks = fills.talks;
 }

@@ -1,5 +1,5 @@
 -- The tests of a command, one after the other.
-use Rattle.std.proofs.Common.{◌≡◌, ℕ, ◌≤◌, arith, Bool, true, false, List, [], ◌∷◌, Option, Some, None, refl, sym, ◌∙◌}
+use Rattle.std.proofs.Common.{◌≡◌, ℕ, zero, suc, ◌≤◌, arith, Bool, true, false, List, [], ◌∷◌, drop, get_or, Option, Some, None, refl, sym, ap, ◌∙◌}
 use Rattle.std.specs.Option.{option_or}
 use Rattle.cct_model.specs.lines.command.Command.{Command}
 use Rattle.cct_model.specs.lines.command.CommandNo.{CommandNo}
@@ -8,7 +8,7 @@ use Rattle.cct_model.specs.terms.device.DeviceSetup.{DeviceSetup}
 use Rattle.cct_model.specs.terms.device.Setup.{Setup}
 use Rattle.cct_model.specs.declared.tests.Test.{Test}
 use Rattle.cct_model.specs.declared.tests.Test.TheVariants.{WithCoins, WithPrice, WithRoom}
-use Rattle.cct_model.specs.Refusal.{asks_room, first_of, money_in, of_room, room_fails, room_tests, tests_of}
+use Rattle.cct_model.specs.Refusal.{asks_room, first_of, listed, money_in, of_room, room_fails, room_tests, tests_of}
 use Rattle.cct_model.specs.Rows.{puts_in, rows_for}
 use Rattle.cct_laws.proofs.money.Room.{unasked}
 
@@ -20,6 +20,15 @@ pub first_more : (fails : Test → Option CommandNo) (t : Test) (more : List Tes
     → first_of fails (t ∷ more) ≡ option_or (fails t) (first_of fails more)
 first_more fails t [] = or_none (fails t)
 first_more fails t (next ∷ more) = refl
+
+-- the first of these tests that fails, where they begin at it
+pub first_at : (fails : Test → Option CommandNo) (slots : List (Option Test)) (i : ℕ) (t : Test) (why : CommandNo)
+    → get_or slots i None ≡ Some t → fails t ≡ Some why → first_of fails (listed (drop i slots)) ≡ Some why
+first_at fails [] i t why at is = absurd cc
+first_at fails (slot ∷ more) zero t why at is =
+    ap (λ s. first_of fails (listed (s ∷ more))) at ∙ first_more fails t (listed more)
+    ∙ ap (λ o. option_or o (first_of fails (listed more))) is
+first_at fails (slot ∷ more) (suc i) t why at is = first_at fails more i t why at is
 
 -- the tests of the state look at no money and at no room
 pub first_of_room : (capacity : ℕ) (setup : Setup) (past : List Entry) (need : ℕ) (ts : List Test)

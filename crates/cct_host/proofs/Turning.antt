@@ -19,13 +19,14 @@ use Rattle.cct_model.specs.Money.{coins_of, hopper_value}
 use Rattle.cct_model.specs.Job.{address_of, ident_requests}
 use Rattle.cct_model.specs.Rows.{rows_of}
 use Rattle.cct_jobs.specs.declared.job.Job.{Job}
+use Rattle.cct_jobs.specs.declared.job.Job.TheVariants.{SalePuts}
 use Rattle.cct_jobs.specs.Ahead.{coins_in}
 use Rattle.cct_jobs.specs.Jobs.{is_of_device}
 use Rattle.cct_host.specs.declared.desk.JobDesk.{JobDesk}
 use Rattle.cct_host.specs.declared.desks.Desks.{Desks}
 use Rattle.cct_host.specs.Desk.{held_at, puts_at, reserved_over, sum_in}
-use Rattle.cct_host.specs.Desks.{due_at_desk, held_of, puts_of}
-use Rattle.cct_host.specs.Held.{coins_by, due_by, puts_left}
+use Rattle.cct_host.specs.Desks.{due_at_desk, held_of, puts_of, sending_at_desk}
+use Rattle.cct_host.specs.Held.{coins_by, due_by, puts_left, sells_only, sending_by}
 use Rattle.cct_host.specs.Running.{amount_of, rows_begun}
 use Rattle.cct_host.proofs.Holding.{due_left, only_tells, rows_begin}
 use Rattle.cct_host.proofs.Places.{is_at, refilled}
@@ -56,6 +57,22 @@ scan_due sale addr there nobody is = ap (due_at_desk sale addr) nobody ∙ ap (�
 pub sale_due : (sale : JobDesk) (addr : ℕ) (there : Option JobDesk) → there ≡ None → addr ≡ HOST
     → due_at_desk sale addr there ≡ due_by sale.job
 sale_due sale addr there nobody is = ap (due_at_desk sale addr) nobody ∙ ap (λ a. due_at_desk sale a None) is
+
+-- what is sent at the address of all devices, and that a sale sends nothing
+pub scan_sends : (scan : JobDesk) (addr : ℕ) (there : Option JobDesk) → there ≡ None → addr ≡ BROADCAST
+    → sending_at_desk scan addr there ≡ sending_by scan.job
+scan_sends scan addr there nobody is = ap (sending_at_desk scan addr) nobody ∙ ap (λ a. sending_at_desk scan a None) is
+
+sale_never_sends : (job : Option Job) → sells_only job ≡ true → sending_by job ≡ None
+sale_never_sends None sells = refl
+sale_never_sends (Some (SalePuts id price)) sells = refl
+sale_never_sends (Some job) sells = absurd cc
+
+pub sale_sends : (scan sale : JobDesk) (addr : ℕ) (there : Option JobDesk) → there ≡ None → addr ≡ HOST
+    → sells_only sale.job ≡ true → sending_by sale.job ≡ sending_at_desk scan addr there
+sale_sends scan sale addr there nobody is sells =
+    sale_never_sends sale.job sells
+    ∙ sym (ap (sending_at_desk scan addr) nobody ∙ ap (λ a. sending_at_desk scan a None) is)
 
 -- a sum over desks
 sum_set : (f : JobDesk → ℕ) (ks : List JobDesk) (i : ℕ) (y x : JobDesk) → i < length ks

@@ -33,6 +33,11 @@ HeardBy hears idle = ⊤
 HeardBy hears (asked sent heard end) = heard ≡ hears sent
 HeardBy hears (put r end) = ⊤
 
+-- The piece that an attempt sent, if it sent one.
+abbrev pub sent_of : Attempt → Option (List ℕ)
+sent_of (asked sent heard end) = Some sent
+sent_of what = None
+
 -- The record that an attempt put, if it put one.
 abbrev pub put_of : Attempt → Option Record
 put_of (put r end) = Some r

@@ -22,8 +22,9 @@ use Rattle.cct_jobs.specs.declared.job.Job.{Job}
 use Rattle.cct_host.specs.declared.orders.OrderState.{OrderState}
 use Rattle.cct_jobs.specs.Jobs.{order_of}
 use Rattle.cct_host.specs.declared.desk.JobDesk.{JobDesk}
-use Rattle.cct_host.specs.Attempt.{Attempt, HeardBy, Links, news_of, put_of, used_by}
-use Rattle.cct_host.specs.Held.{coins_by, due_by, held_by, puts_left, sells_only}
+use Rattle.cct_host.specs.Attempt.{Attempt, HeardBy, Links, news_of, put_of, sent_of, used_by}
+use Rattle.cct_host.specs.Held.{coins_by, due_by, held_by, piece_of, puts_left, sells_only}
+use Rattle.cct_host.specs.Held.{sending_by}
 use Rattle.cct_host.specs.Running.{begins_id, command_of, needed, rows_begun}
 use Rattle.cct_host.specs.Place.{AreAt, NextAt, OwnsAt, Place, StandsAt, addr_of, device, lines_at}
 use Rattle.cct_host.specs.Place.{sales, scans}
@@ -160,9 +161,10 @@ pub record Goes (hears : List ℕ → List ℕ) (place : Place) (past news : Lis
   pub keeps : Keeps place job state owed (lines_at place (news ++ past))
 
 -- A job, an epoch and an open order make one attempt over a link, and leave this desk; it puts the
--- record that was due, if one was, and this is the id that its put used, or 0. What it adds to the
--- report are the entries of a `next` at its place, where what it heard is what follows the piece
--- that it sent, and an order that it closes was opened there.
+-- record that was due, if one was, and this is the id that its put used, or 0; it sends what the
+-- job was about to send, if anything. What it adds to the report are the entries of a `next` at its
+-- place, where what it heard is what follows the piece that it sent, and an order that it closes
+-- was opened there.
 pub record Attempts {L : Type 0} (gives : L → List ℕ → List ℕ → L → Type 0) (old new : L) (addr : ℕ)
     (job : Option Job)
     (state : EpochState) (owed : OrderState) (desk : JobDesk) (used : ℕ)
@@ -171,6 +173,7 @@ pub record Attempts {L : Type 0} (gives : L → List ℕ → List ℕ → L → 
   pub reported_is : reported ≡ report ++ reverse (news_of addr what)
   pub link : Links gives old new what
   pub put_is : put_of what ≡ due_by job
+  pub sent_is : sent_of what ≡ piece_of (sending_by job)
   pub used_is : used ≡ used_by what
   pub goes : (hears : List ℕ → List ℕ) (place : Place) (past : List Entry) → HeardBy hears what →
       addr_of place ≡ addr

@@ -19,10 +19,10 @@ use Rattle.cct_model.specs.Rows.{puts_in}
 use Rattle.cct_model.specs.Setup.{IsSoundSetup}
 use Rattle.cct_host.specs.declared.desk.JobDesk.{JobDesk}
 use Rattle.cct_host.specs.declared.desks.Desks.{Desks}
-use Rattle.cct_host.specs.Attempt.{Attempt, HeardBy, Links, news_of, put_of}
+use Rattle.cct_host.specs.Attempt.{Attempt, HeardBy, Links, news_of, put_of, sent_of}
 use Rattle.cct_host.specs.Desk.{AllSit, Sits, greatest_paying, held_at, held_in, no_of, puts_at}
 use Rattle.cct_host.specs.Desk.{reserved_over, sum_in}
-use Rattle.cct_host.specs.Held.{coins_by, due_by, price_by, sending_by}
+use Rattle.cct_host.specs.Held.{coins_by, due_by, piece_of, price_by, sending_by}
 use Rattle.cct_host.specs.Place.{OwnsItsPut, sales, scans}
 use Rattle.cct_host.specs.Running.{amount_of, needed, rows_begun}
 
@@ -143,10 +143,10 @@ abbrev pub Refuses : Desks → Command → Option CommandNo → Type 0
 Refuses desks c why =
     (past : List Entry) → StandsFor desks past → why ≡ state_refusal (setup_of desks) past c
 
--- A `next` at an address makes one attempt over a link, and puts the record that was due there, if
--- one was. What it adds to the report are the entries of a `next` after whatever happened, where
--- what it heard is what follows the piece that it sent, and an order that it closes was opened at
--- that address; and the desks go on by them.
+-- A `next` at an address makes one attempt over a link, puts the record that was due there, if one
+-- was, and sends the request that was next there, if one was. What it adds to the report are the
+-- entries of a `next` after whatever happened, where what it heard is what follows the piece that
+-- it sent, and an order that it closes was opened at that address; and the desks go on by them.
 pub record Nexts {L : Type 0} (gives : L → List ℕ → List ℕ → L → Type 0) (old new : L) (addr : ℕ)
     (before after : Desks)
     (report reported : List Entry) : Type 0 where
@@ -154,6 +154,7 @@ pub record Nexts {L : Type 0} (gives : L → List ℕ → List ℕ → L → Typ
   pub reported_is : reported ≡ report ++ reverse (news_of addr what)
   pub link : Links gives old new what
   pub put_is : put_of what ≡ due_on before addr
+  pub sent_is : sent_of what ≡ piece_of (sending_on before addr)
   pub goes : (hears : List ℕ → List ℕ) (past : List Entry) → HeardBy hears what →
       StandsFor before past
       → OwnsItsPut (setup_of before) past addr

@@ -10,8 +10,9 @@ use Rattle.cct_model.specs.declared.judging.OpenOrder.{OpenOrder}
 use Rattle.cct_model.specs.Line.{Line}
 use Rattle.cct_jobs.specs.declared.job.Job.{Job}
 use Rattle.cct_jobs.specs.Ahead.{ahead}
-use Rattle.cct_jobs.specs.Jobs.{after_put, end_of_job}
+use Rattle.cct_jobs.specs.Jobs.{after_put, end_of_job, sending_of}
 use Rattle.cct_jobs.specs.Onward.{KeepsTo}
+use Rattle.cct_host.specs.Held.{piece_of}
 use Rattle.cct_host.specs.Running.{Settles}
 use Rattle.cct_host.specs.Place.{Asks, AsksNext, Place, StandsAt, end_at, line_at}
 
@@ -38,6 +39,7 @@ pub record Fills {L : Type 0} (gives : L → List ℕ → List ℕ → L → Typ
   pub sent : List ℕ
   pub heard : List ℕ
   pub said_is : said ≡ entry.Wire addr sent heard
+  pub asks : piece_of (sending_of old) ≡ Some sent
   pub goes : gives before sent heard after
   pub talks : Talks old sent heard new
 
@@ -48,6 +50,7 @@ pub record Converses {L : Type 0} (gives : L → List ℕ → List ℕ → L →
   pub sent : List ℕ
   pub heard : List ℕ
   pub reported_is : reported ≡ report ++ entry.Wire addr sent heard ∷ []
+  pub asks : piece_of (sending_of old) ≡ Some sent
   pub goes : gives before sent heard after
   pub talks : Talks old sent heard new
 

@@ -1,10 +1,11 @@
 -- What the job at a place is still to do: the records that it may put, what it reserves, and the
 -- record that is next.
-use Rattle.std.specs.Prelude.{ℕ, ◌+◌, Bool, true, false, Option, Some, None, ⊤}
+use Rattle.std.specs.Prelude.{ℕ, ◌+◌, Bool, true, false, List, Option, Some, None, ⊤}
 use Rattle.std.proofs.Props.{props}
 use Rattle.cct_model.specs.lines.record.Record.{Record}
 use Rattle.cct_model.specs.lines.record.Record.TheVariants as record_of
 use Rattle.cct_model.specs.declared.judging.OpenOrder.{OpenOrder}
+use Rattle.cct_model.specs.Exchange.{ask}
 use Rattle.cct_record.specs.Body.{Encodable}
 use Rattle.cct_jobs.specs.declared.job.Job.{Job}
 use Rattle.cct_jobs.specs.declared.job.Job.TheVariants.{RoundPuts, StopPuts, OrderCloses, SalePuts}
@@ -38,6 +39,11 @@ abbrev pub sending_by : Option Job → Option Sending
 sending_by None = None
 sending_by (Some job) = sending_of job
 
+-- The piece by which a request is sent, if there is one.
+abbrev pub piece_of : Option Sending → Option (List ℕ)
+piece_of None = None
+piece_of (Some s) = Some (ask s.kind s.to s.request)
+
 -- What the job at a place reserves besides coins.
 abbrev pub price_by : Option Job → ℕ
 price_by None = 0
@@ -62,14 +68,8 @@ FitsIn (Some job) = PutsFit job
 
 -- Each of these facts has one proof at most.
 pub Encodable-prop : (r : Record) → IsProp (Encodable r)
-Encodable-prop (record_of.Epoch addr mask accepts) = hlevel props
 Encodable-prop (record_of.Reading addr counter lost accepts posted) = hlevel props
-Encodable-prop (record_of.Broken addr seen counter lost accepts posted) = hlevel props
-Encodable-prop (record_of.EpochEnd addr) = hlevel props
-Encodable-prop (record_of.Opened id addr count life) = hlevel props
-Encodable-prop (record_of.Closed id paid unpaid) = hlevel props
-Encodable-prop (record_of.Odd id life_before life_after) = hlevel props
-Encodable-prop (record_of.Sold id price) = hlevel props
+Encodable-prop r = hlevel props
 
 pub PutsFit-prop : (job : Job) → IsProp (PutsFit job)
 PutsFit-prop (RoundPuts entry end) = Encodable-prop entry

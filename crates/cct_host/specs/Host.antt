@@ -1,6 +1,6 @@
 -- A host over its journal, that represents all that happened.
 use Rattle.std.specs.Prelude.{◌≡◌, ◌≤◌, ℕ, Bool, ◌+◌, ◌-◌, List, [], ◌∷◌, ◌++◌, Option, Some, None}
-use Rattle.std.specs.Prelude.{Result, false, true, length, reverse}
+use Rattle.std.specs.Prelude.{Result, false, true, is_some, length, reverse}
 use Rattle.std.specs.Option.{IfSome}
 use Rattle.cct_model.specs.terms.device.Setup.{Setup}
 use Rattle.cct_model.specs.lines.command.Command.{Command}
@@ -18,6 +18,7 @@ use Rattle.cct_disk.specs.declared.disk.Disk.{Ghosts}
 use Rattle.cct_disk.specs.Disk.{IsTrusted, LeavesOnly}
 use Rattle.cct_journal.specs.declared.journal.Journal.{Journal}
 use Rattle.cct_journal.specs.Journal as journals
+use Rattle.cct_journal.specs.Image.{half_room, kept_after}
 use Rattle.cct_journal.specs.declared.format.TheConstants.{MOST_RECORDS}
 use Rattle.cct_journal_carry.specs.declared.tally.Tally.{Tally}
 use Rattle.cct_journal_carry.specs.Tally as tallies
@@ -25,7 +26,8 @@ use Rattle.cct_ledger.specs.declared.ledger.Ledger.{Ledger}
 use Rattle.cct_ledger.specs.Ledger as ledgers
 use Rattle.cct_host.specs.declared.desks.Desks.{Desks}
 use Rattle.cct_host.specs.declared.host.Host.{Host}
-use Rattle.cct_host.specs.Attempt.{Attempt, HeardBy, Links, news_of, put_of}
+use Rattle.cct_host.specs.Attempt.{Attempt, HeardBy, Links, news_of, put_of, sent_of}
+use Rattle.cct_host.specs.Held.{piece_of}
 use Rattle.cct_host.specs.OnDisk.{KeepsRecords, LeavesRecords, StandsUpTo}
 use Rattle.cct_host.specs.Desk.{no_of}
 use Rattle.cct_host.specs.Desks as all_desks
@@ -105,6 +107,14 @@ module _ {D : Type 0} {g : Ghosts D} where
       → (no_of result ≡ refusal (capacity_in old) (setup_of old) past c)
       × StandsFor new (command_entry c (no_of result) ∷ past)
 
+  -- From one value to another a journal put records: so many more does it count, and its current
+  -- half has as many as these leave there.
+  abbrev pub FillsOn : Journal D g → Journal D g → Type 0
+  FillsOn old new =
+      journals.kept_of new
+      ≡ kept_after (half_room (g.size (journals.disk_of old))) (journals.kept_of old)
+      (journals.used_of new - journals.used_of old)
+
   -- A `next` at an address makes one attempt over a link, and the journal counts the record that it
   -- puts, if it puts one, whatever happened before. What it adds to the report are the entries of a
   -- `next` after whatever happened, where what it heard is what follows the piece that it sent and
@@ -115,6 +125,8 @@ module _ {D : Type 0} {g : Ghosts D} where
     pub what : Attempt
     pub reported_is : reported ≡ report ++ reverse (news_of addr what)
     pub link : Links gives old new what
+    -- What goes out is the request that the host was about to send there, and nothing if none.
+    pub sent_is : sent_of what ≡ piece_of (all_desks.sending_on before.desks addr)
     pub counts : journals.used_of (journal_of after)
         ≡ journals.used_of (journal_of before) + length (put_by (put_of what))
     pub goes : (hears : List ℕ → List ℕ) (past : List Entry) → HeardBy hears what →
@@ -241,6 +253,7 @@ module _ {D : Type 0} {g : Ghosts D} where
   pub record FailsToPut (addr : ℕ) (desks turned : Desks) (ledger posted : Ledger)
       (tally added : Tally)
       (journal written : Journal D g) : Type 0 where
+    pub due : is_some (all_desks.due_on desks addr) ≡ true
     pub desks_stay : turned ≡ desks
     pub ledger_stays : posted ≡ ledger
     pub tally_stays : added ≡ tally

@@ -1,5 +1,6 @@
 pub mod Place
 pub mod Attempt
+pub mod Report
 pub mod Exchange
 pub mod Running
 pub mod Held

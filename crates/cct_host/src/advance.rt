@@ -15,8 +15,9 @@ ghost use Rattle.cct_journal.specs.Journal as journals;
 ghost use Rattle.cct_disk.specs.Disk.{GoesOn};
 ghost use Rattle.cct_ledger.specs.Ledger as ledgers;
 ghost use Rattle.cct_host.specs.Desks as all_desks;
-ghost use Rattle.cct_host.specs.Host.{Advances, FailsToPut, PutFails, Puts, put_by};
+ghost use Rattle.cct_host.specs.Host.{Advances, FailsToPut, FillsOn, PutFails, Puts, put_by};
 ghost use Rattle.cct_host.specs.Parts.{BelongTogether, GoOnTogether};
+ghost use Rattle.cct_host.specs.Report.{kept};
 
 use crate::Desks;
 use arrayvec::ArrayVec;
@@ -29,7 +30,7 @@ use cct_model::{Carry, Entry, Record};
 use cct_wire::Link;
 
 /// The job at an address makes one attempt: what it is about to put is in the journal before it
-/// goes on.
+/// goes on. What it tells begins in the place of the last entry.
 pub(crate) fn advance<D: Disk, L: Link>(
     desks: &mut Desks<'_>,
     ledger: &mut Ledger<'_>,
@@ -39,7 +40,8 @@ pub(crate) fn advance<D: Disk, L: Link>(
     link: &mut L,
     report: &mut ArrayVec<Entry, 8>,
 ) -> Result<(), Failed>
-    requires room { array_vec_len report.old ≤ 6 }
+    requires last { 1 ≤ array_vec_len report.old }
+    requires room { array_vec_len report.old ≤ 7 }
     requires whole { journals.has_failed journal.old ≡ false }
     requires together { BelongTogether desks.old ledger.old tally.old journal.old }
 
@@ -49,7 +51,8 @@ pub(crate) fn advance<D: Disk, L: Link>(
 
     // the attempt
     ensures advances { OnOk result (Advances L.gives link.old link.new addr desks.old desks.new ledger.old ledger.new
-        tally.old tally.new journal.old journal.new report.old.items report.new.items) }
+        tally.old tally.new journal.old journal.new (kept report.old.items) report.new.items) }
+    ensures fills { OnOk result (FillsOn journal.old journal.new) }
 
     // a put that failed
     ensures fails { OnErr result (FailsToPut addr desks.old desks.new ledger.old ledger.new tally.old tally.new
@@ -85,7 +88,8 @@ fn put_and_go_on<D: Disk, L: Link>(
     link: &mut L,
     report: &mut ArrayVec<Entry, 8>,
 ) -> Result<(), Failed>
-    requires room { array_vec_len report.old ≤ 6 }
+    requires last { 1 ≤ array_vec_len report.old }
+    requires room { array_vec_len report.old ≤ 7 }
     requires whole { journals.has_failed journal.old ≡ false }
     requires together { BelongTogether desks.old ledger.old tally.old journal.old }
     requires found { all_desks.FindsDesk desks.old addr found }
@@ -96,7 +100,8 @@ fn put_and_go_on<D: Disk, L: Link>(
 
     // the attempt
     ensures advances { OnOk result (Advances L.gives link.old link.new addr desks.old desks.new ledger.old ledger.new
-        tally.old tally.new journal.old journal.new report.old.items report.new.items) }
+        tally.old tally.new journal.old journal.new (kept report.old.items) report.new.items) }
+    ensures fills { OnOk result (FillsOn journal.old journal.new) }
 
     // a put that failed
     ensures fails { OnErr result (FailsToPut addr desks.old desks.new ledger.old ledger.new tally.old tally.new
@@ -128,14 +133,15 @@ fn ask<L: Link>(
     link: &mut L,
     report: &mut ArrayVec<Entry, 8>,
 )
-    requires room { array_vec_len report.old ≤ 6 }
+    requires last { 1 ≤ array_vec_len report.old }
+    requires room { array_vec_len report.old ≤ 7 }
     requires found { all_desks.FindsDesk desks.old addr found }
     requires due { all_desks.due_on desks.old addr ≡ None }
     requires reserved { ledgers.reserved_of ledger.old ≡ all_desks.reserved_of desks.old }
     ensures together { GoOnTogether desks.old desks.new ledger.old ledger.new }
     ensures left { all_desks.puts_of desks.new ≤ all_desks.puts_of desks.old }
-    ensures nexts { all_desks.Nexts L.gives link.old link.new addr desks.old desks.new report.old.items
-        report.new.items }
+    ensures nexts { all_desks.Nexts L.gives link.old link.new addr desks.old desks.new
+        (kept report.old.items) report.new.items }
 {
     let reserved = desks.reserved_there(addr, found);
     desks.ask_there(addr, found, link, report);
@@ -156,6 +162,7 @@ fn put<D: Disk>(
     requires room { IfSome due.now (λ r. journals.used_of journal.old < MOST_RECORDS) }
     requires rightly { IsRightly (journals.used_of journal.old) so_far.now }
     ensures puts { OnOk result (Puts due.now so_far.now journal.old journal.new) }
+    ensures fills { OnOk result (FillsOn journal.old journal.new) }
     ensures fails { OnErr result (PutFails due.now so_far.now journal.old journal.new) }
     ensures cause { HasCause (D.faults (journals.disk_of journal.old))
         (D.faults (journals.disk_of journal.new)) result }
@@ -182,15 +189,16 @@ fn go_on<L: Link>(
     link: &mut L,
     report: &mut ArrayVec<Entry, 8>,
 )
-    requires room { array_vec_len report.old ≤ 6 }
+    requires last { 1 ≤ array_vec_len report.old }
+    requires room { array_vec_len report.old ≤ 7 }
     requires found { all_desks.FindsDesk desks.old addr found }
     requires due { due.now ≡ all_desks.due_on desks.old addr }
     requires reserved { ledgers.reserved_of ledger.old ≡ all_desks.reserved_of desks.old }
     ensures together { GoOnTogether desks.old desks.new ledger.old ledger.new }
     ensures left { all_desks.puts_of desks.new + length (put_by (all_desks.due_on desks.old addr))
         ≤ all_desks.puts_of desks.old }
-    ensures nexts { all_desks.Nexts L.gives link.old link.new addr desks.old desks.new report.old.items
-        report.new.items }
+    ensures nexts { all_desks.Nexts L.gives link.old link.new addr desks.old desks.new
+        (kept report.old.items) report.new.items }
     ensures frees { (past : List Entry) → all_desks.StandsFor desks.old past
         → IfSome (all_desks.due_on desks.old addr) (λ r. all_desks.reserved_of desks.new
         ≡ reserved_at_work (all_desks.setup_of desks.old) past - freed_by (all_desks.setup_of desks.old) r) }

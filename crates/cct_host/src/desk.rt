@@ -14,9 +14,10 @@ ghost use Rattle.cct_jobs.specs.Jobs.{accepts_of, is_of_device, order_of, owed_a
 ghost use Rattle.cct_host.specs.Held.{FitsIn, FitsIn-prop, due_by, price_by, sells_only};
 ghost use Rattle.cct_host.specs.Held.{sending_by};
 ghost use Rattle.cct_host.specs.Place as places;
+ghost use Rattle.cct_host.specs.Report.{kept};
 ghost use Rattle.cct_host.specs.Running.{is_running, orders_left};
 
-use crate::exchange::{exchange, put};
+use crate::exchange::{exchange, put, tell_over};
 use crate::orders::OrderState;
 use arrayvec::ArrayVec;
 use cct_jobs::{Job, Need, Owed, Sending};
@@ -202,7 +203,8 @@ impl JobDesk {
     }
 
     /// The job makes one attempt of one row over a link, with the record that it is about to put,
-    /// if there is one; with no job the address is idle. It gives the id that its put used, or 0.
+    /// if there is one; with no job the address is idle. What it tells begins in the place of the
+    /// last entry. It gives the id that its put used, or 0.
     #[tactic(auto, using(crate::proofs::Counts::counted_by))]
     pub(crate) fn next<L: Link>(
         &mut self,
@@ -212,9 +214,10 @@ impl JobDesk {
         report: &mut ArrayVec<Entry, 8>,
     ) -> u32
         requires due { due.now ≡ due_by self.old.job }
-        requires room { array_vec_len report.old ≤ 6 }
+        requires last { 1 ≤ array_vec_len report.old }
+        requires room { array_vec_len report.old ≤ 7 }
         ensures attempts { Attempts L.gives link.old link.new addr self.old.job self.old.epoch self.old.orders
-            self.new result report.old.items report.new.items }
+            self.new result (kept report.old.items) report.new.items }
         ensures frees { Frees self.old.job self.new }
     {
         match due {
@@ -237,13 +240,14 @@ impl JobDesk {
     /// is idle.
     pub(crate) fn ask<L: Link>(&mut self, addr: u8, link: &mut L, report: &mut ArrayVec<Entry, 8>)
         requires due { due_by self.old.job ≡ None }
-        requires room { array_vec_len report.old ≤ 6 }
+        requires last { 1 ≤ array_vec_len report.old }
+        requires room { array_vec_len report.old ≤ 7 }
         ensures attempts { Attempts L.gives link.old link.new addr self.old.job self.old.epoch self.old.orders
-            self.new 0 report.old.items report.new.items }
+            self.new 0 (kept report.old.items) report.new.items }
         ensures frees { Frees self.old.job self.new }
     {
         match self.job {
-            None => report.push(Entry::Idle { addr }),
+            None => tell_over(report, Entry::Idle { addr }),
             Some(_) => {
                 exchange(&mut self.job, addr, link, report);
                 leave_orders(&self.job, &mut self.orders);

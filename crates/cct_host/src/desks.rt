@@ -1,9 +1,9 @@
 //! The host's desks: a job at each address, the epochs of its acceptors, and the open orders of its
 //! hoppers.
-ghost use Rattle.std.specs.Prelude.{◌≡◌, ◌==◌, ◌<◌, ◌≤◌, ℕ, List, [], ◌∷◌, ◌+◌, ◌-◌, ◌*◌, IfSome};
+ghost use Rattle.std.specs.Prelude.{◌≡◌, ◌<◌, ◌≤◌, ℕ, List, [], ◌∷◌, ◌+◌, ◌-◌, ◌*◌, IfSome};
 ghost use Rattle.std.specs.Prelude.{OnErr, OnOk, Option, Some, None, false, is_some, length, max};
 ghost use Rattle.std.specs.Prelude.{true};
-ghost use Rattle.std.specs.List.{All, position};
+ghost use Rattle.std.specs.List.{All};
 ghost use Rattle.arrayvec.specs.ArrayVec.{array_vec_len};
 ghost use Rattle.cct_model.specs.Exchange.{device_at};
 ghost use Rattle.cct_model.specs.Carried.{IsRightly};
@@ -18,10 +18,12 @@ ghost use Rattle.cct_record.specs.Body.{Encodable};
 ghost use Rattle.cct_jobs.specs.Jobs.{is_of_device};
 ghost use Rattle.cct_host.specs.Desk.{IsFree, puts_at};
 ghost use Rattle.cct_host.specs.Held.{sells_only};
+ghost use Rattle.cct_host.specs.Report.{kept};
 ghost use Rattle.cct_host.specs.Running.{begins_id};
 ghost use Rattle.cct_journal_carry.specs.Sound.{IsSoundSetup-prop};
 
 use crate::desk::JobDesk;
+use crate::exchange::tell_over;
 use crate::recorded::resumed_desks;
 use arrayvec::ArrayVec;
 use cct_jobs::Sending;
@@ -239,7 +241,7 @@ impl<'s> Desks<'s> {
     pub(crate) fn find(&self, addr: u8) -> Option<usize>
         ensures { FindsDesk self.now addr result }
     {
-        index_of(self.setup.devices.as_slice(), addr)
+        self.setup.devices.place_of(addr)
     }
 
     /// The record that the job at an address is about to put, if it is about to put one.
@@ -364,11 +366,12 @@ impl<'s> Desks<'s> {
     {
         let found = self.find(addr);
         let due = self.due_there(addr, found);
+        report.push(Entry::Words);
         self.next_there(addr, found, &due, link, report);
     }
 
     /// The same, where the desk at the address is found, with the record that the job there is
-    /// about to put.
+    /// about to put. What is told begins in the place of the last entry.
     pub(crate) fn next_there<L: Link>(
         &mut self,
         addr: u8,
@@ -377,13 +380,14 @@ impl<'s> Desks<'s> {
         link: &mut L,
         report: &mut ArrayVec<Entry, 8>,
     )
-        requires room { array_vec_len report.old ≤ 6 }
+        requires last { 1 ≤ array_vec_len report.old }
+        requires room { array_vec_len report.old ≤ 7 }
         requires found { FindsDesk self.old addr found }
         requires due { due.now ≡ due_on self.old addr }
         ensures found { FindsDesk self.new addr found }
         ensures frees { FreesIn addr self.old self.new }
-        ensures nexts { Nexts L.gives link.old link.new addr self.old self.new report.old.items
-            report.new.items }
+        ensures nexts { Nexts L.gives link.old link.new addr self.old self.new
+            (kept report.old.items) report.new.items }
     {
         match found {
             Some(index) => {
@@ -402,13 +406,14 @@ impl<'s> Desks<'s> {
         link: &mut L,
         report: &mut ArrayVec<Entry, 8>,
     )
-        requires room { array_vec_len report.old ≤ 6 }
+        requires last { 1 ≤ array_vec_len report.old }
+        requires room { array_vec_len report.old ≤ 7 }
         requires found { FindsDesk self.old addr found }
         requires due { due_on self.old addr ≡ None }
         ensures found { FindsDesk self.new addr found }
         ensures frees { FreesIn addr self.old self.new }
-        ensures nexts { Nexts L.gives link.old link.new addr self.old self.new report.old.items
-            report.new.items }
+        ensures nexts { Nexts L.gives link.old link.new addr self.old self.new
+            (kept report.old.items) report.new.items }
     {
         match found {
             Some(index) => self.devices[index].ask(addr, link, report),
@@ -428,10 +433,11 @@ impl<'s> Desks<'s> {
         requires bare { device_at (setup_of self.old).devices addr ≡ None }
         requires nobody { desk_there self.old addr ≡ None }
         requires due { due.now ≡ due_on self.old addr }
-        requires room { array_vec_len report.old ≤ 6 }
+        requires last { 1 ≤ array_vec_len report.old }
+        requires room { array_vec_len report.old ≤ 7 }
         ensures frees { FreesIn addr self.old self.new }
-        ensures nexts { Nexts L.gives link.old link.new addr self.old self.new report.old.items
-            report.new.items }
+        ensures nexts { Nexts L.gives link.old link.new addr self.old self.new
+            (kept report.old.items) report.new.items }
     {
         if addr == BROADCAST {
             let used = self.scan.next(addr, due, link, report);
@@ -440,17 +446,9 @@ impl<'s> Desks<'s> {
             let used = self.sale.next(addr, due, link, report);
             self.last = used.max(self.last);
         } else {
-            report.push(Entry::Idle { addr });
+            tell_over(report, Entry::Idle { addr });
         }
     }
-}
-
-/// The index of the device at an address, or none.
-fn index_of(devices: &[DeviceSetup], addr: u8) -> Option<usize>
-    ensures first { result ≡ position (λ d. d.addr == addr) devices.now }
-    ensures within { IfSome result (λ index. index < length devices.now) }
-{
-    devices.iter().position(|device| device.addr == addr)
 }
 
 /// A desk for each device, at which nothing happened.

@@ -1,13 +1,14 @@
 //! One exchange of a job over a link, and what becomes of the job.
-ghost use Rattle.std.specs.Prelude.{◌≡◌, ◌<◌, ◌≤◌, [], Some, None, IfSome, is_some, true};
+ghost use Rattle.std.specs.Prelude.{◌≡◌, ◌<◌, ◌≤◌, ◌++◌, ◌∷◌, [], Some, None, IfSome, is_some};
+ghost use Rattle.std.specs.Prelude.{true};
 ghost use Rattle.arrayvec.specs.ArrayVec.{array_vec_len};
-ghost use Rattle.cct_model.specs.lines.entry.Entry.TheVariants as entry;
 ghost use Rattle.cct_jobs.specs.Ahead.{ahead};
-ghost use Rattle.cct_jobs.specs.Jobs.{end_of_job, need_of};
+ghost use Rattle.cct_jobs.specs.Jobs.{end_of_job, need_of, sending_of};
 ghost use Rattle.cct_jobs.specs.Onward.{KeepsTo};
 ghost use Rattle.cct_jobs.specs.declared.job.Need.TheVariants as need;
 ghost use Rattle.cct_host.specs.Exchange.{Converses, Ends, Exchanges, Fills, Puts, Talks, TellsEnd};
-ghost use Rattle.cct_host.specs.Held.{FitsIn, due_by};
+ghost use Rattle.cct_host.specs.Held.{FitsIn, due_by, piece_of};
+ghost use Rattle.cct_host.specs.Report.{is_exchange, kept};
 ghost use Rattle.cct_host.specs.Running.{is_running};
 
 use arrayvec::ArrayVec;
@@ -17,25 +18,17 @@ use cct_msg::encode_request;
 use cct_wire::Link;
 use std::alloc::AllocError;
 
-/// A job sends its request over a link, and hears what follows. The exchange is a further entry.
-pub(crate) fn converse<L: Link>(
-    job: &mut Job,
-    addr: u8,
-    link: &mut L,
-    report: &mut ArrayVec<Entry, 8>,
-)
+/// A job sends its request over a link, and hears what follows. The exchange is told in the place
+/// of the last entry.
+fn converse<L: Link>(job: &mut Job, addr: u8, link: &mut L, report: &mut ArrayVec<Entry, 8>)
     requires asks { need_of job.old ≡ need.Exchange }
-    requires room { array_vec_len report.old < 8 }
-    ensures converses { Converses L.gives link.old link.new addr job.old job.new report.old.items
-        report.new.items }
+    requires last { 1 ≤ array_vec_len report.old }
+    ensures converses { Converses L.gives link.old link.new addr job.old job.new
+        (kept report.old.items) report.new.items }
+    ensures len { array_vec_len report.new ≡ array_vec_len report.old }
     ensures keeps { KeepsTo (ahead job.old) job.new }
 {
-    let index = report.len();
-    report.push(Entry::Wire {
-        addr,
-        sent: Sent::new(),
-        heard: Piece::new(),
-    });
+    let index = report.len() - 1;
     match report.get_mut(index) {
         Some(said) => fill(job, link, addr, said),
         None => unreachable!(),
@@ -46,20 +39,51 @@ pub(crate) fn converse<L: Link>(
 /// where they stand.
 fn fill<L: Link>(job: &mut Job, link: &mut L, addr: u8, said: &mut Entry)
     requires asks { need_of job.old ≡ need.Exchange }
-    requires empty { said.old ≡ entry.Wire addr [] [] }
     ensures fills { Fills L.gives link.old link.new addr job.old job.new said.new }
     ensures keeps { KeepsTo (ahead job.old) job.new }
 {
+    make_exchange(said);
     match said {
-        Entry::Wire { sent, heard, .. } => talk(job, link, sent, heard),
+        Entry::Wire {
+            addr: at,
+            sent,
+            heard,
+        } => {
+            *at = addr;
+            talk(job, link, sent, heard);
+        }
         _ => unreachable!(),
     }
+}
+
+/// Makes an entry one of an exchange. One that is of another exchange stays, so that no byte of it
+/// is written.
+fn make_exchange(said: &mut Entry)
+    ensures { is_exchange said.new ≡ true }
+{
+    match said {
+        Entry::Wire { .. } => {}
+        _ => make_new_exchange(said),
+    }
+}
+
+/// Makes an entry one of an exchange without a byte.
+#[inline(never)]
+fn make_new_exchange(said: &mut Entry)
+    ensures { is_exchange said.new ≡ true }
+{
+    *said = Entry::Wire {
+        addr: 0,
+        sent: Sent::new(),
+        heard: Piece::new(),
+    };
 }
 
 /// A job sends its request over a link, and hears what follows. The two pieces are put in the place
 /// of what they hold.
 fn talk<L: Link>(job: &mut Job, link: &mut L, sent: &mut Sent, heard: &mut Piece)
     requires asks { need_of job.old ≡ need.Exchange }
+    ensures asks { piece_of (sending_of job.old) ≡ Some sent.new }
     ensures goes { L.gives link.old sent.new heard.new link.new }
     ensures talks { Talks job.old sent.new heard.new job.new }
     ensures keeps { KeepsTo (ahead job.old) job.new }
@@ -75,8 +99,8 @@ fn talk<L: Link>(job: &mut Job, link: &mut L, sent: &mut Sent, heard: &mut Piece
     job.hear(sent.as_slice(), heard.as_slice());
 }
 
-/// The job at a desk makes one exchange over a link, which is a further entry. A job that is then
-/// done leaves the desk, and the report has its end.
+/// The job at a desk makes one exchange over a link, which is told in the place of the last entry.
+/// A job that is then done leaves the desk, and the report has its end.
 pub(crate) fn exchange<L: Link>(
     at_desk: &mut Option<Job>,
     addr: u8,
@@ -86,11 +110,12 @@ pub(crate) fn exchange<L: Link>(
     requires there { is_some at_desk.old ≡ true }
     requires running { is_running at_desk.old ≡ true }
     requires asks { due_by at_desk.old ≡ None }
-    requires room { array_vec_len report.old ≤ 6 }
+    requires last { 1 ≤ array_vec_len report.old }
+    requires room { array_vec_len report.old ≤ 7 }
     ensures running { is_running at_desk.new ≡ true }
     ensures fits { FitsIn at_desk.new }
     ensures exchanges { IfSome at_desk.old (λ job. Exchanges L.gives link.old link.new addr job at_desk.new
-        report.old.items report.new.items) }
+        (kept report.old.items) report.new.items) }
 {
     let is_done = match at_desk {
         Some(job) => {
@@ -104,8 +129,8 @@ pub(crate) fn exchange<L: Link>(
     }
 }
 
-/// The record of the job at a desk was put, which is a further entry, and the job goes on. A job
-/// that is then done leaves the desk, and the report has its end.
+/// The record of the job at a desk was put, which is told in the place of the last entry, and the
+/// job goes on. A job that is then done leaves the desk, and the report has its end.
 pub(crate) fn put(
     at_desk: &mut Option<Job>,
     entry: &Record,
@@ -114,14 +139,15 @@ pub(crate) fn put(
 )
     requires there { is_some at_desk.old ≡ true }
     requires due { due_by at_desk.old ≡ Some entry.now }
-    requires room { array_vec_len report.old ≤ 6 }
+    requires last { 1 ≤ array_vec_len report.old }
+    requires room { array_vec_len report.old ≤ 7 }
     ensures running { is_running at_desk.new ≡ true }
     ensures fits { FitsIn at_desk.new }
-    ensures puts { IfSome at_desk.old (λ job. Puts addr job entry.now at_desk.new report.old.items
-        report.new.items) }
+    ensures puts { IfSome at_desk.old (λ job. Puts addr job entry.now at_desk.new
+        (kept report.old.items) report.new.items) }
 {
     let copy: Result<Record, AllocError> = entry.clone();
-    report.push(Entry::Put(copy.unwrap()));
+    tell_over(report, Entry::Put(copy.unwrap()));
     let is_done = match at_desk {
         Some(job) => {
             job.go_on_after_put();
@@ -131,6 +157,20 @@ pub(crate) fn put(
     };
     if is_done {
         leave(at_desk);
+    }
+}
+
+/// An entry is told in the place of the last one of a report.
+#[inline(always)]
+pub(crate) fn tell_over(report: &mut ArrayVec<Entry, 8>, entry: Entry)
+    requires last { 1 ≤ array_vec_len report.old }
+    ensures told { report.new.items ≡ kept report.old.items ++ entry ∷ [] }
+    ensures len { array_vec_len report.new ≡ array_vec_len report.old }
+{
+    let index = report.len() - 1;
+    match report.get_mut(index) {
+        Some(last) => *last = entry,
+        None => unreachable!(),
     }
 }
 

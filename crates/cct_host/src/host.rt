@@ -1,7 +1,8 @@
 //! The host over its journal: a record is put before its entry is reported, and no put finds the
 //! journal full.
 ghost use Rattle.std.specs.Prelude.{◌≡◌, ◌≤◌, ◌+◌, List, [], Option, Some, None, Err, IfErr, IfOk};
-ghost use Rattle.std.specs.Prelude.{MatchResult, OnErr, OnOk, IsTrue, false, is_ok, reverse};
+ghost use Rattle.std.specs.Prelude.{MatchResult, OnErr, OnOk, IsTrue, false, is_ok, is_some};
+ghost use Rattle.std.specs.Prelude.{reverse};
 ghost use Rattle.std.specs.Option.{option_or};
 ghost use Rattle.arrayvec.specs.ArrayVec.{array_vec_len};
 ghost use Rattle.cct_edge.specs.Faults.{Caused, HasCause};
@@ -21,6 +22,7 @@ ghost use Rattle.cct_ledger.specs.Ledger as ledgers;
 ghost use Rattle.cct_host.specs.Desks as all_desks;
 ghost use Rattle.cct_host.specs.Parts.{BelongTogether, BelongTogether-prop, GoOnTogether};
 ghost use Rattle.cct_model.specs.Rows.{puts_in};
+ghost use Rattle.cct_host.specs.Report.{kept};
 ghost use Rattle.cct_host.specs.Running.{amount_of, needed, rows_begun};
 ghost use Rattle.std.specs.Prelude.{true};
 ghost use Rattle.cct_model.specs.Refusal.{asks_room, listed, money_in};
@@ -59,7 +61,8 @@ pub struct Host<'s, D: Disk> {
 
 impl<'s, D: Disk> Host<'s, D> {
     ghost use Rattle.cct_host.specs.OnDisk.{KeepsRecords, ReadsRecords, ReadsRest};
-    ghost use Rattle.cct_host.specs.Host.{Answers, Fails, FailsBetween, Keeps, Nexts, Stays};
+    ghost use Rattle.cct_host.specs.Host.{Answers, Fails, FailsBetween, FillsOn, Keeps, Nexts};
+    ghost use Rattle.cct_host.specs.Host.{Stays};
     ghost use Rattle.cct_host.specs.Host.{capacity_in, disk_of, has_failed, journal_of, setup_of};
     ghost use Rattle.cct_host.specs.Restarting.{RestartFails, Restarts};
     ghost use Rattle.cct_host.specs.Starting.{FirstFollow, HasReplayed, HasResumed, HasResumedSome};
@@ -114,6 +117,8 @@ impl<'s, D: Disk> Host<'s, D> {
             ≡ journal) }
 
         // the journal and its disk
+        ensures place { IfOk result (λ host. journals.place_of (journal_of host)
+            ≡ journals.place_of journal) }
         ensures stands { IfOk result (λ host. (records : List Record)
             → KeepsRecords setup.now D.honest D.seen D.may_leave (journals.disk_of journal) (journals.place_of journal) records
             → KeepsRecords setup.now D.honest D.seen D.may_leave (disk_of host) (journals.place_of (journal_of host))
@@ -270,12 +275,109 @@ impl<'s, D: Disk> Host<'s, D> {
         // the record that is reported.
         ensures nexts { OnOk result (Nexts L.gives link.old link.new addr self.old self.new report.old.items
             report.new.items) }
+        // The current half of the journal has that record beside those before it, or it alone,
+        // where the half was full.
+        ensures fills { OnOk result (FillsOn (journal_of self.old) (journal_of self.new)) }
 
         // a put that failed
         ensures stays { OnErr result (report.new ≡ report.old) }
         ensures link { OnErr result (link.new ≡ link.old) }
-        // Only with a record due. The host has all of the past as before, and whatever a power cut
-        // leaves on a trusted disk stands for the records of the past, or for these and that one.
+        // Only with a record due.
+        ensures due { OnErr result (is_some (all_desks.due_on self.old.desks addr) ≡ true) }
+        // The host has all of the past as before, and whatever a power cut leaves on a trusted disk
+        // stands for the records of the past, or for these and that one.
+        ensures fails { OnErr result (Fails self.old self.new addr) }
+        // And so does whatever one might have left at a moment of it.
+        ensures between { OnErr result (FailsBetween self.old self.new addr) }
+
+        // the disk
+        ensures cause { HasCause (D.faults (disk_of self.old)) (D.faults (disk_of self.new)) result }
+        ensures goes_on { GoesOn D.size D.honest D.seen D.cuts (disk_of self.old) (disk_of self.new) }
+    {
+        report.push(Entry::Words);
+        match self.attempt(addr, link, report) {
+            Ok(()) => Ok(()),
+            Err(Failed) => {
+                report.pop();
+                Err(Failed)
+            }
+        }
+    }
+
+    /// As [`Host::next`], but the entries of the attempt are all that the report then has: they take
+    /// the place of the one that it had. An exchange in the place of another one is written where
+    /// that stands, and no other byte is.
+    ///
+    /// Where it fails, the report has the entry that it had.
+    pub fn next_into<L: Link>(
+        &mut self,
+        addr: u8,
+        link: &mut L,
+        report: &mut ArrayVec<Entry, 8>,
+    ) -> Result<(), Failed>
+        requires one { array_vec_len report.old ≡ 1 }
+        requires whole { has_failed self.old ≡ false }
+        ensures setup { setup_of self.new ≡ setup_of self.old }
+
+        // the attempt
+        ensures whole { OnOk result (has_failed self.new ≡ false) }
+        // After any past: the entries of one attempt of one row, and a record that was due is on
+        // the disk before its entry is reported. Whatever happened before, the journal counts only
+        // the record that is reported.
+        ensures nexts { OnOk result (Nexts L.gives link.old link.new addr self.old self.new []
+            report.new.items) }
+        // The current half of the journal has that record beside those before it, or it alone,
+        // where the half was full.
+        ensures fills { OnOk result (FillsOn (journal_of self.old) (journal_of self.new)) }
+
+        // a put that failed
+        ensures stays { OnErr result (report.new ≡ report.old) }
+        ensures link { OnErr result (link.new ≡ link.old) }
+        // Only with a record due.
+        ensures due { OnErr result (is_some (all_desks.due_on self.old.desks addr) ≡ true) }
+        // The host has all of the past as before, and whatever a power cut leaves on a trusted disk
+        // stands for the records of the past, or for these and that one.
+        ensures fails { OnErr result (Fails self.old self.new addr) }
+        // And so does whatever one might have left at a moment of it.
+        ensures between { OnErr result (FailsBetween self.old self.new addr) }
+
+        // the disk
+        ensures cause { HasCause (D.faults (disk_of self.old)) (D.faults (disk_of self.new)) result }
+        ensures goes_on { GoesOn D.size D.honest D.seen D.cuts (disk_of self.old) (disk_of self.new) }
+    {
+        self.attempt(addr, link, report)
+    }
+
+    /// One attempt, whose entries begin in the place of the last one of the report.
+    fn attempt<L: Link>(
+        &mut self,
+        addr: u8,
+        link: &mut L,
+        report: &mut ArrayVec<Entry, 8>,
+    ) -> Result<(), Failed>
+        requires last { 1 ≤ array_vec_len report.old }
+        requires room { array_vec_len report.old ≤ 7 }
+        requires whole { has_failed self.old ≡ false }
+        ensures setup { setup_of self.new ≡ setup_of self.old }
+
+        // the attempt
+        ensures whole { OnOk result (has_failed self.new ≡ false) }
+        // After any past: the entries of one attempt of one row, and a record that was due is on
+        // the disk before its entry is reported. Whatever happened before, the journal counts only
+        // the record that is reported.
+        ensures nexts { OnOk result (Nexts L.gives link.old link.new addr self.old self.new
+            (kept report.old.items) report.new.items) }
+        // The current half of the journal has that record beside those before it, or it alone,
+        // where the half was full.
+        ensures fills { OnOk result (FillsOn (journal_of self.old) (journal_of self.new)) }
+
+        // a put that failed
+        ensures stays { OnErr result (report.new ≡ report.old) }
+        ensures link { OnErr result (link.new ≡ link.old) }
+        // Only with a record due.
+        ensures due { OnErr result (is_some (all_desks.due_on self.old.desks addr) ≡ true) }
+        // The host has all of the past as before, and whatever a power cut leaves on a trusted disk
+        // stands for the records of the past, or for these and that one.
         ensures fails { OnErr result (Fails self.old self.new addr) }
         // And so does whatever one might have left at a moment of it.
         ensures between { OnErr result (FailsBetween self.old self.new addr) }
@@ -392,6 +494,7 @@ impl<'s, D: Settle> Host<'s, D> {
     pub fn settle(&mut self)
         ensures setup { setup_of self.new ≡ setup_of self.old }
         ensures whole { has_failed self.new ≡ has_failed self.old }
+        ensures desks { self.new.desks ≡ self.old.desks }
         ensures stands { (past : List Entry) → StandsFor self.old past → StandsFor self.new past }
         // No call of the disk is noted any more, and it is otherwise as before.
         ensures none { D.noted (disk_of self.new) ≡ 0 }

@@ -87,14 +87,16 @@ impl JobDesk {
         ensures { result ≡ first_of (state_fails (seen_at device.now self.now.job self.now.epoch self.now.orders last))
             (listed tests.now) }
     {
-        match tests {
-            [] => None,
-            [None, more @ ..] => self.first_failing(more, device, last),
-            [Some(test), more @ ..] => match self.fails(test, device, last) {
-                Some(why) => Some(why),
-                None => self.first_failing(more, device, last),
-            },
+        for slot in tests {
+            match slot {
+                None => {}
+                Some(test) => match self.fails(test, device, last) {
+                    Some(why) => return Some(why),
+                    None => {}
+                },
+            }
         }
+        None
     }
 
     /// Why a test of the state fails, if it does.

@@ -33,7 +33,7 @@ use cct_ledger::Ledger;
 use cct_model::{Carry, CrashAt, Record, Setup};
 
 /// What a power cut left.
-#[derive(Debug, Drop)]
+#[derive(Drop)]
 pub struct Crashed {
     /// How many records the journal has.
     pub records: u32,

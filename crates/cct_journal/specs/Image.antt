@@ -1,5 +1,5 @@
 -- What the bytes of a disk represent as a journal.
-use Rattle.std.specs.Prelude.{◌≡◌, ◌≢◌, ◌⊎◌, ℕ, suc, ◌+◌, ◌-◌, ◌*◌, ◌<◌, ◌≤◌, ◌==◌, min, Bool}
+use Rattle.std.specs.Prelude.{◌≡◌, ◌≢◌, ◌⊎◌, ℕ, zero, suc, ◌+◌, ◌-◌, ◌*◌, ◌<◌, ◌≤◌, ◌==◌, min, Bool}
 use Rattle.std.specs.Prelude.{if◌then◌else◌, List, []}
 use Rattle.std.specs.Prelude.{◌∷◌, ◌++◌, length, take, drop, map, All, slice_index}
 use Rattle.cct_model_lines.specs.declared.carry.Carry.{Carry}
@@ -16,6 +16,20 @@ least_size = 2368
 -- How many records a half takes on so many bytes, after so many before it.
 abbrev pub room_of : ℕ → ℕ → ℕ
 room_of size base = min (slots_in size - FIRST_SLOT) (MOST_RECORDS - base)
+
+-- How many records a half takes on so many bytes, where the journal has room for them all.
+abbrev pub half_room : ℕ → ℕ
+half_room size = slots_in size - FIRST_SLOT
+
+-- How many records the half has to which one more is put, where the current one has so many: none
+-- where that is full, since the other one is begun then.
+abbrev pub kept_before : ℕ → ℕ → ℕ
+kept_before room kept = if kept == room then 0 else kept
+
+-- How many records the current half has after so many puts, where it had so many before.
+abbrev pub kept_after : ℕ → ℕ → ℕ → ℕ
+kept_after room kept zero = kept
+kept_after room kept (suc puts) = suc (kept_before room (kept_after room kept puts))
 
 -- The bodies of the slots that these bytes are, up to the first shut gate, and so many at most.
 abbrev pub bodies : ℕ → List ℕ → List (List ℕ)

@@ -1,5 +1,5 @@
 -- What contracts see of a journal.
-use Rattle.std.specs.Prelude.{ℕ, Bool, List, Option, Result, Ok, Err}
+use Rattle.std.specs.Prelude.{ℕ, ◌-◌, Bool, List, Option, Result, Ok, Err}
 use Rattle.cct_model_lines.specs.declared.record.Record.{Record}
 use Rattle.cct_disk.specs.declared.disk.Disk.{Ghosts}
 use Rattle.cct_model_lines.specs.declared.carry.Carry.{Carry}
@@ -26,6 +26,10 @@ carry_before journal = journal.place.carry
 -- How many records a journal has.
 abbrev pub used_of : {D : Type 0} {ghosts : Ghosts D} → Journal D ghosts → ℕ
 used_of journal = journal.place.used
+
+-- How many records its current half has.
+abbrev pub kept_of : {D : Type 0} {ghosts : Ghosts D} → Journal D ghosts → ℕ
+kept_of journal = journal.place.used - journal.place.base
 
 -- A put of this journal failed.
 abbrev pub has_failed : {D : Type 0} {ghosts : Ghosts D} → Journal D ghosts → Bool

@@ -11,7 +11,8 @@ ghost use Rattle.cct_record.specs.Body.{Encodable};
 ghost use Rattle.cct_disk.specs.Settle.{Settles};
 ghost use Rattle.cct_disk.specs.Disk.{CountsCut, GoesOn, Holds, IsCutBy, IsWithin, LeavesOnly};
 ghost use Rattle.cct_disk.specs.Disk.{OnlyReads, Outlasts};
-ghost use Rattle.cct_journal.specs.Image.{StandsFor, StandsForOneOf, least_size};
+ghost use Rattle.cct_journal.specs.Image.{StandsFor, StandsForOneOf, half_room, kept_before};
+ghost use Rattle.cct_journal.specs.Image.{least_size};
 ghost use Rattle.cct_journal.specs.Creating.{Creates, IsCreated, RefusesCreate};
 ghost use Rattle.cct_journal.specs.PowerCuts.{LeavesWith, LeftBy, StandsForWith};
 ghost use Rattle.cct_journal.specs.Opening.{Finds, GivesRecord, RefusesOpen, RefusesRecord};
@@ -50,7 +51,7 @@ impl<D: Disk> Journal<D> {
     ghost use Rattle.cct_journal.specs.Journal.{JournalReadsFrom, JournalStands};
     ghost use Rattle.cct_journal.specs.Journal.{JournalStandsBefore, JournalStandsWith};
     ghost use Rattle.cct_journal.specs.Journal.{base_of, carry_before, disk_back, disk_of};
-    ghost use Rattle.cct_journal.specs.Journal.{has_failed, place_of, used_of};
+    ghost use Rattle.cct_journal.specs.Journal.{has_failed, kept_of, place_of, used_of};
 
     /// Creates a journal without records on a blank disk.
     ///
@@ -263,6 +264,10 @@ impl<D: Disk> Journal<D> {
             → JournalStandsWith carry_of self.old carry.now records
             → LeavesOneOf carry_of D.honest D.seen D.may_leave (disk_of self.new) records entry.now) }
         ensures counted { OnOk result (used_of self.new ≡ used_of self.old + 1) }
+        // The half to which it is put has it beside the ones before it, or it alone, where the
+        // current half was full.
+        ensures turns { OnOk result (kept_of self.new
+            ≡ kept_before (half_room (D.size (disk_of self.old))) (kept_of self.old) + 1) }
         ensures still { OnErr result (place_of self.new ≡ place_of self.old) }
         ensures unbroken { OnOk result (has_failed self.new ≡ false) }
         // Nothing more may be put on that value: what is in the slot is open.

@@ -2,7 +2,7 @@
 use cct_model_lines::Carry;
 
 /// Where a journal is on its disk: in which half, and what that half begins with.
-#[derive(Clone, Debug, Drop)]
+#[derive(Clone, Drop)]
 pub(crate) struct Place {
     /// How many records there are, with those before the half.
     pub(crate) used: u32,

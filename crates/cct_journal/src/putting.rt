@@ -1,12 +1,12 @@
 //! A record is put after the others, in the other half where the current one is full.
-ghost use Rattle.std.specs.Prelude.{◌≡◌, ◌+◌, ◌<◌, ◌≤◌, List, [], ◌∷◌, ◌++◌, IfOk, OnErr, OnOk};
+ghost use Rattle.std.specs.Prelude.{◌≡◌, ◌+◌, ◌-◌, ◌<◌, ◌≤◌, List, [], ◌∷◌, ◌++◌, IfOk, OnErr, OnOk};
 ghost use Rattle.cct_edge.specs.Faults.{HasCause};
 ghost use Rattle.cct_model_lines.specs.Carried.{IsRightly};
 ghost use Rattle.cct_model_lines.specs.declared.carry.Carry.{Carry};
 ghost use Rattle.cct_model_lines.specs.declared.record.Record.{Record};
 ghost use Rattle.cct_record.specs.Body.{Encodable};
 ghost use Rattle.cct_disk.specs.Disk.{GoesOn, LeavesOnly};
-ghost use Rattle.cct_journal.specs.Image.{StandsForOneOf};
+ghost use Rattle.cct_journal.specs.Image.{StandsForOneOf, half_room, kept_before};
 ghost use Rattle.cct_journal.specs.Places.{after_put, turned_or};
 ghost use Rattle.cct_journal.specs.Stands.{IsPlaced, Puts, Stands, StandsWith};
 
@@ -64,6 +64,10 @@ pub(crate) fn put_record<D: Disk>(
     ensures placed { IfOk result (λ turned. IsPlaced (D.size disk.old)
         (after_put (turned_or place.now turned))) }
     ensures used { IfOk result (λ turned. (turned_or place.now turned).used ≡ place.now.used) }
+    ensures turns { IfOk result (λ turned. (turned_or place.now turned).used
+        - (turned_or place.now turned).base ≡ kept_before (half_room (D.size disk.old)) (place.now.used - place.now.base)) }
+    ensures later { IfOk result (λ turned. (turned_or place.now turned).base
+        ≤ (turned_or place.now turned).used) }
     ensures goes_on { GoesOn D.size D.honest D.seen D.cuts disk.old disk.new }
     ensures cause { HasCause (D.faults disk.old) (D.faults disk.new) result }
 {
@@ -92,6 +96,8 @@ pub(crate) fn put_next<D: Disk>(
         → Stands carry_of D.honest D.seen D.may_leave disk.new place.new (records ++ entry.now ∷ [])) }
     ensures placed { OnOk result (IsPlaced (D.size disk.new) place.new) }
     ensures counted { OnOk result (place.new.used ≡ place.old.used + 1) }
+    ensures turns { OnOk result (place.new.used - place.new.base
+        ≡ kept_before (half_room (D.size disk.old)) (place.old.used - place.old.base) + 1) }
     ensures still { OnErr result (place.new ≡ place.old) }
     ensures goes_on { GoesOn D.size D.honest D.seen D.cuts disk.old disk.new }
     ensures cause { HasCause (D.faults disk.old) (D.faults disk.new) result }
@@ -125,6 +131,8 @@ fn put_turned<D: Disk>(
         → Stands carry_of D.honest D.seen D.may_leave disk.new place.new (records ++ entry.now ∷ [])) }
     ensures placed { OnOk result (IsPlaced (D.size disk.new) place.new) }
     ensures counted { OnOk result (place.new.used ≡ place.old.used + 1) }
+    ensures turns { OnOk result (place.new.used - place.new.base
+        ≡ kept_before (half_room (D.size disk.old)) (place.old.used - place.old.base) + 1) }
     ensures still { OnErr result (place.new ≡ place.old) }
     ensures goes_on { GoesOn D.size D.honest D.seen D.cuts disk.old disk.new }
     ensures cause { HasCause (D.faults disk.old) (D.faults disk.new) result }

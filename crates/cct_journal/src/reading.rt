@@ -19,7 +19,7 @@ use cct_model_lines::Record;
 use cct_record::read;
 
 /// What is in a slot.
-#[derive(Clone, Copy, Debug)]
+#[derive(Clone, Copy)]
 pub(crate) struct Slot {
     pub(crate) gate: u8,
     pub(crate) body: [u8; 31],

@@ -1,5 +1,5 @@
 //! The other half is begun where the current one is full.
-ghost use Rattle.std.specs.Prelude.{◌≡◌, ℕ, ◌+◌, ◌^◌, ◌<◌, ◌≤◌, true, false, Some, List, IfOk};
+ghost use Rattle.std.specs.Prelude.{◌≡◌, ℕ, ◌+◌, ◌-◌, ◌^◌, ◌<◌, ◌≤◌, true, false, Some, List, IfOk};
 ghost use Rattle.std.specs.Prelude.{OnOk, length};
 ghost use Rattle.cct_edge.specs.Faults.{HasCause};
 ghost use Rattle.cct_model_lines.specs.Carried.{IsRightly};
@@ -7,7 +7,8 @@ ghost use Rattle.cct_model_lines.specs.declared.carry.Carry.{Carry};
 ghost use Rattle.cct_model_lines.specs.declared.record.Record.{Record};
 ghost use Rattle.cct_disk.specs.Disk.{GoesOn, Holds, LeavesOnly};
 ghost use Rattle.cct_journal.specs.Gated.{IsBegun, behind_open_gate};
-ghost use Rattle.cct_journal.specs.Image.{StandsFor, least_size, room_of};
+ghost use Rattle.cct_journal.specs.Image.{StandsFor, half_room, kept_before, least_size};
+ghost use Rattle.cct_journal.specs.Image.{room_of};
 ghost use Rattle.cct_journal.specs.Places.{after_turn, behind_start, turned_or};
 ghost use Rattle.cct_journal.specs.Turning.{IsBeginning, IsClosing, IsTurnedBy, begun_by};
 ghost use Rattle.cct_journal.specs.Turning.{closed_by, turned_by};
@@ -152,6 +153,8 @@ pub(crate) fn turn_if_full<D: Disk>(
     ensures room { IfOk result (λ turned. (turned_or place.now turned).used
         < (turned_or place.now turned).base + room_of (D.size disk.old) (turned_or place.now turned).base) }
     ensures used { IfOk result (λ turned. (turned_or place.now turned).used ≡ place.now.used) }
+    ensures turns { IfOk result (λ turned. (turned_or place.now turned).used
+        - (turned_or place.now turned).base ≡ kept_before (half_room (D.size disk.old)) (place.now.used - place.now.base)) }
     ensures goes_on { GoesOn D.size D.honest D.seen D.cuts disk.old disk.new }
     ensures cause { HasCause (D.faults disk.old) (D.faults disk.new) result }
 {

@@ -18,7 +18,7 @@ use Rattle.cct_model.specs.Carried.{addr_of_epoch, addr_of_order, first_with, id
 use Rattle.cct_model.specs.Carry.{available_held, carry, epoch_at, epoch_entry, epoch_from, epoch_held, gathered, order_at, order_entry, order_from, order_held, order_with, owed_by, reserved_held}
 use Rattle.cct_model.specs.Device.{is_hopper, is_taker}
 use Rattle.cct_model.specs.Exchange.{by_address, device_at, hopper_there, taker_there}
-use Rattle.cct_model.specs.Following.{all_follow, follows, is_running}
+use Rattle.cct_model.specs.Following.{all_follow, follows}
 use Rattle.cct_model.specs.Job.{epoch_by}
 use Rattle.cct_model.specs.Money.{amount, available_beside, odd_in, owed_in, reserved_in, sum_over}
 use Rattle.cct_model.specs.Records.{epoch_in, is_open, order_in, order_named, owner_in}
@@ -34,20 +34,13 @@ use Rattle.cct_journal_carry.proofs.Gathered.{HasAddress, first_among, first_gat
 
 -- no epoch runs where no device takes money
 
-idle_runs : (state : EpochState) → state ≡ Idle → is_running state ≡ true → ⊥
-idle_runs state idle is = true≢false (sym is ∙ ap is_running idle)
-
 own_idle : (setup : Setup) (before : List Record) (r : Record) (addr : ℕ) →
     taker_there (device_at setup.devices addr) ≡ false → owner_in before r ≡ addr → follows setup before r ≡ true →
     epoch_in addr before ≡ Idle → epoch_by r (epoch_in addr before) ≡ Idle
 own_idle setup before (record_of.Epoch a mask accepts) addr none own follow idle =
     absurd (true≢false (sym (and_parts _ _ (and_parts _ _ (and_parts _ _ follow).0).0).0
     ∙ ap (λ x. taker_there (device_at setup.devices x)) own ∙ none))
-own_idle setup before (record_of.Reading a counter lost accepts posted) addr none own follow idle =
-    absurd (idle_runs (epoch_in a before) (ap (λ x. epoch_in x before) own ∙ idle) follow)
-own_idle setup before (record_of.Broken a seen counter lost accepts posted) addr none own follow idle = refl
-own_idle setup before (record_of.EpochEnd a) addr none own follow idle = refl
-own_idle setup before r addr none own follow idle = idle
+own_idle setup before r addr none own follow idle = ap (epoch_by r) idle
 
 pub idle_beside : (setup : Setup) (before : List Record) (addr : ℕ) →
     taker_there (device_at setup.devices addr) ≡ false → all_follow setup before ≡ true →

@@ -5,7 +5,7 @@ use Rattle.cct_model.specs.lines.record.Record.{Record}
 use Rattle.cct_model.specs.lines.record.Record.TheVariants as record_of
 use Rattle.cct_model.specs.declared.judging.OpenOrder.{OpenOrder}
 use Rattle.cct_model.specs.Setup.{IsSoundSetup}
-use Rattle.cct_model.specs.Carry.{available_held, carry, follows_carry, order_with}
+use Rattle.cct_model.specs.Carry.{available_held, carry, follows_carry, order_with, owner_by}
 use Rattle.cct_model.specs.Exchange.{device_at, hopper_there, taker_there}
 use Rattle.cct_model.specs.Following.{all_follow, count_of, follows, has_values, is_running}
 use Rattle.cct_model.specs.Money.{available_beside, available_in, coins_of}
@@ -34,12 +34,6 @@ follows_carried setup before sound follow (record_of.Epoch addr mask accepts) =
     ap (λ state. taker_there (device_at setup.devices addr) && not (is_running state) && not (mask == 0)
     && has_values (device_at setup.devices addr) mask)
     (epoch_carried setup before sound follow addr)
-follows_carried setup before sound follow (record_of.Reading addr counter lost accepts posted) =
-    ap is_running (epoch_carried setup before sound follow addr)
-follows_carried setup before sound follow (record_of.Broken addr seen counter lost accepts posted) =
-    ap is_running (epoch_carried setup before sound follow addr)
-follows_carried setup before sound follow (record_of.EpochEnd addr) =
-    ap is_running (epoch_carried setup before sound follow addr)
 follows_carried setup before sound follow (record_of.Opened id addr count life) =
     ap (λ owed. hopper_there (device_at setup.devices addr) && is_none owed && not (id == 0)
     && not (is_some (order_with id (carry setup before))) && not (count == 0)
@@ -58,3 +52,5 @@ follows_carried setup before sound follow (record_of.Odd id life_before life_aft
 follows_carried setup before sound follow (record_of.Sold id price) =
     ap (λ available. not (id == 0) && not (price == 0) && nat_le price available)
     (available_alone setup before sound follow)
+follows_carried setup before sound follow r =
+    ap is_running (epoch_carried setup before sound follow (owner_by (carry setup before) r))

@@ -97,8 +97,6 @@ next_epoch setup many c (record_of.Epoch addr mask accepts) safe ok fits =
 next_epoch setup many c (record_of.Reading addr counter lost accepts posted) safe ok fits =
     epoch_counted setup addr counter accepts (first_with addr_of_epoch addr c.epochs) fits.0 fits.2
     (held_epoch setup many addr c safe)
-next_epoch setup many c (record_of.Broken addr seen counter lost accepts posted) safe ok fits = tt
-next_epoch setup many c (record_of.EpochEnd addr) safe ok fits = tt
 next_epoch setup many c (record_of.Opened id addr count life) safe ok fits = kept_epoch setup many addr c safe
 next_epoch setup many c (record_of.Closed id paid unpaid) safe ok fits =
     kept_epoch setup many (hopper_of (order_with id c)) c safe
@@ -106,6 +104,7 @@ next_epoch setup many c (record_of.Odd id life_before life_after) safe ok fits =
     kept_epoch setup many (hopper_of (order_with id c)) c safe
 next_epoch setup many c (record_of.Sold id price) safe ok fits =
     kept_epoch setup many (owner_by c (record_of.Sold id price)) c safe
+next_epoch setup many c r safe ok fits = tt
 
 -- what is so of the epochs of a safe carry
 pub record EpochsSafe (setup : Setup) (epochs : List CarryEpoch) : Type 0 where
@@ -438,12 +437,7 @@ record AddsFew (setup : Setup) (c : Carry) (r : Record) : Type 0 where
 posts_few : (r : Record) → IsInReach r → length (posts_of r) ≤ EVENTS
 posts_few (record_of.Reading addr counter lost accepts posted) fits = fits.3
 posts_few (record_of.Broken addr seen counter lost accepts posted) fits = fits.1
-posts_few (record_of.Epoch addr mask accepts) fits = omega arith
-posts_few (record_of.EpochEnd addr) fits = omega arith
-posts_few (record_of.Opened id addr count life) fits = omega arith
-posts_few (record_of.Closed id paid unpaid) fits = omega arith
-posts_few (record_of.Odd id life_before life_after) fits = omega arith
-posts_few (record_of.Sold id price) fits = omega arith
+posts_few r fits = omega arith
 
 lost_few : (r : Record) → IsInReach r → coins_lost r < 2 ^ 24
 lost_few (record_of.Reading addr counter lost accepts posted) fits = fits.1
@@ -586,11 +580,10 @@ pub in_reach : (r : Record) → InRange r → IsInReach r
 in_reach (record_of.Epoch addr mask accepts) fits = fits
 in_reach (record_of.Reading addr counter lost accepts posted) fits = (fits.1, fits.2, fits.3, fits.4.few)
 in_reach (record_of.Broken addr seen counter lost accepts posted) fits = (fits.3, fits.5.few)
-in_reach (record_of.EpochEnd addr) fits = tt
 in_reach (record_of.Opened id addr count life) fits = fits
 in_reach (record_of.Closed id paid unpaid) fits = (fits.1, fits.2)
-in_reach (record_of.Odd id life_before life_after) fits = tt
 in_reach (record_of.Sold id price) fits = fits
+in_reach r fits = tt
 
 -- what goes on fits the numbers of a carry
 pub record HasRoom (c : Carry) : Type 0 where

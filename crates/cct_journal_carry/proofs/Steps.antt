@@ -29,16 +29,11 @@ use Rattle.cct_journal_carry.proofs.Gathered.{set_gathered}
 -- whose a record is that follows
 owner_follows : (setup : Setup) (before : List Record) → IsSoundSetup setup → all_follow setup before ≡ true →
     (r : Record) → follows setup before r ≡ true → owner_by (carry setup before) r ≡ owner_in before r
-owner_follows setup before sound earlier (record_of.Epoch addr mask accepts) follow = refl
-owner_follows setup before sound earlier (record_of.Reading addr counter lost accepts posted) follow = refl
-owner_follows setup before sound earlier (record_of.Broken addr seen counter lost accepts posted) follow = refl
-owner_follows setup before sound earlier (record_of.EpochEnd addr) follow = refl
-owner_follows setup before sound earlier (record_of.Opened id addr count life) follow = refl
 owner_follows setup before sound earlier (record_of.Closed id paid unpaid) follow =
     ap hopper_of (named_carried setup before sound earlier id (and_parts _ _ follow).0)
 owner_follows setup before sound earlier (record_of.Odd id life_before life_after) follow =
     ap hopper_of (named_carried setup before sound earlier id follow)
-owner_follows setup before sound earlier (record_of.Sold id price) follow = refl
+owner_follows setup before sound earlier r follow = refl
 
 -- the amount that it sets aside
 odd_follows : (setup : Setup) (before : List Record) → IsSoundSetup setup → all_follow setup before ≡ true →

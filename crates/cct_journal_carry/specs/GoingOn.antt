@@ -17,12 +17,11 @@ IsInReach (record_of.Reading addr counter lost accepts posted) =
     (counter < 256) × (lost < 2 ^ 24) × (accepts < 2 ^ 24) × (length posted ≤ EVENTS)
 IsInReach (record_of.Broken addr seen counter lost accepts posted) =
     (lost < 2 ^ 24) × (length posted ≤ EVENTS)
-IsInReach (record_of.EpochEnd addr) = ⊤
 IsInReach (record_of.Opened id addr count life) =
     (id < 2 ^ 32) × (addr < 256) × (count < 256) × (life < 2 ^ 24)
 IsInReach (record_of.Closed id paid unpaid) = (paid < 256) × (unpaid < 256)
-IsInReach (record_of.Odd id life_before life_after) = ⊤
 IsInReach (record_of.Sold id price) = (id < 2 ^ 32) × (price < 2 ^ 32)
+IsInReach r = ⊤
 
 -- What is posted covers what was paid and sold and what is reserved.
 abbrev pub IsCovered : Setup → Carry → Type 0

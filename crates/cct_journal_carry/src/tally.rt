@@ -12,7 +12,7 @@ use crate::going_on::go_on;
 use cct_model::{Carry, DEVICES, Record, Setup};
 
 /// The carry of all records that a host went over, of which each follows those before it.
-#[derive(Debug, Drop)]
+#[derive(Drop)]
 pub struct Tally<'s> {
     setup: &'s Setup,
     /// How many records it went over.

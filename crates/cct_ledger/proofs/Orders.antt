@@ -31,11 +31,7 @@ by_record addr (record_of.Opened id a count life) was o owner own opened is befo
     ap (λ (x : OpenOrder). x.addr) (sym same) ∙ sym (opened id a count life refl) ∙ own
 by_record addr (record_of.Closed id paid unpaid) was o owner own opened is before = absurd cc
 by_record addr (record_of.Odd id life_before life_after) was o owner own opened is before = absurd cc
-by_record addr (record_of.Epoch a mask accepts) was o owner own opened is before = before is
-by_record addr (record_of.Reading a counter lost accepts posted) was o owner own opened is before = before is
-by_record addr (record_of.Broken a seen counter lost accepts posted) was o owner own opened is before = before is
-by_record addr (record_of.EpochEnd a) was o owner own opened is before = before is
-by_record addr (record_of.Sold id price) was o owner own opened is before = before is
+by_record addr r was o owner own opened is before = before is
 
 owner_opened : (before : List Record) (r : Record) (id a count life : ℕ) → r ≡ record_of.Opened id a count life →
     owner_in before r ≡ a

@@ -34,7 +34,7 @@ pub struct NotAllowed;
 ///
 /// A contract shows a ledger by the list of all records that it took, newest first, and by how much
 /// was reserved beside them and isn't released. It takes no memory.
-#[derive(Debug, Drop)]
+#[derive(Drop)]
 pub struct Ledger<'s> {
     setup: &'s Setup,
     /// How many records were applied. Each posts five coins at most, of less than 2^32 together, so

@@ -3,8 +3,7 @@ use Rattle.std.proofs.Common.{◌≡◌, ℕ, ◌^◌, ◌<◌, ◌≤◌, ◌/�
 use Rattle.std.specs.Prelude.{IfNone}
 use Rattle.cct_model_lines.specs.terms.coin.Coin.{Coin}
 use Rattle.cct_model_lines.specs.declared.record.Record.{Record}
-use Rattle.cct_model_lines.specs.declared.record.Record.TheVariants.{Epoch, Reading, Broken, EpochEnd, Opened, Closed, Odd}
-use Rattle.cct_model_lines.specs.declared.record.Record.TheVariants.{Sold}
+use Rattle.cct_model_lines.specs.declared.record.Record.TheVariants.{Epoch, Reading, Broken}
 use Rattle.cct_model_lines.specs.Request.{three_bytes}
 use Rattle.cct_record.specs.Body.{InRange, IsRefused, Spells, body_of, fields_of}
 use Rattle.cct_record.specs.OldBody.{IsOld, IsRefusedOld, OldSpells, old_body_of, old_fields_of}
@@ -58,11 +57,7 @@ old_from (Broken addr mask_seen counter lost accepts posted) fits unused =
       zero_back lost fits.3 (λ i. low i ∷ middle i ∷ high i ∷ []),
       zero_back accepts fits.4 (λ i. first i ∷ second i ∷ third i ∷ []),
     )
-old_from (EpochEnd addr) fits unused = tt
-old_from (Opened id addr count life) fits unused = tt
-old_from (Closed id paid unpaid) fits unused = tt
-old_from (Odd id life_before life_after) fits unused = tt
-old_from (Sold id price) fits unused = tt
+old_from r fits unused = tt
 
 -- The body of today without what the old one hadn't is the old one.
 
@@ -106,11 +101,7 @@ body_narrowed (Reading addr counter lost accepts posted) fits old =
     reading_narrowed addr counter lost accepts posted fits.4.few old.0
 body_narrowed (Broken addr mask_seen counter lost accepts posted) fits old =
     broken_narrowed addr mask_seen counter lost accepts posted fits.5.few
-body_narrowed (EpochEnd addr) fits old = refl
-body_narrowed (Opened id addr count life) fits old = refl
-body_narrowed (Closed id paid unpaid) fits old = refl
-body_narrowed (Odd id life_before life_after) fits old = refl
-body_narrowed (Sold id price) fits old = refl
+body_narrowed r fits old = refl
 
 -- The old body of a record has room for what is put in, and becomes the record's body of today.
 pub record IsToday (old new : List ℕ) : Type 0 where
@@ -177,11 +168,7 @@ body_today (Broken addr mask_seen counter lost accepts posted) fits old =
     (subst (λ n. IsToday (old_body_of (Broken addr mask_seen counter 0 n posted))
     (body_of (Broken addr mask_seen counter 0 n posted))) (sym old.1)
     (broken_today addr mask_seen counter posted fits.5.few))
-body_today (EpochEnd addr) fits old = record { room = refl; same = refl }
-body_today (Opened id addr count life) fits old = record { room = refl; same = refl }
-body_today (Closed id paid unpaid) fits old = record { room = refl; same = refl }
-body_today (Odd id life_before life_after) fits old = record { room = refl; same = refl }
-body_today (Sold id price) fits old = record { room = refl; same = refl }
+body_today r fits old = record { room = refl; same = refl }
 
 -- What an old body spells becomes what it spells as one of today.
 spells_today : (r : Record) (body : List ℕ) → OldSpells r body → IsToday body (body_of r)

@@ -1,6 +1,6 @@
 -- What one step leaves of the host and the bus.
 use Rattle.std.proofs.Common.{◌≡◌, ℕ, Bool, true, false, cond, List, [], ◌∷◌, ◌++◌, reverse, refl, sym, ap, subst}
-use Rattle.std.proofs.Common.{◌∙◌, Option, Some, None, append_assoc}
+use Rattle.std.proofs.Common.{◌∙◌, Option, Some, None, append_assoc, arith, length, set}
 use Rattle.std.specs.Prelude.{◌==◌, not}
 use Rattle.cct_model.specs.terms.coin.Coin.{Coin}
 use Rattle.cct_model.specs.terms.device.DeviceSetup.{DeviceSetup}
@@ -45,9 +45,11 @@ use Rattle.cct_world.specs.Step.{crashes, entry_told}
 use Rattle.cct_world.proofs.Forged.{all_told, asked_by, told_rightly}
 use Rattle.cct_world.proofs.Wires.{balance_wire, command_wire, linked, told_wire}
 
--- a report with one entry
-pub one_entry : (before after : List Entry) (e : Entry) → before ≡ [] → after ≡ before ++ e ∷ [] → after ≡ e ∷ []
-one_entry before after e none is = is ∙ ap (λ es. es ++ e ∷ []) none
+-- an entry in the place of the only one of a report
+pub set_alone : (report : List Entry) (e : Entry) → length report ≡ 1 → set report 0 e ≡ e ∷ []
+set_alone [] e one = absurd cc
+set_alone (x ∷ []) e one = refl
+set_alone (x ∷ y ∷ es) e one = absurd (omega (arith, one))
 
 -- the entries of what happens to a device are those of its step
 pub entries_are : (capacity : ℕ) (setup : Setup) (past : List Entry) (desk : Desk) (addr : ℕ) (what : Happening)

@@ -16,6 +16,7 @@ ghost use Rattle.cct_world.specs.Forged.{TellsForged, asked_at, forged_told};
 ghost use Rattle.cct_host_change.specs.Serving.{change_told};
 ghost use Rattle.cct_world.specs.Step.{crashes_of, entries_told, entry_told, is_next, is_of_desk};
 ghost use Rattle.cct_model.specs.Change.{desk_after};
+ghost use Rattle.arrayvec.specs.ArrayVec.{array_vec_len};
 ghost use Rattle.std.specs.Option.{option_map};
 
 use crate::WorldNo;
@@ -75,7 +76,7 @@ impl<D: Disk> Machine<'_, D> {
         ensures unplayed { IfErr result (λ why.
             StepUnplayed self.old (disk_of self.new) why step.now report.new.items) }
     {
-        report.clear();
+        keep_one(report);
         match step {
             Step::Stock { addr, count } => self.stock(*addr, *count, report),
             Step::Change { first, amount } => self.change(*first, *amount, report),
@@ -100,7 +101,7 @@ impl<D: Disk> Machine<'_, D> {
         requires played { IsTrue (is_played step.now) }
         requires beside { is_of_desk step.now ≡ false }
         requires whole { has_failed self.old ≡ false }
-        requires report { report.old.items ≡ [] }
+        requires one { array_vec_len report.old ≡ 1 }
         ensures setup { setup_of self.new ≡ setup_of self.old }
         ensures played { OnOk result (PlayedTo self.old self.new step.now report.new.items
             (desk_of self.old)) }
@@ -126,7 +127,7 @@ impl<D: Disk> Machine<'_, D> {
         requires no_next { is_next step.now ≡ false }
         requires no_crash { crashes_of step.now ≡ 0 }
         requires beside { is_of_desk step.now ≡ false }
-        requires report { report.old.items ≡ [] }
+        requires one { array_vec_len report.old ≡ 1 }
         ensures { PlaysUndisturbed self.old self.new step.now report.new.items (desk_of self.old) }
     {
         match step {
@@ -162,7 +163,7 @@ impl<D: Disk> Machine<'_, D> {
     ) -> Result<(), WorldNo>
         requires few { IsCrash at }
         requires whole { has_failed self.old ≡ false }
-        requires report { report.old.items ≡ [] }
+        requires one { array_vec_len report.old ≡ 1 }
         ensures setup { setup_of self.new ≡ setup_of self.old }
         ensures played { OnOk result (PlayedTo self.old self.new (step.Crash at choice) report.new.items
             (desk_of self.old)) }
@@ -174,7 +175,10 @@ impl<D: Disk> Machine<'_, D> {
                 tell_crash(crashed, report);
                 Ok(())
             }
-            Err(why) => Err(why),
+            Err(why) => {
+                report.clear();
+                Err(why)
+            }
         }
     }
 
@@ -182,7 +186,7 @@ impl<D: Disk> Machine<'_, D> {
     fn befall(&mut self, addr: u8, what: Happening, report: &mut ArrayVec<Entry, 8>)
         requires known { IsTrue (known_there what (device_at (setup_of self.old).devices addr)) }
         requires placed { IsPlaced what }
-        requires report { report.old.items ≡ [] }
+        requires one { array_vec_len report.old ≡ 1 }
         ensures { PlaysUndisturbed self.old self.new (step_of addr what) report.new.items
             (desk_of self.old) }
     {
@@ -193,17 +197,17 @@ impl<D: Disk> Machine<'_, D> {
     /// The wire has a fault in the next exchange.
     fn fault(&mut self, fault: &WireFault, report: &mut ArrayVec<Entry, 8>)
         requires in_range { IsFault fault.now }
-        requires report { report.old.items ≡ [] }
+        requires one { array_vec_len report.old ≡ 1 }
         ensures { PlaysUndisturbed self.old self.new (step.Fault fault.now) report.new.items
             (desk_of self.old) }
     {
         self.bus.set_fault(fault.copied());
-        report.push(Entry::Fault(fault.copied()));
+        tell_alone(report, Entry::Fault(fault.copied()));
     }
 
     /// The operator gives the host a command. A refused one changes nothing.
     fn command(&mut self, command: &Command, report: &mut ArrayVec<Entry, 8>)
-        requires report { report.old.items ≡ [] }
+        requires one { array_vec_len report.old ≡ 1 }
         ensures { PlaysUndisturbed self.old self.new (step.Command command.now) report.new.items
             (desk_of self.old) }
     {
@@ -215,16 +219,16 @@ impl<D: Disk> Machine<'_, D> {
 
     /// The operator is reported what is available, reserved, paid and sold.
     fn balance(&self, report: &mut ArrayVec<Entry, 8>)
-        requires report { report.old.items ≡ [] }
+        requires one { array_vec_len report.old ≡ 1 }
         ensures { PlaysUndisturbed self.now self.now step.Balance report.new.items
             (desk_of self.now) }
     {
-        report.push(Entry::Balance(self.host.totals()));
+        tell_alone(report, Entry::Balance(self.host.totals()));
     }
 
     /// The operator counted the coins in a hopper.
     fn stock(&mut self, addr: u8, count: u32, report: &mut ArrayVec<Entry, 8>)
-        requires report { report.old.items ≡ [] }
+        requires one { array_vec_len report.old ≡ 1 }
         ensures { PlaysUndisturbed self.old self.new (step.Stock addr count) report.new.items
             (desk_after (step.Stock addr count) (reverse report.new.items) (desk_of self.old)) }
     {
@@ -235,7 +239,7 @@ impl<D: Disk> Machine<'_, D> {
     /// The operator wants change: a session begins where none runs.
     fn change(&mut self, first: u32, amount: u32, report: &mut ArrayVec<Entry, 8>)
         requires in_range { IsInRange (step.Change first amount) }
-        requires report { report.old.items ≡ [] }
+        requires one { array_vec_len report.old ≡ 1 }
         ensures { PlaysUndisturbed self.old self.new (step.Change first amount) report.new.items
             (desk_after (step.Change first amount) (reverse report.new.items) (desk_of self.old)) }
     {
@@ -245,7 +249,7 @@ impl<D: Disk> Machine<'_, D> {
 
     /// The session goes on, and the host is given its next payment, if it has one.
     fn serve(&mut self, report: &mut ArrayVec<Entry, 8>)
-        requires report { report.old.items ≡ [] }
+        requires one { array_vec_len report.old ≡ 1 }
         ensures { PlaysUndisturbed self.old self.new step.Serve report.new.items
             (desk_after step.Serve (reverse report.new.items) (desk_of self.old)) }
     {
@@ -263,7 +267,7 @@ impl<D: Disk> Machine<'_, D> {
     /// ends short.
     fn pay(&mut self, payment: Payment, report: &mut ArrayVec<Entry, 8>)
         requires own { option_map (λ s. s.next) (desk_of self.old).session ≡ Some payment.id }
-        requires report { report.old.items ≡ [] }
+        requires one { array_vec_len report.old ≡ 1 }
         ensures { Pays self.old self.new payment report.new.items }
     {
         let command = Command::Pay {
@@ -288,19 +292,22 @@ impl<D: Disk> Machine<'_, D> {
     /// was forged, that is reported.
     fn next(&mut self, addr: u8, report: &mut ArrayVec<Entry, 8>) -> Result<(), WorldNo>
         requires whole { has_failed self.old ≡ false }
-        requires report { report.old.items ≡ [] }
+        requires one { array_vec_len report.old ≡ 1 }
         ensures setup { setup_of self.new ≡ setup_of self.old }
         ensures played { OnOk result (PlayedTo self.old self.new (step.Next addr) report.new.items
             (desk_of self.old)) }
         ensures unplayed { IfErr result (λ why.
             StepUnplayed self.old (disk_of self.new) why (step.Next addr) report.new.items) }
     {
-        match self.host.next(addr, &mut self.bus, report) {
+        match self.host.next_into(addr, &mut self.bus, report) {
             Ok(()) => {
                 tell_forged(&self.bus, report);
                 Ok(())
             }
-            Err(Failed) => Err(WorldNo::Disk),
+            Err(Failed) => {
+                report.clear();
+                Err(WorldNo::Disk)
+            }
         }
     }
 
@@ -322,6 +329,29 @@ impl<D: Disk> Machine<'_, D> {
             desk: _,
         } = self;
         host.into_disk()
+    }
+}
+
+/// Leaves one entry in a report: the first one that a step tells takes its place.
+fn keep_one(report: &mut ArrayVec<Entry, 8>)
+    ensures { array_vec_len report.new ≡ 1 }
+{
+    report.truncate(1);
+    if report.is_empty() {
+        report.push(Entry::Words);
+    }
+}
+
+/// Tells one entry, in the place of the one that a report has.
+#[inline(always)]
+#[tactic(auto, using(crate::proofs::Steps::set_alone))]
+fn tell_alone(report: &mut ArrayVec<Entry, 8>, entry: Entry)
+    requires { array_vec_len report.old ≡ 1 }
+    ensures { report.new.items ≡ entry ∷ [] }
+{
+    match report.get_mut(0) {
+        Some(told) => *told = entry,
+        None => unreachable!(),
     }
 }
 
@@ -361,11 +391,11 @@ fn asked_at(report: &[Entry]) -> Option<u8>
 
 /// Says what a power cut left.
 fn tell_crash(crashed: Crashed, report: &mut ArrayVec<Entry, 8>)
-    requires { report.old.items ≡ [] }
+    requires { array_vec_len report.old ≡ 1 }
     ensures { reverse report.new.items ≡ restart_news crashed }
 {
     let Crashed { records, kept } = crashed;
-    report.push(Entry::Crash { records });
+    tell_alone(report, Entry::Crash { records });
     if let Some(entry) = kept {
         report.push(Entry::Kept(entry));
     }
@@ -374,65 +404,83 @@ fn tell_crash(crashed: Crashed, report: &mut ArrayVec<Entry, 8>)
 /// Says that a command was taken. An entry is wide: in a function of its own it is made where it is
 /// reported.
 #[inline(never)]
-#[tactic(auto, using(crate::proofs::Steps::one_entry))]
+#[tactic(auto, using(crate::proofs::Steps::set_alone))]
 fn tell_taken(command: &Command, report: &mut ArrayVec<Entry, 8>)
-    requires { report.old.items ≡ [] }
+    requires { array_vec_len report.old ≡ 1 }
     ensures { report.new.items ≡ entry.Taken command.now ∷ [] }
 {
-    report.push(Entry::Taken(*command));
+    match report.get_mut(0) {
+        Some(told) => set_taken(told, command),
+        None => unreachable!(),
+    }
+}
+
+/// Makes an entry that of a command that was taken: that of another one only takes this one in.
+fn set_taken(told: &mut Entry, command: &Command)
+    ensures { told.new ≡ entry.Taken command.now }
+{
+    match told {
+        Entry::Taken(taken) => *taken = *command,
+        _ => *told = Entry::Taken(*command),
+    }
 }
 
 /// Says that a command was refused, and why.
 #[inline(never)]
-#[tactic(auto, using(crate::proofs::Steps::one_entry))]
 fn tell_refused(command: &Command, why: CommandNo, report: &mut ArrayVec<Entry, 8>)
-    requires { report.old.items ≡ [] }
+    requires { array_vec_len report.old ≡ 1 }
     ensures { report.new.items ≡ entry.No command.now why ∷ [] }
 {
-    report.push(Entry::No {
-        command: *command,
-        why,
-    });
+    tell_alone(
+        report,
+        Entry::No {
+            command: *command,
+            why,
+        },
+    );
 }
 
 /// Says that the operator counted the coins in a hopper.
 #[inline(never)]
-#[tactic(auto, using(crate::proofs::Steps::one_entry))]
 fn tell_stock(addr: u8, count: u32, report: &mut ArrayVec<Entry, 8>)
-    requires { report.old.items ≡ [] }
+    requires { array_vec_len report.old ≡ 1 }
     ensures { report.new.items ≡ entry.Stock addr count ∷ [] }
 {
-    report.push(Entry::Stock { addr, count });
+    tell_alone(report, Entry::Stock { addr, count });
 }
 
 /// Says whether a session of change began.
 #[inline(never)]
-#[tactic(auto, using(crate::proofs::Steps::one_entry))]
 fn tell_change(first: u32, amount: u32, began: bool, report: &mut ArrayVec<Entry, 8>)
-    requires { report.old.items ≡ [] }
+    requires { array_vec_len report.old ≡ 1 }
     ensures { report.new.items ≡ change_told first amount began ∷ [] }
 {
     if began {
-        report.push(Entry::ChangeOk { first, amount });
+        tell_alone(report, Entry::ChangeOk { first, amount });
     } else {
-        report.push(Entry::ChangeNo);
+        tell_alone(report, Entry::ChangeNo);
     }
 }
 
 /// Says what a `serve` came to, where no payment is given to the host.
 #[inline(never)]
-#[tactic(auto, using(crate::proofs::Steps::one_entry))]
 fn tell_serving(serving: Serving, report: &mut ArrayVec<Entry, 8>)
-    requires { report.old.items ≡ [] }
+    requires { array_vec_len report.old ≡ 1 }
     ensures { report.new.items ≡ entries_told serving }
 {
     match serving {
-        Serving::Idle => report.push(Entry::ServeIdle),
-        Serving::Wait { addr } => report.push(Entry::ServeWait { addr }),
-        Serving::Odd { id } => report.push(Entry::ServeOdd { id }),
-        Serving::Served { amount } => report.push(Entry::Served { amount }),
-        Serving::Short(shortfall) => add_short(shortfall, report),
-        Serving::Pay(_) => {}
+        Serving::Idle => tell_alone(report, Entry::ServeIdle),
+        Serving::Wait { addr } => tell_alone(report, Entry::ServeWait { addr }),
+        Serving::Odd { id } => tell_alone(report, Entry::ServeOdd { id }),
+        Serving::Served { amount } => tell_alone(report, Entry::Served { amount }),
+        Serving::Short(shortfall) => tell_alone(
+            report,
+            Entry::Short {
+                paid: shortfall.paid,
+                rest: shortfall.rest,
+            },
+        ),
+        Serving::Pay(_) => report.clear(),
     }
 }
 
@@ -451,33 +499,32 @@ fn add_short(shortfall: Shortfall, report: &mut ArrayVec<Entry, 8>)
 
 /// Says what happened to the device at an address, by what became of it. An entry is wide, so it is
 /// made where it is reported.
-#[tactic(auto, using(crate::proofs::Steps::one_entry))]
 fn tell(addr: u8, what: Happening, outcome: Outcome, report: &mut ArrayVec<Entry, 8>)
-    requires { report.old.items ≡ [] }
+    requires { array_vec_len report.old ≡ 1 }
     ensures { report.new.items ≡ entry_told addr what outcome ∷ [] }
 {
     match what {
         Happening::Coin { place } => match outcome {
-            Outcome::Accepted(coin) => report.push(Entry::Accepted { addr, coin }),
-            Outcome::Done => report.push(Entry::Inhibited { addr, place }),
-            Outcome::Nothing => report.push(Entry::Inhibited { addr, place }),
+            Outcome::Accepted(coin) => tell_alone(report, Entry::Accepted { addr, coin }),
+            Outcome::Done => tell_alone(report, Entry::Inhibited { addr, place }),
+            Outcome::Nothing => tell_alone(report, Entry::Inhibited { addr, place }),
         },
-        Happening::Alien => report.push(Entry::Alien { addr }),
+        Happening::Alien => tell_alone(report, Entry::Alien { addr }),
         Happening::Bill { place } => match outcome {
-            Outcome::Done => report.push(Entry::Held { addr, place }),
-            Outcome::Accepted(_) => report.push(Entry::Inhibited { addr, place }),
-            Outcome::Nothing => report.push(Entry::Inhibited { addr, place }),
+            Outcome::Done => tell_alone(report, Entry::Held { addr, place }),
+            Outcome::Accepted(_) => tell_alone(report, Entry::Inhibited { addr, place }),
+            Outcome::Nothing => tell_alone(report, Entry::Inhibited { addr, place }),
         },
         Happening::Fall => match outcome {
-            Outcome::Done => report.push(Entry::Fell { addr }),
-            Outcome::Accepted(_) => report.push(Entry::NoFall { addr }),
-            Outcome::Nothing => report.push(Entry::NoFall { addr }),
+            Outcome::Done => tell_alone(report, Entry::Fell { addr }),
+            Outcome::Accepted(_) => tell_alone(report, Entry::NoFall { addr }),
+            Outcome::Nothing => tell_alone(report, Entry::NoFall { addr }),
         },
         Happening::Jam => match outcome {
-            Outcome::Done => report.push(Entry::Jammed { addr }),
-            Outcome::Accepted(_) => report.push(Entry::NoJam { addr }),
-            Outcome::Nothing => report.push(Entry::NoJam { addr }),
+            Outcome::Done => tell_alone(report, Entry::Jammed { addr }),
+            Outcome::Accepted(_) => tell_alone(report, Entry::NoJam { addr }),
+            Outcome::Nothing => tell_alone(report, Entry::NoJam { addr }),
         },
-        Happening::Reset => report.push(Entry::Reset { addr }),
+        Happening::Reset => tell_alone(report, Entry::Reset { addr }),
     }
 }

@@ -11,6 +11,7 @@ use Rattle.cct_ledger.specs.Ledger as ledgers
 use Rattle.cct_host.specs.OnDisk.{KeepsRecords, StandsUpTo}
 use Rattle.cct_host.specs.Desks.{due_on, reserved_of, setup_of}
 use Rattle.cct_host.specs.Host.{put_by}
+use Rattle.cct_host.proofs.Fills.{fills_none}
 use Rattle.cct_host.proofs.Putting.{same_moments}
 use Rattle.cct_host.proofs.advance.advance.Goals as goal
 
@@ -52,3 +53,6 @@ returns-else-puts_there-clause-advances g c =
                 (λ d. tallies.carry_in c.args.tally.now ≡ carry setup (put_by d ++ records past)) (sym no_put) so_far;
           };
     }
+
+pub returns-else-puts_there-clause-fills : goal.returns-else-puts_there-clause-fills
+returns-else-puts_there-clause-fills g c = fills_none c.args.journal.now

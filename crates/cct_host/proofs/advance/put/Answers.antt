@@ -3,6 +3,7 @@ use Rattle.cct_disk.specs.Disk.{LeavesOnly}
 use Rattle.cct_model.specs.Carry.{carry_of}
 use Rattle.cct_journal.specs.Journal as journals
 use Rattle.cct_host.specs.Host.{put_by}
+use Rattle.cct_host.proofs.Fills.{fills_none, fills_one}
 use Rattle.cct_host.proofs.Putting.{same_moments}
 use Rattle.cct_host.specs.OnDisk.{KeepsRecords, StandsUpTo}
 use Rattle.cct_host.proofs.advance.put.Goals as goal
@@ -63,3 +64,11 @@ returns-in-Ok-clause-puts g c =
           (put.moments (carry_of setup) records (record { stands = stands; carry_is = so_far }));
       quiet = λ due. absurd (none_some (sym due ∙ some));
     }
+
+pub returns-in-None-clause-fills : goal.returns-in-None-clause-fills
+returns-in-None-clause-fills g c = fills_none c.args.journal.now
+
+pub returns-in-Ok-clause-fills : goal.returns-in-Ok-clause-fills
+returns-in-Ok-clause-fills g c =
+    let put = c.in-Ok.ensures in
+    fills_one c.args.journal.now c.put.new.self put.counted put.turns

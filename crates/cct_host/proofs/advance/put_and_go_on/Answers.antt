@@ -1,4 +1,5 @@
 use Rattle.std.proofs.Common.{◌≡◌, ◌+◌, ◌-◌, ◌≤◌, ◌∷◌, ◌++◌, ◌∙◌, Option, ap, length, refl, reverse, subst, sym, true}
+use Rattle.std.specs.Prelude.{is_some}
 use Rattle.std.specs.Option.{IfSome}
 use Rattle.std.proofs.lemmas.List.{reverse-reverse}
 use Rattle.cct_model.specs.lines.record.Record.{Record}
@@ -74,6 +75,7 @@ returns-in_err-put-clause-fails g c =
     let failed = c.in_err-put.ensures.fails in
     if_failed c.from_residual.result _
     (record {
+      due = ap is_some (sym c.due_there-due.ensures.value ∙ failed.left.1);
       desks_stay = refl;
       ledger_stays = refl;
       tally_stays = refl;

@@ -4,7 +4,8 @@ use Rattle.cct_model.specs.Exchange.{device_at}
 use Rattle.cct_model.specs.Money.{coins_of}
 use Rattle.cct_host.specs.Attempt.{news_of}
 use Rattle.cct_host.specs.Desk.{puts_at}
-use Rattle.cct_host.specs.Desks.{amount_at_desk, due_at_desk}
+use Rattle.cct_host.specs.Desks.{amount_at_desk, due_at_desk, sending_at_desk}
+use Rattle.cct_host.specs.Held.{piece_of}
 use Rattle.cct_host.specs.Place.{AreAt, device}
 use Rattle.cct_host.proofs.Lines.{attempt_last}
 use Rattle.cct_host.proofs.Places.{desk_found, desk_lent, desk_sits, device_turn, found_at, none_at, owns_there, still_found}
@@ -49,6 +50,8 @@ returns-in-Some-clause-nexts g c =
       reported_is = attempt.reported_is;
       link = attempt.link;
       put_is = attempt.put_is ∙ sym (ap (due_at_desk c.args.self.now.sale c.args.addr)
+          (desk_found setup.devices ks ks c.args.addr i _ refl y c.args.self.now.many at.within at.index));
+      sent_is = attempt.sent_is ∙ sym (ap (λ there. piece_of (sending_at_desk c.args.self.now.scan c.args.addr there))
           (desk_found setup.devices ks ks c.args.addr i _ refl y c.args.self.now.many at.within at.index));
       goes = λ hears past heard stands owns.
           let sits = desk_sits setup.devices ks i at.device _ past at.within at.is y stands.devices in

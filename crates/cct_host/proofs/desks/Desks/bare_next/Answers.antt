@@ -1,10 +1,11 @@
-use Rattle.std.proofs.Common.{sym, ◌∙◌}
+use Rattle.std.proofs.Common.{ap, sym, ◌∙◌}
 use Rattle.cct_model.specs.Exchange.{device_at}
+use Rattle.cct_host.specs.Held.{piece_of}
 use Rattle.cct_host.specs.Place.{sales, scans}
 use Rattle.cct_host.proofs.Lines.{attempt_last}
 use Rattle.cct_host.proofs.Places.{sale_turn, scan_turn}
 use Rattle.cct_host.proofs.Standing.{of_sale, of_scan}
-use Rattle.cct_host.proofs.Turning.{none_due, sale_due, scan_due}
+use Rattle.cct_host.proofs.Turning.{none_due, sale_due, sale_sends, scan_due, scan_sends}
 use Rattle.cct_host.proofs.desks.Desks.bare_next.Goals as goal
 
 pub next-used-requires-clause-due : goal.next-used-requires-clause-due
@@ -27,6 +28,8 @@ returns-then-addr-eq-BROADCAST-clause-nexts g c =
       link = attempt.link;
       put_is = attempt.put_is ∙ none_due c.args.self.now.scan.job c.args.self.now.scans
           ∙ sym (scan_due c.args.self.now.sale c.args.addr _ c.requires.nobody c.if-addr-eq-BROADCAST.true);
+      sent_is = attempt.sent_is ∙ sym (ap piece_of
+          (scan_sends c.args.self.now.scan c.args.addr _ c.requires.nobody c.if-addr-eq-BROADCAST.true));
       goes = λ hears past heard stands owns.
           let is = c.if-addr-eq-BROADCAST.true in
           let goes = attempt.goes hears scans past heard (sym is) stands.scan tt in
@@ -54,6 +57,9 @@ returns-then-addr-eq-HOST-clause-nexts g c =
       link = attempt.link;
       put_is = attempt.put_is
           ∙ sym (sale_due c.args.self.now.sale c.args.addr _ c.requires.nobody c.if-addr-eq-HOST.true);
+      sent_is = attempt.sent_is ∙ ap piece_of
+          (sale_sends c.args.self.now.scan c.args.self.now.sale c.args.addr _ c.requires.nobody c.if-addr-eq-HOST.true
+          c.args.self.now.sells);
       goes = λ hears past heard stands owns.
           let is = c.if-addr-eq-HOST.true in
           let goes = attempt.goes hears sales past heard (sym is) stands.sale tt in

@@ -1,22 +1,18 @@
-use Rattle.std.proofs.lemmas.Result.{on_err_weaker, on_ok_weaker}
-use Rattle.cct_host.proofs.Hosts.{next_goes, put_failed, put_failed_between}
+use Rattle.std.proofs.Common.{ap, ◌∙◌, subst}
+use Rattle.cct_model.specs.lines.entry.Entry.TheVariants.{Words}
+use Rattle.cct_host.specs.Host.{Nexts}
+use Rattle.cct_host.specs.Report.{kept}
+use Rattle.cct_host.proofs.Reports.{kept_of, left_again}
 use Rattle.cct_host.proofs.host.Host.next.Goals as goal
 
-pub returns-clause-nexts : goal.returns-clause-nexts
-returns-clause-nexts g c =
-    on_ok_weaker c.advance.result
-    (λ advances.
-    next_goes g.L.Link.gives _ _ c.args.addr c.args.self.now _ _ _ c.advance.ensures.setup c.advance.ensures.goes_on
-    advances)
-    c.advance.ensures.advances
+pub returns-in-Ok-clause-nexts : goal.returns-in-Ok-clause-nexts
+returns-in-Ok-clause-nexts g c =
+    let next = c.attempt.new in
+    subst (λ report. Nexts g.L.Link.gives c.args.link.now next.link c.args.addr c.args.self.now next.self report
+    next.report.items)
+    (ap kept c.push.ensures.items ∙ kept_of c.args.report.now.items Words) c.in-Ok.ensures.nexts
 
-pub returns-clause-fails : goal.returns-clause-fails
-returns-clause-fails g c =
-    on_err_weaker c.advance.result (λ fails. put_failed c.args.self.now _ c.args.addr fails) c.advance.ensures.fails
-
-pub returns-clause-between : goal.returns-clause-between
-returns-clause-between g c =
-    on_err_weaker c.advance.result
-    (λ fails. put_failed_between c.args.self.now c.args.addr c.advance.new.desks c.advance.new.ledger c.advance.new.tally
-    c.advance.new.journal fails)
-    c.advance.ensures.fails
+pub returns-in-Err-clause-stays : goal.returns-in-Err-clause-stays
+returns-in-Err-clause-stays g c =
+    left_again c.args.report.now _ _ _ Words c.push.ensures.items c.in-Err.ensures.stays
+    c.pop.ensures.rest

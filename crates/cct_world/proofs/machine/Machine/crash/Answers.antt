@@ -26,7 +26,7 @@ returns-in-Err-clause-unplayed g c =
     let fails = c.in-Err.ensures.fails in
     record {
       breaks = crash_breaks c.args.self.now c.args.at c.args.choice _ c.in-Err.why fails;
-      empty = c.requires.report;
+      empty = c.clear.ensures;
       cause = fails.cause;
       cut = fails.cut;
       lost = search rules;
