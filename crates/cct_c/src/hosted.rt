@@ -1,6 +1,9 @@
 //! A host, step by step, as a program in another language meets it.
-ghost use Rattle.std.specs.Prelude.{◌≡◌, ◌⊎◌, ◌↔◌, [], IsOk, None, take};
+ghost use Rattle.std.specs.Prelude.{◌≡◌, ◌⊎◌, ◌↔◌, ◌<◌, [], Err, IfOk, IsOk, None, false, length};
+ghost use Rattle.std.specs.Prelude.{take, true};
+ghost use Rattle.cct_edge.specs.Faults.{Rose};
 ghost use Rattle.cct_host.specs.Host.{disk_of};
+ghost use Rattle.cct_poll.specs.Starts.{RefusesStart, Starts};
 ghost use Rattle.cct_poll.specs.Steps.{Tells};
 
 use crate::codes::{
@@ -82,7 +85,18 @@ impl Hosted {
         machine: &'static Machine,
         part: &[u8],
         index: &mut u32,
-    ) -> Result<Hosted, u32> {
+    ) -> Result<Hosted, u32>
+        ensures starts { IfOk result (λ hosted.
+            Starts machine.now.setup part.now hosted.poll.host) }
+        // Why none is started is in the bytes.
+        ensures small { result ≡ Err SMALL_PART
+            → RefusesStart machine.now.setup part.now PollNo.Small }
+        ensures alien { result ≡ Err BAD_PART
+            → RefusesStart machine.now.setup part.now PollNo.Alien }
+        ensures bad { result ≡ Err BAD_RECORD → RefusesStart machine.now.setup part.now
+            (PollNo.BadRecord index.new) }
+        ensures over { result ≡ Err OVER → RefusesStart machine.now.setup part.now PollNo.Disk }
+    {
         let Ok(part) = part.to_vec(alloc) else {
             return Err(NO_MEMORY);
         };
@@ -110,6 +124,10 @@ impl Hosted {
         // The message is the one that the host then heard a reply to.
         ensures sends { result ≡ OK → ask.new.what ≡ SEND → take ask.new.count out.new
             ≡ self.new.poll.piece.items }
+        // It has ended only where it is over, as it becomes only by a put of which a call failed.
+        ensures ends { result ≡ OK → ask.new.what ≡ ENDED → self.new.poll.over ≡ true }
+        ensures loses { self.old.poll.over ≡ false → self.new.poll.over ≡ true
+            → Rose (disk_of self.old.poll.host).faults (disk_of self.new.poll.host).faults }
     {
         if out.len() < MOST_TEXT {
             return NO_ROOM;
@@ -133,11 +151,17 @@ impl Hosted {
     /// What is next, once a record that is due is put.
     fn next(&mut self, address: u8) -> Ask
         ensures settled { Tells result → (disk_of self.new.poll.host).calls ≡ [] }
+        ensures call { result ≡ Ask.Make
+            → self.new.poll.made < length (disk_of self.new.poll.host).calls }
+        ensures entry { result ≡ Ask.Take → self.new.poll.told < length self.new.poll.report.items }
+        ensures over { result ≡ Ask.Over → self.new.poll.over ≡ true }
+        ensures loses { self.old.poll.over ≡ false → self.new.poll.over ≡ true
+            → Rose (disk_of self.old.poll.host).faults (disk_of self.new.poll.host).faults }
     {
         match self.poll.ask(address) {
             Ask::Put => match self.poll.put(address) {
                 Ok(()) => self.poll.ask(address),
-                Err(NotNow) => Ask::Over,
+                Err(NotNow) => unreachable!(),
             },
             what => what,
         }
@@ -145,7 +169,9 @@ impl Hosted {
 
     /// The call that is to be made on the part.
     fn tell_call(&mut self, ask: &mut LhAsk, out: &mut [u8]) -> u32
-        ensures { (ask.new.what ≡ WRITE) ⊎ ((ask.new.what ≡ SYNC) ⊎ (ask.new.what ≡ ENDED)) }
+        requires { self.old.poll.made < length (disk_of self.old.poll.host).calls }
+        ensures call { (ask.new.what ≡ WRITE) ⊎ (ask.new.what ≡ SYNC) }
+        ensures poll { self.new.poll ≡ self.old.poll }
     {
         match self.poll.call() {
             Some(Call::Write { at, bytes }) => {
@@ -154,13 +180,14 @@ impl Hosted {
                 put(bytes, out, &mut ask.count)
             }
             Some(Call::Sync) => tell(ask, SYNC),
-            None => tell(ask, ENDED),
+            None => unreachable!(),
         }
     }
 
     /// The line of the entry that is to be taken, with its line feed.
     fn tell_entry(&mut self, ask: &mut LhAsk, out: &mut [u8]) -> u32
-        ensures line { (ask.new.what ≡ TAKE) ⊎ (ask.new.what ≡ ENDED) }
+        requires { self.old.poll.told < length self.old.poll.report.items }
+        ensures line { ask.new.what ≡ TAKE }
         ensures poll { self.new.poll ≡ self.old.poll }
     {
         match self.poll.entry() {
@@ -169,12 +196,14 @@ impl Hosted {
                 let _told = write_entry(&mut Nowhere, &mut self.line, entry);
                 put(self.line.as_slice(), out, &mut ask.count)
             }
-            None => tell(ask, ENDED),
+            None => unreachable!(),
         }
     }
 
     /// The operator gives a command, as a line without its line feed.
-    pub(crate) fn command(&mut self, line: &[u8]) -> u32 {
+    pub(crate) fn command(&mut self, line: &[u8]) -> u32
+        ensures over { self.new.poll.over ≡ self.old.poll.over }
+    {
         match read_live_line(line) {
             Ok(LiveLine::Command(command)) => code_of(self.poll.command(&command)),
             _ => BAD_COMMAND,
@@ -185,6 +214,8 @@ impl Hosted {
     pub(crate) fn heard(&mut self, bytes: &[u8]) -> u32
         // A reply is heard once, after a message that was sent.
         ensures once { result ≡ OK → self.new.poll.asked ≡ None }
+        // Whatever is heard, the host isn't over by it.
+        ensures over { self.new.poll.over ≡ self.old.poll.over }
     {
         if bytes.len() > MOST_HEARD {
             return TOO_LONG;
@@ -193,7 +224,9 @@ impl Hosted {
     }
 
     /// The call on the part was made.
-    pub(crate) fn done(&mut self) -> u32 {
+    pub(crate) fn done(&mut self) -> u32
+        ensures over { self.new.poll.over ≡ self.old.poll.over }
+    {
         code_of(self.poll.done())
     }
 
@@ -204,7 +237,9 @@ impl Hosted {
     }
 
     /// The entry was taken.
-    pub(crate) fn taken(&mut self) -> u32 {
+    pub(crate) fn taken(&mut self) -> u32
+        ensures over { self.new.poll.over ≡ self.old.poll.over }
+    {
         code_of(self.poll.taken())
     }
 

@@ -1,55 +1,71 @@
 -- A `next` over a wire that gives what the caller heard is a step of his host.
-use Rattle.std.proofs.Common.{◌≡◌, ◌≤◌, ℕ, List, [], ◌++◌, length, reverse, sym, ◌∙◌, ap, subst}
+use Rattle.std.proofs.Common.{◌≡◌, ◌≤◌, ℕ, List, [], ◌++◌, length, reverse, refl, sym, ◌∙◌, ap, subst, true, Option, Some, None, Result, Ok, Err, OnErr, OnOk}
+use Rattle.std.specs.Prelude.{is_some}
 use Rattle.cct_model.specs.lines.entry.Entry.{Entry}
 use Rattle.cct_model.specs.terms.wire.TheConstants.{MOST_HEARD}
 use Rattle.cct_disk.specs.declared.disk.Disk.{Ghosts}
 use Rattle.cct_host.specs.declared.host.Host.{Host}
-use Rattle.cct_host.specs.Attempt.{Attempt, HeardBy, Links, asked, idle, news_of, put}
+use Rattle.cct_host.specs.Attempt.{Attempt, HeardBy, Links, asked, idle, news_of, put, sent_of}
+use Rattle.cct_host.specs.Desks.{due_on, sending_on}
+use Rattle.cct_host.specs.Held.{piece_of}
 use Rattle.cct_host.specs.Host.{Nexts}
+use Rattle.cct_host.proofs.Alone.{due_alone}
 use Rattle.cct_poll.specs.declared.canned.Canned.{Canned}
 use Rattle.cct_poll.specs.Canned.{Gave}
-use Rattle.cct_poll.specs.Steps.{Sends, SentOther, Steps}
+use Rattle.cct_poll.specs.Steps.{Sends, Steps}
 
 abbrev gives : Canned → List ℕ → List ℕ → Canned → Type 0
-gives before sent heard after = Gave before.heard.now sent heard after.sent.items
+gives before sent heard after = Gave before.heard.now heard
 
 heard_by : (old new : Canned) (what : Attempt) (heard : List ℕ) → Links gives old new what
     → length heard ≤ MOST_HEARD → old.heard.now ≡ heard → HeardBy (λ sent. heard) what
 heard_by old new idle told links few is = tt
-heard_by old new (asked sent heard end) told links few is = links.heard_is (subst (λ (l : List ℕ). length l ≤ MOST_HEARD) (sym is) few) ∙ is
+heard_by old new (asked sent heard end) told links few is = links (subst (λ (l : List ℕ). length l ≤ MOST_HEARD) (sym is) few) ∙ is
 heard_by old new (put r end) told links few is = tt
 
-sends_as : (old new : Canned) (what : Attempt) (piece : List ℕ) → Links gives old new what
-    → old.sent.items ≡ [] → new.sent.items ≡ piece → Sends piece what
-sends_as old new idle piece links none sent_is = sym sent_is ∙ ap (λ (c : Canned). c.sent.items) links ∙ none
-sends_as old new (asked sent heard end) piece links none sent_is = sym links.noted_is ∙ sent_is
-sends_as old new (put r end) piece links none sent_is = sym sent_is ∙ ap (λ (c : Canned). c.sent.items) links ∙ none
+some_same : (a b : List ℕ) → Some a ≡ Some b → a ≡ b
+some_same a b is = cc
 
-sent_by : (old new : Canned) (what : Attempt) (piece : List ℕ) → Links gives old new what
-    → old.sent.items ≡ [] → Sends piece what → new.sent.items ≡ piece
-sent_by old new idle piece links none sends = ap (λ (c : Canned). c.sent.items) links ∙ none ∙ sym sends
-sent_by old new (asked sent heard end) piece links none sends = links.noted_is ∙ sends
-sent_by old new (put r end) piece links none sends = ap (λ (c : Canned). c.sent.items) links ∙ none ∙ sym sends
+-- what was to be sent was sent
+pub sends_it : (what : Attempt) (piece : List ℕ) → sent_of what ≡ Some piece → Sends piece what
+sends_it idle piece is = absurd cc
+sends_it (asked sent heard end) piece is = some_same sent piece is
+sends_it (put r end) piece is = absurd cc
 
--- one that didn't send the piece sent another
-pub other_of : {D : Type 0} {g : Ghosts D} (old new : Canned) (addr : ℕ) (before after : Host D g)
-    (report reported : List Entry) (piece : List ℕ) → Nexts gives old new addr before after report reported
-    → report ≡ [] → old.sent.items ≡ [] → (new.sent.items ≡ piece → ⊥) → SentOther piece addr reported
-other_of old new addr before after report reported piece nexts empty none differs = record {
-  what = nexts.what;
-  told_is = nexts.reported_is ∙ ap (λ (l : List Entry). l ++ reverse (news_of addr nexts.what)) empty;
-  other = λ sends. differs (sent_by old new nexts.what piece nexts.link none sends);
-}
+pub sends_none : (what : Attempt) → sent_of what ≡ None → Sends [] what
+sends_none idle is = refl
+sends_none (asked sent heard end) is = absurd cc
+sends_none (put r end) is = refl
 
--- one that did is a step
+-- a step that sent this
 pub steps_of : {D : Type 0} {g : Ghosts D} (old new : Canned) (addr : ℕ) (before after : Host D g)
-    (report reported : List Entry) (piece heard : List ℕ) → Nexts gives old new addr before after report reported
-    → report ≡ [] → length heard ≤ MOST_HEARD → old.heard.now ≡ heard → old.sent.items ≡ [] → new.sent.items ≡ piece
+    (report reported : List Entry) (piece heard : List ℕ) (nexts : Nexts gives old new addr before after report reported)
+    → report ≡ [] → length heard ≤ MOST_HEARD → old.heard.now ≡ heard → Sends piece nexts.what
     → Steps piece heard addr before after reported
-steps_of old new addr before after report reported piece heard nexts empty few is none sent_is = record {
+steps_of old new addr before after report reported piece heard nexts empty few is sends = record {
   what = nexts.what;
   told_is = nexts.reported_is ∙ ap (λ (l : List Entry). l ++ reverse (news_of addr nexts.what)) empty;
-  sent_is = sends_as old new nexts.what piece nexts.link none sent_is;
+  sent_is = sends;
   goes = λ past stands suits. nexts.goes (λ sent. heard) past (heard_by old new nexts.what heard nexts.link few is) stands suits;
   moments = nexts.moments;
 }
+
+none_there : {X : Type 0} (x : Option X) → is_some x ≡ true → x ≡ None → ⊥
+none_there None some is = absurd cc
+none_there (Some x) some is = absurd cc
+
+-- where something is to be sent, no put fails
+pub never_fails : {D : Type 0} {g : Ghosts D} (host : Host D g) (addr : ℕ) → is_some (sending_on host.desks addr) ≡ true
+    → is_some (due_on host.desks addr) ≡ true → ⊥
+never_fails host addr sends due = none_there (sending_on host.desks addr) sends (due_alone host.desks addr due)
+
+pub if_done : {T E : Type 0} (result : Result T E) (P Q : Type 0) → OnOk result P → OnErr result Q → (Q → ⊥) → P
+if_done (Ok done) P Q done_so failed never = done_so
+if_done (Err why) P Q done_so failed never = absurd (never failed)
+
+-- and a put sends nothing
+pub put_sends : {D : Type 0} {g : Ghosts D} (old new : Canned) (addr : ℕ) (before after : Host D g)
+    (report reported : List Entry) (nexts : Nexts gives old new addr before after report reported)
+    → is_some (due_on before.desks addr) ≡ true → Sends [] nexts.what
+put_sends old new addr before after report reported nexts due =
+    sends_none nexts.what (nexts.sent_is ∙ ap piece_of (due_alone before.desks addr due))

@@ -1,6 +1,5 @@
 -- What a step of a host does whose caller has the wire.
-use Rattle.std.specs.Prelude.{◌≡◌, ◌⊎◌, ℕ, List, [], ◌∷◌, ◌++◌, reverse, ⊤}
-use Rattle.cct_edge.specs.Faults.{Rose}
+use Rattle.std.specs.Prelude.{◌≡◌, ℕ, List, [], ◌∷◌, ◌++◌, reverse, ⊤}
 use Rattle.cct_model.specs.lines.command.Command.{Command}
 use Rattle.cct_model.specs.lines.entry.Entry.{Entry}
 use Rattle.cct_model.specs.Legal.{EntriesOfNext, command_entry}
@@ -28,19 +27,7 @@ Sends piece idle = piece ≡ []
 Sends piece (asked sent heard end) = sent ≡ piece
 Sends piece (put r end) = piece ≡ []
 
--- The attempt at an address that told these entries, oldest first, sent another piece than this.
-pub record SentOther (piece : List ℕ) (addr : ℕ) (told : List Entry) : Type 0 where
-  pub what : Attempt
-  pub told_is : told ≡ reverse (news_of addr what)
-  pub other : Sends piece what → ⊥
-
 module _ {D : Type 0} {g : Ghosts D} where
-  -- Why a host is over after an attempt at an address, for which this piece was sent: a call of its
-  -- disk failed, or it sent another piece.
-  abbrev pub Loses : List ℕ → ℕ → Host D g → Host D g → List Entry → Type 0
-  Loses piece addr before after told =
-      Rose (g.faults (disk_of before)) (g.faults (disk_of after)) ⊎ SentOther piece addr told
-
   -- The host made one attempt at an address, which sent this piece and heard these bytes: it shows
   -- its entries, oldest first, whatever happened before, and goes on by them.
   pub record Steps (piece heard : List ℕ) (addr : ℕ) (before after : Host D g) (told : List Entry)

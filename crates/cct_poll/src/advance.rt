@@ -1,8 +1,12 @@
 //! One step of a host whose caller has the wire.
-ghost use Rattle.std.specs.Prelude.{◌≡◌, ◌≤◌, [], false, true, length};
+ghost use Rattle.std.specs.Prelude.{◌≡◌, ◌≤◌, ℕ, List, [], Some, OnOk, false, true};
+ghost use Rattle.std.specs.Prelude.{is_some, length};
+ghost use Rattle.cct_edge.specs.Faults.{HasCause};
 ghost use Rattle.cct_model.specs.terms.wire.TheConstants.{MOST_HEARD};
-ghost use Rattle.cct_host.specs.Host.{has_failed, setup_of};
-ghost use Rattle.cct_poll.specs.Steps.{Loses, Steps};
+ghost use Rattle.cct_host.specs.Desks.{due_on, sending_on};
+ghost use Rattle.cct_host.specs.Held.{piece_of};
+ghost use Rattle.cct_host.specs.Host.{disk_of, has_failed, setup_of};
+ghost use Rattle.cct_poll.specs.Steps.{Steps};
 
 use crate::canned::Canned;
 use arrayvec::ArrayVec;
@@ -11,28 +15,44 @@ use cct_edge::Failed;
 use cct_host::Host;
 use cct_model::Entry;
 
-/// The host makes its next attempt at an address: it sends this piece, and hears this, or it puts a
-/// record, where neither is. False where it sent something else, or a put failed: then the host is
-/// over.
-pub(crate) fn advance(
+/// The host, which was about to send a request at an address, has sent it and hears this. It puts
+/// nothing then, so it doesn't fail.
+pub(crate) fn hear(
     host: &mut Host<'_, QueueDisk>,
     addr: u8,
-    piece: &[u8],
     heard: &[u8],
     report: &mut ArrayVec<Entry, 8>,
-) -> bool
+)
     requires few { length heard.now ≤ MOST_HEARD }
     requires empty { report.old.items ≡ [] }
     requires whole { has_failed host.old ≡ false }
+    requires sends { is_some (sending_on host.old.desks addr) ≡ true }
     ensures setup { setup_of host.new ≡ setup_of host.old }
-    ensures whole { result ≡ true → has_failed host.new ≡ false }
-    ensures steps { result ≡ true → Steps piece.now heard.now addr host.old host.new
-        report.new.items }
-    ensures loses { result ≡ false → Loses piece.now addr host.old host.new report.new.items }
+    ensures whole { has_failed host.new ≡ false }
+    ensures steps { (piece : List ℕ) → piece_of (sending_on host.old.desks addr) ≡ Some piece
+        → Steps piece heard.now addr host.old host.new report.new.items }
 {
     let mut link = Canned::new(heard);
     match host.next(addr, &mut link, report) {
-        Ok(()) => link.sent() == piece,
-        Err(Failed) => false,
+        Ok(()) => {}
+        Err(Failed) => unreachable!(),
     }
+}
+
+/// The host puts the record that is due at an address, and sends nothing.
+pub(crate) fn put(
+    host: &mut Host<'_, QueueDisk>,
+    addr: u8,
+    report: &mut ArrayVec<Entry, 8>,
+) -> Result<(), Failed>
+    requires empty { report.old.items ≡ [] }
+    requires whole { has_failed host.old ≡ false }
+    requires due { is_some (due_on host.old.desks addr) ≡ true }
+    ensures setup { setup_of host.new ≡ setup_of host.old }
+    ensures whole { OnOk result (has_failed host.new ≡ false) }
+    ensures steps { OnOk result (Steps [] [] addr host.old host.new report.new.items) }
+    ensures cause { HasCause (disk_of host.old).faults (disk_of host.new).faults result }
+{
+    let mut link = Canned::new(&[]);
+    host.next(addr, &mut link, report)
 }

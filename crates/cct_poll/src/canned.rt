@@ -1,43 +1,29 @@
 //! A wire that gives what the caller heard.
-ghost use Rattle.std.specs.Prelude.{◌≡◌, []};
+ghost use Rattle.std.specs.Prelude.{◌≡◌};
 ghost use Rattle.cct_poll.specs.Canned.{Gave};
 
 use arrayvec::ArrayVec;
-use cct_model::{MOST_HEARD, MOST_SENT};
+use cct_model::MOST_HEARD;
 use cct_wire::Link;
 
-/// What the caller heard, and what the host then sent.
+/// What the caller heard after the piece that he sent.
 #[derive(Drop)]
 pub(crate) struct Canned<'b> {
     heard: &'b [u8],
-    sent: ArrayVec<u8, MOST_SENT>,
 }
 
 impl<'b> Canned<'b> {
     pub(crate) fn new(heard: &'b [u8]) -> Self
-        ensures heard { result.heard.now ≡ heard.now }
-        ensures none { result.sent.items ≡ [] }
+        ensures { result.heard.now ≡ heard.now }
     {
-        Canned {
-            heard,
-            sent: ArrayVec::new(),
-        }
-    }
-
-    /// What was sent.
-    pub(crate) fn sent(&self) -> &[u8]
-        ensures { result.now ≡ self.now.sent.items }
-    {
-        self.sent.as_slice()
+        Canned { heard }
     }
 }
 
 impl Link for Canned<'_> {
-    ghost gives = { λ before sent heard after. Gave before.heard.now sent heard after.sent.items };
+    ghost gives = { λ before _ heard _. Gave before.heard.now heard };
 
-    fn exchange(&mut self, sent: &[u8], heard: &mut ArrayVec<u8, MOST_HEARD>) {
-        self.sent.clear();
-        let _whole = self.sent.try_extend_from_slice(sent);
+    fn exchange(&mut self, _sent: &[u8], heard: &mut ArrayVec<u8, MOST_HEARD>) {
         heard.clear();
         let _whole = heard.try_extend_from_slice(self.heard);
     }

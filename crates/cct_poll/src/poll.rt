@@ -3,7 +3,8 @@ ghost use Rattle.std.specs.Prelude.{◌≡◌, ◌<◌, ◌≤◌, ◌+◌, ℕ,
 ghost use Rattle.std.specs.Prelude.{IsOk, IsTrue, is_some, ◌↔◌, ◌≢◌, ◌⊎◌, OnErr, OnOk, List, Some};
 ghost use Rattle.std.specs.Prelude.{None, reverse, slice_get};
 ghost use Rattle.std.specs.Option.{IfSome, option_map};
-ghost use Rattle.cct_host.specs.Desks.{sending_on};
+ghost use Rattle.cct_edge.specs.Faults.{Rose};
+ghost use Rattle.cct_host.specs.Desks.{due_on, sending_on};
 ghost use Rattle.cct_host.specs.Host.{Keeps, StandsFor, disk_of, has_failed, setup_of};
 ghost use Rattle.cct_journal.specs.Journal as journals;
 ghost use Rattle.cct_model.specs.Exchange as exchanges;
@@ -14,9 +15,10 @@ ghost use Rattle.cct_model.specs.lines.entry.Entry.{Entry};
 ghost use Rattle.cct_model.specs.terms.wire.TheConstants.{MOST_HEARD};
 ghost use Rattle.cct_disk_queue.specs.Calls.{act_of};
 ghost use Rattle.cct_poll.specs.Starts.{RefusesStart, Starts, WasFound, WasMade, untouched};
-ghost use Rattle.cct_poll.specs.Steps.{Loses, Says, Steps, Tells};
+ghost use Rattle.cct_poll.specs.Awaits.{Awaits, Awaits-prop};
+ghost use Rattle.cct_poll.specs.Steps.{Says, Steps, Tells};
 
-use crate::advance::advance;
+use crate::advance::{hear, put};
 use crate::refusal::{NotNow, PollNo};
 use arrayvec::ArrayVec;
 use cct_disk_queue::{Call, QueueDisk};
@@ -60,6 +62,8 @@ pub struct Poll<'s> {
     piece: ArrayVec<u8, MOST_SENT>,
     over: bool,
     ghost whole: { over ≡ false → has_failed host ≡ false },
+    ghost awaits: { Awaits asked host.desks piece.items } by { Awaits-prop asked host.desks piece.items },
+    ghost counts: { 0 < made → made < length (disk_of host).calls },
 }
 
 impl<'s> Poll<'s> {
@@ -104,6 +108,8 @@ impl<'s> Poll<'s> {
         ensures host { self.new.host ≡ self.old.host }
         ensures over { self.new.over ≡ self.old.over }
         ensures asks { Asks result self.old addr }
+        // A call that is to be made is there.
+        ensures there { result ≡ Ask.Make → self.new.made < length (disk_of self.new.host).calls }
         // It is the request that the job there sends next.
         ensures piece { result ≡ Ask.Send → IfSome (sending_on self.old.host.desks addr) (λ s. self.new.piece.items
             ≡ exchanges.ask s.kind s.to s.request) }
@@ -198,13 +204,12 @@ impl<'s> Poll<'s> {
         ensures setup { setup_of self.new.host ≡ setup_of self.old.host }
         // A reply is heard once, after a piece that was sent.
         ensures once { OnOk result (self.new.asked ≡ None) }
-        // One attempt of the host at the address, which sent that piece and heard these bytes,
+        // One attempt of the host at the address, which sent just that piece and heard these bytes,
         // whatever happened before.
-        ensures steps { OnOk result ((addr : ℕ) × (self.old.asked ≡ Some addr) × (self.new.over ≡ false
-            → Steps self.old.piece.items bytes.now addr self.old.host self.new.host self.new.report.items)) }
-        // It is over only for a reason.
-        ensures loses { OnOk result (self.new.over ≡ true → (addr : ℕ) × (self.old.asked ≡ Some addr)
-            × Loses self.old.piece.items addr self.old.host self.new.host self.new.report.items) }
+        ensures steps { OnOk result ((addr : ℕ) × (self.old.asked ≡ Some addr)
+            × Steps self.old.piece.items bytes.now addr self.old.host self.new.host self.new.report.items) }
+        // Whatever is heard, the host isn't over by it.
+        ensures over { self.new.over ≡ self.old.over }
         // None of its entries was taken yet.
         ensures fresh { OnOk result ((self.new.told ≡ 0) × (self.new.asked ≡ None)
             × (self.new.made ≡ self.old.made)) }
@@ -220,13 +225,7 @@ impl<'s> Poll<'s> {
         self.asked = None;
         self.report.clear();
         self.told = 0;
-        self.over = !advance(
-            &mut self.host,
-            addr,
-            self.piece.as_slice(),
-            bytes,
-            &mut self.report,
-        );
+        hear(&mut self.host, addr, bytes, &mut self.report);
         Ok(())
     }
 
@@ -237,20 +236,22 @@ impl<'s> Poll<'s> {
         // One attempt of the host at the address, which sent nothing.
         ensures steps { OnOk result (self.new.over ≡ false
             → Steps [] [] addr self.old.host self.new.host self.new.report.items) }
+        // It is over only where a call of the disk failed.
         ensures loses { OnOk result (self.new.over ≡ true
-            → Loses [] addr self.old.host self.new.host self.new.report.items) }
+            → Rose (disk_of self.old.host).faults (disk_of self.new.host).faults) }
         // None of its entries was taken yet.
         ensures fresh { OnOk result ((self.new.told ≡ 0) × (self.new.asked ≡ None)
             × (self.new.made ≡ self.old.made)) }
-        ensures due { IsOk result ↔ IsQuiet self.old }
+        ensures due { IsOk result
+            ↔ (IsQuiet self.old × (is_some (due_on self.old.host.desks addr) ≡ true)) }
         ensures stays { OnErr result (self.new ≡ self.old) }
     {
-        if !self.is_quiet() {
+        if !self.is_quiet() || self.host.due(addr).is_none() {
             return Err(NotNow);
         }
         self.report.clear();
         self.told = 0;
-        self.over = !advance(&mut self.host, addr, &[], &[], &mut self.report);
+        self.over = put(&mut self.host, addr, &mut self.report).is_err();
         Ok(())
     }
 
