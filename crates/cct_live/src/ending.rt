@@ -58,7 +58,7 @@ impl fmt::Display for Setting<'_> {
 }
 
 /// Why the program stops before it serves.
-#[derive(Clone, Copy, Debug, Drop, PartialEq, Eq)]
+#[derive(Clone, Copy, Drop)]
 pub(crate) enum Stop {
     /// A line of the setup is refused.
     Setup { number: u32, kind: LineKind },

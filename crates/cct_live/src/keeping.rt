@@ -17,7 +17,7 @@ use std::fs::Files;
 const BLOCK: usize = 4096;
 
 /// What a disk has.
-#[derive(Clone, Copy, Debug, PartialEq, Eq)]
+#[derive(Clone, Copy)]
 enum Standing {
     /// Nothing: every byte is 0.
     Blank,

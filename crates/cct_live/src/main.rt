@@ -14,7 +14,6 @@ mod ending;
 mod keeping;
 mod line;
 mod listening;
-mod orders;
 mod outside;
 mod quiet;
 mod rolling;

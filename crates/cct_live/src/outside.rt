@@ -3,10 +3,9 @@ ghost use Rattle.std.specs.Prelude.{◌≡◌, IfSome, ⊤};
 ghost use Rattle.cct_disk.specs.File.{file_faults};
 ghost use Rattle.cct_edge.specs.Faults.{Caused};
 
-use crate::orders::order_on;
 use cct_advice::advise_line;
 use cct_disk::FileDisk;
-use cct_live_service::{Beside, OrderTold, Outside};
+use cct_live_service::{Beside, Outside};
 use cct_model_lines::LineKind;
 use std::fs::{self, Files};
 
@@ -15,7 +14,7 @@ use std::fs::{self, Files};
 pub(crate) struct Around<'r, R> {
     rt: &'r R,
     journal: &'r str,
-    /// How often the journal couldn't be opened or read for a `state`.
+    /// How often the journal couldn't be opened or read beside the service.
     misses: u64,
 }
 
@@ -53,13 +52,6 @@ impl<R: Files + Eprint> Outside for Around<'_, R> {
 
     fn refused(&mut self, number: u32, kind: LineKind, line: &[u8]) {
         let _ = self.rt.eprintln(advise_line(number, kind, line));
-    }
-
-    fn order(&mut self, id: u32) -> OrderTold {
-        match self.open_again() {
-            Some(disk) => order_on(disk, id),
-            None => OrderTold::Unread,
-        }
     }
 }
 

@@ -31,7 +31,7 @@ const ADOPT: &str =
     "Take a changed setup over for the journal, on purpose; the balance is told before and after";
 
 /// What the program is to do.
-#[derive(Clone, Copy, Debug, PartialEq, Eq)]
+#[derive(Clone, Copy)]
 pub(crate) enum Words<'w> {
     /// To be the host of the machine that a setup file tells, over a journal.
     Host(HostWords<'w>),
@@ -42,7 +42,7 @@ pub(crate) enum Words<'w> {
 }
 
 /// What a host is over, and how it goes on.
-#[derive(Clone, Copy, Debug, PartialEq, Eq)]
+#[derive(Clone, Copy)]
 pub(crate) struct HostWords<'w> {
     pub(crate) setup: &'w str,
     pub(crate) journal: &'w str,
@@ -56,7 +56,7 @@ pub(crate) struct HostWords<'w> {
 }
 
 /// The line, and how it is used.
-#[derive(Clone, Copy, Debug, PartialEq, Eq)]
+#[derive(Clone, Copy)]
 pub(crate) struct LineWords<'w> {
     /// The terminal of the line.
     pub(crate) port: &'w str,
@@ -68,7 +68,7 @@ pub(crate) struct LineWords<'w> {
 }
 
 /// Whether the line gives back what is sent.
-#[derive(Clone, Copy, Debug, PartialEq, Eq)]
+#[derive(Clone, Copy, PartialEq, Eq)]
 pub(crate) enum Echo {
     /// It does.
     Yes,

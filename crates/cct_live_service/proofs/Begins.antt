@@ -1,5 +1,5 @@
 -- A host that has just started represents the records that were found.
-use Rattle.std.proofs.Common.{◌≡◌, ℕ, Bool, true, false, List, [], ◌∷◌, map, reverse, refl, sym, ap, ◌∙◌, subst, inl, inr, is_some, Option, Some, None, Result, true≢false}
+use Rattle.std.proofs.Common.{◌≡◌, ℕ, ◌-◌, arith, length, Bool, true, false, List, [], ◌∷◌, map, reverse, refl, sym, ap, ◌∙◌, subst, inl, inr, is_some, Option, Some, None, Result, true≢false}
 use Rattle.std.proofs.lemmas.List.{reverse-reverse}
 use Rattle.cct_model.specs.terms.device.Setup.{Setup}
 use Rattle.cct_model.specs.lines.record.Record.{Record}
@@ -15,10 +15,11 @@ use Rattle.cct_disk.specs.declared.disk.Disk.{Ghosts}
 use Rattle.cct_disk.specs.Disk.{Holds, IsTrusted, LeavesOnly, OnlyReads}
 use Rattle.cct_journal.specs.Creating.{IsCreated}
 use Rattle.cct_journal.specs.Image as images
-use Rattle.cct_journal.specs.Image.{HasFrom}
+use Rattle.cct_journal.specs.Image.{HasFrom, half_room, kept_after}
 use Rattle.cct_journal.specs.Opening.{Finds}
 use Rattle.cct_journal.specs.Stands.{Settled}
 use Rattle.cct_journal.specs.declared.journal.Journal.{Journal}
+use Rattle.cct_journal.specs.declared.place.Place.{Place}
 use Rattle.cct_journal.specs.Journal as journals
 use Rattle.cct_journal.proofs.Moments.{reads_then, weaker}
 use Rattle.cct_host.specs.declared.host.Host.{Host}
@@ -45,6 +46,21 @@ put_again (r ∷ before) = ap (λ rs. r ∷ rs) (put_again before)
 
 no_job : (before : List Record) → HasNoJob (started before)
 no_job before = record { devices = λ d. refl; scan = refl; sale = refl }
+
+-- how many records the current half has at first: none, where the journal was made
+kept_none : (used base room many : ℕ) → used ≡ 0 → many ≡ 0 → used - base ≡ kept_after room (many - 0) (used - many)
+kept_none used base room many none few =
+    let no_more : used - many ≡ 0 = omega (arith, none) in
+    let no_kept : used - base ≡ many - 0 = omega (arith, none, few) in
+    no_kept ∙ sym (ap (kept_after room (many - 0)) no_more)
+
+-- those that it has
+kept_found : (used base own room many : ℕ) → base ≡ own → used ≡ many →
+    used - base ≡ kept_after room (many - own) (used - many)
+kept_found used base own room many same all =
+    let no_more : used - many ≡ 0 = omega (arith, all) in
+    let are_kept : used - base ≡ many - own = omega (arith, same, all) in
+    are_kept ∙ sym (ap (kept_after room (many - own)) no_more)
 
 module _ {D : Type 0} {g : Ghosts D} where
   -- a journal that was there, read as records
@@ -192,8 +208,9 @@ module _ {D : Type 0} {g : Ghosts D} where
       (journals.place_of (journal_of host)) rs) →
       OnlyReads g.size g.honest g.seen g.may_leave g.moment g.left_since g.cuts (journals.disk_of journal) (disk_of host) →
       DiskServes g.size g.honest g.seen g.cuts g.faults disk (journals.disk_of journal) ⊥ →
-      (journals.used_of journal ≡ 0 → journal_of host ≡ journal) → Opened disk setup host there
-  opened_by disk journal host setup false same sound opened opens some resumes knows fresh stands reads serves still = record {
+      (journals.used_of journal ≡ 0 → journal_of host ≡ journal) →
+      journals.place_of (journal_of host) ≡ journals.place_of journal → Opened disk setup host there
+  opened_by disk journal host setup false same sound opened opens some resumes knows fresh stands reads serves still place = record {
     begun = made_new;
     there_is = refl;
     on = opened.1;
@@ -206,6 +223,9 @@ module _ {D : Type 0} {g : Ghosts D} where
       );
       put = [];
       put_are = put_again found;
+      sized = reads.same_size ∙ serves.goes_on.same_size;
+      kept = kept_none (journals.used_of (journal_of host)) (journals.place_of (journal_of host)).base
+          (half_room (g.size disk)) (length found) (ap (λ (p : Place). p.used) place ∙ opened.0) (ap length none);
       left = λ holds.
           weaker g.moment g.left_since disk (disk_of host) (IsCreated image)
           (MayStand (setup_of host) false image found (records (started found))) (λ c h. inl h)
@@ -215,7 +235,7 @@ module _ {D : Type 0} {g : Ghosts D} where
     };
     numbers = λ found none. refl;
   }
-  opened_by disk journal host setup true same sound opened opens some resumes knows fresh stands reads serves still =
+  opened_by disk journal host setup true same sound opened opens some resumes knows fresh stands reads serves still place =
       let found = found_by disk journal host setup (g.seen disk) refl same opened.0 opened.1 some resumes in
       record {
         begun = found_there (journals.base_of journal) (journals.carry_before journal) found.0;
@@ -229,6 +249,11 @@ module _ {D : Type 0} {g : Ghosts D} where
               trusted = λ trusted. (both.same_honest ∙ trusted.0, ap is_some both.same_seen ∙ trusted.1);
               put = [];
               put_are = put_again records;
+              sized = both.same_size;
+              kept = kept_found (journals.used_of (journal_of host)) (journals.place_of (journal_of host)).base
+                  (journals.base_of journal) (half_room (g.size disk)) (length records)
+                  (ap (λ (p : Place). p.base) place)
+                  ((each found.0 found.2 records on).keeps.used ∙ ap length (put_again records));
               left = λ holds. left_at found.0 records on image both holds;
               read = λ there none. both;
             };

@@ -363,10 +363,10 @@ pub command_step : (begun : ℕ → Command) (addr : ℕ) (steps : List LiveStep
 command_step begun addr steps told h = many_one (IsStepOf begun) steps told (inl (addr, h))
 
 -- what is done for a line, where more is known
-does_weaker : (A B : Bool → Type 0) → ((rest : Bool) → A rest → B rest) → (devices : List DeviceSetup)
+does_weaker : (A B : Bool → Type 0) → ((rest : Bool) → A rest → B rest) → (M N : Type 0) → (M → N) → (devices : List DeviceSetup)
     (findings : List Finding) (said : LiveLine) (steps : List LiveStep) (told : List Told) →
-    Does A devices findings said steps told → Does B devices findings said steps told
-does_weaker A B to devices findings says.Poll steps told h = record {
+    Does A M devices findings said steps told → Does B N devices findings said steps told
+does_weaker A B to M N miss devices findings says.Poll steps told h = record {
   before = h.before;
   after = h.after;
   said = h.said;
@@ -380,23 +380,23 @@ does_weaker A B to devices findings says.Poll steps told h = record {
     serves_on : ServesOn A findings h.before h.said → ServesOn B findings h.before h.said
     serves_on (inl none) = inl (none.0, to true none.1)
     serves_on (inr some) = inr (some.0, to false some.1)
-does_weaker A B to devices findings (says.Command c) steps told h = h
-does_weaker A B to devices findings (says.Next addr) steps told h = h
-does_weaker A B to devices findings (says.Do addr) steps told h = h
-does_weaker A B to devices findings says.Balance steps told h = h
-does_weaker A B to devices findings says.Status steps told h = h
-does_weaker A B to devices findings (says.Order id) steps told h = h
-does_weaker A B to devices findings (says.Stock addr count) steps told h = h
-does_weaker A B to devices findings (says.Change first amount) steps told h = h
-does_weaker A B to devices findings says.Serve steps told h = h
-does_weaker A B to devices findings says.End steps told h = h
+does_weaker A B to M N miss devices findings (says.Command c) steps told h = h
+does_weaker A B to M N miss devices findings (says.Next addr) steps told h = h
+does_weaker A B to M N miss devices findings (says.Do addr) steps told h = h
+does_weaker A B to M N miss devices findings says.Balance steps told h = h
+does_weaker A B to M N miss devices findings says.Status steps told h = h
+does_weaker A B to M N miss devices findings (says.Order id) steps told h = (h.0, (h.1.0, h.1.1, λ unread. miss (h.1.2 unread)))
+does_weaker A B to M N miss devices findings (says.Stock addr count) steps told h = h
+does_weaker A B to M N miss devices findings (says.Change first amount) steps told h = h
+does_weaker A B to M N miss devices findings says.Serve steps told h = h
+does_weaker A B to M N miss devices findings says.End steps told h = h
 
-known_weaker : (A B : Bool → Type 0) → ((rest : Bool) → A rest → B rest) → (known : Bool)
+known_weaker : (A B : Bool → Type 0) → ((rest : Bool) → A rest → B rest) → (M N : Type 0) → (M → N) → (known : Bool)
     (devices : List DeviceSetup) (findings : List Finding) (number : ℕ) (said : LiveLine) (steps : List LiveStep)
-    (told : List Told) → DoesKnown A known devices findings number said steps told →
-    DoesKnown B known devices findings number said steps told
-known_weaker A B to true devices findings number said steps told h = does_weaker A B to devices findings said steps told h
-known_weaker A B to false devices findings number said steps told h = h
+    (told : List Told) → DoesKnown A M known devices findings number said steps told →
+    DoesKnown B N known devices findings number said steps told
+known_weaker A B to M N miss true devices findings number said steps told h = does_weaker A B to M N miss devices findings said steps told h
+known_weaker A B to M N miss false devices findings number said steps told h = h
 
 stating_weaker : (M N : Type 0) → (M → N) → (steps : List LiveStep) (told : List Told) → IsStating M steps told →
     IsStating N steps told
@@ -408,7 +408,7 @@ pub line_weaker : (A B : Bool → Type 0) → ((rest : Bool) → A rest → B re
     (told : List Told) → DoesLine A M devices findings number said steps told →
     DoesLine B N devices findings number said steps told
 line_weaker A B to M N miss devices findings number (Ok (input.Host said)) steps told h =
-    known_weaker A B to (is_known devices said) devices findings number said steps told h
+    known_weaker A B to M N miss (is_known devices said) devices findings number said steps told h
 line_weaker A B to M N miss devices findings number (Ok input.State) steps told h = stating_weaker M N miss steps told h
 line_weaker A B to M N miss devices findings number (Err why) steps told h = h
 
@@ -481,10 +481,10 @@ opening_alone knows Missed setup opening findings steps told h = record {
 }
 
 -- lines, and nothing at the end
-pub end_none : (knows : Knows) (Missed : Type 0) (setup : Setup) (opening : Notice) (findings : List Finding) (lines : List Said)
+pub end_none : (E : Type 0) (knows : Knows) (Missed : Type 0) (setup : Setup) (opening : Notice) (findings : List Finding) (lines : List Said)
     (steps : List LiveStep) (told : List Told) → PlaysLines knows Missed setup opening findings lines steps told →
-    ServesLines knows Missed setup opening findings at_end.Leave lines steps told
-end_none knows Missed setup opening findings lines steps told h = record {
+    ServesLines E knows Missed setup opening findings at_end.Leave lines steps told
+end_none E knows Missed setup opening findings lines steps told h = record {
   before = steps;
   after = [];
   said = told;

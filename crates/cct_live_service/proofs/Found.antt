@@ -98,8 +98,9 @@ pub status_finds : (devices : List DeviceSetup) (steps : List LiveStep) (told : 
     IsStatus devices steps told → findings_in told ≡ []
 status_finds devices steps told h = ap findings_in h.1.2 ∙ found_notices h.1.0
 
-pub order_finds : (id : ℕ) (steps : List LiveStep) (told : List Told) → IsOrder id steps told → findings_in told ≡ []
-order_finds id steps told h = ap findings_in h.1.1
+pub order_finds : (M : Type 0) (id : ℕ) (steps : List LiveStep) (told : List Told) → IsOrder M id steps told →
+    findings_in told ≡ []
+order_finds M id steps told h = ap findings_in h.1.1
 
 pub command_finds : (c : Command) (why : Option Withheld) (steps : List LiveStep) (told : List Told) →
     DoesCommand c why steps told → findings_in told ≡ []

@@ -1,8 +1,8 @@
 -- What is told of what the journal knows.
-use Rattle.std.proofs.Common.{◌≡◌, ◌∙◌, ℕ, List, [], ◌∷◌, ◌++◌, ◌&&◌, reverse, map, Bool, true, false, append_assoc, Option, Some, None, is_some, Result, Ok, Err, refl, sym, ap, ap₂, subst, inl, inr}
+use Rattle.std.proofs.Common.{◌≡◌, ◌∙◌, ℕ, List, [], ◌∷◌, ◌++◌, ◌&&◌, ◌-◌, arith, length, take, reverse, map, Bool, true, false, append_assoc, Option, Some, None, is_some, Result, Ok, Err, refl, sym, ap, ap₂, subst, inl, inr}
 use Rattle.std.specs.Prelude.{MatchResult}
 use Rattle.std.specs.Io.KnownBytes.{Appends}
-use Rattle.std.proofs.lemmas.List.{reverse-append, reverse-reverse}
+use Rattle.std.proofs.lemmas.List.{length-append, length-reverse, reverse-append, reverse-reverse, take_at}
 use Rattle.std.proofs.lemmas.Option.{same_Some}
 use Rattle.cct_audit.specs.Writing.{WritesLines, bytes_of}
 use Rattle.cct_edge.specs.Bytes.{AppendsFront}
@@ -11,6 +11,7 @@ use Rattle.cct_disk.specs.declared.disk.Disk.{Ghosts}
 use Rattle.cct_disk.specs.Disk.{IsTrusted}
 use Rattle.cct_journal.specs.Image.{HasFrom, IsAlien}
 use Rattle.cct_journal.specs.Journal as journals
+use Rattle.cct_journal.specs.Opening.{RefusesOpen}
 use Rattle.cct_journal.specs.declared.refusal.OpenNo.{OpenNo}
 use Rattle.cct_journal.specs.declared.refusal.OpenNo.TheVariants as opening
 use Rattle.cct_text.specs.Writing.{Puts}
@@ -36,11 +37,12 @@ use Rattle.cct_bench_state.specs.Telling.{IsBad, IsMisfit, Tells}
 use Rattle.cct_bench_state.specs.declared.telling.StateEnd.{StateEnd}
 use Rattle.cct_bench_state.specs.declared.telling.StateEnd.TheVariants as telling
 use Rattle.cct_laws_live.specs.LiveStep.{LiveStep}
+use Rattle.cct_live_order.specs.Told.{order_in}
 use Rattle.cct_live_service.specs.Doing.{IsStating}
 use Rattle.cct_live_service.specs.AtDesk.{IsApart}
 use Rattle.cct_live_service.specs.Linked.{AreQuiet}
 use Rattle.cct_live_service.specs.Reported.{AreSoWhere}
-use Rattle.cct_live_service.specs.Stated.{IsStateFor, IsStateOf, MissedFor, TellsKnown}
+use Rattle.cct_live_service.specs.Stated.{IsStateFor, IsStateOf, MissedFor, TellsKnown, kept_in}
 use Rattle.cct_live_service.specs.Told.{Told, WritesTold, findings_in, knows_each, news_of, told_line, told_text}
 
 -- it is no news of the host, and no finding
@@ -66,10 +68,10 @@ apart_known all [] desk = refl
 apart_known all (line ∷ lines) desk = apart_known all lines desk
 
 -- each line is of all of them
-pub so_known : (T : Type 0) (setup : Setup) (past : List Entry) (all lines : List (List ℕ)) →
-    (T → IsStateOf setup (records past) all) → AreSoWhere T setup past (knows_each all lines)
-so_known T setup past all [] is = tt
-so_known T setup past all (line ∷ lines) is = (is, so_known T setup past all lines is)
+pub so_known : (T : Type 0) (S : List Record → List Record) (setup : Setup) (past : List Entry) (all lines : List (List ℕ)) →
+    (T → IsStateOf setup (records past) (S (records past)) all) → AreSoWhere T S setup past (knows_each all lines)
+so_known T S setup past all [] is = tt
+so_known T S setup past all (line ∷ lines) is = (is, so_known T S setup past all lines is)
 
 -- lines that were written are reported
 lines_known : (all lines : List (List ℕ)) → map told_line (knows_each all lines) ≡ lines
@@ -93,6 +95,14 @@ module _ {K : Type 0} (written : K → Option (List ℕ)) (puts : K → List ℕ
 split_at : (all first rest : List Record) → reverse all ≡ first ++ rest → all ≡ reverse rest ++ reverse first
 split_at all first rest is = sym (reverse-reverse all) ∙ ap reverse is ∙ reverse-append first rest
 
+-- the last ones are as many as the current half has
+turn_is : (all first rest : List Record) (used base : ℕ) → reverse all ≡ first ++ rest → used ≡ length (reverse all) →
+    base ≡ length first → take (used - base) all ≡ reverse rest
+turn_is all first rest used base is count many =
+    ap (take (used - base)) (split_at all first rest is)
+    ∙ take_at (reverse rest) (reverse first) (used - base)
+    (omega (arith, length-reverse rest, count, many, ap length is, length-append first rest))
+
 -- the image of a trusted disk is the one that was read: its records are those of the past
 module _ {D : Type 0} {g : Ghosts D} (host : Host D g) where
   pub image_state : (image : List ℕ) (base : ℕ) (c : Carry) (rest : List Record) → g.seen (disk_of host) ≡ Some image →
@@ -107,12 +117,46 @@ module _ {D : Type 0} {g : Ghosts D} (host : Host D g) where
       let one = one_from image base place.base c place.carry rest kept.rest has there in
       let first = kept.continues.first in
       let is : c ≡ carry setup (reverse first) = one.carry_is ∙ kept.continues.carry_is in
+      let turn = turn_is (records past) first kept.rest place.used place.base kept.continues.all kept.count kept.continues.many in
       record {
         first = reverse first;
-        since = reverse kept.rest;
-        all_are = split_at (records past) first kept.rest kept.continues.all;
-        lines_are = ap₂ (λ k rs. state_lines (Some setup) k (reverse rs)) is one.rest_is;
+        all_are = split_at (records past) first kept.rest kept.continues.all ∙ ap (λ rs. rs ++ reverse first) (sym turn);
+        lines_are = ap₂ (λ k rs. state_lines (Some setup) k (reverse rs)) is one.rest_is
+            ∙ ap (state_lines (Some setup) (carry setup (reverse first))) (sym turn);
       }
+
+  -- and what its records tell of an order is what those of the past do since the journal last turned
+  pub image_order : (image : List ℕ) (base : ℕ) (c : Carry) (rest : List Record) (id : ℕ) →
+      g.seen (disk_of host) ≡ Some image → HasFrom image base c rest → (past : List Entry) → StandsFor host past →
+      IsTrusted g.honest g.seen (disk_of host) → order_in id (reverse rest) ≡ order_in id (kept_in host past)
+  image_order image base c rest id seen has past stands trusted =
+      let kept = stands.on_disk trusted in
+      let place = journals.place_of host.journal in
+      let there : HasFrom image place.base place.carry kept.rest =
+      subst (λ i. HasFrom i place.base place.carry kept.rest) (same_Some kept.image image (sym kept.held.tells ∙ seen))
+      (record { second = place.second; generation = place.generation; current = kept.has }) in
+      let one = one_from image base place.base c place.carry rest kept.rest has there in
+      let turn = turn_is (records past) kept.continues.first kept.rest place.used place.base kept.continues.all kept.count
+      kept.continues.many in
+      ap (λ rs. order_in id (reverse rs)) one.rest_is ∙ ap (order_in id) (sym turn)
+
+  -- a trusted disk that represents records is refused by nothing that it has
+  pub image_refused : (image : List ℕ) (why : OpenNo) → g.seen (disk_of host) ≡ Some image → RefusesOpen why image →
+      (past : List Entry) → StandsFor host past → IsTrusted g.honest g.seen (disk_of host) → why ≡ opening.Disk
+  image_refused image why seen refuses past stands trusted =
+      let kept = stands.on_disk trusted in
+      let place = journals.place_of host.journal in
+      let there : HasFrom image place.base place.carry kept.rest =
+      subst (λ i. HasFrom i place.base place.carry kept.rest) (same_Some kept.image image (sym kept.held.tells ∙ seen))
+      (record { second = place.second; generation = place.generation; current = kept.has }) in
+      by_why why refuses there
+    where
+      by_why : (why : OpenNo) → RefusesOpen why image → {base : ℕ} {c : Carry} {rest : List Record} →
+          HasFrom image base c rest → why ≡ opening.Disk
+      by_why opening.Disk refuses has = refl
+      by_why opening.Alien refuses {base} {c} {rest} has = absurd (alien_has_none image base c rest refuses has)
+      by_why (opening.BadRecord index) refuses {base} {c} {rest} has =
+          absurd (bad_has_none image index base c rest refuses has)
 
   -- a disk that shows no bytes isn't trusted
   pub untold_state : g.seen (disk_of host) ≡ None → (lines : List (List ℕ)) → IsStateFor host lines

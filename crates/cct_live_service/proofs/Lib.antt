@@ -5,6 +5,7 @@ pub mod Telling
 pub mod Since
 pub mod Reporting
 pub mod Knows
+pub mod Orders
 pub mod Parts
 pub mod Desks
 pub mod Linking

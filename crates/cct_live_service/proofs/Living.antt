@@ -26,18 +26,18 @@ use Rattle.cct_laws_live.specs.LiveStep.{LiveStep}
 use Rattle.cct_laws_live.proofs.Life.{life_begins}
 use Rattle.cct_live_service.specs.declared.served.Served.{Served}
 use Rattle.cct_live_service.specs.declared.served.Served.TheVariants as served
-use Rattle.cct_live_service.specs.Found.{Begun, FoundOn, found_there, made_new, was_found}
+use Rattle.cct_live_service.specs.Found.{Begun, FoundOn, base_found, found_there, made_new, was_found}
 use Rattle.cct_live_service.specs.Opening.{BegunOn, given_as, opening_of, opening_over}
 use Rattle.cct_live_service.specs.Laws.{IsLawful}
 use Rattle.cct_live_service.specs.Linked.{UsesLink, Watched}
 use Rattle.cct_live_service.specs.Lived.{KnownOn, LeftBy, LeftSince, Lived, MissedOn}
 use Rattle.cct_live_service.specs.AtDesk.{Both, FollowsTo}
-use Rattle.cct_live_service.specs.Doing.{FrontOf, ServesLines, ends_by}
+use Rattle.cct_live_service.specs.Doing.{FrontOf, IsDone, ServesLines, ends_by}
 use Rattle.cct_live_service.specs.Known.{KnownAfter, MissedFrom}
 use Rattle.cct_live_service.specs.Causes.{SuitsDisk}
 use Rattle.cct_live_service.specs.Parts.{FailedSince, FailedToPut, LivesTo, Part, Plays}
 use Rattle.cct_live_service.specs.Reported.{AreSoWhere}
-use Rattle.cct_live_service.specs.Since.{Given, MayStand, StandsSince}
+use Rattle.cct_live_service.specs.Since.{Given, MayStand, StandsSince, since_turn}
 use Rattle.cct_live_service.specs.Told.{Told, news_of}
 use Rattle.cct_live_service.proofs.Lawful.{lawful}
 use Rattle.cct_live_service.proofs.Parts.{lives_to_weaker}
@@ -91,13 +91,13 @@ module _ {K : Type 0} (written : K → Option (List ℕ)) (puts : K → List ℕ
       (Linked : List Told → Type 0) (Doing : List LiveStep → List Told → Type 0)
       (part : Part written puts g a b answer (setup_of host) (StandsSince host) After Linked Doing) (found : List Record) →
       FoundOn g.honest g.seen g.may_leave given (setup_of last) begun found →
-      AreSoWhere (IsTrusted g.honest g.seen given) (setup_of last) (started found) part.told
+      AreSoWhere (IsTrusted g.honest g.seen given) (since_turn (g.size given) (base_found begun) found) (setup_of last) (started found) part.told
   part_so a b answer After Linked Doing part found on =
       let follow = found_follow g.honest g.seen g.may_leave given (setup_of last) begun found sound began on in
       let begins = life_begins MOST_RECORDS (setup_of last) found follow in
       let goes = part.goes (given_as given [] begun) found [] (started found)
       (subst (λ setup. IsLife MOST_RECORDS setup found [] (started found)) (sym same) begins) (opens found on []) in
-      subst (λ setup. AreSoWhere (IsTrusted g.honest g.seen given) setup (started found) part.told) same goes.2
+      subst (λ setup. AreSoWhere (IsTrusted g.honest g.seen given) (since_turn (g.size given) (base_found begun) found) setup (started found) part.told) same goes.2
 
   -- what a power cut may leave
   left_standing : (past : List Entry) → StandsFor last past → IsTrusted g.honest g.seen back →
@@ -173,7 +173,7 @@ module _ {K : Type 0} (written : K → Option (List ℕ)) (puts : K → List ℕ
 
   lived_so : (how : Served) (a b : K) →
       Plays written puts (Both (UsesLink gives sent failures (setup_of host).devices roll now line next) (FollowsTo how desk left_desk))
-      (ServesLines (KnownOn g.honest g.seen g.may_leave given (setup_of last) begun desk) (MissedOn g.honest g.seen g.may_leave given (setup_of last) begun missed missed_then) (setup_of last) (opening_of (setup_of last) begun) roll.findings (ends_by how ends)) left how a b host last →
+      (ServesLines (IsDone how) (KnownOn g.honest g.seen g.may_leave given (setup_of last) begun desk) (MissedOn g.honest g.seen g.may_leave given (setup_of last) begun missed missed_then) (setup_of last) (opening_of (setup_of last) begun) roll.findings (ends_by how ends)) left how a b host last →
       Lived written puts gives sent failures g.size g.honest g.seen g.may_leave g.moment g.left_since g.cuts given back (setup_of last) roll now desk left_desk missed missed_then ends left how a b
       line next
   lived_so served.Done a b plays = record {
@@ -185,18 +185,18 @@ module _ {K : Type 0} (written : K → Option (List ℕ)) (puts : K → List ℕ
     does = plays.lives.does;
     wrote = plays.lives.wrote;
     lived = λ found on.
-        let l = part_lived a b (Ok tt) (StandsSince last) (Both (UsesLink gives sent failures (setup_of host).devices roll now line next) (FollowsTo served.Done desk left_desk)) (ServesLines (KnownOn g.honest g.seen g.may_leave given (setup_of last) begun desk) (MissedOn g.honest g.seen g.may_leave given (setup_of last) begun missed missed_then) (setup_of last) (opening_of (setup_of last) begun) roll.findings (ends_by served.Done ends) plays.lines) plays.lives found on [] in
+        let l = part_lived a b (Ok tt) (StandsSince last) (Both (UsesLink gives sent failures (setup_of host).devices roll now line next) (FollowsTo served.Done desk left_desk)) (ServesLines (IsDone served.Done) (KnownOn g.honest g.seen g.may_leave given (setup_of last) begun desk) (MissedOn g.honest g.seen g.may_leave given (setup_of last) begun missed missed_then) (setup_of last) (opening_of (setup_of last) begun) roll.findings (ends_by served.Done ends) plays.lines) plays.lives found on [] in
         (l.0, l.1, left_standing (news_of plays.lives.told ++ started found) l.2.stands);
-    standing = λ found on. part_so a b (Ok tt) (StandsSince last) (Both (UsesLink gives sent failures (setup_of host).devices roll now line next) (FollowsTo served.Done desk left_desk)) (ServesLines (KnownOn g.honest g.seen g.may_leave given (setup_of last) begun desk) (MissedOn g.honest g.seen g.may_leave given (setup_of last) begun missed missed_then) (setup_of last) (opening_of (setup_of last) begun) roll.findings (ends_by served.Done ends) plays.lines) plays.lives found on;
+    standing = λ found on. part_so a b (Ok tt) (StandsSince last) (Both (UsesLink gives sent failures (setup_of host).devices roll now line next) (FollowsTo served.Done desk left_desk)) (ServesLines (IsDone served.Done) (KnownOn g.honest g.seen g.may_leave given (setup_of last) begun desk) (MissedOn g.honest g.seen g.may_leave given (setup_of last) begun missed missed_then) (setup_of last) (opening_of (setup_of last) begun) roll.findings (ends_by served.Done ends) plays.lines) plays.lives found on;
     at_desk = plays.lives.linked.1;
     linked = devices_same plays.lives.told plays.lives.linked.0;
     on = began;
     numbers = numbered;
     moments = λ found on image holds.
-        let l = part_lived a b (Ok tt) (StandsSince last) (Both (UsesLink gives sent failures (setup_of host).devices roll now line next) (FollowsTo served.Done desk left_desk)) (ServesLines (KnownOn g.honest g.seen g.may_leave given (setup_of last) begun desk) (MissedOn g.honest g.seen g.may_leave given (setup_of last) begun missed missed_then) (setup_of last) (opening_of (setup_of last) begun) roll.findings (ends_by served.Done ends) plays.lines) plays.lives found on image in
+        let l = part_lived a b (Ok tt) (StandsSince last) (Both (UsesLink gives sent failures (setup_of host).devices roll now line next) (FollowsTo served.Done desk left_desk)) (ServesLines (IsDone served.Done) (KnownOn g.honest g.seen g.may_leave given (setup_of last) begun desk) (MissedOn g.honest g.seen g.may_leave given (setup_of last) begun missed missed_then) (setup_of last) (opening_of (setup_of last) begun) roll.findings (ends_by served.Done ends) plays.lines) plays.lives found on image in
         moments_standing found image (news_of plays.lives.told ++ started found) l.2 holds;
     read = λ found on there whole none.
-        let l = part_lived a b (Ok tt) (StandsSince last) (Both (UsesLink gives sent failures (setup_of host).devices roll now line next) (FollowsTo served.Done desk left_desk)) (ServesLines (KnownOn g.honest g.seen g.may_leave given (setup_of last) begun desk) (MissedOn g.honest g.seen g.may_leave given (setup_of last) begun missed missed_then) (setup_of last) (opening_of (setup_of last) begun) roll.findings (ends_by served.Done ends) plays.lines) plays.lives found on [] in
+        let l = part_lived a b (Ok tt) (StandsSince last) (Both (UsesLink gives sent failures (setup_of host).devices roll now line next) (FollowsTo served.Done desk left_desk)) (ServesLines (IsDone served.Done) (KnownOn g.honest g.seen g.may_leave given (setup_of last) begun desk) (MissedOn g.honest g.seen g.may_leave given (setup_of last) begun missed missed_then) (setup_of last) (opening_of (setup_of last) begun) roll.findings (ends_by served.Done ends) plays.lines) plays.lives found on [] in
         read_standing found (news_of plays.lives.told ++ started found) l.2 there none;
   }
   lived_so (served.Refused number kind) a b plays = record {
@@ -208,18 +208,18 @@ module _ {K : Type 0} (written : K → Option (List ℕ)) (puts : K → List ℕ
     does = plays.lives.does;
     wrote = plays.lives.wrote;
     lived = λ found on.
-        let l = part_lived a b (Ok tt) (StandsSince last) (Both (UsesLink gives sent failures (setup_of host).devices roll now line next) (FollowsTo (served.Refused number kind) desk left_desk)) (ServesLines (KnownOn g.honest g.seen g.may_leave given (setup_of last) begun desk) (MissedOn g.honest g.seen g.may_leave given (setup_of last) begun missed missed_then) (setup_of last) (opening_of (setup_of last) begun) roll.findings (ends_by (served.Refused number kind) ends) plays.lines) plays.lives found on [] in
+        let l = part_lived a b (Ok tt) (StandsSince last) (Both (UsesLink gives sent failures (setup_of host).devices roll now line next) (FollowsTo (served.Refused number kind) desk left_desk)) (ServesLines (IsDone (served.Refused number kind)) (KnownOn g.honest g.seen g.may_leave given (setup_of last) begun desk) (MissedOn g.honest g.seen g.may_leave given (setup_of last) begun missed missed_then) (setup_of last) (opening_of (setup_of last) begun) roll.findings (ends_by (served.Refused number kind) ends) plays.lines) plays.lives found on [] in
         (l.0, l.1, left_standing (news_of plays.lives.told ++ started found) l.2.stands);
-    standing = λ found on. part_so a b (Ok tt) (StandsSince last) (Both (UsesLink gives sent failures (setup_of host).devices roll now line next) (FollowsTo (served.Refused number kind) desk left_desk)) (ServesLines (KnownOn g.honest g.seen g.may_leave given (setup_of last) begun desk) (MissedOn g.honest g.seen g.may_leave given (setup_of last) begun missed missed_then) (setup_of last) (opening_of (setup_of last) begun) roll.findings (ends_by (served.Refused number kind) ends) plays.lines) plays.lives found on;
+    standing = λ found on. part_so a b (Ok tt) (StandsSince last) (Both (UsesLink gives sent failures (setup_of host).devices roll now line next) (FollowsTo (served.Refused number kind) desk left_desk)) (ServesLines (IsDone (served.Refused number kind)) (KnownOn g.honest g.seen g.may_leave given (setup_of last) begun desk) (MissedOn g.honest g.seen g.may_leave given (setup_of last) begun missed missed_then) (setup_of last) (opening_of (setup_of last) begun) roll.findings (ends_by (served.Refused number kind) ends) plays.lines) plays.lives found on;
     at_desk = plays.lives.linked.1;
     linked = devices_same plays.lives.told plays.lives.linked.0;
     on = began;
     numbers = numbered;
     moments = λ found on image holds.
-        let l = part_lived a b (Ok tt) (StandsSince last) (Both (UsesLink gives sent failures (setup_of host).devices roll now line next) (FollowsTo (served.Refused number kind) desk left_desk)) (ServesLines (KnownOn g.honest g.seen g.may_leave given (setup_of last) begun desk) (MissedOn g.honest g.seen g.may_leave given (setup_of last) begun missed missed_then) (setup_of last) (opening_of (setup_of last) begun) roll.findings (ends_by (served.Refused number kind) ends) plays.lines) plays.lives found on image in
+        let l = part_lived a b (Ok tt) (StandsSince last) (Both (UsesLink gives sent failures (setup_of host).devices roll now line next) (FollowsTo (served.Refused number kind) desk left_desk)) (ServesLines (IsDone (served.Refused number kind)) (KnownOn g.honest g.seen g.may_leave given (setup_of last) begun desk) (MissedOn g.honest g.seen g.may_leave given (setup_of last) begun missed missed_then) (setup_of last) (opening_of (setup_of last) begun) roll.findings (ends_by (served.Refused number kind) ends) plays.lines) plays.lives found on image in
         moments_standing found image (news_of plays.lives.told ++ started found) l.2 holds;
     read = λ found on there whole none.
-        let l = part_lived a b (Ok tt) (StandsSince last) (Both (UsesLink gives sent failures (setup_of host).devices roll now line next) (FollowsTo (served.Refused number kind) desk left_desk)) (ServesLines (KnownOn g.honest g.seen g.may_leave given (setup_of last) begun desk) (MissedOn g.honest g.seen g.may_leave given (setup_of last) begun missed missed_then) (setup_of last) (opening_of (setup_of last) begun) roll.findings (ends_by (served.Refused number kind) ends) plays.lines) plays.lives found on [] in
+        let l = part_lived a b (Ok tt) (StandsSince last) (Both (UsesLink gives sent failures (setup_of host).devices roll now line next) (FollowsTo (served.Refused number kind) desk left_desk)) (ServesLines (IsDone (served.Refused number kind)) (KnownOn g.honest g.seen g.may_leave given (setup_of last) begun desk) (MissedOn g.honest g.seen g.may_leave given (setup_of last) begun missed missed_then) (setup_of last) (opening_of (setup_of last) begun) roll.findings (ends_by (served.Refused number kind) ends) plays.lines) plays.lives found on [] in
         read_standing found (news_of plays.lives.told ++ started found) l.2 there none;
   }
   lived_so served.Unread a b plays = record {
@@ -231,18 +231,18 @@ module _ {K : Type 0} (written : K → Option (List ℕ)) (puts : K → List ℕ
     does = plays.lives.does;
     wrote = plays.lives.wrote;
     lived = λ found on.
-        let l = part_lived a b (Ok tt) (StandsSince last) (Both (UsesLink gives sent failures (setup_of host).devices roll now line next) (FollowsTo served.Unread desk left_desk)) (ServesLines (KnownOn g.honest g.seen g.may_leave given (setup_of last) begun desk) (MissedOn g.honest g.seen g.may_leave given (setup_of last) begun missed missed_then) (setup_of last) (opening_of (setup_of last) begun) roll.findings (ends_by served.Unread ends) plays.lines) plays.lives found on [] in
+        let l = part_lived a b (Ok tt) (StandsSince last) (Both (UsesLink gives sent failures (setup_of host).devices roll now line next) (FollowsTo served.Unread desk left_desk)) (ServesLines (IsDone served.Unread) (KnownOn g.honest g.seen g.may_leave given (setup_of last) begun desk) (MissedOn g.honest g.seen g.may_leave given (setup_of last) begun missed missed_then) (setup_of last) (opening_of (setup_of last) begun) roll.findings (ends_by served.Unread ends) plays.lines) plays.lives found on [] in
         (l.0, l.1, left_standing (news_of plays.lives.told ++ started found) l.2.stands);
-    standing = λ found on. part_so a b (Ok tt) (StandsSince last) (Both (UsesLink gives sent failures (setup_of host).devices roll now line next) (FollowsTo served.Unread desk left_desk)) (ServesLines (KnownOn g.honest g.seen g.may_leave given (setup_of last) begun desk) (MissedOn g.honest g.seen g.may_leave given (setup_of last) begun missed missed_then) (setup_of last) (opening_of (setup_of last) begun) roll.findings (ends_by served.Unread ends) plays.lines) plays.lives found on;
+    standing = λ found on. part_so a b (Ok tt) (StandsSince last) (Both (UsesLink gives sent failures (setup_of host).devices roll now line next) (FollowsTo served.Unread desk left_desk)) (ServesLines (IsDone served.Unread) (KnownOn g.honest g.seen g.may_leave given (setup_of last) begun desk) (MissedOn g.honest g.seen g.may_leave given (setup_of last) begun missed missed_then) (setup_of last) (opening_of (setup_of last) begun) roll.findings (ends_by served.Unread ends) plays.lines) plays.lives found on;
     at_desk = plays.lives.linked.1;
     linked = devices_same plays.lives.told plays.lives.linked.0;
     on = began;
     numbers = numbered;
     moments = λ found on image holds.
-        let l = part_lived a b (Ok tt) (StandsSince last) (Both (UsesLink gives sent failures (setup_of host).devices roll now line next) (FollowsTo served.Unread desk left_desk)) (ServesLines (KnownOn g.honest g.seen g.may_leave given (setup_of last) begun desk) (MissedOn g.honest g.seen g.may_leave given (setup_of last) begun missed missed_then) (setup_of last) (opening_of (setup_of last) begun) roll.findings (ends_by served.Unread ends) plays.lines) plays.lives found on image in
+        let l = part_lived a b (Ok tt) (StandsSince last) (Both (UsesLink gives sent failures (setup_of host).devices roll now line next) (FollowsTo served.Unread desk left_desk)) (ServesLines (IsDone served.Unread) (KnownOn g.honest g.seen g.may_leave given (setup_of last) begun desk) (MissedOn g.honest g.seen g.may_leave given (setup_of last) begun missed missed_then) (setup_of last) (opening_of (setup_of last) begun) roll.findings (ends_by served.Unread ends) plays.lines) plays.lives found on image in
         moments_standing found image (news_of plays.lives.told ++ started found) l.2 holds;
     read = λ found on there whole none.
-        let l = part_lived a b (Ok tt) (StandsSince last) (Both (UsesLink gives sent failures (setup_of host).devices roll now line next) (FollowsTo served.Unread desk left_desk)) (ServesLines (KnownOn g.honest g.seen g.may_leave given (setup_of last) begun desk) (MissedOn g.honest g.seen g.may_leave given (setup_of last) begun missed missed_then) (setup_of last) (opening_of (setup_of last) begun) roll.findings (ends_by served.Unread ends) plays.lines) plays.lives found on [] in
+        let l = part_lived a b (Ok tt) (StandsSince last) (Both (UsesLink gives sent failures (setup_of host).devices roll now line next) (FollowsTo served.Unread desk left_desk)) (ServesLines (IsDone served.Unread) (KnownOn g.honest g.seen g.may_leave given (setup_of last) begun desk) (MissedOn g.honest g.seen g.may_leave given (setup_of last) begun missed missed_then) (setup_of last) (opening_of (setup_of last) begun) roll.findings (ends_by served.Unread ends) plays.lines) plays.lives found on [] in
         read_standing found (news_of plays.lives.told ++ started found) l.2 there none;
   }
   lived_so served.Unwritten a b plays = record {
@@ -254,18 +254,18 @@ module _ {K : Type 0} (written : K → Option (List ℕ)) (puts : K → List ℕ
     does = plays.lives.1.does;
     wrote = (plays.lives.0, plays.lives.1.wrote);
     lived = λ found on.
-        let l = part_lived a b (Err plays.lives.0) (StandsSince last) (Both (UsesLink gives sent failures (setup_of host).devices roll now line next) (FollowsTo served.Unwritten desk left_desk)) (FrontOf (ServesLines (KnownOn g.honest g.seen g.may_leave given (setup_of last) begun desk) (MissedOn g.honest g.seen g.may_leave given (setup_of last) begun missed missed_then) (setup_of last) (opening_of (setup_of last) begun) roll.findings (ends_by served.Unwritten ends) plays.lines)) plays.lives.1 found on [] in
+        let l = part_lived a b (Err plays.lives.0) (StandsSince last) (Both (UsesLink gives sent failures (setup_of host).devices roll now line next) (FollowsTo served.Unwritten desk left_desk)) (FrontOf (ServesLines (IsDone served.Unwritten) (KnownOn g.honest g.seen g.may_leave given (setup_of last) begun desk) (MissedOn g.honest g.seen g.may_leave given (setup_of last) begun missed missed_then) (setup_of last) (opening_of (setup_of last) begun) roll.findings (ends_by served.Unwritten ends) plays.lines)) plays.lives.1 found on [] in
         (l.0, l.1, left_standing (news_of plays.lives.1.told ++ started found) l.2.stands);
-    standing = λ found on. part_so a b (Err plays.lives.0) (StandsSince last) (Both (UsesLink gives sent failures (setup_of host).devices roll now line next) (FollowsTo served.Unwritten desk left_desk)) (FrontOf (ServesLines (KnownOn g.honest g.seen g.may_leave given (setup_of last) begun desk) (MissedOn g.honest g.seen g.may_leave given (setup_of last) begun missed missed_then) (setup_of last) (opening_of (setup_of last) begun) roll.findings (ends_by served.Unwritten ends) plays.lines)) plays.lives.1 found on;
+    standing = λ found on. part_so a b (Err plays.lives.0) (StandsSince last) (Both (UsesLink gives sent failures (setup_of host).devices roll now line next) (FollowsTo served.Unwritten desk left_desk)) (FrontOf (ServesLines (IsDone served.Unwritten) (KnownOn g.honest g.seen g.may_leave given (setup_of last) begun desk) (MissedOn g.honest g.seen g.may_leave given (setup_of last) begun missed missed_then) (setup_of last) (opening_of (setup_of last) begun) roll.findings (ends_by served.Unwritten ends) plays.lines)) plays.lives.1 found on;
     at_desk = plays.lives.1.linked.1;
     linked = devices_same plays.lives.1.told plays.lives.1.linked.0;
     on = began;
     numbers = numbered;
     moments = λ found on image holds.
-        let l = part_lived a b (Err plays.lives.0) (StandsSince last) (Both (UsesLink gives sent failures (setup_of host).devices roll now line next) (FollowsTo served.Unwritten desk left_desk)) (FrontOf (ServesLines (KnownOn g.honest g.seen g.may_leave given (setup_of last) begun desk) (MissedOn g.honest g.seen g.may_leave given (setup_of last) begun missed missed_then) (setup_of last) (opening_of (setup_of last) begun) roll.findings (ends_by served.Unwritten ends) plays.lines)) plays.lives.1 found on image in
+        let l = part_lived a b (Err plays.lives.0) (StandsSince last) (Both (UsesLink gives sent failures (setup_of host).devices roll now line next) (FollowsTo served.Unwritten desk left_desk)) (FrontOf (ServesLines (IsDone served.Unwritten) (KnownOn g.honest g.seen g.may_leave given (setup_of last) begun desk) (MissedOn g.honest g.seen g.may_leave given (setup_of last) begun missed missed_then) (setup_of last) (opening_of (setup_of last) begun) roll.findings (ends_by served.Unwritten ends) plays.lines)) plays.lives.1 found on image in
         moments_standing found image (news_of plays.lives.1.told ++ started found) l.2 holds;
     read = λ found on there whole none.
-        let l = part_lived a b (Err plays.lives.0) (StandsSince last) (Both (UsesLink gives sent failures (setup_of host).devices roll now line next) (FollowsTo served.Unwritten desk left_desk)) (FrontOf (ServesLines (KnownOn g.honest g.seen g.may_leave given (setup_of last) begun desk) (MissedOn g.honest g.seen g.may_leave given (setup_of last) begun missed missed_then) (setup_of last) (opening_of (setup_of last) begun) roll.findings (ends_by served.Unwritten ends) plays.lines)) plays.lives.1 found on [] in
+        let l = part_lived a b (Err plays.lives.0) (StandsSince last) (Both (UsesLink gives sent failures (setup_of host).devices roll now line next) (FollowsTo served.Unwritten desk left_desk)) (FrontOf (ServesLines (IsDone served.Unwritten) (KnownOn g.honest g.seen g.may_leave given (setup_of last) begun desk) (MissedOn g.honest g.seen g.may_leave given (setup_of last) begun missed missed_then) (setup_of last) (opening_of (setup_of last) begun) roll.findings (ends_by served.Unwritten ends) plays.lines)) plays.lives.1 found on [] in
         read_standing found (news_of plays.lives.1.told ++ started found) l.2 there none;
   }
   lived_so served.Disk a b plays = record {
@@ -277,15 +277,15 @@ module _ {K : Type 0} (written : K → Option (List ℕ)) (puts : K → List ℕ
     does = plays.lives.does;
     wrote = plays.lives.wrote;
     lived = λ found on.
-        let l = part_lived a b (Ok tt) (FailedSince last) (Both (UsesLink gives sent failures (setup_of host).devices roll now line next) (FollowsTo served.Disk desk left_desk)) (FrontOf (ServesLines (KnownOn g.honest g.seen g.may_leave given (setup_of last) begun desk) (MissedOn g.honest g.seen g.may_leave given (setup_of last) begun missed missed_then) (setup_of last) (opening_of (setup_of last) begun) roll.findings (ends_by served.Disk ends) plays.lines)) plays.lives found on [] in
+        let l = part_lived a b (Ok tt) (FailedSince last) (Both (UsesLink gives sent failures (setup_of host).devices roll now line next) (FollowsTo served.Disk desk left_desk)) (FrontOf (ServesLines (IsDone served.Disk) (KnownOn g.honest g.seen g.may_leave given (setup_of last) begun desk) (MissedOn g.honest g.seen g.may_leave given (setup_of last) begun missed missed_then) (setup_of last) (opening_of (setup_of last) begun) roll.findings (ends_by served.Disk ends) plays.lines)) plays.lives found on [] in
         (l.0, l.1, left_failed (news_of plays.lives.told ++ started found) l.2.failed);
-    standing = λ found on. part_so a b (Ok tt) (FailedSince last) (Both (UsesLink gives sent failures (setup_of host).devices roll now line next) (FollowsTo served.Disk desk left_desk)) (FrontOf (ServesLines (KnownOn g.honest g.seen g.may_leave given (setup_of last) begun desk) (MissedOn g.honest g.seen g.may_leave given (setup_of last) begun missed missed_then) (setup_of last) (opening_of (setup_of last) begun) roll.findings (ends_by served.Disk ends) plays.lines)) plays.lives found on;
+    standing = λ found on. part_so a b (Ok tt) (FailedSince last) (Both (UsesLink gives sent failures (setup_of host).devices roll now line next) (FollowsTo served.Disk desk left_desk)) (FrontOf (ServesLines (IsDone served.Disk) (KnownOn g.honest g.seen g.may_leave given (setup_of last) begun desk) (MissedOn g.honest g.seen g.may_leave given (setup_of last) begun missed missed_then) (setup_of last) (opening_of (setup_of last) begun) roll.findings (ends_by served.Disk ends) plays.lines)) plays.lives found on;
     at_desk = plays.lives.linked.1;
     linked = devices_same plays.lives.told plays.lives.linked.0;
     on = began;
     numbers = numbered;
     moments = λ found on image holds.
-        let l = part_lived a b (Ok tt) (FailedSince last) (Both (UsesLink gives sent failures (setup_of host).devices roll now line next) (FollowsTo served.Disk desk left_desk)) (FrontOf (ServesLines (KnownOn g.honest g.seen g.may_leave given (setup_of last) begun desk) (MissedOn g.honest g.seen g.may_leave given (setup_of last) begun missed missed_then) (setup_of last) (opening_of (setup_of last) begun) roll.findings (ends_by served.Disk ends) plays.lines)) plays.lives found on image in
+        let l = part_lived a b (Ok tt) (FailedSince last) (Both (UsesLink gives sent failures (setup_of host).devices roll now line next) (FollowsTo served.Disk desk left_desk)) (FrontOf (ServesLines (IsDone served.Disk) (KnownOn g.honest g.seen g.may_leave given (setup_of last) begun desk) (MissedOn g.honest g.seen g.may_leave given (setup_of last) begun missed missed_then) (setup_of last) (opening_of (setup_of last) begun) roll.findings (ends_by served.Disk ends) plays.lines)) plays.lives found on image in
         moments_failed found image (news_of plays.lives.told ++ started found) l.2 holds;
     read = λ found on there whole none. absurd (whole tt);
   }
@@ -295,7 +295,7 @@ module _ {K : Type 0} (written : K → Option (List ℕ)) (puts : K → List ℕ
 
   pub lived_by : (how : Served) (a b : K) →
       Plays written puts (Both (UsesLink gives sent failures (setup_of host).devices roll now line next) (FollowsTo how desk left_desk))
-      (ServesLines (KnownAfter host desk) (MissedFrom host (Rose missed missed_then)) (setup_of last) (opening_of (setup_of last) begun) roll.findings (ends_by how ends)) left how a b host last →
+      (ServesLines (IsDone how) (KnownAfter host desk) (MissedFrom host (Rose missed missed_then)) (setup_of last) (opening_of (setup_of last) begun) roll.findings (ends_by how ends)) left how a b host last →
       Lived written puts gives sent failures g.size g.honest g.seen g.may_leave g.moment g.left_since g.cuts given back (setup_of last) roll now desk left_desk missed missed_then ends left how a b
       line next
   lived_by how a b plays =
@@ -306,9 +306,9 @@ module _ {K : Type 0} (written : K → Option (List ℕ)) (puts : K → List ℕ
         lines = plays.lines;
         lives = lives_to_weaker written puts
             (Both (UsesLink gives sent failures (setup_of host).devices roll now line next) (FollowsTo how desk left_desk)) how a b host last
-            (ServesLines (KnownAfter host desk) (MissedFrom host (Rose missed missed_then)) (setup_of last) opening roll.findings (ends_by how ends) plays.lines)
-            (ServesLines knows unread (setup_of last) opening roll.findings (ends_by how ends) plays.lines)
-            (serves_lines_weaker (setup_of last) (KnownAfter host desk) knows known_on (MissedFrom host (Rose missed missed_then))
+            (ServesLines (IsDone how) (KnownAfter host desk) (MissedFrom host (Rose missed missed_then)) (setup_of last) opening roll.findings (ends_by how ends) plays.lines)
+            (ServesLines (IsDone how) knows unread (setup_of last) opening roll.findings (ends_by how ends) plays.lines)
+            (serves_lines_weaker (setup_of last) (IsDone how) (IsDone how) (λ lasts. lasts) (KnownAfter host desk) knows known_on (MissedFrom host (Rose missed missed_then))
             unread missed_on opening roll.findings (ends_by how ends) plays.lines)
             plays.lives;
         says = plays.says;

@@ -1,7 +1,7 @@
 -- Where an order is open, device by device.
 use Rattle.std.proofs.Common.{◌≡◌, ◌∙◌, ◌+◌, ◌<◌, ◌≤◌, ℕ, zero, suc, List, [], ◌∷◌, length, take, get_or, Option, Some, None, true, false, is_some, refl, sym, ap, subst, arith}
 use Rattle.cct_model.specs.terms.device.DeviceSetup.{DeviceSetup}
-use Rattle.cct_live_service.specs.declared.outside.OrderTold.{OrderTold}
+use Rattle.cct_live_order.specs.declared.told.OrderTold.{OrderTold}
 use Rattle.cct_live_service.specs.Reported.{IsJust, first_in, first_of}
 
 first_alone : (x : Option OrderTold) → first_of x None ≡ x

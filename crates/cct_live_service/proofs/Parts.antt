@@ -1,5 +1,5 @@
 -- One part of a life after another.
-use Rattle.std.proofs.Common.{◌≡◌, ◌≤◌, ◌⊎◌, ℕ, List, [], ◌∷◌, ◌++◌, Bool, false, length, reverse, Option, Some, Result, OnOk, IsErr}
+use Rattle.std.proofs.Common.{◌≡◌, ◌≢◌, ◌≤◌, ◌⊎◌, ℕ, List, [], ◌∷◌, ◌++◌, Bool, false, length, reverse, Option, Some, Result, OnOk, IsErr}
 use Rattle.std.specs.Prelude.{⊤}
 use Rattle.std.proofs.Common.{Ok, Err, refl, ap, sym, ◌∙◌, subst, append_assoc, arith, inl, inr, ⊎_elim}
 use Rattle.std.specs.List.{All}
@@ -28,7 +28,7 @@ use Rattle.cct_host.specs.Attempt.{Attempt, HeardBy, Links, asked, idle, put}
 use Rattle.cct_host.specs.Attempt as attempt
 use Rattle.cct_host.specs.Desk.{no_of}
 use Rattle.cct_host.specs.OnDisk.{StandsUpTo}
-use Rattle.cct_host.specs.Host.{Answers, Fails, FailsBetween, Keeps, Nexts, disk_of, has_failed, setup_of}
+use Rattle.cct_host.specs.Host.{Answers, Fails, FailsBetween, FillsOn, Keeps, Nexts, disk_of, has_failed, journal_of, setup_of}
 use Rattle.cct_host.proofs.Quiet.{balance_quiet, host_quiet}
 use Rattle.cct_laws_live.specs.Life.{IsLife}
 use Rattle.cct_laws_live.specs.LiveStep.{LiveStep}
@@ -40,20 +40,22 @@ use Rattle.cct_live_service.specs.declared.notice.Notice.TheVariants as notice_o
 use Rattle.cct_live_service.specs.declared.served.Served.{Served}
 use Rattle.cct_live_service.specs.declared.served.Served.TheVariants as served
 use Rattle.cct_live_service.specs.Causes.{DiskServes, EndsBy, IsDiskFault, IsUnwritten}
-use Rattle.cct_live_service.specs.Doing.{FrontOf, IsStating, Tells}
+use Rattle.cct_live_service.specs.Doing.{FrontOf, IsOrder, IsStating, Tells}
 use Rattle.cct_live_service.specs.Ending.{by_writing}
 use Rattle.cct_live_service.specs.Parts.{Acts, FailedSince, LifeGoes, LivesOn, LivesTo, Part}
 use Rattle.cct_live_service.specs.Watch.{IsOfWatch}
-use Rattle.cct_live_service.specs.Reported.{AreSo}
+use Rattle.cct_live_service.specs.Reported.{IsJust, IsOrderOf, IsTold, open_in, order_told}
 use Rattle.cct_live_service.specs.Known.{MissedFrom}
-use Rattle.cct_live_service.specs.Stated.{IsStateFor, MissedFor, TellsKnown}
-use Rattle.cct_live_service.specs.Since.{Given, StandsSince}
+use Rattle.cct_live_service.specs.Stated.{IsStateFor, IsStateOf, MissedFor, TellsKnown, kept_in}
+use Rattle.cct_live_service.specs.Since.{Given, StandsSince, since_turn}
+use Rattle.cct_live_order.specs.declared.told.OrderTold.{OrderTold}
+use Rattle.cct_live_order.specs.declared.told.OrderTold.TheVariants as order_of
 use Rattle.cct_live_service.specs.Said.{IsOfInput}
 use Rattle.cct_live_service.specs.Told.{Told, WritesTold, as_told, attempt_told, knows_each, news_of, notice, notices_told, told_line}
 use Rattle.cct_text.specs.Writing.{PutsLine}
 use Rattle.cct_live_service.proofs.Knows.{news_known, so_known}
-use Rattle.cct_live_service.proofs.Reporting.{so_attempt, so_then, so_where}
-use Rattle.cct_live_service.proofs.Since.{attempt_records, command_records, since_left, since_put, since_same}
+use Rattle.cct_live_service.proofs.Reporting.{AreSo, so_attempt, so_then, so_where}
+use Rattle.cct_live_service.proofs.Since.{attempt_records, command_records, since_kept, since_left, since_put, since_same}
 use Rattle.cct_live_service.proofs.Suiting.{life_suits}
 use Rattle.cct_live_service.proofs.Telling.{news_next, news_notices, news_then, told_none, told_one, told_then}
 
@@ -70,7 +72,7 @@ goes_then g setup A B C first then told later h k given found before past life i
           (append_assoc before first then)
           (subst (IsLife MOST_RECORDS setup found ((before ++ first) ++ then)) same two.0),
       subst (C given found) same two.1,
-      so_then (IsTrusted g.honest g.seen given.disk) setup past told later one.2 two.2,
+      so_then (IsTrusted g.honest g.seen given.disk) (since_turn (g.size given.disk) given.base found) setup past told later one.2 two.2,
     )
 
 -- nothing is done
@@ -82,7 +84,7 @@ goes_none g setup A B told none keeps so given found before past life is = (
   subst (λ steps. IsLife MOST_RECORDS setup found steps (news_of told ++ past)) (sym (append-nil before))
       (subst (λ news. IsLife MOST_RECORDS setup found before (news ++ past)) (sym none) life),
   subst (λ news. B given found (news ++ past)) (sym none) (keeps given found past is),
-  so_where (IsTrusted g.honest g.seen given.disk) setup past told (so given found past is),
+  so_where (IsTrusted g.honest g.seen given.disk) (since_turn (g.size given.disk) given.base found) setup past told (so given found past is),
 )
 
 module _ {K : Type 0} (written : K → Option (List ℕ)) (puts : K → List ℕ → Result (Unit {0}) Failed → K → Type 0) where
@@ -171,10 +173,10 @@ module _ {D : Type 0} {g : Ghosts D} where
       (old new : L) (addr : ℕ) (before after : Host D g) (reported : List Entry) (is_sent : Bool) (notices : List Notice) →
       All IsOfWatch notices → setup_of after ≡ setup_of before →
       GoesOn g.size g.honest g.seen g.cuts (disk_of before) (disk_of after) →
-      Nexts gives old new addr before after [] reported →
+      Nexts gives old new addr before after [] reported → FillsOn (journal_of before) (journal_of after) →
       LifeGoes g (setup_of before) (StandsSince before) (live.next addr ∷ [])
       (attempt_told is_sent reported ++ notices_told notices) (StandsSince after)
-  next_goes gives few old new addr before after reported is_sent notices bears kept on nexts given found steps past life since =
+  next_goes gives few old new addr before after reported is_sent notices bears kept on nexts fills given found steps past life since =
       let what = nexts.what in
       let news = attempt.news_of addr what in
       let setup = setup_of before in
@@ -188,24 +190,24 @@ module _ {D : Type 0} {g : Ghosts D} where
             (few_heard gives few old new what nexts.link) went.0),
         subst (λ es. StandsSince after given found (es ++ past)) (sym same)
             (since_put before after given found past (news ++ past) (attempt.put_of what) since kept on
-            (attempt_records addr what past) (nexts.moments past since.stands) (λ none. ap journals.disk_of (nexts.quiet none))
+            (attempt_records addr what past) (nexts.moments past since.stands) (λ none. ap journals.disk_of (nexts.quiet none)) fills
             went.1),
-        so_where (IsTrusted g.honest g.seen given.disk) setup past (attempt_told is_sent reported ++ notices_told notices)
+        so_where (IsTrusted g.honest g.seen given.disk) (since_turn (g.size given.disk) given.base found) setup past (attempt_told is_sent reported ++ notices_told notices)
             (so_attempt setup past is_sent reported notices bears),
       )
 
   -- a command that is answered
   pub command_goes : (before after : Host D g) (c : Command) (result : Result (Unit {0}) CommandNo) → IsCommand c →
-      setup_of after ≡ setup_of before → disk_of after ≡ disk_of before → Answers before after c result →
+      setup_of after ≡ setup_of before → journal_of after ≡ journal_of before → Answers before after c result →
       LifeGoes g (setup_of before) (StandsSince before) (live.command c ∷ []) (as_told (command_entry c (no_of result) ∷ []))
       (StandsSince after)
-  command_goes before after c result is kept disk answers given found steps past life since =
+  command_goes before after c result is kept journal answers given found steps past life since =
       let setup = setup_of before in
       let answered = answers past since.stands in
       let why = answered.0 in (
         subst (λ no. IsLife MOST_RECORDS setup found (steps ++ live.command c ∷ []) (command_entry c no ∷ past)) (sym why)
             (life_command MOST_RECORDS setup found steps past c life is),
-        since_same before after given found past (command_entry c (no_of result) ∷ past) since kept disk
+        since_same before after given found past (command_entry c (no_of result) ∷ past) since kept journal
             (command_records c (no_of result) past) answered.1,
         tt,
       )
@@ -234,9 +236,44 @@ module _ {D : Type 0} {g : Ghosts D} where
             (sym (append-nil steps))
             (subst (λ news. IsLife MOST_RECORDS setup found steps (news ++ past)) (sym none) life),
         subst (λ news. StandsSince host given found (news ++ past)) (sym none) since,
-        so_known (IsTrusted g.honest g.seen given.disk) setup past lines lines
-            (λ trusted. is past since.stands (since.trusted trusted)),
+        so_known (IsTrusted g.honest g.seen given.disk) (since_turn (g.size given.disk) given.base found) setup past lines lines
+            (λ trusted. subst (λ rs. IsStateOf setup (records past) rs lines) (since_kept host given found past since)
+            (is past since.stands (since.trusted trusted))),
       )
+
+  -- what is known of an order is reported
+  pub order_goes : (host : Host D g) (id : ℕ) (known : OrderTold) (Missed : Type 0) →
+      ((past : List Entry) → Keeps host past → IsJust (open_in (setup_of host) past id) known) →
+      IsOrderOf host id Missed known →
+      LifeGoes g (setup_of host) (StandsSince host) [] (notice (notice_of.Order id known) ∷ []) (StandsSince host)
+  order_goes host id known Missed just is given found steps past life since =
+      let setup = setup_of host in (
+        subst (λ steps. IsLife MOST_RECORDS setup found steps past) (sym (append-nil steps)) life,
+        since,
+        (
+          (
+            just past since.stands.keeps,
+            λ trusted. subst (λ rs. IsTold setup past rs id known) (since_kept host given found past since)
+                (by_case (is past since.stands (since.trusted trusted))),
+          ),
+          tt,
+        ),
+      )
+    where
+      by_case : {X : Type 0} → (((known ≡ order_told (setup_of host) past (kept_in host past) id) × X)
+          ⊎ ((known ≡ order_of.Unread) × Missed)) → IsTold (setup_of host) past (kept_in host past) id known
+      by_case (inl told) = inl told.0
+      by_case (inr unread) = inr unread.0
+
+  -- and it was missed where it couldn't be read
+  order_missed : (host : Host D g) (id : ℕ) (known : OrderTold) (Missed : Type 0) → IsOrderOf host id Missed known →
+      known ≡ order_of.Unread → MissedFrom host Missed
+  order_missed host id known Missed is unread given found before past life since trusted =
+      by_case (is past since.stands (since.trusted trusted))
+    where
+      by_case : {X : Type 0} → ((X × (known ≢ order_of.Unread)) ⊎ ((known ≡ order_of.Unread) × Missed)) → Missed
+      by_case (inl told) = absurd (told.1 unread)
+      by_case (inr missed) = missed.1
 
   -- what was missed of a host is so whatever was given and found
   missed_from : (host : Host D g) (Missed : Type 0) → MissedFor host Missed → MissedFrom host Missed
@@ -704,6 +741,26 @@ module _ {K : Type 0} (written : K → Option (List ℕ)) (puts : K → List ℕ
   acts_known S Missed answer a b host linked unread (inr none) whole sink =
       acts_told S answer a b host (notice notice_of.StateUnread ∷ []) unread (IsStating (MissedFrom host Missed)) refl
       (λ past keeps. (tt, tt)) none.0 whole sink (refl, inr (refl, missed_from host Missed none.1))
+
+  -- what is known of an order
+  pub acts_order : (S : List Told → Type 0) (Missed : Type 0) (answer : Result (Unit {0}) Failed) (a b : K) (host : Host D g)
+      (id : ℕ) (known : OrderTold) → S (notice (notice_of.Order id known) ∷ []) →
+      ((past : List Entry) → Keeps host past → IsJust (open_in (setup_of host) past id) known) →
+      IsOrderOf host id Missed known → WritesTold written puts a (notice (notice_of.Order id known) ∷ []) answer b →
+      has_failed host ≡ false → Serves written faults a b (IsErr answer) →
+      Acts written puts faults S (IsOrder (MissedFrom host Missed) id) (by_writing answer) a b host host
+  acts_order S Missed answer a b host id known linked just is wrote whole sink =
+      acts_written S answer a b host host (IsOrder (MissedFrom host Missed) id)
+      (record {
+        steps = [];
+        told = notice (notice_of.Order id known) ∷ [];
+        wrote = wrote;
+        goes = order_goes host id known Missed just is;
+        does = (refl, (known, refl, order_missed host id known Missed is));
+        linked = linked;
+      })
+      whole refl sink
+      (disk_none g.size g.honest g.seen g.cuts g.faults (disk_of host) ⊥ (λ fails. fails))
 
   -- one line that shows no entry
   pub acts_line : (S : List Told → Type 0) (answer : Result (Unit {0}) Failed) (a b : K) (host : Host D g) (what : Told) →

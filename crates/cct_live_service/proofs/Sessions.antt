@@ -176,15 +176,15 @@ served_alone Rested known now =
     })
 
 -- what a line says is done for it, where it names what is there, and else it is refused
-pub known_line : (Rested : Bool → Type 0) (known : Bool) → known ≡ true → (devices : List DeviceSetup)
+pub known_line : (Rested : Bool → Type 0) (Missed : Type 0) (known : Bool) → known ≡ true → (devices : List DeviceSetup)
     (findings : List Finding) (number : ℕ) (said : LiveLine) (steps : List LiveStep) (told : List Told) →
-    Does Rested devices findings said steps told → DoesKnown Rested known devices findings number said steps told
-known_line Rested true is devices findings number said steps told h = h
-known_line Rested false is devices findings number said steps told h = cc is
+    Does Rested Missed devices findings said steps told → DoesKnown Rested Missed known devices findings number said steps told
+known_line Rested Missed true is devices findings number said steps told h = h
+known_line Rested Missed false is devices findings number said steps told h = cc is
 
-pub unknown_line : (Rested : Bool → Type 0) (known : Bool) → known ≡ false → (devices : List DeviceSetup)
+pub unknown_line : (Rested : Bool → Type 0) (Missed : Type 0) (known : Bool) → known ≡ false → (devices : List DeviceSetup)
     (findings : List Finding) (number : ℕ)
     (said : LiveLine) (steps : List LiveStep) (told : List Told) → Tells (refused number kind.Device) steps told →
-    DoesKnown Rested known devices findings number said steps told
-unknown_line Rested true is devices findings number said steps told h = cc is
-unknown_line Rested false is devices findings number said steps told h = h
+    DoesKnown Rested Missed known devices findings number said steps told
+unknown_line Rested Missed true is devices findings number said steps told h = cc is
+unknown_line Rested Missed false is devices findings number said steps told h = h

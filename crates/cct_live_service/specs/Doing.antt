@@ -1,6 +1,6 @@
 -- What a host does for each line of its input, and what is told of it.
 use Rattle.std.specs.Prelude.{◌≡◌, ◌≤◌, ◌⊎◌, ℕ, zero, suc, Bool, true, false, List, [], ◌∷◌, ◌++◌}
-use Rattle.std.specs.Prelude.{length, Option, Some, None, OnOk, Result, Ok, Err}
+use Rattle.std.specs.Prelude.{length, Option, Some, None, OnOk, Result, Ok, Err, ⊤}
 use Rattle.std.specs.List.{All, list_any}
 use Rattle.cct_model.specs.lines.command.Command.{Command}
 use Rattle.cct_model.specs.lines.command.Command.TheVariants as command
@@ -26,13 +26,14 @@ use Rattle.cct_live_service.specs.declared.attempts.Until.TheVariants as until_o
 use Rattle.cct_live_service.specs.declared.input.InputLine.TheVariants as input
 use Rattle.cct_live_service.specs.declared.notice.Notice.{Notice}
 use Rattle.cct_live_service.specs.declared.notice.Notice.TheVariants as notice_of
-use Rattle.cct_live_service.specs.declared.outside.OrderTold.{OrderTold}
+use Rattle.cct_live_order.specs.declared.told.OrderTold.{OrderTold}
+use Rattle.cct_live_order.specs.declared.told.OrderTold.TheVariants as order_of
 use Rattle.cct_live_service.specs.declared.served.Served.{Served}
 use Rattle.cct_live_service.specs.declared.served.Served.TheVariants as served
 use Rattle.cct_live_service.specs.declared.stopping.AtEnd.{AtEnd}
 use Rattle.cct_live_service.specs.declared.stopping.AtEnd.TheVariants as at_end
 use Rattle.cct_live_service.specs.Ends.{is_unanswered, tells_end, tells_unanswered}
-use Rattle.cct_live_service.specs.Known.{HasJob, IsIdle, Knows, Rests}
+use Rattle.cct_live_service.specs.Known.{HasJob, Knows, Rests, Runs}
 use Rattle.cct_live_service.specs.Said.{Said}
 use Rattle.cct_live_service.specs.Status.{AreOfStatus}
 use Rattle.cct_live_service.specs.Told.{Told, attempt_told, entry, falls_short, findings_in}
@@ -166,10 +167,12 @@ abbrev pub Decides : List Finding → Command → List LiveStep → List Told �
 Decides findings c =
     ThenBy IsAsking (λ said. DoesCommand c (withheld_by (findings ++ findings_in said) c))
 
--- It is reported what is known of an order.
-abbrev pub IsOrder : ℕ → List LiveStep → List Told → Type 0
-IsOrder id steps told =
-    (steps ≡ []) × ((known : OrderTold) × (told ≡ notice (notice_of.Order id known) ∷ []))
+-- It is reported what is known of an order; or that it couldn't be read, where that was missed.
+abbrev pub IsOrder : Type 0 → ℕ → List LiveStep → List Told → Type 0
+IsOrder Missed id steps told =
+    (steps ≡ [])
+    × ((known : OrderTold) × (told ≡ notice (notice_of.Order id known) ∷ [])
+    × (known ≡ order_of.Unread → Missed))
 
 -- Nothing is done, and it is reported what the journal knows: all of it, a line each; or that it
 -- couldn't be read, where that was missed.
@@ -211,21 +214,23 @@ abbrev pub ServesOn : (Bool → Type 0) → List Finding → List LiveStep → L
 ServesOn Rested findings steps told =
     (IsNothing steps told × Rested true) ⊎ (IsServing findings steps told × Rested false)
 
--- What is done for what a line says, by whether the session has nothing to do, by the devices of
--- the setup, and by what was found before. One that ends the service is none of these.
-abbrev pub Does : (Bool → Type 0) → List DeviceSetup → List Finding → LiveLine → List LiveStep →
-    List Told → Type 0
-Does Rested devices findings (says.Command c) = Decides findings c
-Does Rested devices findings (says.Next addr) = IsAttempt addr
-Does Rested devices findings (says.Do addr) = MakesAttempts until_of.Ended addr
-Does Rested devices findings says.Poll = Then (ServesOn Rested findings) IsPoll
-Does Rested devices findings says.Balance = TellsOne live.balance
-Does Rested devices findings says.Status = IsStatus devices
-Does Rested devices findings (says.Order id) = IsOrder id
-Does Rested devices findings (says.Stock addr count) = TellsStep (step.Stock addr count)
-Does Rested devices findings (says.Change first amount) = TellsStep (step.Change first amount)
-Does Rested devices findings says.Serve = IsServing findings
-Does Rested devices findings says.End = λ steps told. ⊥
+-- What is done for what a line says, by whether the session has nothing to do, by what is missed
+-- where the journal can't be read, by the devices of the setup, and by what was found before. One
+-- that ends the service is none of these.
+abbrev pub Does : (Bool → Type 0) → Type 0 → List DeviceSetup → List Finding → LiveLine →
+    List LiveStep → List Told → Type 0
+Does Rested Missed devices findings (says.Command c) = Decides findings c
+Does Rested Missed devices findings (says.Next addr) = IsAttempt addr
+Does Rested Missed devices findings (says.Do addr) = MakesAttempts until_of.Ended addr
+Does Rested Missed devices findings says.Poll = Then (ServesOn Rested findings) IsPoll
+Does Rested Missed devices findings says.Balance = TellsOne live.balance
+Does Rested Missed devices findings says.Status = IsStatus devices
+Does Rested Missed devices findings (says.Order id) = IsOrder Missed id
+Does Rested Missed devices findings (says.Stock addr count) = TellsStep (step.Stock addr count)
+Does Rested Missed devices findings (says.Change first amount) =
+    TellsStep (step.Change first amount)
+Does Rested Missed devices findings says.Serve = IsServing findings
+Does Rested Missed devices findings says.End = λ steps told. ⊥
 
 -- A line names what is there: a stock is one of a hopper.
 abbrev pub is_known : List DeviceSetup → LiveLine → Bool
@@ -233,18 +238,18 @@ is_known devices (says.Stock addr count) = hopper_there (device_at devices addr)
 is_known devices said = true
 
 -- What is done for a line that names what is there, or not: what it says, or it is refused.
-abbrev pub DoesKnown : (Bool → Type 0) → Bool → List DeviceSetup → List Finding → ℕ → LiveLine →
-    List LiveStep → List Told
+abbrev pub DoesKnown : (Bool → Type 0) → Type 0 → Bool → List DeviceSetup → List Finding → ℕ →
+    LiveLine → List LiveStep → List Told
     → Type 0
-DoesKnown Rested true devices findings number said = Does Rested devices findings said
-DoesKnown Rested false devices findings number said = Tells (refused number kind.Device)
+DoesKnown Rested Missed true devices findings number said = Does Rested Missed devices findings said
+DoesKnown Rested Missed false devices findings number said = Tells (refused number kind.Device)
 
 -- What is done for the line of a number, by what is missed where the journal can't be read, and by
 -- the devices of the setup; or it is reported that it says nothing.
 abbrev pub DoesLine : (Bool → Type 0) → Type 0 → List DeviceSetup → List Finding → ℕ → Said →
     List LiveStep → List Told → Type 0
 DoesLine Rested Missed devices findings number (Ok (input.Host said)) =
-    DoesKnown Rested (is_known devices said) devices findings number said
+    DoesKnown Rested Missed (is_known devices said) devices findings number said
 DoesLine Rested Missed devices findings number (Ok input.State) = IsStating Missed
 DoesLine Rested Missed devices findings number (Err why) = Tells (refused number why)
 
@@ -283,35 +288,51 @@ GivesStop knows setup addr =
     ThenBy (TellsOne (live.command (command.Stop addr)))
     (λ said. GoesOnTo (knows said (HasJob setup addr false)) until_of.Ended addr)
 
+-- A host lives on after it.
+abbrev pub LivesPast : Result (Unit {0}) Served → Type 0
+LivesPast (Ok done) = ⊤
+LivesPast (Err how) = ⊥
+
+-- A service comes to its end, after all that its input said.
+abbrev pub IsDone : Served → Type 0
+IsDone served.Done = ⊤
+IsDone how = ⊥
+
 -- An acceptor that runs still after this is stopped, unless the job that was there ended for want
--- of an answer. Else nothing is done.
-abbrev pub StopsStill : Knows → Setup → ℕ → List Told → List LiveStep → List Told → Type 0
-StopsStill knows setup addr said steps told =
-    (IsNothing steps told × (knows said (IsIdle setup addr) ⊎ (tells_unanswered said ≡ true)))
+-- of an answer. Else nothing is done: where it isn't broken off, a stop is given only where one
+-- runs.
+abbrev pub StopsStill : Type 0 → Knows → Setup → ℕ → List Told → List LiveStep → List Told → Type 0
+StopsStill Lasts knows setup addr said steps told =
+    (IsNothing steps told
+    × (knows said (Runs setup addr false) ⊎ (tells_unanswered said ≡ true)))
     ⊎ (GivesStop (λ more. knows (said ++ more)) setup addr steps told
-    × (tells_unanswered said ≡ false))
+    × (tells_unanswered said ≡ false) × (Lasts → knows said (Runs setup addr true)))
 
 -- The job at an address makes attempts up to its end, and then the acceptor is stopped.
-abbrev pub StopsRunning : Knows → Setup → ℕ → List LiveStep → List Told → Type 0
-StopsRunning knows setup addr =
+abbrev pub StopsRunning : Type 0 → Knows → Setup → ℕ → List LiveStep → List Told → Type 0
+StopsRunning Lasts knows setup addr =
     ThenBy (GoesOnTo (knows [] (HasJob setup addr false)) until_of.Ended addr)
-    (StopsStill knows setup addr)
+    (StopsStill Lasts knows setup addr)
 
--- So the acceptor at an address is stopped, unless none runs there.
-abbrev pub StopsAt : Knows → Setup → ℕ → List LiveStep → List Told → Type 0
-StopsAt knows setup addr steps told =
-    (IsNothing steps told × knows [] (IsIdle setup addr)) ⊎ StopsRunning knows setup addr steps told
+-- So the acceptor at an address is stopped, unless none runs there; and where it isn't broken off,
+-- only one that runs.
+abbrev pub StopsAt : Type 0 → Knows → Setup → ℕ → List LiveStep → List Told → Type 0
+StopsAt Lasts knows setup addr steps told =
+    (IsNothing steps told × knows [] (Runs setup addr false))
+    ⊎ (StopsRunning Lasts knows setup addr steps told
+    × (Lasts → knows [] (Runs setup addr true)))
 
 -- So it is at each of the first so many addresses, one after another.
-abbrev pub StopsUpTo : ℕ → Knows → Setup → List LiveStep → List Told → Type 0
-StopsUpTo zero knows setup = IsNothing
-StopsUpTo (suc addr) knows setup =
-    ThenBy (StopsUpTo addr knows setup) (λ said. StopsAt (λ more. knows (said ++ more)) setup addr)
+abbrev pub StopsUpTo : ℕ → Type 0 → Knows → Setup → List LiveStep → List Told → Type 0
+StopsUpTo zero Lasts knows setup = IsNothing
+StopsUpTo (suc addr) Lasts knows setup =
+    ThenBy (StopsUpTo addr Lasts knows setup)
+    (λ said. StopsAt Lasts (λ more. knows (said ++ more)) setup addr)
 
 -- What is done at the end: at each address.
-abbrev pub StopsBy : AtEnd → Knows → Setup → List LiveStep → List Told → Type 0
-StopsBy at_end.Leave knows setup = IsNothing
-StopsBy at_end.Stop knows setup = StopsUpTo 256 knows setup
+abbrev pub StopsBy : AtEnd → Type 0 → Knows → Setup → List LiveStep → List Told → Type 0
+StopsBy at_end.Leave Lasts knows setup = IsNothing
+StopsBy at_end.Stop Lasts knows setup = StopsUpTo 256 Lasts knows setup
 
 -- Only where the input said so, or was over, something is done at the end.
 abbrev pub ends_by : Served → AtEnd → AtEnd
@@ -326,9 +347,9 @@ abbrev pub PlaysLines : Knows → Type 0 → Setup → Notice → List Finding �
 PlaysLines knows Missed setup opening findings lines =
     Then (Tells (notice opening)) (DoesLines knows Missed setup findings lines)
 
--- And what it does at the end.
-abbrev pub ServesLines : Knows → Type 0 → Setup → Notice → List Finding → AtEnd → List Said →
-    List LiveStep → List Told → Type 0
-ServesLines knows Missed setup opening findings ends lines =
+-- And what it does at the end, up to which it lasts or is broken off.
+abbrev pub ServesLines : Type 0 → Knows → Type 0 → Setup → Notice → List Finding → AtEnd →
+    List Said → List LiveStep → List Told → Type 0
+ServesLines Lasts knows Missed setup opening findings ends lines =
     ThenBy (PlaysLines knows Missed setup opening findings lines)
-    (λ said. StopsBy ends (λ more. knows (said ++ more)) setup)
+    (λ said. StopsBy ends Lasts (λ more. knows (said ++ more)) setup)

@@ -37,6 +37,11 @@ abbrev pub was_found : Begun → Bool
 was_found made_new = false
 was_found (found_there base c rest) = true
 
+-- How many records stood before the current half of the journal that was there.
+abbrev pub base_found : Begun → ℕ
+base_found made_new = 0
+base_found (found_there base c rest) = base
+
 -- Records, newest first, end in those that were found: the carry is that of the first ones, which
 -- follow one another, and the rest are the others. If the disk is trusted, it keeps just them.
 pub record EndsIn {D : Type 0} (honest : D → Bool) (seen : D → Option (List ℕ))

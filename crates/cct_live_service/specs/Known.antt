@@ -54,9 +54,9 @@ Rests setup rest desk past = rests setup past desk.session ≡ rest
 abbrev pub HasJob : Setup → ℕ → Bool → Desk → List Entry → Type 0
 HasJob setup addr has desk past = is_some (command_at setup past addr) ≡ has
 
--- No acceptor runs at an address.
-abbrev pub IsIdle : Setup → ℕ → Desk → List Entry → Type 0
-IsIdle setup addr desk past = is_running (epoch_at setup past addr) ≡ false
+-- An epoch runs at an address, or none does.
+abbrev pub Runs : Setup → ℕ → Bool → Desk → List Entry → Type 0
+Runs setup addr runs desk past = is_running (epoch_at setup past addr) ≡ runs
 
 module _ {D : Type 0} {g : Ghosts D} where
   -- It holds of a desk and of all that this host has.

@@ -21,15 +21,15 @@ use Rattle.cct_live_service.specs.declared.served.Served.{Served}
 use Rattle.cct_live_service.specs.declared.served.Served.TheVariants as served
 use Rattle.cct_live_service.specs.AtDesk.{AtDesk, FollowsTo}
 use Rattle.cct_live_service.specs.Causes.{IsDiskFault}
-use Rattle.cct_live_service.specs.Doing.{FrontOf, ServesLines, ends_by}
+use Rattle.cct_live_service.specs.Doing.{FrontOf, IsDone, ServesLines, ends_by}
 use Rattle.cct_live_service.specs.Ending.{IsOfDisk, closed_by, last_told}
-use Rattle.cct_live_service.specs.Found.{Begun, FoundOn, was_found}
+use Rattle.cct_live_service.specs.Found.{Begun, FoundOn, base_found, was_found}
 use Rattle.cct_live_service.specs.Known.{Knows}
 use Rattle.cct_live_service.specs.Laws.{IsLawful}
 use Rattle.cct_live_service.specs.Linked.{UsesLink, Watched}
 use Rattle.cct_live_service.specs.Opening.{BegunOn, opening_of, opening_over}
 use Rattle.cct_live_service.specs.Reported.{AreSoWhere}
-use Rattle.cct_live_service.specs.Since.{MayStand}
+use Rattle.cct_live_service.specs.Since.{MayStand, since_turn}
 use Rattle.cct_live_service.specs.Said.{Said, Says}
 use Rattle.cct_live_service.specs.Told.{Told, WritesTold, news_of}
 
@@ -120,7 +120,8 @@ module _ {K : Type 0} (written : K → Option (List ℕ))
     pub steps : List LiveStep
     pub told : List Told
     pub says : Says left lines how
-    pub does : DoesTo (ServesLines (KnownOn honest seen may_leave given setup begun desk)
+    pub does : DoesTo (ServesLines (IsDone how)
+        (KnownOn honest seen may_leave given setup begun desk)
         (MissedOn honest seen may_leave given setup begun missed missed_then) setup
         (opening_of setup begun)
         roll.findings (ends_by how ends) lines) how steps told
@@ -130,9 +131,10 @@ module _ {K : Type 0} (written : K → Option (List ℕ))
         × IsLawful setup found (news_of told ++ started found)
         × LeftBy honest seen may_leave back setup how (news_of told ++ started found)
     -- How the host stood was reported as it was after all that was reported before; and so was what
-    -- its journal knew, where the disk is trusted.
+    -- its journal knew, where the disk is trusted: of orders by the records since its last turn.
     pub standing : (found : List Record) → FoundOn honest seen may_leave given setup begun found
-        → AreSoWhere (IsTrusted honest seen given) setup (started found) told
+        → AreSoWhere (IsTrusted honest seen given)
+        (since_turn (size given) (base_found begun) found) setup (started found) told
     -- Of sessions of change is reported what the desk says.
     pub at_desk : FollowsTo how desk left_desk told
     pub linked : UsesLink gives sent failures setup.devices roll now line last told

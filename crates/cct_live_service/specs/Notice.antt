@@ -12,8 +12,8 @@ use Rattle.cct_live_survey.specs.declared.withholding.Withheld.{Withheld}
 use Rattle.cct_live_survey.specs.declared.withholding.Withheld.TheVariants.{OtherCoin, OtherSerial}
 use Rattle.cct_live_service.specs.declared.notice.Notice.{Notice}
 use Rattle.cct_live_service.specs.declared.notice.Notice.TheVariants as notice
-use Rattle.cct_live_service.specs.declared.outside.OrderTold.{OrderTold}
-use Rattle.cct_live_service.specs.declared.outside.OrderTold.TheVariants as order
+use Rattle.cct_live_order.specs.declared.told.OrderTold.{OrderTold}
+use Rattle.cct_live_order.specs.declared.told.OrderTold.TheVariants as order
 
 -- A number as the next field of a line.
 abbrev pub number_field : ℕ → List ℕ

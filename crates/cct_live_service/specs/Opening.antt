@@ -21,7 +21,8 @@ use Rattle.cct_text.specs.Writing.{PutsLine}
 use Rattle.cct_live_service.specs.declared.notice.Notice.{Notice}
 use Rattle.cct_live_service.specs.declared.notice.Notice.TheVariants as notice_of
 use Rattle.cct_live_service.specs.Notice.{notice_line}
-use Rattle.cct_live_service.specs.Found.{Begun, FoundOn, found_there, made_new, was_found}
+use Rattle.cct_live_service.specs.Found.{Begun, FoundOn, base_found, found_there, made_new}
+use Rattle.cct_live_service.specs.Found.{was_found}
 use Rattle.cct_live_service.specs.Since.{Given, StandsSince}
 
 -- An epoch runs.
@@ -73,7 +74,12 @@ BegunOn seen disk setup (found_there base c rest) = IsFound seen disk setup base
 
 -- The disk that was given, and an image that it may have held, by what a service begins with.
 abbrev pub given_as : {D : Type 0} → D → List ℕ → Begun → Given D
-given_as disk image begun = record { disk = disk; image = image; there = was_found begun }
+given_as disk image begun = record {
+  disk = disk;
+  image = image;
+  there = was_found begun;
+  base = base_found begun;
+}
 
 module _ {D : Type 0} {g : Ghosts D} where
   -- A host is as one that has just started over what a service began with.

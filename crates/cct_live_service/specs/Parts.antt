@@ -21,7 +21,7 @@ use Rattle.cct_live_service.specs.declared.served.Served.TheVariants as served
 use Rattle.cct_live_service.specs.Causes.{DiskServes, EndsBy, IsDiskFault, IsUnwritten}
 use Rattle.cct_live_service.specs.Doing.{FrontOf}
 use Rattle.cct_live_service.specs.Reported.{AreSoWhere}
-use Rattle.cct_live_service.specs.Since.{Given, MayStand, StandsSince}
+use Rattle.cct_live_service.specs.Since.{Given, MayStand, StandsSince, since_turn}
 use Rattle.cct_live_service.specs.Said.{Said, Says}
 use Rattle.cct_live_service.specs.Told.{Told, WritesTold, news_of}
 
@@ -38,7 +38,8 @@ LifeGoes {D} g setup Before steps told After =
     → Before given found past
     → IsLife MOST_RECORDS setup found (before ++ steps) (news_of told ++ past)
     × After given found (news_of told ++ past)
-    × AreSoWhere (IsTrusted g.honest g.seen given.disk) setup past told
+    × AreSoWhere (IsTrusted g.honest g.seen given.disk)
+    (since_turn (g.size given.disk) given.base found) setup past told
 
 -- of a sink, before and after
 module _ {K : Type 0} (written : K → Option (List ℕ))

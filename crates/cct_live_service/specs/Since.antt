@@ -1,5 +1,6 @@
 -- What a service leaves of the disk that it was given, at each moment since.
-use Rattle.std.specs.Prelude.{◌≡◌, ◌⊎◌, ℕ, Bool, true, false, List, [], ◌++◌, reverse}
+use Rattle.std.specs.Prelude.{◌≡◌, ◌⊎◌, ℕ, ◌-◌, Bool, true, false, List, [], ◌++◌, length, reverse}
+use Rattle.std.specs.Prelude.{take}
 use Rattle.cct_model.specs.terms.device.Setup.{Setup}
 use Rattle.cct_model.specs.lines.record.Record.{Record}
 use Rattle.cct_model.specs.lines.entry.Entry.{Entry}
@@ -8,16 +9,28 @@ use Rattle.cct_model.specs.Records.{records}
 use Rattle.cct_disk.specs.declared.disk.Disk.{Ghosts}
 use Rattle.cct_disk.specs.Disk.{Holds, IsTrusted, LeavesOnly, OnlyReads}
 use Rattle.cct_journal.specs.Creating.{IsCreated}
-use Rattle.cct_journal.specs.Image.{StandsFor}
+use Rattle.cct_journal.specs.Image.{StandsFor, half_room, kept_after}
+use Rattle.cct_journal.specs.Journal as journals
 use Rattle.cct_host.specs.declared.host.Host.{Host}
-use Rattle.cct_host.specs.Host.{disk_of, setup_of}
+use Rattle.cct_host.specs.Host.{disk_of, journal_of, setup_of}
 use Rattle.cct_host.specs.Host as hosts
 
--- The disk that a service was given, an image, and whether a journal was there.
+-- The disk that a service was given, an image, whether a journal was there, and how many records
+-- stood before the current half of that.
 pub record Given (D : Type 0) : Type 0 where
   pub disk : D
   pub image : List ℕ
   pub there : Bool
+  pub base : ℕ
+
+-- How many records the current half of a journal has on a disk of this size, where it has so many
+-- in all: so many were found, of which so many stood before the half that was the current one then.
+abbrev pub kept_since : ℕ → ℕ → ℕ → ℕ → ℕ
+kept_since size base many all = kept_after (half_room size) (many - base) (all - many)
+
+-- The records since the journal last turned, of all of them, newest first.
+abbrev pub since_turn : ℕ → ℕ → List Record → List Record → List Record
+since_turn size base found all = take (kept_since size base (length found) (length all)) all
 
 -- An image stands for the first ones of records, newest first: for those that were found, and for
 -- those that were put up to some moment.
@@ -48,6 +61,11 @@ module _ {D : Type 0} {g : Ghosts D} where
     pub trusted : IsTrusted g.honest g.seen given.disk → IsTrusted g.honest g.seen (disk_of host)
     pub put : List Record
     pub put_are : records past ≡ put ++ found
+    -- So many of them does the current half of its journal have.
+    pub sized : g.size (disk_of host) ≡ g.size given.disk
+    pub kept : journals.kept_of (journal_of host)
+        ≡ kept_since (g.size given.disk) given.base (length found)
+        (journals.used_of (journal_of host))
     -- Each power cut since might have left only the first ones of them, if the disk held the image
     -- alone.
     pub left : Holds g.honest g.seen g.may_leave given.disk given.image

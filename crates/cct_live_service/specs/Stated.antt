@@ -1,5 +1,5 @@
 -- What is told of what the journal knows, against all that was reported before it.
-use Rattle.std.specs.Prelude.{◌≡◌, ◌⊎◌, ℕ, true, List, [], ◌∷◌, ◌++◌, Option, Some, Result}
+use Rattle.std.specs.Prelude.{◌≡◌, ◌⊎◌, ℕ, true, List, [], ◌∷◌, ◌++◌, take, Option, Some, Result}
 use Rattle.cct_edge.specs.declared.fault.Failed.{Failed}
 use Rattle.cct_disk.specs.declared.disk.Disk.{Ghosts}
 use Rattle.cct_disk.specs.Disk.{IsTrusted}
@@ -10,27 +10,32 @@ use Rattle.cct_model.specs.Carry.{carry}
 use Rattle.cct_model.specs.Following.{all_follow}
 use Rattle.cct_model.specs.Records.{records}
 use Rattle.cct_host.specs.declared.host.Host.{Host}
-use Rattle.cct_host.specs.Host.{StandsFor, disk_of, setup_of}
+use Rattle.cct_host.specs.Host.{StandsFor, disk_of, journal_of, setup_of}
+use Rattle.cct_journal.specs.Journal as journals
 use Rattle.cct_bench_state.specs.Books.{state_lines}
 use Rattle.cct_live_service.specs.declared.notice.Notice.TheVariants as notice_of
 use Rattle.cct_live_service.specs.Told.{WritesTold, knows_each, notice}
 
--- These lines are the whole state of a journal with these records, newest first, of which it has
--- the last ones after the carry of the first ones: what `cct_bench_state` tells of them by the
--- setup.
-pub record IsStateOf (setup : Setup) (all : List Record) (lines : List (List ℕ)) : Type 0 where
-  pub first : List Record
-  pub since : List Record
-  pub all_are : all ≡ since ++ first
-  pub lines_are : lines ≡ state_lines (Some setup) (carry setup first) since
+-- These lines are the whole state of a journal with these records, newest first, of which these
+-- came since it last turned: what `cct_bench_state` tells of them, after the carry of the first
+-- ones, by the setup.
+pub record IsStateOf (setup : Setup) (all since : List Record) (lines : List (List ℕ)) : Type 0
+  where
+    pub first : List Record
+    pub all_are : all ≡ since ++ first
+    pub lines_are : lines ≡ state_lines (Some setup) (carry setup first) since
 
 module _ {D : Type 0} {g : Ghosts D} where
+  -- The records of a past that the current half of the journal of a host has, newest first.
+  abbrev pub kept_in : Host D g → List Entry → List Record
+  kept_in host past = take (journals.kept_of (journal_of host)) (records past)
+
   -- These lines are the state of the records of each past that a host represents, where its disk is
   -- trusted.
   abbrev pub IsStateFor : Host D g → List (List ℕ) → Type 0
   IsStateFor host lines =
       (past : List Entry) → StandsFor host past → IsTrusted g.honest g.seen (disk_of host)
-      → IsStateOf (setup_of host) (records past) lines
+      → IsStateOf (setup_of host) (records past) (kept_in host past) lines
 
 -- It was reported that the journal couldn't be read.
 abbrev pub IsUnread : {K : Type 0} → (K → Option (List ℕ)) →

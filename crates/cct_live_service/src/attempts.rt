@@ -3,7 +3,8 @@ ghost use Rattle.std.specs.Prelude.{◌≡◌, [], false, true, IfOk, OnErr, OnO
 ghost use Rattle.std.specs.List.{list_any};
 ghost use Rattle.cct_disk.specs.Disk.{GoesOn};
 ghost use Rattle.cct_edge.specs.Faults.{HasCause};
-ghost use Rattle.cct_host.specs.Host.{Fails, FailsBetween, Nexts, disk_of, has_failed, setup_of};
+ghost use Rattle.cct_host.specs.Host.{Fails, FailsBetween, FillsOn, Nexts, disk_of, has_failed};
+ghost use Rattle.cct_host.specs.Host.{journal_of, setup_of};
 ghost use Rattle.cct_live_service.specs.AtDesk.{Both, FollowsDesk};
 ghost use Rattle.cct_live_service.specs.Doing.{EndsAs, GoesOnTo, IsAttemptWith, MakesAttempts};
 ghost use Rattle.cct_live_service.specs.Ends.{is_end};
@@ -72,6 +73,7 @@ fn make<D: Disk, L: CountedLink>(
     ensures watch { page.new.watch ≡ page.old.watch }
     ensures nexts { OnOk result (Nexts L.gives link.old link.new addr host.old host.new []
         page.new.report.items) }
+    ensures fills { OnOk result (FillsOn (journal_of host.old) (journal_of host.new)) }
     ensures went { IfOk result (HasGone L.sent L.failures link.old link.new) }
     ensures link { OnErr result (link.new ≡ link.old) }
     ensures fails { OnErr result (Fails host.old host.new addr) }

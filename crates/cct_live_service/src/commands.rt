@@ -1,25 +1,29 @@
 //! What is answered at once: commands, the balance, the standing of the devices, and orders.
 ghost use Rattle.std.specs.Prelude.{◌≡◌, ◌≤◌, ◌∷◌, [], List, false};
+ghost use Rattle.cct_edge.specs.Faults.{Rose};
 ghost use Rattle.cct_host.specs.Host.{Keeps, disk_of, has_failed, setup_of};
 ghost use Rattle.cct_laws_live.specs.LiveStep as live;
 ghost use Rattle.cct_model.specs.Script.{IsCommand};
 ghost use Rattle.cct_model.specs.lines.entry.Entry.{Entry};
 ghost use Rattle.cct_live_service.specs.AtDesk.{Both, IsApart};
 ghost use Rattle.cct_live_service.specs.Doing.{DoesCommand, IsOrder, IsStatus, TellsOne};
+ghost use Rattle.cct_live_service.specs.Known.{MissedFrom};
 ghost use Rattle.cct_live_service.specs.Linked.{AreQuiet, AreStanding};
 ghost use Rattle.cct_live_service.specs.Parts.{Acts, HostGoes};
-ghost use Rattle.cct_live_service.specs.Reported.{IsJust, open_by, open_in};
+ghost use Rattle.cct_live_service.specs.Reported.{IsJust, IsOrderOf, open_by, open_in};
 ghost use Rattle.cct_live_service.specs.Told.{as_told};
 ghost use Rattle.cct_live_survey.specs.Finding.{withheld_by};
 
+use crate::beside::Beside;
+use crate::knowing::recorded_order;
 use crate::notice::{Notice, tell};
-use crate::outside::{OrderTold, Outside};
 use crate::page::Page;
 use crate::served::{Served, by_writing};
 use crate::standing::tell_status;
 use cct_disk::Disk;
 use cct_edge::Sink;
 use cct_host::Host;
+use cct_live_order::OrderTold;
 use cct_live_survey::{Finding, Withheld, withheld_by};
 use cct_model::{Command, Entry, OpenOrder};
 
@@ -132,7 +136,7 @@ pub(crate) fn status<K: Sink, D: Disk>(
 }
 
 /// Says what is known of an order.
-pub(crate) fn order<K: Sink, D: Disk, O: Outside>(
+pub(crate) fn order<K: Sink, D: Disk + Drop, O: Beside<D>>(
     host: &mut Host<'_, D>,
     id: u32,
     outside: &mut O,
@@ -140,8 +144,9 @@ pub(crate) fn order<K: Sink, D: Disk, O: Outside>(
     page: &mut Page,
 ) -> Result<(), Served>
     requires whole { has_failed host.old ≡ false }
-    ensures acts { Acts K.written K.puts K.faults (Both AreQuiet IsApart) (IsOrder id) result
-        out.old out.new host.old host.new }
+    ensures acts { Acts K.written K.puts K.faults (Both AreQuiet IsApart)
+        (IsOrder (MissedFrom host.old (Rose (O.misses outside.old) (O.misses outside.new))) id)
+        result out.old out.new host.old host.new }
     ensures watch { page.new.watch ≡ page.old.watch }
     ensures later { O.misses outside.old ≤ O.misses outside.new }
 {
@@ -149,15 +154,20 @@ pub(crate) fn order<K: Sink, D: Disk, O: Outside>(
     by_writing(tell(out, &mut page.line, &Notice::Order { id, told }))
 }
 
-/// What is known of an order: the host knows those that are open.
-fn order_told<D: Disk, O: Outside>(host: &Host<'_, D>, id: u32, outside: &mut O) -> OrderTold
+/// What is known of an order: the host knows those that are open, and the journal the others.
+fn order_told<D: Disk + Drop, O: Beside<D>>(
+    host: &Host<'_, D>,
+    id: u32,
+    outside: &mut O,
+) -> OrderTold
     ensures known { (past : List Entry) → Keeps host.now past →
         IsJust (open_in (setup_of host.now) past id) result }
+    ensures is { IsOrderOf host.now id (Rose (O.misses outside.old) (O.misses outside.new)) result }
     ensures later { O.misses outside.old ≤ O.misses outside.new }
 {
     match open_order(host, id) {
         Some(told) => told,
-        None => outside.order(id),
+        None => recorded_order(host, id, outside),
     }
 }
 

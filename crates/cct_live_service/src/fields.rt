@@ -5,7 +5,7 @@ ghost use Rattle.cct_live_service.specs.Notice.{command_fields, epoch_field, job
 ghost use Rattle.cct_live_service.specs.Notice.{mask_after, number_field, open_order_field};
 ghost use Rattle.cct_live_service.specs.Notice.{order_fields, withheld_fields, why_field};
 
-use crate::outside::OrderTold;
+use cct_live_order::OrderTold;
 use cct_live_survey::Withheld;
 use cct_model::{Command, EpochState, MOST_TEXT, OpenOrder};
 use cct_text::TextLine;

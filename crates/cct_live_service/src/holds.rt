@@ -15,7 +15,7 @@ const READ_BILLS: u8 = 159;
 const HELD: u8 = 1;
 
 /// A bill that is held: its place, and the event counter of the reading that told it.
-#[derive(Clone, Copy, Debug, PartialEq, Eq)]
+#[derive(Clone, Copy, PartialEq, Eq)]
 pub struct Hold {
     pub place: u8,
     pub counter: u8,

@@ -10,7 +10,7 @@ use cct_script::{LiveLine, read_live_line};
 const STATE: &[u8] = b"state";
 
 /// What a line of the input says.
-#[derive(Clone, Copy, Debug, PartialEq, Eq)]
+#[derive(Clone, Copy, PartialEq, Eq)]
 pub enum InputLine {
     /// What it says to the host.
     Host(LiveLine),

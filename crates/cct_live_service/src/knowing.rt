@@ -1,5 +1,5 @@
 //! What the journal knows now, read beside the host that goes on with it.
-ghost use Rattle.std.specs.Prelude.{◌≡◌, ◌≢◌, ◌≤◌, IsErr, false};
+ghost use Rattle.std.specs.Prelude.{◌≡◌, ◌≢◌, ◌≤◌, ℕ, List, Some, IsErr, false};
 ghost use Rattle.cct_edge.specs.Bytes.{Serves};
 ghost use Rattle.cct_edge.specs.Faults.{Caused, Rose};
 ghost use Rattle.cct_host.specs.Host.{disk_of, has_failed};
@@ -8,6 +8,7 @@ ghost use Rattle.cct_live_service.specs.Doing.{IsStating};
 ghost use Rattle.cct_live_service.specs.Known.{MissedFrom};
 ghost use Rattle.cct_live_service.specs.Linked.{AreQuiet};
 ghost use Rattle.cct_live_service.specs.Parts.{Acts};
+ghost use Rattle.cct_live_service.specs.Reported.{IsRecorded, LooksUp};
 ghost use Rattle.cct_live_service.specs.Stated.{IsUnread, TellsKnown};
 
 use crate::beside::Beside;
@@ -19,6 +20,7 @@ use cct_disk::Disk;
 use cct_edge::{Failed, Sink};
 use cct_host::Host;
 use cct_journal::OpenNo;
+use cct_live_order::{OrderTold, order_on};
 use cct_text::TextLine;
 
 /// Says what the journal knows now, in the lines of a bench's `state`. The host doesn't go on
@@ -102,4 +104,37 @@ fn tell_unread<K: Sink>(out: &mut K, line: &mut TextLine) -> Result<(), Failed>
     ensures serves { Serves K.written K.faults out.old out.new (IsErr result) }
 {
     tell(out, line, &Notice::StateUnread)
+}
+
+/// What the records since the last turn of the journal tell of an order, read by a disk that gives
+/// the bytes of the host's.
+pub(crate) fn recorded_order<D: Disk + Drop, O: Beside<D>>(
+    host: &Host<'_, D>,
+    id: u32,
+    outside: &mut O,
+) -> OrderTold
+    ensures is { IsRecorded host.now id (Rose (O.misses outside.old) (O.misses outside.new)) result }
+    ensures later { O.misses outside.old ≤ O.misses outside.new }
+{
+    match outside.beside(host.disk()) {
+        Some(disk) => read_order(disk, id, outside),
+        None => OrderTold::Unread,
+    }
+}
+
+/// What the journal on a disk tells of an order.
+fn read_order<D: Disk + Drop, O: Beside<D>>(disk: D, id: u32, outside: &mut O) -> OrderTold
+    requires new { D.faults disk ≡ 0 }
+    ensures looks { (image : List ℕ) → D.seen disk ≡ Some image
+        → LooksUp image id (Rose (O.misses outside.old) (O.misses outside.new)) result }
+    ensures later { O.misses outside.old ≤ O.misses outside.new }
+{
+    let (told, disk) = order_on(disk, id);
+    match told {
+        Ok(told) => told,
+        Err(why) => {
+            count_miss(why, disk, outside);
+            OrderTold::Unread
+        }
+    }
 }

@@ -27,10 +27,11 @@ mod visit;
 mod watch;
 
 pub use beside::Beside;
+pub use cct_live_order::OrderTold;
 pub use holds::Hold;
 pub use input::InputLine;
 pub use notice::Notice;
-pub use outside::{OrderTold, Outside};
+pub use outside::Outside;
 pub use page::Page;
 pub use served::Served;
 pub use serving::serve;

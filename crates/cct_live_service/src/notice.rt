@@ -7,15 +7,15 @@ ghost use Rattle.cct_live_service.specs.Notice.{notice_line, notice_text};
 use crate::fields::{
     write_epoch, write_job, write_number, write_open_order, write_order_told, write_withheld,
 };
-use crate::outside::OrderTold;
 use cct_edge::{Failed, Sink};
+use cct_live_order::OrderTold;
 use cct_live_survey::Withheld;
 use cct_model::{Command, EpochState, MOST_TEXT, OpenOrder};
 use cct_text::TextLine;
 
 /// What a host on a real line tells beside the entries of its transcript and what its devices say
 /// of themselves: a line each.
-#[derive(Clone, Copy, Debug, PartialEq, Eq)]
+#[derive(Clone, Copy, PartialEq, Eq)]
 pub enum Notice {
     /// `made 0 0 0`: the disk was blank, and a journal without records was made on it.
     Made,

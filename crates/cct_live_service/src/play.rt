@@ -263,7 +263,7 @@ fn refuse<K: Sink, D: Disk>(
 }
 
 /// Does what one line says. A line `end` isn't given to it.
-fn obey<K: Sink, D: Disk, L: CountedLink, O: Outside>(
+fn obey<K: Sink, D: Disk + Drop, L: CountedLink, O: Beside<D>>(
     host: &mut Host<'_, D>,
     roll: &mut Roll,
     desk: &mut Desk,
@@ -279,7 +279,8 @@ fn obey<K: Sink, D: Disk, L: CountedLink, O: Outside>(
         (Both (UsesLink L.gives L.sent L.failures (setup_of host.old).devices roll.old roll.new
         (watched link.old page.old) (watched link.new page.new))
         (FollowsDesk result desk.old desk.new))
-        (Finds roll.old.findings roll.new.findings (Does (Rested host.old desk.old) (setup_of host.old).devices roll.old.findings said.now))
+        (Finds roll.old.findings roll.new.findings (Does (Rested host.old desk.old)
+        (MissedFrom host.old (Rose (O.misses outside.old) (O.misses outside.new))) (setup_of host.old).devices roll.old.findings said.now))
         result out.old out.new host.old host.new }
     ensures later { O.misses outside.old ≤ O.misses outside.new }
 {

@@ -8,7 +8,7 @@ use cct_model::DeviceSet;
 const REST: u8 = 17;
 
 /// What the last try at a device was.
-#[derive(Clone, Copy, Debug, PartialEq, Eq)]
+#[derive(Clone, Copy)]
 pub(crate) enum Tried {
     /// No exchange was made.
     Nothing,

@@ -8,7 +8,7 @@ ghost use Rattle.cct_model.specs.Setup.{IsSoundSetup};
 ghost use Rattle.cct_live_service.specs.AtDesk.{Both, FollowsTo};
 ghost use Rattle.cct_live_service.specs.Causes.{DiskServes, IsDiskFault, IsUnread, IsUnwritten};
 ghost use Rattle.cct_live_service.specs.Causes.{SuitsDisk};
-ghost use Rattle.cct_live_service.specs.Doing.{PlaysLines, ServesLines, ends_by};
+ghost use Rattle.cct_live_service.specs.Doing.{IsDone, PlaysLines, ServesLines, ends_by};
 ghost use Rattle.cct_live_service.specs.Found.{Begun, was_found};
 ghost use Rattle.cct_live_service.specs.Known.{KnownAfter, MissedFrom};
 ghost use Rattle.cct_live_service.specs.Lived.{Closed, LivedOrNot};
@@ -142,7 +142,7 @@ fn live_on<S: Source, K: Sink, D: Disk + Drop, L: CountedLink, O: Beside<D>>(
         (Both (UsesLink L.gives L.sent L.failures (setup_of host.old).devices roll.old roll.new
         (watched link.old page.old) (watched link.new page.new))
         (FollowsTo result desk.old desk.new))
-        (ServesLines (KnownAfter host.old desk.old)
+        (ServesLines (IsDone result) (KnownAfter host.old desk.old)
         (MissedFrom host.old (Rose (O.misses outside.old) (O.misses outside.new))) (setup_of host.old) (opening_of (setup_of host.old) begun) roll.old.findings (ends_by result ends)) (S.left input.old) result out.old out.new
         host.old host.new }
     ensures input { Serves S.left S.faults input.old input.new (IsUnread result) }

@@ -5,8 +5,8 @@ ghost use Rattle.cct_host.specs.Host.{Keeps, has_failed, setup_of};
 ghost use Rattle.cct_host.specs.Standing.{epoch_at};
 ghost use Rattle.cct_model.specs.lines.entry.Entry.{Entry};
 ghost use Rattle.cct_live_service.specs.AtDesk.{Both, FollowsDesk};
-ghost use Rattle.cct_live_service.specs.Doing.{GivesStop, StopsAt, StopsBy, StopsRunning};
-ghost use Rattle.cct_live_service.specs.Doing.{StopsUpTo};
+ghost use Rattle.cct_live_service.specs.Doing.{GivesStop, LivesPast, StopsAt, StopsBy};
+ghost use Rattle.cct_live_service.specs.Doing.{StopsRunning, StopsUpTo};
 ghost use Rattle.cct_live_service.specs.Ends.{is_unanswered};
 ghost use Rattle.cct_live_service.specs.Known.{KnownAfter};
 ghost use Rattle.cct_live_service.specs.Opening.{is_running};
@@ -26,7 +26,7 @@ use cct_live_port::CountedLink;
 use cct_model::{Command, End, Entry};
 
 /// What is done with the acceptors that run where the input ended, or said `end`.
-#[derive(Clone, Copy, Debug, PartialEq, Eq)]
+#[derive(Clone, Copy, PartialEq, Eq)]
 pub enum AtEnd {
     /// They go on accepting, and their epochs run.
     Leave,
@@ -48,7 +48,7 @@ pub(crate) fn stop_at_end<K: Sink, D: Disk, L: CountedLink>(
     ensures acts { Acts K.written K.puts K.faults (Both (Exchanges L.gives L.sent L.failures (setup_of host.old).devices
         (watched link.old page.old) (watched link.new page.new))
         (FollowsDesk result desk.old desk.new))
-        (StopsBy ends (KnownAfter host.old desk.old) (setup_of host.old)) result out.old out.new host.old host.new }
+        (StopsBy ends (LivesPast result) (KnownAfter host.old desk.old) (setup_of host.old)) result out.old out.new host.old host.new }
 {
     match ends {
         AtEnd::Leave => Ok(()),
@@ -68,7 +68,7 @@ fn stop_all<K: Sink, D: Disk, L: CountedLink>(
     ensures acts { Acts K.written K.puts K.faults (Both (Exchanges L.gives L.sent L.failures (setup_of host.old).devices
         (watched link.old page.old) (watched link.new page.new))
         (FollowsDesk result desk.old desk.new))
-        (StopsUpTo 256 (KnownAfter host.old desk.old) (setup_of host.old)) result out.old out.new host.old host.new }
+        (StopsUpTo 256 (LivesPast result) (KnownAfter host.old desk.old) (setup_of host.old)) result out.old out.new host.old host.new }
 {
     for addr in 0..=u8::MAX {
         match stop_if_running(host, addr, desk, link, out, page) {
@@ -92,7 +92,7 @@ fn stop_if_running<K: Sink, D: Disk, L: CountedLink>(
     ensures acts { Acts K.written K.puts K.faults (Both (Exchanges L.gives L.sent L.failures (setup_of host.old).devices
         (watched link.old page.old) (watched link.new page.new))
         (FollowsDesk result desk.old desk.new))
-        (StopsAt (KnownAfter host.old desk.old) (setup_of host.old) addr) result out.old out.new host.old host.new }
+        (StopsAt (LivesPast result) (KnownAfter host.old desk.old) (setup_of host.old) addr) result out.old out.new host.old host.new }
 {
     if runs(host.epoch_at(addr)) {
         stop(host, addr, desk, link, out, page)
@@ -115,7 +115,7 @@ fn stop<K: Sink, D: Disk, L: CountedLink>(
     ensures acts { Acts K.written K.puts K.faults (Both (Exchanges L.gives L.sent L.failures (setup_of host.old).devices
         (watched link.old page.old) (watched link.new page.new))
         (FollowsDesk result desk.old desk.new))
-        (StopsRunning (KnownAfter host.old desk.old) (setup_of host.old) addr) result out.old out.new host.old host.new }
+        (StopsRunning (LivesPast result) (KnownAfter host.old desk.old) (setup_of host.old) addr) result out.old out.new host.old host.new }
 {
     match go_on(host, addr, Until::Ended, desk, link, out, page) {
         Ok(()) => {}
@@ -132,6 +132,8 @@ fn stop<K: Sink, D: Disk, L: CountedLink>(
 /// answer.
 fn is_to_stop<D: Disk>(host: &Host<'_, D>, addr: u8, page: &Page) -> bool
     ensures stops { result ≡ true → list_any is_unanswered page.now.report.items ≡ false }
+    ensures runs { result ≡ true → (past : List Entry) → Keeps host.now past →
+        is_running (epoch_at (setup_of host.now) past addr) ≡ true }
     ensures stays { result ≡ false → list_any is_unanswered page.now.report.items ≡ false
         → (past : List Entry) → Keeps host.now past → is_running (epoch_at (setup_of host.now) past addr) ≡ false }
 {

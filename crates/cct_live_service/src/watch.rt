@@ -22,7 +22,7 @@ pub struct Watch {
 
 /// What is reported after the entries of an attempt: how the line is, where that changed, and a
 /// bill that is held, where it wasn't told yet.
-#[derive(Clone, Copy, Debug, PartialEq, Eq)]
+#[derive(Clone, Copy, PartialEq, Eq)]
 pub struct Due {
     pub(crate) line: Option<Notice>,
     pub(crate) bill: Option<Notice>,

@@ -74,7 +74,7 @@ returns-in-Ok g c =
           )
           does wrote
           (next_goes gives g.met.L.CountedLink.few line next c.args.addr host after reported is_sent notices bears
-          c.in-Ok.ensures.setup c.in-Ok.ensures.goes_on nexts)
+          c.in-Ok.ensures.setup c.in-Ok.ensures.goes_on nexts c.in-Ok.ensures.fills)
           (refl, (notices, bears, refl)) c.in-Ok.ensures.whole c.in-Ok.ensures.setup
           c.write_attempt.ensures.serves
           (record {

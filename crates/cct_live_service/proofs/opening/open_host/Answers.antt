@@ -14,6 +14,7 @@ returns-in-Ok-start-clause-opened g c =
     opened_by {g = g.D.Disk} c.args.disk c.in-Ok.opened.0 c.in-Ok-start.host setup c.in-Ok.opened.1 start.setup
     c.requires.sound c.in-Ok.ensures.opened (λ found told. c.in-Ok.ensures.opens setup found c.requires.sound told)
     start.begins start.resumes start.knows start.fresh start.stands start.reads c.in-Ok.ensures.serves start.untouched
+    start.place
 
 pub returns-in-Ok-start-clause-serves : goal.returns-in-Ok-start-clause-serves
 returns-in-Ok-start-clause-serves g c =

@@ -1,11 +1,12 @@
 use Rattle.std.proofs.Common.{Ok, arith, subst, sym}
+use Rattle.cct_edge.specs.Faults.{Rose}
 use Rattle.cct_host.specs.Host.{setup_of}
 use Rattle.cct_model.specs.lines.command.Step.TheVariants as step
 use Rattle.cct_laws_live.specs.LiveStep as live
 use Rattle.cct_live_service.specs.declared.attempts.Until.TheVariants as until_of
 use Rattle.cct_live_service.specs.AtDesk.{Both, FollowsDesk, IsApart}
 use Rattle.cct_live_service.specs.Doing.{Decides, Does, Finds, IsAttempt, IsOrder, IsStatus, MakesAttempts, TellsOne, TellsStep}
-use Rattle.cct_live_service.specs.Known.{Rested}
+use Rattle.cct_live_service.specs.Known.{MissedFrom, Rested}
 use Rattle.cct_live_service.specs.Linked.{UsesLink, watched}
 use Rattle.cct_live_service.specs.Parts.{Acts}
 use Rattle.cct_live_service.specs.Said.{IsSayable}
@@ -29,6 +30,8 @@ returns-in-Next g c =
     let host = c.args.host.now in
     let desk = c.args.desk.now in
     let devices = (setup_of host).devices in
+    let misses = g.O.Outside.misses in
+    let missed = MissedFrom host (Rose (misses c.args.outside.now) (misses c.args.outside.now)) in
     let does = IsAttempt c.in-Next.addr in
     let result = c.next.result in
     let follows = FollowsDesk result desk c.next.new.desk in
@@ -37,7 +40,7 @@ returns-in-Next g c =
     let out1 = c.next.new.out in
     let after = c.next.new.host in
     record {
-      acts = subst (λ said. Acts sink.written sink.puts sink.faults uses (Finds known known (Does (Rested host c.args.desk.now) devices known said)) result out out1
+      acts = subst (λ said. Acts sink.written sink.puts sink.faults uses (Finds known known (Does (Rested host c.args.desk.now) missed devices known said)) result out out1
           host after) (sym c.in-Next.is)
           (roll_told sink.written sink.puts sink.faults g.L.Link.gives link.sent link.failures devices roll line (watched c.next.new.link c.next.new.page)
           desk c.next.new.desk result out out1 host after (Finds known known does)
@@ -56,6 +59,8 @@ returns-in-Do g c =
     let host = c.args.host.now in
     let desk = c.args.desk.now in
     let devices = (setup_of host).devices in
+    let misses = g.O.Outside.misses in
+    let missed = MissedFrom host (Rose (misses c.args.outside.now) (misses c.args.outside.now)) in
     let does = MakesAttempts until_of.Ended c.in-Do.addr in
     let result = c.do_job.result in
     let follows = FollowsDesk result desk c.do_job.new.desk in
@@ -64,7 +69,7 @@ returns-in-Do g c =
     let out1 = c.do_job.new.out in
     let after = c.do_job.new.host in
     record {
-      acts = subst (λ said. Acts sink.written sink.puts sink.faults uses (Finds known known (Does (Rested host c.args.desk.now) devices known said)) result out out1
+      acts = subst (λ said. Acts sink.written sink.puts sink.faults uses (Finds known known (Does (Rested host c.args.desk.now) missed devices known said)) result out out1
           host after) (sym c.in-Do.is)
           (roll_told sink.written sink.puts sink.faults g.L.Link.gives link.sent link.failures devices roll line (watched c.do_job.new.link c.do_job.new.page)
           desk c.do_job.new.desk result out out1 host after (Finds known known does)
@@ -83,6 +88,8 @@ returns-in-Balance g c =
     let host = c.args.host.now in
     let desk = c.args.desk.now in
     let devices = (setup_of host).devices in
+    let misses = g.O.Outside.misses in
+    let missed = MissedFrom host (Rose (misses c.args.outside.now) (misses c.args.outside.now)) in
     let does = TellsOne live.balance in
     let result = c.balance.result in
     let follows = FollowsDesk result desk desk in
@@ -91,7 +98,7 @@ returns-in-Balance g c =
     let out1 = c.balance.new.out in
     let after = c.balance.new.host in
     record {
-      acts = subst (λ said. Acts sink.written sink.puts sink.faults uses (Finds known known (Does (Rested host c.args.desk.now) devices known said)) result out out1
+      acts = subst (λ said. Acts sink.written sink.puts sink.faults uses (Finds known known (Does (Rested host c.args.desk.now) missed devices known said)) result out out1
           host after) (sym c.in-Balance.is)
           (roll_quiet sink.written sink.puts sink.faults g.L.Link.gives link.sent link.failures devices roll
           c.args.link.now c.args.page.now c.balance.new.page c.balance.ensures.watch follows result out out1 host after (Finds known known does)
@@ -111,6 +118,8 @@ returns-in-Status g c =
     let host = c.args.host.now in
     let desk = c.args.desk.now in
     let devices = (setup_of host).devices in
+    let misses = g.O.Outside.misses in
+    let missed = MissedFrom host (Rose (misses c.args.outside.now) (misses c.args.outside.now)) in
     let does = IsStatus devices in
     let result = c.status.result in
     let follows = FollowsDesk result desk desk in
@@ -119,7 +128,7 @@ returns-in-Status g c =
     let out1 = c.status.new.out in
     let after = c.status.new.host in
     record {
-      acts = subst (λ said. Acts sink.written sink.puts sink.faults uses (Finds known known (Does (Rested host c.args.desk.now) devices known said)) result out out1
+      acts = subst (λ said. Acts sink.written sink.puts sink.faults uses (Finds known known (Does (Rested host c.args.desk.now) missed devices known said)) result out out1
           host after) (sym c.in-Status.is)
           (roll_apart sink.written sink.puts sink.faults g.L.Link.gives link.sent link.failures devices roll roll line
           (watched c.args.link.now c.status.new.page) desk result out out1 host after (Finds known known does)
@@ -141,7 +150,9 @@ returns-in-Order g c =
     let host = c.args.host.now in
     let desk = c.args.desk.now in
     let devices = (setup_of host).devices in
-    let does = IsOrder c.in-Order.id in
+    let misses = g.O.Outside.misses in
+    let missed = MissedFrom host (Rose (misses c.args.outside.now) (misses c.order.new.outside)) in
+    let does = IsOrder missed c.in-Order.id in
     let result = c.order.result in
     let follows = FollowsDesk result desk desk in
     let uses = Both (UsesLink g.L.Link.gives link.sent link.failures devices roll roll line (watched c.args.link.now c.order.new.page)) follows in
@@ -149,13 +160,13 @@ returns-in-Order g c =
     let out1 = c.order.new.out in
     let after = c.order.new.host in
     record {
-      acts = subst (λ said. Acts sink.written sink.puts sink.faults uses (Finds known known (Does (Rested host c.args.desk.now) devices known said)) result out out1
+      acts = subst (λ said. Acts sink.written sink.puts sink.faults uses (Finds known known (Does (Rested host c.args.desk.now) missed devices known said)) result out out1
           host after) (sym c.in-Order.is)
           (roll_quiet sink.written sink.puts sink.faults g.L.Link.gives link.sent link.failures devices roll
           c.args.link.now c.args.page.now c.order.new.page c.order.ensures.watch follows result out out1 host after (Finds known known does)
           (quiet_at_desk sink.written sink.puts sink.faults desk result out out1 host after (Finds known known does)
           (acts_weaker sink.written sink.puts sink.faults result out out1 host after does (Finds known known does)
-          (finds_none known does (order_finds c.in-Order.id)) c.order.ensures.acts)));
+          (finds_none known does (order_finds missed c.in-Order.id)) c.order.ensures.acts)));
       later = c.order.ensures.later;
     }
 
@@ -169,6 +180,8 @@ returns-in-Stock g c =
     let host = c.args.host.now in
     let desk = c.args.desk.now in
     let devices = (setup_of host).devices in
+    let misses = g.O.Outside.misses in
+    let missed = MissedFrom host (Rose (misses c.args.outside.now) (misses c.args.outside.now)) in
     let s = step.Stock c.in-Stock.addr c.in-Stock.count in
     let does = TellsStep s in
     let result = c.count_stock.result in
@@ -178,7 +191,7 @@ returns-in-Stock g c =
     let out1 = c.count_stock.new.out in
     let after = c.count_stock.new.host in
     record {
-      acts = subst (λ said. Acts sink.written sink.puts sink.faults uses (Finds known known (Does (Rested host c.args.desk.now) devices known said)) result out out1
+      acts = subst (λ said. Acts sink.written sink.puts sink.faults uses (Finds known known (Does (Rested host c.args.desk.now) missed devices known said)) result out out1
           host after) (sym c.in-Stock.is)
           (roll_quiet sink.written sink.puts sink.faults g.L.Link.gives link.sent link.failures devices roll
           c.args.link.now c.args.page.now c.count_stock.new.page c.count_stock.ensures.watch follows result out out1 host after (Finds known known does)
@@ -197,6 +210,8 @@ returns-in-Change g c =
     let host = c.args.host.now in
     let desk = c.args.desk.now in
     let devices = (setup_of host).devices in
+    let misses = g.O.Outside.misses in
+    let missed = MissedFrom host (Rose (misses c.args.outside.now) (misses c.args.outside.now)) in
     let s = step.Change c.in-Change.first c.in-Change.amount in
     let does = TellsStep s in
     let result = c.begin_session.result in
@@ -206,7 +221,7 @@ returns-in-Change g c =
     let out1 = c.begin_session.new.out in
     let after = c.begin_session.new.host in
     record {
-      acts = subst (λ said. Acts sink.written sink.puts sink.faults uses (Finds known known (Does (Rested host c.args.desk.now) devices known said)) result out out1
+      acts = subst (λ said. Acts sink.written sink.puts sink.faults uses (Finds known known (Does (Rested host c.args.desk.now) missed devices known said)) result out out1
           host after) (sym c.in-Change.is)
           (roll_quiet sink.written sink.puts sink.faults g.L.Link.gives link.sent link.failures devices roll
           c.args.link.now c.args.page.now c.begin_session.new.page c.begin_session.ensures.watch follows result out out1 host after (Finds known known does)
@@ -231,6 +246,8 @@ returns-in-Command g c =
     let host = c.args.host.now in
     let desk = c.args.desk.now in
     let devices = (setup_of host).devices in
+    let misses = g.O.Outside.misses in
+    let missed = MissedFrom host (Rose (misses c.args.outside.now) (misses c.args.outside.now)) in
     let result = c.decide.result in
     let out = c.args.out.now in
     let out1 = c.decide.new.out in
@@ -238,7 +255,7 @@ returns-in-Command g c =
     let uses = Both (UsesLink g.L.Link.gives link.sent link.failures devices roll c.decide.new.roll line (watched c.decide.new.link c.decide.new.page))
     (FollowsDesk result desk desk) in
     record {
-      acts = subst (λ said. Acts sink.written sink.puts sink.faults uses (Finds known now (Does (Rested host c.args.desk.now) devices known said)) result out out1
+      acts = subst (λ said. Acts sink.written sink.puts sink.faults uses (Finds known now (Does (Rested host c.args.desk.now) missed devices known said)) result out out1
           host after) (sym c.in-Command.is)
           (roll_apart sink.written sink.puts sink.faults g.L.Link.gives link.sent link.failures devices roll c.decide.new.roll line
           (watched c.decide.new.link c.decide.new.page) desk result out out1 host after (Finds known now (Decides known c.in-Command.command))

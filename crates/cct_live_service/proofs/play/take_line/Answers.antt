@@ -70,9 +70,9 @@ returns-then-is_known g c =
       acts = subst (λ said. Acts sink.written sink.puts sink.faults uses (Finds known now (DoesLine rested missed devices known number said))
           c.obey.result c.args.out.now c.obey.new.out host c.obey.new.host) (sym (c.in-Ok-Host.is ∙ ap (λ said. Ok said) (rw c.in-Ok-Host.is at c.in-Ok-Host.field-0-is)))
           (acts_weaker sink.written sink.puts sink.faults c.obey.result c.args.out.now c.obey.new.out host c.obey.new.host
-          (Finds known now (Does rested devices known said)) (Finds known now (DoesLine rested missed devices known number (Ok (input.Host said))))
-          (finds_weaker known now (Does rested devices known said) (DoesLine rested missed devices known number (Ok (input.Host said)))
-          (known_line rested (is_known devices said) there devices known number said))
+          (Finds known now (Does rested missed devices known said)) (Finds known now (DoesLine rested missed devices known number (Ok (input.Host said))))
+          (finds_weaker known now (Does rested missed devices known said) (DoesLine rested missed devices known number (Ok (input.Host said)))
+          (known_line rested missed (is_known devices said) there devices known number said))
           c.obey.ensures.acts);
       later = c.obey.ensures.later;
     }
@@ -110,7 +110,7 @@ returns-else-is_known g c =
           (acts_weaker sink.written sink.puts sink.faults result c.args.out.now c.refuse_unknown.new.out host
           c.refuse_unknown.new.host does (Finds known known (DoesLine rested missed devices known number (Ok (input.Host said))))
           (λ steps told h. finds_weaker known known does (DoesLine rested missed devices known number (Ok (input.Host said)))
-          (unknown_line rested (is_known devices said) there devices known number said) steps told
+          (unknown_line rested missed (is_known devices said) there devices known number said) steps told
           (finds_none known does (tells_finds number kind.Device) steps told h))
           c.refuse_unknown.ensures.acts)));
       later = c.refuse_unknown.ensures.later;

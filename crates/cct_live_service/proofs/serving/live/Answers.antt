@@ -4,7 +4,7 @@ use Rattle.cct_host.specs.Host.{disk_of, setup_of}
 use Rattle.cct_model.specs.Setup.{IsSoundSetup}
 use Rattle.cct_live_service.specs.Causes.{DiskServes, IsDiskFault, IsUnread, IsUnwritten}
 use Rattle.cct_live_service.specs.AtDesk.{Both, FollowsTo}
-use Rattle.cct_live_service.specs.Doing.{ServesLines, ends_by}
+use Rattle.cct_live_service.specs.Doing.{IsDone, ServesLines, ends_by}
 use Rattle.cct_live_service.specs.Found.{FoundOn}
 use Rattle.cct_live_service.specs.Known.{KnownAfter, MissedFrom}
 use Rattle.cct_live_service.specs.Linked.{UsesLink, watched}
@@ -57,10 +57,10 @@ returns g c =
           (subst (λ s. FoundOn disk.honest disk.seen disk.may_leave c.args.disk s begun found) p on))
           how c.args.out.now c.live_on-how.new.out
           (subst (λ s. Plays sink.written sink.puts
-          linked (ServesLines (KnownAfter host desk) unread s (opening_of s begun) roll.findings (ends_by how ends)) left how c.args.out.now c.live_on-how.new.out host last)
+          linked (ServesLines (IsDone how) (KnownAfter host desk) unread s (opening_of s begun) roll.findings (ends_by how ends)) left how c.args.out.now c.live_on-how.new.out host last)
           (sym c.live_on-how.ensures.setup) plays)));
       suits = lived_suits sink.written sink.puts {g = disk} c.args.disk back c.args.setup.now
-          linked (ServesLines (KnownAfter host desk) unread (setup_of host) opening roll.findings (ends_by how ends) plays.lines) how c.args.out.now c.live_on-how.new.out host last plays.lives;
+          linked (ServesLines (IsDone how) (KnownAfter host desk) unread (setup_of host) opening roll.findings (ends_by how ends) plays.lines) how c.args.out.now c.live_on-how.new.out host last plays.lives;
       size = λ other. absurd (other c.in-Ok.ensures.sized);
       input = c.live_on-how.ensures.input;
       sink = c.live_on-how.ensures.sink;

@@ -1,9 +1,10 @@
 use Rattle.std.proofs.Common.{◌∙◌, Ok, Err, inr}
+use Rattle.std.specs.Prelude.{⊤}
 use Rattle.cct_edge.specs.Faults.{Rose}
 use Rattle.cct_host.specs.Host.{disk_of, setup_of}
 use Rattle.cct_live_service.specs.Causes.{IsDiskFault, IsUnread, IsUnwritten}
 use Rattle.cct_live_service.specs.AtDesk.{Both, FollowsDesk, FollowsTo}
-use Rattle.cct_live_service.specs.Doing.{PlaysLines, ServesLines, StopsBy, ends_by}
+use Rattle.cct_live_service.specs.Doing.{IsDone, PlaysLines, ServesLines, StopsBy, ends_by}
 use Rattle.cct_live_service.specs.Known.{KnownAfter, MissedFrom}
 use Rattle.cct_live_service.specs.Linked.{UsesLink, watched}
 use Rattle.cct_live_service.specs.Opening.{opening_of}
@@ -13,7 +14,7 @@ use Rattle.cct_live_service.proofs.KnownLater.{Knowing, part_knowing}
 use Rattle.cct_live_service.proofs.Linking.{both_then, lives_end, roll_told, uses_then}
 use Rattle.cct_live_service.proofs.Parts.{breaks, disk_then, lives_then, serves_then, serves_weaker}
 use Rattle.cct_live_service.proofs.Saying.{said_ended}
-use Rattle.cct_live_service.proofs.Stops.{end_then, ended_by, played_to}
+use Rattle.cct_live_service.proofs.Stops.{done_of_input, end_then, ended_by, played_to}
 use Rattle.cct_live_service.proofs.serving.live_on.Goals as goal
 
 pub stop_at_end-requires : goal.stop_at_end-requires
@@ -57,7 +58,7 @@ returns-in-Ok g c =
     (uses_then g.L.Link.gives link.sent link.failures (setup_of host) (setup_of mid) before.setup roll between_roll
     between_roll line between_line last_line) (follows_then (Ok tt) was between_desk last_desk) in
     let acts = roll_told sink.written sink.puts sink.faults g.L.Link.gives link.sent link.failures (setup_of mid).devices
-    between_roll between_line last_line between_desk last_desk (Ok tt) between told mid last (StopsBy ends (KnownAfter mid between_desk) (setup_of mid)) c.in-Ok.ensures.acts in
+    between_roll between_line last_line between_desk last_desk (Ok tt) between told mid last (StopsBy ends ⊤ (KnownAfter mid between_desk) (setup_of mid)) c.in-Ok.ensures.acts in
     record {
       setup = acts.setup ∙ before.setup;
       plays = λ begun has there.
@@ -68,8 +69,8 @@ returns-in-Ok g c =
           record {
             lines = lines;
             lives = lives_then sink.written sink.puts first then all links (Ok tt) out between told host mid last (Knowing plays_so first host mid)
-                (StopsBy ends (KnownAfter mid between_desk) (setup_of mid)) (ServesLines knows missed (setup_of host) opening known ends lines)
-                (λ s1 s2 t1 t2 h k. end_then host mid before.setup was between_desk missed opening known ends lines s1 s2 t1 t2 h.0
+                (StopsBy ends ⊤ (KnownAfter mid between_desk) (setup_of mid)) (ServesLines ⊤ knows missed (setup_of host) opening known ends lines)
+                (λ s1 s2 t1 t2 h k. end_then host mid before.setup was between_desk ⊤ ⊤ (λ lasts. lasts) missed opening known ends lines s1 s2 t1 t2 h.0
                 (h.2, h.1.1) k) before.setup
                 (part_knowing sink.written sink.puts sink.faults first out between host mid plays_so plays.lives) acts.lives;
             says = plays.says;
@@ -120,8 +121,8 @@ returns-in-Err g c =
     (uses_then g.L.Link.gives link.sent link.failures (setup_of host) (setup_of mid) before.setup roll between_roll
     between_roll line between_line last_line) (follows_then (Err how) was between_desk last_desk) in
     let acts = roll_told sink.written sink.puts sink.faults g.L.Link.gives link.sent link.failures (setup_of mid).devices
-    between_roll between_line last_line between_desk last_desk (Err how) between told mid last (StopsBy ends (KnownAfter mid between_desk) (setup_of mid)) c.in-Err.ensures.acts in
-    let other = breaks sink.written sink.puts then how (StopsBy ends (KnownAfter mid between_desk) (setup_of mid)) between told mid last acts.lives in
+    between_roll between_line last_line between_desk last_desk (Err how) between told mid last (StopsBy ends ⊥ (KnownAfter mid between_desk) (setup_of mid)) c.in-Err.ensures.acts in
+    let other = breaks sink.written sink.puts then how (StopsBy ends ⊥ (KnownAfter mid between_desk) (setup_of mid)) between told mid last acts.lives in
     record {
       setup = acts.setup ∙ before.setup;
       plays = λ begun has there.
@@ -131,12 +132,12 @@ returns-in-Err g c =
           let plays_so = PlaysLines knows missed (setup_of host) opening known lines in
           record {
             lines = lines;
-            lives = lives_end sink.written sink.puts uses how was last_desk (ServesLines knows missed (setup_of host) opening known (ends_by how ends) lines) out told host last
-                (ended_by sink.written sink.puts all how (λ e. ServesLines knows missed (setup_of host) opening known e lines) ends out told host last
+            lives = lives_end sink.written sink.puts uses how was last_desk (ServesLines (IsDone how) knows missed (setup_of host) opening known (ends_by how ends) lines) out told host last
+                (ended_by sink.written sink.puts all how (λ e. ServesLines (IsDone how) knows missed (setup_of host) opening known e lines) ends out told host last
                 (lives_then sink.written sink.puts first then all links (Err how) out between told host mid last
-                (Knowing plays_so first host mid) (StopsBy ends (KnownAfter mid between_desk) (setup_of mid))
-                (ServesLines knows missed (setup_of host) opening known ends lines)
-                (λ s1 s2 t1 t2 h k. end_then host mid before.setup was between_desk missed opening known ends lines s1 s2 t1 t2 h.0
+                (Knowing plays_so first host mid) (StopsBy ends ⊥ (KnownAfter mid between_desk) (setup_of mid))
+                (ServesLines (IsDone how) knows missed (setup_of host) opening known ends lines)
+                (λ s1 s2 t1 t2 h k. end_then host mid before.setup was between_desk ⊥ (IsDone how) (λ done. other (done_of_input how done)) missed opening known ends lines s1 s2 t1 t2 h.0
                 (h.2, h.1.1) k) before.setup
                 (part_knowing sink.written sink.puts sink.faults first out between host mid plays_so plays.lives) acts.lives));
             says = said_ended how (source.left c.args.input.now) lines other plays.says;

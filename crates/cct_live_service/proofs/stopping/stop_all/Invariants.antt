@@ -1,7 +1,7 @@
 use Rattle.std.proofs.Common.{Ok}
 use Rattle.cct_host.specs.Host.{setup_of}
 use Rattle.cct_live_service.specs.AtDesk.{Both, FollowsDesk}
-use Rattle.cct_live_service.specs.Doing.{StopsUpTo}
+use Rattle.cct_live_service.specs.Doing.{LivesPast, StopsUpTo}
 use Rattle.cct_live_service.specs.Known.{KnownAfter}
 use Rattle.cct_live_service.specs.Linked.{Exchanges, watched}
 use Rattle.cct_live_service.specs.Parts.{Acts}
@@ -13,4 +13,4 @@ invariant-loop-addr g l =
     let sink = g.K.Sink in
     let link = g.L.CountedLink in
     Acts sink.written sink.puts sink.faults (Both (Exchanges g.L.Link.gives link.sent link.failures (setup_of l.fn.host).devices (watched l.fn.link l.fn.page) (watched l.link l.page)) (FollowsDesk (Ok tt) l.fn.desk l.desk))
-    (StopsUpTo l.addr (KnownAfter l.fn.host l.fn.desk) (setup_of l.fn.host)) (Ok tt) l.fn.out l.out l.fn.host l.host
+    (StopsUpTo l.addr (LivesPast (Ok tt)) (KnownAfter l.fn.host l.fn.desk) (setup_of l.fn.host)) (Ok tt) l.fn.out l.out l.fn.host l.host
