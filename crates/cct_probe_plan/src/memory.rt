@@ -1,4 +1,6 @@
 //! What is kept of the replies of a device.
+ghost use Rattle.std.specs.Prelude.{◌≡◌, ◌≤◌, [], None, drop, length, take};
+ghost use Rattle.cct_model_wire.specs.declared.wire.TheConstants.{MOST_HEARD};
 
 use arrayvec::ArrayVec;
 use cct_model_lines::MOST_HEARD;
@@ -22,7 +24,12 @@ pub struct Memory {
 
 impl Memory {
     /// Nothing is kept, and a silent read is before each message.
-    pub fn new() -> Memory {
+    pub fn new() -> Memory
+        ensures gap { result.gap ≡ 1 }
+        ensures first { result.first ≡ None }
+        ensures last { result.last ≡ None }
+        ensures reply { result.reply.items ≡ [] }
+    {
         Memory {
             gap: 1,
             first: None,
@@ -34,12 +41,25 @@ impl Memory {
     }
 
     /// Keeps what followed the echo.
-    pub(crate) fn keep_reply(&mut self, rest: &[u8]) {
+    pub(crate) fn keep_reply(&mut self, rest: &[u8])
+        ensures reply { self.new.reply.items ≡ take MOST_HEARD rest.now }
+        ensures others { self.new ≡ record self.old { reply = self.new.reply } }
+    {
+        let (front, _) = cut(rest, MOST_HEARD);
         self.reply.clear();
-        for byte in rest {
-            if !self.reply.is_full() {
-                self.reply.push(*byte);
-            }
-        }
+        self.reply.try_extend_from_slice(front).unwrap();
+    }
+}
+
+/// The first so many bytes, and the others.
+pub(crate) fn cut(bytes: &[u8], many: usize) -> (&[u8], &[u8])
+    ensures first { result.0.now ≡ take many bytes.now }
+    ensures other { result.1.now ≡ drop many bytes.now }
+    ensures few { length result.0.now ≤ many }
+{
+    if many <= bytes.len() {
+        bytes.split_at(many)
+    } else {
+        (bytes, &[])
     }
 }

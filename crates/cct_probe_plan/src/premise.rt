@@ -1,7 +1,9 @@
 //! What is relied on of devices. Each premise stands as a definition in `cct_model_wire` or
-//! `cct_laws_live_port`; what rests on it is one of the promises.
+//! `cct_laws_live_devices`; what rests on it is one of the promises.
 
 ghost use Rattle.std.specs.Prelude.{◌≡◌, ◌≤◌, length};
+ghost use Rattle.cct_probe_plan.specs.Promises.{carries, carries_coins, carries_orders};
+ghost use Rattle.cct_probe_plan.specs.Promises.{is_relied_on};
 ghost use Rattle.cct_probe_plan.specs.Words.{common_word, hopper_word, premise_word, taker_word};
 
 /// What is promised of the machine.
@@ -133,7 +135,9 @@ impl Premise {
     }
 
     /// Whether a promise rests on it.
-    pub fn carries(self, promise: Promise) -> bool {
+    pub fn carries(self, promise: Promise) -> bool
+        ensures { result ≡ carries promise self }
+    {
         match promise {
             Promise::Coins => self.carries_coins(),
             Promise::Orders => self.carries_orders(),
@@ -142,10 +146,12 @@ impl Premise {
     }
 
     /// Whether it takes this for coins to be posted once and not lost.
-    fn carries_coins(self) -> bool {
+    fn carries_coins(self) -> bool
+        ensures { result ≡ carries_coins self }
+    {
         match self {
             Premise::Common(Common::Cut) => false,
-            Premise::Common(premise) => premise.carries(),
+            Premise::Common(premise) => premise.is_relied_on(),
             Premise::Line(_) => true,
             Premise::Taker(OfTaker::Master) => false,
             Premise::Taker(_) => true,
@@ -154,9 +160,11 @@ impl Premise {
     }
 
     /// Whether it takes this for orders to be paid once.
-    fn carries_orders(self) -> bool {
+    fn carries_orders(self) -> bool
+        ensures { result ≡ carries_orders self }
+    {
         match self {
-            Premise::Common(premise) => premise.carries(),
+            Premise::Common(premise) => premise.is_relied_on(),
             Premise::Line(_) => true,
             Premise::Taker(_) => false,
             Premise::Hopper(_) => true,
@@ -184,8 +192,15 @@ impl Common {
 
     /// Whether promises rest on it. Where a device doesn't answer, or in another form, its job ends
     /// without an answer.
-    fn carries(self) -> bool {
-        !matches!(self, Common::Answers | Common::Form | Common::Unknown)
+    fn is_relied_on(self) -> bool
+        ensures { result ≡ is_relied_on self }
+    {
+        match self {
+            Common::Answers => false,
+            Common::Form => false,
+            Common::Unknown => false,
+            _ => true,
+        }
     }
 }
 

@@ -1,5 +1,5 @@
 -- What was sent, joined.
-use Rattle.std.proofs.Common.{◌≡◌, ◌⊎◌, ◌<◌, ◌≤◌, ◌-◌, inl, inr, ◌&&◌, ℕ, List, [], ◌∷◌, ◌++◌, length, take, drop, get_or, refl, Option, Result, arith, cond, true, false, subst, sym}
+use Rattle.std.proofs.Common.{◌≡◌, ◌<◌, ◌≤◌, ◌-◌, inl, inr, ◌&&◌, ℕ, List, [], ◌∷◌, ◌++◌, length, take, drop, get_or, Option, Result, arith, cond, true, false, subst, sym}
 use Rattle.std.proofs.Math.Seq.{take-length}
 use Rattle.std.specs.List.{Contains}
 use Rattle.cct_edge.specs.declared.fault.Failed.{Failed}
@@ -12,8 +12,8 @@ use Rattle.cct_probe_plan.specs.declared.plan.Say.{Say}
 use Rattle.cct_probe_plan.specs.declared.plan.Step.{Step}
 use Rattle.cct_probe_plan.specs.declared.plan.Trial.{Trial}
 use Rattle.cct_probe_run.specs.declared.bench.Bench.{Bench}
-use Rattle.cct_probe_run.specs.Plays.{Exchanges, IsNoOrder, IsOfPlan, IsRow, Plays, Tells, TellsBroken, exchanged, not_begun, told}
-use Rattle.cct_probe_run.specs.Leaving.{Leaves, OrderNone, Rests, Sends, Sent}
+use Rattle.cct_probe_run.specs.Plays.{IsOfPlan, Plays, TellsBroken, exchanged, not_begun, told}
+use Rattle.cct_probe_run.specs.Leaving.{Leaves, OrderNone, Rests, Sends}
 
 -- a plan without a trial has no row
 only_listens : (trials : List Trial) (said : Say) → IsOfPlan [] said → IsOfPlan trials said
@@ -23,12 +23,15 @@ only_listens trials said (inl row) = absurd (none row.is_step.of_plan)
     none (at, within, is) = absurd (omega (arith, within))
 only_listens trials said (inr nothing) = inr nothing
 
-no_trial : {setup : Setup} {piece sent heard : List ℕ} (trials : List Trial) → TellsBroken setup [] piece sent heard →
-    TellsBroken setup trials piece sent heard
-no_trial trials tells = absurd (none tells.of_plan)
+tells_none : {setup : Setup} {piece sent heard : List ℕ} → TellsBroken setup [] piece sent heard → ⊥
+tells_none tells = none tells.of_plan
   where
     none : {t : Trial} → Contains [] t → ⊥
     none (at, within, is) = absurd (omega (arith, within))
+
+no_trial : {setup : Setup} {piece sent heard : List ℕ} (trials : List Trial) → TellsBroken setup [] piece sent heard →
+    TellsBroken setup trials piece sent heard
+no_trial trials tells = absurd (tells_none tells)
 
 -- the others of a list, whose number is reported by the length
 others_whole : {X : Type 0} (x : X) (xs : List X) → take (length (x ∷ xs) - 1) xs ≡ xs
@@ -61,6 +64,7 @@ module _ {L K : Type 0} (reads : L → Option (List ℕ) → L → Type 0) (writ
         counted = one.counted;
         no_empty = one.no_empty;
         leave = one.leave;
+        broken = one.broken;
         out = one.out;
       })
   plays_on trials first mid _ before (told bench next earlier one) =
@@ -74,6 +78,9 @@ module _ {L K : Type 0} (reads : L → Option (List ℕ) → L → Type 0) (writ
         heard = one.heard;
         asked = one.asked;
         leave = one.leave;
+        breaks = λ is. absurd (tells_none (one.shows is));
+        stays = one.stays;
+        holds = one.holds;
       })
 
   pub rests_first : (device : DeviceSetup) (round : ℕ) (says : List Say) (first mid last : Bench L K) →

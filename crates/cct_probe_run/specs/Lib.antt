@@ -1,3 +1,4 @@
+pub mod Broken
 pub mod Plays
 pub mod Leaving
 pub mod Showing

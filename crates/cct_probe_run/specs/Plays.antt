@@ -17,9 +17,12 @@ use Rattle.cct_probe_plan.specs.declared.plan.Step.TheVariants as step
 use Rattle.cct_probe_plan.specs.declared.plan.Step.{Step}
 use Rattle.cct_probe_plan.specs.declared.plan.Trial.{Trial}
 use Rattle.cct_probe_plan.specs.declared.premise.Premise.{Premise}
+use Rattle.cct_probe_plan.specs.declared.premise.Promise.{Promise}
+use Rattle.cct_probe_plan.specs.declared.premise.Promise.TheVariants as promise
 use Rattle.cct_probe_plan.specs.Judging.{IsTried}
 use Rattle.cct_probe_plan.specs.Saying.{IsSaid}
 use Rattle.cct_probe_plan.specs.Words.{premise_word}
+use Rattle.cct_probe_run.specs.Broken.{broken_after, fails}
 use Rattle.cct_probe_run.specs.declared.bench.Bench.{Bench}
 use Rattle.cct_probe_run.specs.declared.telling.TheConstants.{MOST_NAME}
 
@@ -78,10 +81,16 @@ abbrev pub begins_broken : List ℕ → Bool
 begins_broken [] = false
 begins_broken (byte ∷ bytes) = byte == 98
 
--- A line that doesn't begin so, and isn't empty.
+-- The line that says that a promise holds: no other line begins as it does.
+abbrev pub holds_text : Promise → List ℕ
+holds_text promise.Coins = codes "holds coins" ++ 10 ∷ []
+holds_text promise.Orders = codes "holds orders" ++ 10 ∷ []
+holds_text promise.Disk = codes "holds disk" ++ 10 ∷ []
+
+-- A line that begins as neither does, and isn't empty.
 abbrev pub Begun : List ℕ → Type 0
 Begun [] = ⊥
-Begun (byte ∷ bytes) = (byte == 98) ≡ false
+Begun (byte ∷ bytes) = ((byte == 98) ≡ false) × ((byte == 104) ≡ false)
 
 -- A word that begins such a line.
 abbrev pub IsOther : List ℕ → Type 0
@@ -133,6 +142,7 @@ module _ {L K : Type 0} (reads : L → Option (List ℕ) → L → Type 0)
         after.port
     pub asked : after.asked ≡ before.asked
     pub leave : after.leave ≡ before.leave
+    pub broken : after.broken ≡ before.broken
     pub out : after.out ≡ before.out
 
 module _ {L K : Type 0} (reads : L → Option (List ℕ) → L → Type 0)
@@ -153,9 +163,11 @@ module _ {L K : Type 0} (reads : L → Option (List ℕ) → L → Type 0)
     pub counted : after.asked ≡ before.asked + coins_of said
     pub no_empty : IsNoEmptyOrder said
     pub leave : after.leave ≡ before.leave
+    pub broken : after.broken ≡ before.broken
     pub out : after.out ≡ before.out
 
-  -- Something was put: if it begins as a line `broken` does, it shows the last exchange.
+  -- Something was put: if it begins as a line `broken` does, it shows the last exchange; and it
+  -- says that a promise holds only where no premise that it rests on was told broken.
   pub record Tells (before after : Bench L K) : Type 0 where
     pub piece : List ℕ
     pub result : Result (Unit {0}) Failed
@@ -167,6 +179,10 @@ module _ {L K : Type 0} (reads : L → Option (List ℕ) → L → Type 0)
     pub heard : after.heard.items ≡ before.heard.items
     pub asked : after.asked ≡ before.asked
     pub leave : after.leave ≡ before.leave
+    pub breaks : (is : begins_broken piece ≡ true) →
+        after.broken ≡ broken_after (shows is).this before.broken
+    pub stays : begins_broken piece ≡ false → after.broken ≡ before.broken
+    pub holds : (promise : Promise) → piece ≡ holds_text promise → fails promise before.broken ≡ false
 
   -- Exchanges and lines, one after the other.
   pub data Plays (first : Bench L K) : Bench L K → Type 0 where

@@ -2,12 +2,13 @@
 //! ordered without leave.
 
 ghost use Rattle.std.specs.Prelude.{◌≡◌, ◌≤◌};
+ghost use Rattle.cct_probe_run.specs.Broken.{broken_after, fails, none_broken};
 
 use arrayvec::ArrayVec;
 use cct_edge::{Failed, Sink};
 use cct_live_port::{Line, Port};
 use cct_model_lines::{MOST_HEARD, MOST_SENT, Setup};
-use cct_probe_plan::Trial;
+use cct_probe_plan::{Premise, Promise, Trial};
 
 /// What may be done.
 #[derive(Clone, Copy)]
@@ -50,6 +51,38 @@ pub(crate) enum Exchanged {
     Fault,
 }
 
+/// Whether any premise was told broken, and whether one on which a promise rests.
+#[derive(Clone, Copy, PartialEq, Eq)]
+pub(crate) struct Broken {
+    pub(crate) any: bool,
+    pub(crate) coins: bool,
+    pub(crate) orders: bool,
+}
+
+impl Broken {
+    /// Whether a promise rests on one of them.
+    pub(crate) fn fails(self, promise: Promise) -> bool
+        ensures { result ≡ fails promise self }
+    {
+        match promise {
+            Promise::Coins => self.coins,
+            Promise::Orders => self.orders,
+            Promise::Disk => false,
+        }
+    }
+
+    /// What is broken after one premise more.
+    pub(crate) fn and(self, premise: Premise) -> Broken
+        ensures { result ≡ broken_after premise self }
+    {
+        Broken {
+            any: true,
+            coins: premise.carries(Promise::Coins) || self.coins,
+            orders: premise.carries(Promise::Orders) || self.orders,
+        }
+    }
+}
+
 /// The devices, and what is tried.
 #[derive(Clone, Copy)]
 pub struct Plan<'s> {
@@ -67,6 +100,8 @@ pub struct Bench<L, K> {
     pub(crate) leave: Leave,
     /// How many coins were ordered.
     pub(crate) asked: u16,
+    /// What was told broken.
+    pub(crate) broken: Broken,
     ghost within_leave: { asked ≤ leave.coins },
 }
 
@@ -75,6 +110,7 @@ impl<L: Line, K: Sink> Bench<L, K> {
     pub fn new(port: Port<L>, out: K, leave: Leave) -> Bench<L, K>
         ensures none { result.asked ≡ 0 }
         ensures leave { result.leave ≡ leave }
+        ensures unbroken { result.broken ≡ none_broken }
     {
         Bench {
             port,
@@ -83,6 +119,11 @@ impl<L: Line, K: Sink> Bench<L, K> {
             heard: ArrayVec::new(),
             leave,
             asked: 0,
+            broken: Broken {
+                any: false,
+                coins: false,
+                orders: false,
+            },
         }
     }
 

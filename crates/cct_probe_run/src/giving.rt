@@ -1,20 +1,21 @@
 //! What a bench does: one exchange of a plan, or one line.
-ghost use Rattle.std.specs.Prelude.{◌≡◌, ◌≤◌, ◌∷◌, [], List, true};
+ghost use Rattle.std.specs.Prelude.{◌≡◌, ◌≤◌, ◌∷◌, [], List, false, true};
 ghost use Rattle.std.specs.List.{Contains};
 ghost use Rattle.cct_model_wire.specs.declared.device.Setup.{Setup};
 ghost use Rattle.cct_probe_plan.specs.declared.plan.Trial.{Trial};
 ghost use Rattle.cct_probe_plan.specs.Saying.{IsSaid};
 ghost use Rattle.cct_probe_run.specs.declared.bench.Exchanged.TheVariants.{Heard};
+ghost use Rattle.cct_probe_run.specs.Broken.{fails};
 ghost use Rattle.cct_probe_run.specs.Leaving.{Sent};
 ghost use Rattle.cct_probe_run.specs.Plays.{Begun, Given, IsNoEmptyOrder, IsNoOrder, IsOfPlan};
 ghost use Rattle.cct_probe_run.specs.Plays.{Plays, Shows, coins_of};
 ghost use Rattle.cct_probe_run.specs.declared.bench.Bench.{Bench};
 
 use crate::bench::{Bench, Exchanged, Plan, Stop};
-use crate::telling::{begin_broken, push_wire};
+use crate::telling::{begin_broken, holds_line, push_wire};
 use cct_edge::Sink;
 use cct_live_port::Line;
-use cct_probe_plan::{Ask, Premise, Say, Trial, Turn, write_say};
+use cct_probe_plan::{Ask, Premise, Promise, Say, Trial, Turn, write_say};
 use cct_text::TextLine;
 use cct_wire::Link;
 
@@ -64,8 +65,20 @@ impl<L: Line, K: Sink> Bench<L, K> {
         ensures plays { (setup : Setup) (trials : List Trial) (first : Bench L K) →
             Plays L.reads L.writes K.puts setup trials first self.old →
             Plays L.reads L.writes K.puts setup trials first self.new }
+        ensures still { self.new.broken ≡ self.old.broken }
     {
         self.out.put(line.as_slice())?;
+        Ok(())
+    }
+
+    /// Says that a promise holds, where no premise that it rests on was told broken.
+    pub(crate) fn tell_holds(&mut self, promise: Promise) -> Result<(), Stop>
+        requires kept { fails promise self.old.broken ≡ false }
+        ensures plays { (setup : Setup) (trials : List Trial) (first : Bench L K) →
+            Plays L.reads L.writes K.puts setup trials first self.old →
+            Plays L.reads L.writes K.puts setup trials first self.new }
+    {
+        self.out.put(holds_line(promise))?;
         Ok(())
     }
 
@@ -105,6 +118,7 @@ impl<L: Line, K: Sink> Bench<L, K> {
     {
         let mut line = TextLine::new();
         begin_broken(&mut line, addr, premise, trial.name);
+        self.broken = self.broken.and(premise);
         let (sent, heard) = (self.sent.as_slice(), self.heard.as_slice());
         push_wire(&mut line, addr, sent, heard);
         self.out.put(line.as_slice())?;

@@ -1,4 +1,5 @@
 //! All trials at all devices.
+ghost use Rattle.std.specs.Prelude.{◌≡◌, ◌↔◌, Ok, true, false};
 ghost use Rattle.std.specs.List.{Contains};
 ghost use Rattle.cct_probe_run.specs.Leaving.{EndsLeft};
 ghost use Rattle.cct_probe_run.specs.Plays.{Plays};
@@ -8,7 +9,7 @@ use crate::bench::{Bench, Plan, Stop};
 use crate::findings::{Findings, Standing, Why};
 use crate::leaving::{close, leave};
 use crate::person::{Clock, Person};
-use crate::summary::{is_any_broken, tell_coins, tell_device, tell_promises};
+use crate::summary::{tell_coins, tell_device, tell_promises};
 use crate::trying::try_out;
 use cct_edge::{Sink, Source};
 use cct_live_port::Line;
@@ -48,29 +49,38 @@ pub fn run<L: Line, K: Sink, S: Source, C: Clock>(
     // nothing else to anybody.
     ensures leaves { EndsLeft L.reads L.writes K.puts plan.entry.setup.now plan.entry.trials.now
         bench.old bench.new }
+    // Whether a premise was told broken.
+    ensures kept { result ≡ Ok Ended.Kept → bench.new.broken.any ≡ false }
+    ensures broken { result ≡ Ok Ended.Broken → bench.new.broken.any ≡ true }
 {
-    let ended = try_all(bench, plan, person, clock);
-    match leave(bench, plan) {
-        Ok(()) => ended,
-        Err(stop) => ended_or(stop, ended),
+    let tried = try_all(bench, plan, person, clock);
+    let left = leave(bench, plan);
+    let is_heard = tried?;
+    left?;
+    Ok(ending_of(is_heard, bench.broken.any))
+}
+
+/// How trials ended, by whether some device answered and some premise was told broken.
+fn ending_of(is_heard: bool, is_broken: bool) -> Ended
+    ensures broken { result ≡ Ended.Broken ↔ ((is_heard ≡ true) × (is_broken ≡ true)) }
+    ensures kept { result ≡ Ended.Kept ↔ ((is_heard ≡ true) × (is_broken ≡ false)) }
+{
+    if !is_heard {
+        Ended::NothingHeard
+    } else if is_broken {
+        Ended::Broken
+    } else {
+        Ended::Kept
     }
 }
 
-/// How trials ended after which devices couldn't be left: so, where nothing else stopped them.
-fn ended_or(stop: Stop, ended: Result<Ended, Stop>) -> Result<Ended, Stop> {
-    match ended {
-        Ok(_) => Err(stop),
-        Err(first) => Err(first),
-    }
-}
-
-/// Does all trials, and says which promises hold.
+/// Does all trials, and says which promises hold. It answers whether some device answered.
 fn try_all<L: Line, K: Sink, S: Source, C: Clock>(
     bench: &mut Bench<L, K>,
     plan: Plan<'_>,
     person: &mut Person<S>,
     clock: &mut C,
-) -> Result<Ended, Stop>
+) -> Result<bool, Stop>
     ensures plays { (first : Bench L K) →
         Plays L.reads L.writes K.puts plan.entry.setup.now plan.entry.trials.now first bench.old →
         Plays L.reads L.writes K.puts plan.entry.setup.now plan.entry.trials.now first bench.new }
@@ -83,17 +93,13 @@ fn try_all<L: Line, K: Sink, S: Source, C: Clock>(
         }
     }
     if !is_heard {
-        return Ok(Ended::NothingHeard);
+        return Ok(false);
     }
     if let Some(device) = plan.setup.devices.as_slice().first() {
         run_line(bench, plan, person, clock, &mut findings, device)?;
     }
     tell_promises(bench, &findings)?;
-    Ok(if is_any_broken(&findings) {
-        Ended::Broken
-    } else {
-        Ended::Kept
-    })
+    Ok(true)
 }
 
 /// Does the trials of a device. It answers whether the device answered.

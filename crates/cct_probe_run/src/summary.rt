@@ -1,5 +1,5 @@
 //! What is told of a device at its end, and of the promises at last.
-ghost use Rattle.std.specs.Prelude.{List};
+ghost use Rattle.std.specs.Prelude.{◌≡◌, IfOk, List};
 ghost use Rattle.cct_model_wire.specs.declared.device.Setup.{Setup};
 ghost use Rattle.cct_probe_plan.specs.declared.plan.Trial.{Trial};
 ghost use Rattle.cct_probe_run.specs.Plays.{Plays};
@@ -81,9 +81,9 @@ pub(crate) fn tell_promises<L: Line, K: Sink>(
         Plays L.reads L.writes K.puts setup trials first bench.new }
 {
     for promise in PROMISES {
-        let are_broken = tell_each(bench, findings, promise, true)?;
-        if !are_broken && !tell_each(bench, findings, promise, false)? {
-            bench.tell(&promise_of(b"holds", promise, None))?;
+        tell_each(bench, findings, promise, true)?;
+        if !bench.broken.fails(promise) && !tell_each(bench, findings, promise, false)? {
+            bench.tell_holds(promise)?;
         }
     }
     Ok(())
@@ -100,12 +100,13 @@ fn tell_each<L: Line, K: Sink>(
     ensures plays { (setup : Setup) (trials : List Trial) (first : Bench L K) →
         Plays L.reads L.writes K.puts setup trials first bench.old →
         Plays L.reads L.writes K.puts setup trials first bench.new }
+    ensures still { IfOk result (λ _. bench.new.broken ≡ bench.old.broken) }
 {
     let word: &[u8] = if is_broken { b"fails" } else { b"open" };
     let mut is_any = false;
     for found in findings.as_slice() {
         if found.premise.carries(promise) && is_so(found.standing, is_broken) {
-            bench.tell(&promise_of(word, promise, Some((found.addr, found.premise))))?;
+            bench.tell(&promise_of(word, promise, found.addr, found.premise))?;
             is_any = true;
         }
     }
@@ -119,12 +120,4 @@ fn is_so(standing: Standing, is_broken: bool) -> bool {
         Standing::Untried(_) => !is_broken,
         Standing::Broken => is_broken,
     }
-}
-
-/// Whether some premise is broken.
-pub(crate) fn is_any_broken(findings: &Findings) -> bool {
-    findings
-        .as_slice()
-        .iter()
-        .any(|found| found.standing == Standing::Broken)
 }

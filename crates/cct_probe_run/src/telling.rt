@@ -1,8 +1,9 @@
 //! The lines that are reported.
-ghost use Rattle.std.specs.Prelude.{◌≡◌, ◌≤◌, ◌+◌, ◌*◌, ◌∷◌, ◌++◌, length};
+ghost use Rattle.std.specs.Prelude.{◌≡◌, ◌≤◌, ◌+◌, ◌*◌, ◌∷◌, ◌++◌, length, true};
 ghost use Rattle.cct_model_lines.specs.Text.{piece_field};
 ghost use Rattle.cct_model_wire.specs.declared.wire.TheConstants.{MOST_HEARD, MOST_SENT};
-ghost use Rattle.cct_probe_run.specs.Plays.{Begun, IsOther, broken_text, wire_text};
+ghost use Rattle.cct_probe_run.specs.Plays.{Begun, IsOther, begins_broken, broken_text, holds_text};
+ghost use Rattle.cct_probe_run.specs.Plays.{wire_text};
 
 use cct_model_lines::MOST_TEXT;
 use cct_probe_plan::{Act, Premise, Promise};
@@ -117,19 +118,28 @@ fn prompt_words(act: Act, is_bill: bool) -> (&'static [u8], &'static [u8]) {
     }
 }
 
-/// A line of a promise: that it holds, or what doesn't at which device.
-pub(crate) fn promise_of(word: &[u8], promise: Promise, at: Option<(u8, Premise)>) -> TextLine
+/// A line of a promise that doesn't hold, or not surely: by which premise at which device.
+pub(crate) fn promise_of(word: &[u8], promise: Promise, addr: u8, premise: Premise) -> TextLine
     requires other { IsOther word.now }
     ensures { Begun result }
 {
     let mut line = begun(word);
     add_word(&mut line, promise_word(promise));
-    if let Some((addr, premise)) = at {
-        add_number(&mut line, u64::from(addr));
-        add_word(&mut line, premise.word());
-    }
+    add_number(&mut line, u64::from(addr));
+    add_word(&mut line, premise.word());
     add(&mut line, b"\n");
     line
+}
+
+/// The line that says that a promise holds.
+pub(crate) fn holds_line(promise: Promise) -> &'static [u8]
+    ensures { result.now ≡ holds_text promise }
+{
+    match promise {
+        Promise::Coins => b"holds coins\n",
+        Promise::Orders => b"holds orders\n",
+        Promise::Disk => b"holds disk\n",
+    }
 }
 
 /// The word of a promise.
@@ -145,6 +155,7 @@ fn promise_word(promise: Promise) -> &'static [u8] {
 pub(crate) fn begin_broken(line: &mut TextLine, addr: u8, premise: Premise, name: &[u8])
     ensures names { length name.now ≤ MOST_NAME → line.new ≡ broken_text addr premise name.now }
     ensures short { length line.new ≤ MOST_FRONT }
+    ensures begins { begins_broken line.new ≡ true }
 {
     line.clear();
     line.push(b"broken ");

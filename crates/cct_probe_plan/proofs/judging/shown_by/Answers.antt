@@ -9,9 +9,3 @@ returns-in-NotAgain-clause-names c = c.right_if-in-NotAgain.ensures.names c.args
 
 pub returns-after-is_empty-clause-names : goal.returns-after-is_empty-clause-names
 returns-after-is_empty-clause-names c = c.right_if-in-NobodyElse.ensures.names c.args.turn.premise (inr tt)
-
-pub returns-in-IfTold-clause-names : goal.returns-in-IfTold-clause-names
-returns-in-IfTold-clause-names c = c.untold.ensures.names c.args.turn.premise tt
-
-pub returns-in-IfTold-2-clause-names : goal.returns-in-IfTold-2-clause-names
-returns-in-IfTold-2-clause-names c = c.untold-in-IfTold-2.ensures.names c.args.turn.premise tt

@@ -6,7 +6,7 @@ pub returns : goal.returns
 returns g c = record {
   plays = λ first played. one_exchange c.args.turn.device.now c.args.turn.round c.args.say c.requires.of_plan c.requires.there
       (c.is_order.ensures.some c.if-not-is_order.false) refl refl refl
-      (ap (λ coins. c.args.self.now.asked + coins) c.coins_of-coins.ensures.value) c.give.ensures.gives played;
+      (ap (λ coins. c.args.self.now.asked + coins) c.coins_of-coins.ensures.value) refl c.give.ensures.gives played;
   bytes = λ heard. c.give.ensures.gives.bytes;
   sent = λ none. record {
     bytes = c.give.ensures.gives.bytes;

@@ -1,5 +1,5 @@
 use Rattle.std.proofs.Common.{refl}
-use Rattle.cct_probe_run.proofs.Playing.{ends, one_put}
+use Rattle.cct_probe_run.proofs.Playing.{begins_on, ends, not_both, one_put, unclear}
 use Rattle.cct_probe_run.proofs.bench.Bench.tell_broken.Goals as goal
 
 pub returns-in_err-put : goal.returns-in_err-put
@@ -14,7 +14,9 @@ returns-in_err-put g c = record {
         front = c.begin_broken.new.line;
         text = ends _ _ c.begin_broken.new.line c.args.addr c.as_slice.ensures c.push_wire.ensures c.as_slice-sent.ensures.value c.as_slice-heard.ensures.value;
         names = c.begin_broken.ensures.names;
-      }) refl refl refl refl refl played;
+      }) refl refl refl refl refl (λ is. c.and-self.ensures)
+      (λ isnt. absurd (unclear c.as_slice.result.now (begins_on c.push_wire.new.line c.begin_broken.new.line _ c.as_slice.result.now c.begin_broken.ensures.begins c.push_wire.ensures c.as_slice.ensures) isnt))
+      (λ promise is. absurd (not_both c.as_slice.result.now promise (begins_on c.push_wire.new.line c.begin_broken.new.line _ c.as_slice.result.now c.begin_broken.ensures.begins c.push_wire.ensures c.as_slice.ensures) is)) played;
 }
 
 pub returns : goal.returns
@@ -29,5 +31,7 @@ returns g c = record {
         front = c.begin_broken.new.line;
         text = ends _ _ c.begin_broken.new.line c.args.addr c.as_slice.ensures c.push_wire.ensures c.as_slice-sent.ensures.value c.as_slice-heard.ensures.value;
         names = c.begin_broken.ensures.names;
-      }) refl refl refl refl refl played;
+      }) refl refl refl refl refl (λ is. c.and-self.ensures)
+      (λ isnt. absurd (unclear c.as_slice.result.now (begins_on c.push_wire.new.line c.begin_broken.new.line _ c.as_slice.result.now c.begin_broken.ensures.begins c.push_wire.ensures c.as_slice.ensures) isnt))
+      (λ promise is. absurd (not_both c.as_slice.result.now promise (begins_on c.push_wire.new.line c.begin_broken.new.line _ c.as_slice.result.now c.begin_broken.ensures.begins c.push_wire.ensures c.as_slice.ensures) is)) played;
 }
