@@ -3,6 +3,7 @@ pub mod AcceptorReplies
 pub mod Acceptors
 pub mod BesideCoins
 pub mod Causes
+pub mod Commands
 pub mod Coinless
 pub mod Fits
 mod Kinds

@@ -12,7 +12,7 @@ use Rattle.cct_model.specs.terms.request.Request.TheVariants.{AddressPoll, Simpl
 use Rattle.cct_model.specs.terms.request.Request.TheVariants.{Dispense}
 use Rattle.cct_model.specs.declared.judging.EpochState.{EpochState}
 use Rattle.cct_model.specs.lines.command.Command.{Command}
-use Rattle.cct_model.specs.lines.command.Command.TheVariants as command
+use Rattle.cct_model.specs.lines.command.CommandNo.{CommandNo}
 use Rattle.cct_model.specs.lines.entry.End.{End}
 use Rattle.cct_model.specs.Reply.{Reply}
 use Rattle.cct_model.specs.History.{Met}
@@ -25,7 +25,9 @@ use Rattle.cct_model.specs.Job.{works, job, address_of}
 use Rattle.cct_model.specs.declared.tests.Test.{Test}
 use Rattle.cct_model.specs.declared.tests.Test.TheVariants.{AtADevice, AtATaker, AtAnAcceptor}
 use Rattle.cct_model.specs.declared.tests.Test.TheVariants.{AtABillAcceptor, AtAHopper, WithNoJob}
-use Rattle.cct_model.specs.Refusal.{tests_of, start_refusal, running_refusal}
+use Rattle.cct_model.specs.declared.tests.Test.TheVariants.{WithNoEpoch, WithAnEpoch, WithValues}
+use Rattle.cct_model.specs.Refusal.{first_of, state_tests}
+use Rattle.cct_model.specs.Refusal.{epoch_refusal, running_refusal, value_refusal}
 use Rattle.cct_model.specs.Script.{IsCommand}
 
 -- What becomes of a request to a device over an honest wire, as what the device heard and what the
@@ -80,12 +82,12 @@ wants_other family.Bill AtAHopper = true
 wants_other family.Bill AtAnAcceptor = true
 wants_other which test = false
 
--- A command begins a job at a device of a family: among its tests are that a device is there and
--- that no job is, and none that wants another family.
+-- A command begins a job at a device of a family: among its tests of the state are that a device is
+-- there and that no job is, and none that wants another family.
 abbrev pub is_for : Family → Command → Bool
 is_for which c =
-    list_any wants_device (tests_of c) && list_any wants_no_job (tests_of c)
-    && not (list_any (wants_other which) (tests_of c))
+    list_any wants_device (state_tests c) && list_any wants_no_job (state_tests c)
+    && not (list_any (wants_other which) (state_tests c))
 
 -- A command begins a job at a coin acceptor.
 abbrev pub is_for_acceptor : Command → Bool
@@ -107,13 +109,16 @@ is_for_hopper c = is_for family.Hopper c
 abbrev pub suits : DeviceBody → Command → Bool
 suits body c = is_for (family_of body) c
 
--- A command to a device that takes money is not refused because of its epoch.
+-- The reason why a test of the epoch at a device fails, if it does.
+abbrev pub epoch_fails : DeviceSetup → EpochState → Test → Option CommandNo
+epoch_fails d state WithNoEpoch = epoch_refusal state
+epoch_fails d state WithAnEpoch = running_refusal state
+epoch_fails d state (WithValues mask) = value_refusal mask (Some d)
+epoch_fails d state test = None
+
+-- A command to a device is not refused because of its epoch.
 abbrev pub IsTaken : DeviceSetup → Command → EpochState → Type 0
-IsTaken d (command.Start addr mask) state = start_refusal mask d state ≡ None
-IsTaken d (command.Round addr) state = running_refusal state ≡ None
-IsTaken d (command.Stop addr) state = running_refusal state ≡ None
-IsTaken d (command.Route addr way) state = running_refusal state ≡ None
-IsTaken d c state = ⊤
+IsTaken d c state = first_of (epoch_fails d state) (state_tests c) ≡ None
 
 -- The job at a device is one of a command for it and for its kind, in its range.
 pub record WorksAt (d : DeviceSetup) (lines : List Line) (c : Command) (since : List Line) : Type 0

@@ -9,3 +9,17 @@ pub mod Rehearing
 pub mod Surveyed
 pub mod Unseen
 pub mod Worked
+pub mod Answering
+pub mod Chains
+pub mod Prompting
+pub mod Befallen
+pub mod Exchanging
+pub mod Explaining
+pub mod Fronts
+pub mod Giving
+pub mod Going
+pub mod Living
+pub mod Sending
+pub mod Single
+pub mod Standing
+pub mod WorkedMoney

@@ -5,3 +5,9 @@ pub mod Real
 pub mod Same
 pub mod Whole
 pub mod World
+pub mod Chain
+pub mod Prompt
+pub mod AtOnce
+pub mod Devices
+pub mod Explained
+pub mod Lives

@@ -27,7 +27,7 @@ use Rattle.cct_edge.specs.declared.fault.Failed.{Failed}
 use Rattle.cct_model.specs.Paid.{AreFresh}
 use Rattle.cct_model.specs.Records.{records}
 use Rattle.cct_laws_live_devices.proofs.Unseen.{alike_told}
-use Rattle.cct_laws_live_money.specs.Lives.{IsRightOver}
+use Rattle.cct_laws_live_devices.specs.Lives.{IsRightOver}
 use Rattle.cct_live_port.specs.declared.port.Port.{Port}
 use Rattle.cct_live_port.specs.Port.{Gives, faults_of, was_sent}
 use Rattle.cct_live_survey.specs.Roll.{Rolled}

@@ -24,8 +24,8 @@ use Rattle.cct_laws_live.proofs.LifeBooks.{life_due_follow, life_follow}
 use Rattle.cct_laws_live.proofs.Onward.{due_same}
 use Rattle.cct_live_survey.specs.Roll.{Rolled}
 use Rattle.cct_laws_live_devices.specs.Asked.{Moment}
-use Rattle.cct_laws_live_money.specs.Lives.{HaveLived, IsHonestLine, IsPortOf}
-use Rattle.cct_laws_live_money.proofs.Living.{lives_alike}
+use Rattle.cct_laws_live_devices.specs.Lives.{HaveLived, IsHonestLine, IsPortOf}
+use Rattle.cct_laws_live_devices.proofs.Living.{lives_alike}
 use Rattle.cct_live_service.specs.declared.served.Served.{Served}
 use Rattle.cct_live_service.specs.declared.served.Served.TheVariants as served
 use Rattle.cct_live_service.specs.declared.stopping.AtEnd.{AtEnd}

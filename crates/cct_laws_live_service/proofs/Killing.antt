@@ -19,9 +19,9 @@ use Rattle.cct_laws_live.specs.LiveStep.{LiveStep}
 use Rattle.cct_laws_live.proofs.LifeBooks.{life_due_follow, life_follow}
 use Rattle.cct_live_survey.specs.Roll.{Rolled}
 use Rattle.cct_laws_live_devices.specs.Asked.{Moment, entries}
-use Rattle.cct_laws_live_port.specs.Chain.{Chain}
-use Rattle.cct_laws_live_money.specs.Lives.{HaveLived, IsHonestLine, IsPortOf, IsRightOver, lived}
-use Rattle.cct_laws_live_money.proofs.Living.{life_right_over, lives_alike}
+use Rattle.cct_laws_live_devices.specs.Chain.{Chain}
+use Rattle.cct_laws_live_devices.specs.Lives.{HaveLived, IsHonestLine, IsPortOf, IsRightOver, lived}
+use Rattle.cct_laws_live_devices.proofs.Living.{life_right_over, lives_alike}
 use Rattle.cct_live_service.specs.declared.served.Served.{Served}
 use Rattle.cct_live_service.specs.declared.served.Served.TheVariants as served
 use Rattle.cct_live_service.specs.declared.stopping.AtEnd.{AtEnd}

@@ -4,9 +4,9 @@ use Rattle.cct_model.specs.terms.device.DeviceSetup.{DeviceSetup}
 use Rattle.cct_model.specs.lines.entry.Entry.{Entry}
 use Rattle.cct_model.specs.lines.entry.Entry.TheVariants as entry_of
 use Rattle.cct_live_survey.specs.Roll.{Rolled}
-use Rattle.cct_laws_live_port.specs.Chain.{Chain, gave_told, is_besides, not_begun, told_besides}
-use Rattle.cct_laws_live_port.proofs.Chains.{chains}
-use Rattle.cct_laws_live_money.proofs.Sending.{AllAsked, asked_first, asked_rest}
+use Rattle.cct_laws_live_devices.specs.Chain.{Chain, gave_told, is_besides, not_begun, told_besides}
+use Rattle.cct_laws_live_devices.proofs.Chains.{chains}
+use Rattle.cct_laws_live_devices.proofs.Sending.{AllAsked, asked_first, asked_rest}
 use Rattle.cct_live_service.specs.declared.notice.Notice.{Notice}
 use Rattle.cct_live_service.specs.declared.watch.Watch.{Watch}
 use Rattle.cct_live_service.specs.Asked.{most_asked}

@@ -17,7 +17,7 @@ use Rattle.cct_laws_live.specs.Life.{IsLife, IsLifeStep}
 use Rattle.cct_laws_live.specs.Live.{LiveFrom, started}
 use Rattle.cct_laws_live.specs.LiveStep.{LiveStep}
 use Rattle.cct_laws_live.proofs.Joining.{put_again}
-use Rattle.cct_laws_live_port.specs.Chain.{Chain, gave_question, gave_told, not_begun, told_besides}
+use Rattle.cct_laws_live_devices.specs.Chain.{Chain, gave_question, gave_told, not_begun, told_besides}
 use Rattle.cct_live_service.specs.Since.{StandsForFirst}
 use Rattle.cct_laws_live_service.specs.Killed.{Point}
 use Rattle.cct_laws_live_service.proofs.Puts.{records_grow, step_puts}

@@ -8,8 +8,8 @@ use Rattle.cct_model.specs.terms.request.ReplyForm.{ReplyForm}
 use Rattle.cct_model.specs.Exchange.{ask}
 use Rattle.cct_model.specs.Reply.{Reply}
 use Rattle.cct_laws_live_devices.specs.Questions.{is_question}
-use Rattle.cct_laws_live_port.specs.Chain.{Chain, IsAsking, gave_question, not_begun}
-use Rattle.cct_laws_live_port.proofs.Chains.{asks_no_more, chains}
+use Rattle.cct_laws_live_devices.specs.Chain.{Chain, IsAsking, gave_question, not_begun}
+use Rattle.cct_laws_live_devices.proofs.Chains.{asks_no_more, chains}
 use Rattle.cct_live_survey.specs.declared.calling.About.{About}
 use Rattle.cct_live_survey.specs.declared.calling.About.TheVariants as about
 use Rattle.cct_live_survey.specs.declared.roll.Answered.{Answered}

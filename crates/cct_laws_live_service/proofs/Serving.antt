@@ -16,10 +16,10 @@ use Rattle.cct_live_port.specs.Port.{Gives, faults_of, line_of, was_sent}
 use Rattle.cct_laws_live.specs.Live.{started}
 use Rattle.cct_live_survey.specs.Roll.{Rolled}
 use Rattle.cct_laws_live_devices.specs.Asked.{Moment, entries}
-use Rattle.cct_laws_live_port.specs.Chain.{Chain}
-use Rattle.cct_laws_live_money.specs.Lives.{HaveLived, IsHonestLine, IsPortOf, IsRightOver, lived}
-use Rattle.cct_laws_live_money.proofs.Living.{life_right_over}
-use Rattle.cct_laws_live_money.proofs.Sending.{asked_first, live_asked, started_asked}
+use Rattle.cct_laws_live_devices.specs.Chain.{Chain}
+use Rattle.cct_laws_live_devices.specs.Lives.{HaveLived, IsHonestLine, IsPortOf, IsRightOver, lived}
+use Rattle.cct_laws_live_devices.proofs.Living.{life_right_over}
+use Rattle.cct_laws_live_devices.proofs.Sending.{asked_first, live_asked, started_asked}
 use Rattle.cct_live_service.specs.declared.served.Served.{Served}
 use Rattle.cct_live_service.specs.declared.stopping.AtEnd.{AtEnd}
 use Rattle.cct_live_service.specs.declared.watch.Watch.{Watch}

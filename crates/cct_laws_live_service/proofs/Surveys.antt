@@ -13,8 +13,8 @@ use Rattle.cct_model.specs.Request.{header_of, request_of}
 use Rattle.cct_model.proofs.Requests.{request_header}
 use Rattle.cct_laws_live_devices.specs.Questions.{is_question}
 use Rattle.cct_laws_live_devices.proofs.Surveyed.{header_placed}
-use Rattle.cct_laws_live_port.specs.Chain.{Chain, IsAsking, not_begun}
-use Rattle.cct_laws_live_port.proofs.Chains.{asks_no_more, chains}
+use Rattle.cct_laws_live_devices.specs.Chain.{Chain, IsAsking, not_begun}
+use Rattle.cct_laws_live_devices.proofs.Chains.{asks_no_more, chains}
 use Rattle.cct_live_survey.specs.declared.valuing.ValueRequest.{ValueRequest}
 use Rattle.cct_live_survey.specs.declared.valuing.ValueRequest.TheVariants as value
 use Rattle.cct_live_survey.specs.Asking.{Inquires, answers_to_all, ask_value, asks_all, asks_one, asks_value, is_identity, reply_to, still, value_header, value_in}

@@ -11,7 +11,7 @@ use Rattle.cct_model.specs.lines.record.Record.{Record}
 use Rattle.cct_laws_live.specs.Life.{IsLife}
 use Rattle.cct_laws_live.specs.Live.{started}
 use Rattle.cct_laws_live.specs.LiveStep.{LiveStep}
-use Rattle.cct_laws_live_port.specs.Chain.{Chain}
+use Rattle.cct_laws_live_devices.specs.Chain.{Chain}
 
 -- A point of a life over a link, of which these entries tell, newest first: the steps up to it are
 -- a life, the link had given the exchanges that were reported up to it, and gave the others later.

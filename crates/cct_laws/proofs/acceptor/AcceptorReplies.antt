@@ -10,7 +10,6 @@ use Rattle.cct_model.specs.terms.device.DeviceBody.TheVariants.{Acceptor, Bill, 
 use Rattle.cct_model.specs.terms.request.Request.{Request}
 use Rattle.cct_model.specs.terms.request.Request.TheVariants.{SetMask, GetMask, SetMaster, GetMaster, SetPath, GetPath, SetDefault, GetDefault, CoinId, AcceptCount, RouteBill}
 use Rattle.cct_model.specs.terms.request.ReplyForm.TheVariants as form
-use Rattle.cct_model.specs.lines.command.Command.{Command}
 use Rattle.cct_model.specs.lines.command.Command.TheVariants as command
 use Rattle.cct_model.specs.Request.{form_of}
 use Rattle.cct_model.specs.Reply as reply
@@ -20,17 +19,14 @@ use Rattle.cct_model.specs.Acceptor.{counted, settings, no_event, last_five, cre
 use Rattle.cct_model.specs.Bill.{bill_held, bill_reply, is_way}
 use Rattle.cct_model.specs.Device.{IsSound, IsSoundBody, IsId, IsAcceptor, IsBill, IsTaker, common_reply, reply_of}
 use Rattle.cct_model.specs.Exchange.{to_one}
-use Rattle.cct_model.specs.Job.{credits_request, own_requests, ident_requests}
+use Rattle.cct_model.specs.Job.{credits_request, own_requests}
 use Rattle.cct_model.specs.Script.{IsCommand}
-use Rattle.cct_laws.specs.DeviceJobs.{is_for_taker, suits}
 use Rattle.cct_laws.specs.Takers.{accepted_of, told_events}
 use Rattle.cct_msg.specs.Forms.{FitsItsBytes}
 use Rattle.cct_laws.proofs.wire.Exchanges.{Answers, Replied}
 use Rattle.cct_laws.proofs.wire.Replies.{start_of, ids_of, acceptor_is, bill_is, taker_is, replied_accepts, replied_credits, replied_mask}
-use Rattle.cct_laws.proofs.wire.CommonReplies.{answers_so, each_answers, reset_replied, also, ident_replied}
+use Rattle.cct_laws.proofs.wire.CommonReplies.{answers_so, also}
 use Rattle.cct_model.proofs.Requests.{Each}
-use Rattle.cct_model.proofs.Rows.{EachRow, each_asked, Asks}
-use Rattle.cct_model.specs.Rows.{rows_of}
 
 -- a sound device that takes money
 pub record Sane (d : DeviceSetup) : Type 0 where
@@ -68,14 +64,14 @@ credits_asked (Acceptor accepts values ids) =
 credits_asked (Hopper life value) = record { wants = refl; fits = λ serial count e. cc; to_one_device = refl }
 credits_asked (Bill accepts values ids) = record { wants = refl; fits = λ serial count e. cc; to_one_device = refl }
 
-credits_replied : (d : DeviceSetup) (past : List Met) → Sane d → Replied d past (credits_request d.body)
+pub credits_replied : (d : DeviceSetup) (past : List Met) → Sane d → Replied d past (credits_request d.body)
 credits_replied d past sane =
     let asks = credits_asked d.body in
     answers_so d past (credits_request d.body) (reply.credits (credits_in (told_events d.body past))) form.Credits
     (replied_credits d past sane.taking) asks.wants refl (length-last_five (told_events d.body past)) tt asks.fits
     asks.to_one_device
 
-set_mask_replied : (d : DeviceSetup) (past : List Met) (mask : ℕ) → Sane d → Replied d past (SetMask mask)
+pub set_mask_replied : (d : DeviceSetup) (past : List Met) (mask : ℕ) → Sane d → Replied d past (SetMask mask)
 unfolding reply_of common_reply form_of acceptor_reply bill_reply
 set_mask_replied d past mask sane =
     answers_so d past (SetMask mask) reply.ack form.Ack
@@ -83,13 +79,13 @@ set_mask_replied d past mask sane =
     refl refl tt tt
     (λ serial count e. cc) refl
 
-mask_replied : (d : DeviceSetup) (past : List Met) → Sane d → Replied d past GetMask
+pub mask_replied : (d : DeviceSetup) (past : List Met) → Sane d → Replied d past GetMask
 unfolding form_of
 mask_replied d past sane =
     answers_so d past GetMask (reply.mask (mask_of past)) form.Mask
     (replied_mask d past sane.taking) refl refl tt tt (λ serial count e. cc) refl
 
-set_master_replied : (d : DeviceSetup) (past : List Met) (value : ℕ) → Sane d → Replied d past (SetMaster value)
+pub set_master_replied : (d : DeviceSetup) (past : List Met) (value : ℕ) → Sane d → Replied d past (SetMaster value)
 unfolding reply_of common_reply form_of acceptor_reply bill_reply
 set_master_replied d past value sane =
     answers_so d past (SetMaster value) reply.ack form.Ack
@@ -97,7 +93,7 @@ set_master_replied d past value sane =
     refl refl
     tt tt (λ serial count e. cc) refl
 
-accepts_replied : (d : DeviceSetup) (past : List Met) → Sane d → Replied d past AcceptCount
+pub accepts_replied : (d : DeviceSetup) (past : List Met) → Sane d → Replied d past AcceptCount
 unfolding form_of
 accepts_replied d past sane =
     answers_so d past AcceptCount (reply.accepts (counted (start_of d.body) (accepted_of d.body past))) form.Accepts
@@ -172,7 +168,7 @@ ids_replied d past (suc n) place sane accepting low high = (
       (omega (arith, low)) (omega (arith, high)),
 )
 
-owns_by : (d : DeviceSetup) (past : List Met) (body : DeviceBody) → body ≡ d.body → Sane d →
+pub owns_by : (d : DeviceSetup) (past : List Met) (body : DeviceBody) → body ≡ d.body → Sane d →
     Each (Replied d past) (own_requests body)
 unfolding coin_ids
 owns_by d past (Hopper life value) is sane = absurd (subst IsTaker (sym is) sane.taking)
@@ -188,7 +184,7 @@ owns_by d past (Acceptor accepts values ids) is sane =
     (ids_replied d past 16 1 sane accepting (omega arith) (omega arith))))
 
 -- a sorter path that is set and read back
-set_by : (d : DeviceSetup) (past : List Met) (place path : ℕ) (b : Bool) → (place == 0) ≡ b → IsAcceptor d.body →
+pub set_by : (d : DeviceSetup) (past : List Met) (place path : ℕ) (b : Bool) → (place == 0) ≡ b → IsAcceptor d.body →
     IsCommand (command.Path 0 place path) → Replied d past (cond b (SetDefault path) (SetPath place path))
 set_by d past place path true test accepting known =
     set_default_replied d past path accepting (path_is path known.1 known.2)
@@ -199,7 +195,7 @@ set_by d past place path false test accepting known =
     not_zero : (n : ℕ) → (n == 0) ≡ false → 1 ≤ n
     not_zero n e = grind (arith, nat_tests)
 
-read_by : (d : DeviceSetup) (past : List Met) (place : ℕ) (b : Bool) → (place == 0) ≡ b → IsAcceptor d.body →
+pub read_by : (d : DeviceSetup) (past : List Met) (place : ℕ) (b : Bool) → (place == 0) ≡ b → IsAcceptor d.body →
     place ≤ 16 →
     Replied d past (cond b GetDefault (GetPath place))
 read_by d past place true test accepting high = default_replied d past accepting
@@ -215,7 +211,7 @@ route_replied : (d : DeviceSetup) (past : List Met) (way : ℕ) → IsBill d.bod
 unfolding reply_of common_reply bill_reply
 route_replied d past way banking = bill_is d.serial d.body past (RouteBill way) banking
 
-route_by : (d : DeviceSetup) (past : List Met) (way : ℕ) (routes : Bool) → IsBill d.body →
+pub route_by : (d : DeviceSetup) (past : List Met) (way : ℕ) (routes : Bool) → IsBill d.body →
     (is_some (bill_held past) && is_way way) ≡ routes → Answers d past (RouteBill way)
 unfolding form_of
 route_by d past way true banking test =
@@ -228,54 +224,3 @@ route_by d past way false banking test = inr (record {
   fits = λ serial count e. cc;
   to_its_device = refl;
 })
-
--- the kind of a device by a command to it
-sets_paths : (body : DeviceBody) (addr place path : ℕ) → suits body (command.Path addr place path) ≡ true → IsAcceptor body
-sets_paths (Acceptor accepts values ids) addr place path suited = tt
-sets_paths (Hopper life value) addr place path suited = absurd cc
-sets_paths (Bill accepts values ids) addr place path suited = absurd cc
-
-routes_bills : (body : DeviceBody) (addr way : ℕ) → suits body (command.Route addr way) ≡ true → IsBill body
-routes_bills (Acceptor accepts values ids) addr way suited = absurd cc
-routes_bills (Hopper life value) addr way suited = absurd cc
-routes_bills (Bill accepts values ids) addr way suited = tt
-
--- all that a command asks has a reply in the wanted form, or is to route a bill and is refused
-pub taker_answers : (d : DeviceSetup) (past : List Met) (c : Command) → Sane d → IsCommand c →
-    suits d.body c ≡ true → is_for_taker c ≡ true → EachRow (Asks (Answers d past)) (rows_of d c)
-taker_answers d past (command.Start addr mask) sane known suited for_one = (
-  inl (reset_replied d past),
-  (
-    inl (credits_replied d past sane),
-    (inl (accepts_replied d past sane), (tt, (inl (set_mask_replied d past mask sane), tt))),
-  ),
-)
-taker_answers d past (command.Round addr) sane known suited for_one = (
-  inl (accepts_replied d past sane),
-  (
-    inl (credits_replied d past sane),
-    (inl (mask_replied d past sane), (inl (accepts_replied d past sane), (tt, tt))),
-  ),
-)
-taker_answers d past (command.Stop addr) sane known suited for_one = (
-  inl (set_master_replied d past 0 sane),
-  (
-    inl (accepts_replied d past sane),
-    (
-      inl (credits_replied d past sane),
-      (inl (mask_replied d past sane), (inl (accepts_replied d past sane), (tt, (tt, tt)))),
-    ),
-  ),
-)
-taker_answers d past (command.Ident addr) sane known suited for_one =
-    each_asked (Answers d past) (ident_requests d.body)
-    (each_answers d past (ident_requests d.body)
-    (ident_replied d past d.body sane.sound (owns_by d past d.body refl sane)))
-taker_answers d past (command.Path addr place path) sane known suited for_one =
-    let accepting = sets_paths d.body addr place path suited in (
-      inl (set_by d past place path (place == 0) refl accepting known),
-      (inl (read_by d past place (place == 0) refl accepting known.0), tt),
-    )
-taker_answers d past (command.Route addr way) sane known suited for_one =
-    (route_by d past way (is_some (bill_held past) && is_way way) (routes_bills d.body addr way suited) refl, tt)
-taker_answers d past c sane known suited for_one = absurd cc

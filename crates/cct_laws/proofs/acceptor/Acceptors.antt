@@ -33,11 +33,13 @@ use Rattle.cct_laws.specs.Moving.{MovedAt, MovesWithCoins, NoStopMovesAt, NoStop
 use Rattle.cct_laws.proofs.acceptor.BesideCoins.{World, world, world_of, Tells, Goes, IsUnrouted, after_heard, count_at, closed, on_nothing}
 use Rattle.cct_laws.proofs.acceptor.Kinds.{goes_routed}
 use Rattle.cct_laws.proofs.acceptor.Fits.{ReadSoFar, read_so_far, Notes, notes_in, IsRunning, running_on, FitsAt, at_on}
-use Rattle.cct_laws.proofs.acceptor.Moves.{StandsWell, Sound, sound_line, near_of, sound_exchange, keeps_ended, Keeps, KeepsAsk, AtRows, IfOther, IsMild, IsNeutral, keeps_accepted, keeps_inhibited, keeps_alien, keeps_reset, keeps_holding, keeps_rejecting, keeps_moved_on, runs_not_idle, keeps_taken, keeps_with_ended, answered_at, answered_over, next_at, mild_unrouted, on_after, on_heard, on_unheard, fits_at, by_fate, request_is, entry_is, IsOtherEnd}
+use Rattle.cct_laws.proofs.acceptor.Moves.{StandsWell, Sound, sound_line, near_of, sound_exchange, keeps_ended, Keeps, KeepsAsk, AtRows, IfOther, IsMild, IsNeutral, keeps_accepted, keeps_inhibited, keeps_alien, keeps_reset, keeps_holding, keeps_rejecting, keeps_moved_on, runs_not_idle, keeps_with_ended, answered_at, answered_over, next_at, mild_unrouted, on_after, on_heard, on_unheard, fits_at, by_fate, request_is, entry_is, IsOtherEnd}
 use Rattle.cct_laws.proofs.acceptor.Starts.{resets, reads_quiet, unsure, opens, begins}
 use Rattle.cct_laws.proofs.acceptor.Rounds.{reads, looks, counts}
-use Rattle.cct_laws.proofs.acceptor.Stops.{shuts, over_put, judged_put}
-use Rattle.cct_laws.proofs.acceptor.Leads.{Leads, leads}
+use Rattle.cct_laws.proofs.acceptor.RecordsKeep.{over_put}
+use Rattle.cct_laws.proofs.acceptor.Stops.{shuts, judged_put}
+use Rattle.cct_laws.proofs.acceptor.Commands.{keeps_taken, leads}
+use Rattle.cct_laws.proofs.acceptor.Leads.{Leads}
 use Rattle.cct_model.specs.declared.judging.EpochState.{EpochState}
 use Rattle.cct_model.proofs.Tries.{left_asks, due_sends}
 use Rattle.cct_model.proofs.RowEnds.{rest_asks}

@@ -1,6 +1,6 @@
 -- A hopper posts nothing: no line of it tells of money that was taken, so each is in order, and none is lost at it in
 -- silence. So that holds of every device of a setup, of any kind.
-use Rattle.std.proofs.Common.{refl, ◌≡◌, ℕ, ◌-◌, nat_le, cond, Bool, true, false, List, ◌∷◌, ◌++◌, subst, Option, Some, None, All, inl, inr, sym, ap, rules, ◌∙◌}
+use Rattle.std.proofs.Common.{refl, ◌≡◌, ℕ, ◌-◌, nat_le, cond, Bool, true, false, List, ◌∷◌, ◌++◌, subst, Option, Some, None, All, inl, inr, sym, ap, ◌∙◌}
 use Rattle.std.specs.Prelude.{⊤}
 use Rattle.cct_model.specs.terms.device.DeviceBody.{DeviceBody}
 use Rattle.cct_model.specs.terms.device.DeviceBody.TheVariants.{Acceptor, Bill, Hopper}
@@ -42,8 +42,9 @@ use Rattle.cct_laws.proofs.steps.EitherKind.{for_hopper, kind_of}
 use Rattle.cct_laws.proofs.acceptor.Moves.{IfOther, IsOtherEnd, failure_other}
 use Rattle.cct_laws.proofs.acceptor.Posts.{legal_in_order, legal_covers}
 use Rattle.cct_laws.proofs.acceptor.Tallies.{always_tallied}
-use Rattle.cct_model.proofs.Rows.{RowHolds, puts_only, EachRow, answer_end, DueHolds, AnswerEnds, told_only, each_told, each_put}
+use Rattle.cct_model.proofs.Rows.{RowHolds, puts_only, answer_end, DueHolds, told_only, each_put}
 use Rattle.cct_laws.proofs.steps.AllKept.{kept_hopper_legal}
+use Rattle.cct_laws.proofs.orders.Commands.{hopper_ends}
 
 -- what holds of the lines of a hopper
 record Coinless (lines : List Line) : Type 0 where
@@ -109,13 +110,6 @@ coinless_ended lines (Some Clean) other less = absurd other
 coinless_ended lines (Some Moved) other less = absurd other
 coinless_ended lines (Some end) other less =
     record { in_order = (tt, less.in_order); covers = (tt, less.covers) }
-
-hopper_ends : (d : DeviceSetup) (c : Command) → is_for_hopper c ≡ true → EachRow (AnswerEnds IsOtherEnd) (rows_of d c)
-hopper_ends d (command.Ident addr) suited =
-    each_told (AnswerEnds IsOtherEnd) (λ q. tt) (λ q. tt) (ident_requests d.body)
-hopper_ends d (command.Pay addr id count) suited = search rules
-hopper_ends d (command.Settle addr) suited = search rules
-hopper_ends d c suited = absurd cc
 
 exchange_other : (d : DeviceSetup) (c : Command) (q : Request) (got : Option Reply) (work : List Line)
     (state : EpochState) → is_for_hopper c ≡ true → IfOther (end_of d c (exchange (Some q) got) work state)

@@ -1,25 +1,20 @@
 -- What each row of a job at a device that takes money leads to: the rows after it need no more than it brings, and no end but a clean one
 -- is an item.
-use Rattle.std.proofs.Common.{◌≡◌, ◌≤◌, ◌==◌, true, List, [], ◌∷◌, refl, rules}
-use Rattle.cct_model.specs.terms.device.DeviceSetup.{DeviceSetup}
+use Rattle.std.proofs.Common.{◌≡◌, ◌≤◌, List, [], ◌∷◌}
 use Rattle.cct_model.specs.terms.request.Request.{Request}
 use Rattle.cct_model.specs.terms.request.Request.TheVariants.{ResetDevice, ReadCredits, ReadBills, SetMaster, GetMask, AcceptCount, SetMask, RouteBill}
-use Rattle.cct_model.specs.lines.command.Command.{Command}
-use Rattle.cct_model.specs.lines.command.Command.TheVariants as command
 use Rattle.cct_model.specs.lines.entry.End.TheVariants.{Told}
 use Rattle.cct_model.specs.terms.request.TheConstants.{STACK_CODE}
 use Rattle.cct_model.specs.terms.device.DeviceBody.{DeviceBody}
 use Rattle.cct_model.specs.terms.device.DeviceBody.TheVariants.{Acceptor, Bill, Hopper}
-use Rattle.cct_model.specs.Job.{credits_request, ident_requests}
-use Rattle.cct_model.specs.Rows.{Then, goes_on, ends_as, if_quiet, path_told, if_posted, new_epoch, reading, epoch_end, TableRow, asks_for, asks_once, puts_due, telling, rows_of}
-use Rattle.cct_model.specs.Script.{IsCommand}
+use Rattle.cct_model.specs.Job.{credits_request}
+use Rattle.cct_model.specs.Rows.{Then, goes_on, ends_as, if_quiet, if_posted, new_epoch, reading, epoch_end, TableRow, asks_for, asks_once, puts_due, telling}
 use Rattle.cct_model.proofs.Requests.{Each}
 use Rattle.cct_model.proofs.Rows.{Behind, EachBefore}
-use Rattle.cct_laws.specs.DeviceJobs.{is_for_taker}
 use Rattle.cct_model.specs.declared.judging.Judged.{Judged}
 use Rattle.cct_laws.proofs.acceptor.BesideCoins.{World}
 use Rattle.cct_laws.proofs.acceptor.Fits.{ReadSoFar, Notes, FitsAt, AfterReset, AfterCredits, AfterShut, AfterMask, AfterCount, AfterEpoch}
-use Rattle.cct_laws.proofs.acceptor.Moves.{IsOtherEnd, IsNeutral, neutral_if, IsTold, ident_told, told_fits, quiet_fits, reading_counts}
+use Rattle.cct_laws.proofs.acceptor.Moves.{IsOtherEnd, IsNeutral, IsTold, told_fits}
 use Rattle.cct_laws.proofs.acceptor.Rounds.{IsAfterCount, IsAfterReading}
 use Rattle.cct_laws.proofs.acceptor.Stops.{IsOverNext}
 
@@ -42,7 +37,7 @@ Leads (puts_due epoch_end (ends_as end)) rows = IsOtherEnd end
 Leads r rows = ⊥
 
 -- a request that changes nothing
-neutral_leads : (q : Request) (behind : Then) (rows : List TableRow) → IsNeutral q → Behind IsOtherEnd behind →
+pub neutral_leads : (q : Request) (behind : Then) (rows : List TableRow) → IsNeutral q → Behind IsOtherEnd behind →
     Leads (asks_for q behind) rows
 neutral_leads ResetDevice behind rows neutral other = absurd neutral
 neutral_leads ReadCredits behind rows neutral other = absurd neutral
@@ -70,7 +65,7 @@ told_next ReadCredits behind rows told fits = absurd told
 told_next ReadBills behind rows told fits = absurd told
 told_next q behind rows told fits = fits
 
-told_leads : (qs : List Request) → Each IsTold qs → EachBefore Leads (telling qs)
+pub told_leads : (qs : List Request) → Each IsTold qs → EachBefore Leads (telling qs)
 told_leads [] each = tt
 told_leads (q ∷ []) each = (asked_leads q (ends_as Told) [] each.0 tt (λ w b notes judged. tt) tt, tt)
 told_leads (q ∷ r ∷ []) each = (
@@ -86,13 +81,13 @@ told_leads (q ∷ r ∷ s ∷ qs) each = (
 )
 
 -- the rows that read the last events
-quiet_leads : (body : DeviceBody) (rows : List TableRow) → AfterReset rows →
+pub quiet_leads : (body : DeviceBody) (rows : List TableRow) → AfterReset rows →
     Leads (asks_for (credits_request body) if_quiet) rows
 quiet_leads (Acceptor accepts values ids) rows next = next
 quiet_leads (Hopper life value) rows next = next
 quiet_leads (Bill accepts values ids) rows next = next
 
-reading_leads : (body : DeviceBody) (rows : List TableRow) → AfterCredits rows →
+pub reading_leads : (body : DeviceBody) (rows : List TableRow) → AfterCredits rows →
     Leads (asks_for (credits_request body) goes_on) rows
 reading_leads (Acceptor accepts values ids) rows next = (tt, next)
 reading_leads (Hopper life value) rows next = (tt, next)
@@ -103,47 +98,8 @@ reading_next (Acceptor accepts values ids) rows = λ w b notes judged begins shu
 reading_next (Hopper life value) rows = λ w b notes judged begins shut. (begins, shut)
 reading_next (Bill accepts values ids) rows = λ w b notes judged begins shut. (begins, shut)
 
-counting_leads : (body : DeviceBody) (rows : List TableRow) →
+pub counting_leads : (body : DeviceBody) (rows : List TableRow) →
     Leads (asks_for AcceptCount goes_on) (asks_for (credits_request body) goes_on ∷ rows)
 counting_leads (Acceptor accepts values ids) rows = (tt, reading_next (Acceptor accepts values ids) rows)
 counting_leads (Hopper life value) rows = (tt, reading_next (Hopper life value) rows)
 counting_leads (Bill accepts values ids) rows = (tt, reading_next (Bill accepts values ids) rows)
-
--- the table
-pub leads : (d : DeviceSetup) (c : Command) → is_for_taker c ≡ true → IsCommand c → EachBefore Leads (rows_of d c)
-leads d (command.Start addr mask) suited some = (
-  (tt, λ w b notes judged idle silent. quiet_fits d.body w b _ notes judged idle silent),
-  (
-    quiet_leads d.body _ (λ w b notes judged idle silent. (idle, silent)),
-    ((tt, tt), ((some, tt, λ w b notes judged waits. waits), ((some, tt, tt), tt))),
-  ),
-)
-leads d (command.Round addr) suited range = (
-  counting_leads d.body _,
-  (
-    reading_leads d.body _ (λ w b notes judged held still. (held, still)),
-    ((tt, λ w b notes judged sees still. (sees, still)), ((tt, tt), ((tt, tt), tt))),
-  ),
-)
-leads d (command.Stop addr) suited range = (
-  (refl, tt, λ w b notes judged running shut. reading_counts d.body w b _ notes running shut),
-  (
-    counting_leads d.body _,
-    (
-      reading_leads d.body _ (λ w b notes judged held still. (held, still)),
-      (
-        (tt, λ w b notes judged sees still. (sees, still)),
-        ((refl, tt), (((refl, λ w b notes judged rests. rests), tt), (tt, tt))),
-      ),
-    ),
-  ),
-)
-leads d (command.Ident addr) suited range = told_leads (ident_requests d.body) (ident_told d.body)
-leads d (command.Path addr place path) suited range = (
-  neutral_leads _ goes_on _ (neutral_if (place == 0) _ _ tt tt) tt,
-  (neutral_leads _ (path_told place) [] (neutral_if (place == 0) _ _ tt tt) (λ number. tt), tt),
-)
-leads d (command.Route addr way) suited range = ((range, tt, tt), tt)
-leads d (command.Pay addr id count) suited range = absurd cc
-leads d (command.Settle addr) suited range = absurd cc
-leads d c suited range = search rules

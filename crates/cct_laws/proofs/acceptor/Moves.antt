@@ -1,5 +1,5 @@
 -- What holds of a device that takes money after every step, and how objects, commands, ends and exchanges keep it.
-use Rattle.std.proofs.Common.{◌≡◌, ◌≢◌, ◌∙◌, ℕ, ◌≤◌, cond, true, false, List, ◌∷◌, length, refl, sym, subst, Option, Some, None, arith, rules, [], ◌==◌, Bool}
+use Rattle.std.proofs.Common.{◌≡◌, ◌≢◌, ◌∙◌, ℕ, ◌≤◌, cond, true, false, List, ◌∷◌, length, refl, sym, subst, Option, Some, None, arith, rules, [], Bool}
 use Rattle.std.specs.Prelude.{⊤}
 use Rattle.cct_model.specs.terms.coin.Coin.{Coin}
 use Rattle.cct_model.specs.terms.device.DeviceSetup.{DeviceSetup}
@@ -18,21 +18,20 @@ use Rattle.cct_model.specs.History as met
 use Rattle.cct_model.specs.Acceptor.{accepts, path_of}
 use Rattle.cct_model.specs.Bill.{holds}
 use Rattle.cct_model.specs.Device.{IsAcceptor, IsBill, reply_of}
-use Rattle.cct_model.specs.Line.{Line, accepted, inhibited, exchange, taken, ended}
+use Rattle.cct_model.specs.Line.{Line, accepted, inhibited, exchange, ended}
 use Rattle.cct_model.specs.Line as line
 use Rattle.cct_model.specs.Job.{works, job, with_line, epoch, judged_in, sends, puts, credits_request, ident_requests}
 use Rattle.cct_model.specs.Rows.{Then, goes_on, if_quiet, TableRow, asks_for, telling, rows_of, end_of, end_answered, ends_first, after, rest, left, sent_once}
 use Rattle.cct_model.proofs.Requests.{Each}
-use Rattle.cct_model.proofs.Rows.{IfEnd, EachRow, BareEnds, each_told, failed_end, after_none, ended_leaves}
+use Rattle.cct_model.proofs.Rows.{IfEnd, EachRow, BareEnds, each_told, failed_end, ended_leaves}
 use Rattle.cct_model.specs.terms.device.DeviceBody.{DeviceBody}
 use Rattle.cct_model.specs.terms.device.DeviceBody.TheVariants.{Acceptor, Bill, Hopper}
 use Rattle.cct_model.specs.declared.judging.Judged.{Judged}
-use Rattle.cct_model.specs.declared.judging.Judged.TheVariants.{Nothing}
 use Rattle.cct_model.specs.Refusal.{start_refusal, running_refusal}
 use Rattle.cct_model.specs.Claims.{AllPast, coins, mark, base, OrderAt, CoverAt, Near, PaceAt, InOrder, Covers, Pace}
 use Rattle.cct_laws.specs.Moving.{MovedAt, NoStopMovesAt}
 use Rattle.cct_laws.specs.SinceEpoch.{InEpochAt}
-use Rattle.cct_laws.specs.DeviceJobs.{is_for_taker, Fate, unheard, silenced, answered, with_ended, IsTaken}
+use Rattle.cct_laws.specs.DeviceJobs.{Fate, unheard, silenced, answered, with_ended}
 use Rattle.cct_laws.proofs.acceptor.BesideCoins.{World, world, Shut, Silent, Tells, On, IsUnrouted, after_heard, world_heard, on_reset, on_master, on_path, on_default, on_nothing}
 use Rattle.cct_laws.proofs.acceptor.Kinds.{on_accepted, on_inhibited, on_alien, on_holding, on_rejecting, on_resetting}
 use Rattle.cct_laws.proofs.acceptor.Fits.{ReadSoFar, read_so_far, Notes, notes_in, StateOf, IsIdle, IsRunning, IfOver, ends_epoch, CountsAt, FitsAt, Fits, state_on, at_on, fits_on}
@@ -204,11 +203,11 @@ keeps_with_ended d past lines (Some end) other keeps = keeps_ended d past lines 
 
 -- a command is taken
 
-idle_taken : (mask : ℕ) (d : DeviceSetup) (state : EpochState) → start_refusal mask d state ≡ None → IsIdle state
+pub idle_taken : (mask : ℕ) (d : DeviceSetup) (state : EpochState) → start_refusal mask d state ≡ None → IsIdle state
 idle_taken mask d Idle fine = tt
 idle_taken mask d (Running running counter accepts) fine = absurd cc
 
-running_taken : (state : EpochState) → running_refusal state ≡ None → IsRunning state
+pub running_taken : (state : EpochState) → running_refusal state ≡ None → IsRunning state
 running_taken Idle fine = absurd cc
 running_taken (Running mask counter accepts) fine = tt
 
@@ -238,7 +237,7 @@ ident_told (Acceptor accepts values ids) = search rules
 ident_told (Hopper life value) = search rules
 ident_told (Bill accepts values ids) = search rules
 
-neutral_fits : (w : World) (b : ReadSoFar) (q : Request) (behind : Then) (rows : List TableRow) (notes : Notes)
+pub neutral_fits : (w : World) (b : ReadSoFar) (q : Request) (behind : Then) (rows : List TableRow) (notes : Notes)
     (judged : Judged) → IsNeutral q → FitsAt w b rows notes judged →
     FitsAt w b (asks_for q behind ∷ rows) notes judged
 neutral_fits w b ResetDevice behind rows notes judged neutral fits = absurd neutral
@@ -291,45 +290,6 @@ pub reading_counts : (body : DeviceBody) (w : World) (b : ReadSoFar) (rows : Lis
 reading_counts (Acceptor accepts values ids) w b rows notes running shut = (running, shut)
 reading_counts (Hopper life value) w b rows notes running shut = (running, shut)
 reading_counts (Bill accepts values ids) w b rows notes running shut = (running, shut)
-
-begun_fits : (d : DeviceSetup) (w : World) (b : ReadSoFar) (c : Command) → is_for_taker c ≡ true → IsTaken d c b.epoch →
-    FitsAt w b (rows_of d c) (notes_in []) Nothing
-begun_fits d w b (command.Start addr mask) played fine = idle_taken mask d b.epoch fine
-begun_fits d w b (command.Round addr) played fine =
-    reading_counts d.body w b _ (notes_in []) (running_taken b.epoch fine) tt
-begun_fits d w b (command.Stop addr) played fine = running_taken b.epoch fine
-begun_fits d w b (command.Ident addr) played fine =
-    told_fits w b (ident_requests d.body) (notes_in []) Nothing (ident_told d.body)
-begun_fits d w b (command.Path addr place path) played fine =
-    neutral_fits w b _ _ _ (notes_in []) Nothing (neutral_if (place == 0) _ _ tt tt)
-    (neutral_fits w b _ _ _ (notes_in []) Nothing (neutral_if (place == 0) _ _ tt tt) tt)
-begun_fits d w b (command.Route addr way) played fine = running_taken b.epoch fine
-begun_fits d w b (command.Pay addr id count) played fine = absurd cc
-begun_fits d w b (command.Settle addr) played fine = absurd cc
-begun_fits d w b c played fine = search rules
-
-judged_none : (c : Command) (state : EpochState) → judged_in c [] state ≡ Nothing
-judged_none c Idle = refl
-judged_none c (Running mask counter accepts) = refl
-
-begins_fits : (d : DeviceSetup) (w : World) (b : ReadSoFar) (c : Command) → is_for_taker c ≡ true →
-    IsTaken d c b.epoch → Fits d w b (works c [])
-begins_fits d w b c played fine =
-    subst (λ judged. FitsAt w b (after (rows_of d c) 0) (notes_in []) judged) (sym (judged_none c b.epoch))
-    (subst (λ rows. FitsAt w b rows (notes_in []) Nothing) (sym (after_none (rows_of d c))) (begun_fits d w b c played fine))
-
-taken_fits : (d : DeviceSetup) (w : World) (lines : List Line) (c : Command) → is_for_taker c ≡ true →
-    IsTaken d c (epoch lines) → Fits d w (read_so_far lines) (job (taken c ∷ lines))
-taken_fits d w lines (command.Halt addr) played fine = absurd cc
-taken_fits d w lines c played fine = begins_fits d w (read_so_far lines) c played fine
-
-pub keeps_taken : (d : DeviceSetup) (past : List Met) (lines : List Line) (c : Command) → is_for_taker c ≡ true → IsTaken d c (epoch lines) →
-    Keeps d past lines → Keeps d past (taken c ∷ lines)
-keeps_taken d past lines c played fine keeps = record {
-  sound = sound_line d past past lines (taken c) tt (λ _. tt) tt keeps.sound.told keeps.sound.marked keeps.sound.state
-      keeps.sound;
-  fits = taken_fits d (world d past lines) lines c played fine;
-}
 
 -- an exchange
 

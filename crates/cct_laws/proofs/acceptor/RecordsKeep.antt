@@ -1,19 +1,23 @@
 -- How the items of an acceptor, its records and a clean end, keep what holds of it, and an end by which a reading has to be
 -- made again.
-use Rattle.std.proofs.Common.{◌≡◌, ℕ, ◌-◌, ◌<◌, ◌≤◌, List, [], ◌∷◌, length, take, refl, ap, Option, Some, arith, le_refl, inr}
+use Rattle.std.proofs.Common.{◌≡◌, ℕ, ◌-◌, ◌<◌, ◌≤◌, List, [], ◌∷◌, length, take, refl, ap, sym, subst, Option, Some, arith, le_refl, inr}
 use Rattle.cct_model.specs.terms.coin.Coin.{Coin}
+use Rattle.cct_model.specs.lines.record.Record.{Record}
 use Rattle.cct_model.specs.lines.record.Record.TheVariants as record_of
 use Rattle.cct_model.specs.declared.judging.EpochState.{EpochState}
 use Rattle.cct_model.specs.declared.judging.EpochState.TheVariants.{Idle, Running}
+use Rattle.cct_model.specs.lines.entry.End.{End}
 use Rattle.cct_model.specs.lines.entry.End.TheVariants.{Clean, Moved}
 use Rattle.cct_model.specs.History.{Met}
 use Rattle.cct_model.specs.Line.{Line, put, ended}
-use Rattle.cct_model.specs.Job.{job, epoch, counted, credits_line}
+use Rattle.cct_model.specs.Job.{job, epoch, counted, credits_line, puts}
+use Rattle.cct_model.specs.Rows.{TableRow, end_kept}
 use Rattle.cct_model.specs.Claims.{coins, reading, mark, base, Near, IsNear}
 use Rattle.cct_laws.specs.Moving.{counting, IsNoStop}
 use Rattle.cct_laws.proofs.acceptor.BesideCoins.{World, world, Shut, Silent, count_from, closed}
 use Rattle.cct_laws.proofs.acceptor.Fits.{read_so_far, StateOf, TracksIn, Posts, Breaks, Nears, IsIdle}
-use Rattle.cct_laws.proofs.acceptor.Moves.{Sound, Keeps, sound_line}
+use Rattle.cct_laws.specs.DeviceJobs.{with_ended}
+use Rattle.cct_laws.proofs.acceptor.Moves.{IsOtherEnd, Keeps, Sound, entry_is, keeps_ended, sound_line}
 use Rattle.cct_laws.proofs.jobs.CountersRead.{coins_more, behind_fewer}
 use Rattle.cct_model.specs.terms.device.DeviceSetup.{DeviceSetup}
 
@@ -102,8 +106,19 @@ sound_broken d past lines addr seen k lost accepts posted breaks sound =
     (record { shut = closed (world d past lines) breaks.silent.masked; marked = breaks.marked }) sound
 
 -- the end of an epoch
-pub sound_over : (d : DeviceSetup) (past : List Met) (lines : List Line) (addr : ℕ) → Shut (world d past lines) → (Near lines → length (coins lines) ≤ mark lines) → Sound d past lines →
+sound_over : (d : DeviceSetup) (past : List Met) (lines : List Line) (addr : ℕ) → Shut (world d past lines) → (Near lines → length (coins lines) ≤ mark lines) → Sound d past lines →
     Sound d past (put (record_of.EpochEnd addr) ∷ lines)
 sound_over d past lines addr shut none sound =
     sound_line d past past lines (put (record_of.EpochEnd addr)) (sound.marked, tt) (λ near. part_none (coins lines) (mark lines) (none near)) tt sound.told (le_refl _)
     (record { shut = shut; marked = refl }) sound
+
+-- the epoch's end is put, and ends the job
+pub over_put : (d : DeviceSetup) (past : List Met) (lines : List Line) (addr : ℕ) (rows : List TableRow) (end : End)
+    (r : Record) → end_kept rows (record_of.EpochEnd addr) ≡ Some end → IsOtherEnd end →
+    puts (record_of.EpochEnd addr) ≡ puts r → Shut (world d past lines) →
+    (Near lines → length (coins lines) ≤ mark lines) → Sound d past lines →
+    Keeps d past (with_ended (end_kept rows r) (put r ∷ lines))
+over_put d past lines addr rows end r ends other row shut none sound =
+    subst (λ e. Keeps d past (with_ended (end_kept rows e) (put e ∷ lines))) (entry_is (record_of.EpochEnd addr) r row)
+    (subst (λ found. Keeps d past (with_ended found (put (record_of.EpochEnd addr) ∷ lines))) (sym ends)
+    (keeps_ended d past _ end other (sound_over d past lines addr shut none sound)))

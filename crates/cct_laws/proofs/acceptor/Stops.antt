@@ -1,11 +1,10 @@
 -- How the rows that end an epoch, and what they put, keep what holds of a device that takes money.
-use Rattle.std.proofs.Common.{◌≡◌, ℕ, ◌≤◌, List, [], ◌∷◌, length, refl, sym, subst, Option, Some, ap, arith}
+use Rattle.std.proofs.Common.{◌≡◌, ℕ, List, [], ◌∷◌, refl, sym, subst, Option, Some, ap, arith}
 use Rattle.std.specs.Prelude.{⊤}
 use Rattle.cct_model.specs.terms.device.DeviceSetup.{DeviceSetup}
 use Rattle.cct_model.specs.terms.request.Request.{Request}
 use Rattle.cct_model.specs.terms.request.Request.TheVariants.{SetMaster}
 use Rattle.cct_model.specs.lines.record.Record.{Record}
-use Rattle.cct_model.specs.lines.record.Record.TheVariants as record_of
 use Rattle.cct_model.specs.declared.judging.Judged.{Judged}
 use Rattle.cct_model.specs.declared.judging.Judged.TheVariants.{Nothing, Moved, Reading, Broken}
 use Rattle.cct_model.specs.lines.command.Command.{Command}
@@ -14,14 +13,13 @@ use Rattle.cct_model.specs.Reply.{Reply}
 use Rattle.cct_model.specs.History.{Met, heard}
 use Rattle.cct_model.specs.Line.{Line, exchange, put}
 use Rattle.cct_model.specs.Job.{works, job, puts, epoch, Noted}
-use Rattle.cct_model.specs.Claims.{coins, mark, Near}
 use Rattle.cct_model.specs.Rows.{Then, ends_as, if_posted, reading, epoch_end, TableRow, asks_for, puts_due, from, first, rest, end_kept, sent_once}
 use Rattle.cct_model.proofs.Rows.{Behind, behind_answer}
 use Rattle.cct_laws.specs.DeviceJobs.{Fate, with_ended}
 use Rattle.cct_laws.proofs.acceptor.BesideCoins.{world, Shut, after_heard, shut_by_master}
 use Rattle.cct_laws.proofs.acceptor.Fits.{read_so_far, Ready, IsRunning, IfOver, IsStill, ends_epoch, AfterShut}
-use Rattle.cct_laws.proofs.acceptor.Moves.{Sound, Keeps, KeepsAsk, AtRows, IsOtherEnd, keeps_ended, keeps_with_ended, answered_at, next_at, by_fate, entry_is}
-use Rattle.cct_laws.proofs.acceptor.RecordsKeep.{sound_over}
+use Rattle.cct_laws.proofs.acceptor.Moves.{Sound, Keeps, KeepsAsk, AtRows, IsOtherEnd, keeps_with_ended, answered_at, next_at, by_fate, entry_is}
+use Rattle.cct_laws.proofs.acceptor.RecordsKeep.{over_put}
 use Rattle.cct_laws.proofs.acceptor.Rounds.{IsAfterReading, posts_put, breaks_put}
 
 -- every coin is inhibited
@@ -41,17 +39,6 @@ shuts d past lines c since value behind rows asked got none at other next runnin
     (keeps_with_ended d now (line ∷ lines) _ (behind_answer IsOtherEnd behind y _ other)
     (next_at d past lines c since (asks_for (SetMaster value) behind) rows (SetMaster value) y at refl
     none (next v (read_so_far (line ∷ lines)) _ _ running shut)))) fate
-
--- the epoch's end is put, and ends the job
-pub over_put : (d : DeviceSetup) (past : List Met) (lines : List Line) (addr : ℕ) (rows : List TableRow) (end : End)
-    (r : Record) → end_kept rows (record_of.EpochEnd addr) ≡ Some end → IsOtherEnd end →
-    puts (record_of.EpochEnd addr) ≡ puts r → Shut (world d past lines) →
-    (Near lines → length (coins lines) ≤ mark lines) → Sound d past lines →
-    Keeps d past (with_ended (end_kept rows r) (put r ∷ lines))
-over_put d past lines addr rows end r ends other row shut none sound =
-    subst (λ e. Keeps d past (with_ended (end_kept rows e) (put e ∷ lines))) (entry_is (record_of.EpochEnd addr) r row)
-    (subst (λ found. Keeps d past (with_ended found (put (record_of.EpochEnd addr) ∷ lines))) (sym ends)
-    (keeps_ended d past _ end other (sound_over d past lines addr shut none sound)))
 
 -- only the epoch's end is after a row that puts what was judged
 abbrev pub IsOverNext : List TableRow → Type 0

@@ -30,8 +30,10 @@ use Rattle.cct_laws.specs.Law.{IsOf, IsAnswered, IsUnanswered}
 use Rattle.cct_laws.proofs.setups.DeviceAt.{found_in}
 use Rattle.cct_laws.proofs.steps.EitherKind.{for_hopper, for_taker, kind_of}
 use Rattle.cct_laws.proofs.wire.Exchanges.{Answers, fits_of, undisturbed_got, undisturbed_refused, fares}
-use Rattle.cct_laws.proofs.acceptor.AcceptorReplies.{Sane, taker_answers}
-use Rattle.cct_laws.proofs.orders.HopperReplies.{Payer, hopper_answers}
+use Rattle.cct_laws.proofs.acceptor.AcceptorReplies.{Sane}
+use Rattle.cct_laws.proofs.acceptor.Commands.{taker_answers}
+use Rattle.cct_laws.proofs.orders.Commands.{hopper_answers}
+use Rattle.cct_laws.proofs.orders.HopperReplies.{Payer}
 use Rattle.cct_laws.proofs.jobs.StepBrings.{row_after}
 use Rattle.cct_model.proofs.Rows.{RowHolds, each_ask}
 

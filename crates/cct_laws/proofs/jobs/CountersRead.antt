@@ -193,16 +193,19 @@ moved_fewer start c lines since state counted is =
 
 -- an answer ends a job so only where its reading means it
 abbrev IsOther : Then → Type 0
-IsOther (ends_as end) = end ≢ Moved
+IsOther (ends_as Moved) = ⊥
 IsOther behind = ⊤
+
+ends_other : (end : End) → IsOther (ends_as end) → Some end ≡ Some Moved → ⊥
+ends_other end other is = subst (λ e. IsOther (ends_as e)) (same end Moved is) other
+  where
+    same : (end found : End) → Some end ≡ Some found → end ≡ found
+    same end found is = cc
 
 behind_moved : (behind : Then) (y : Reply) (means : Judged) → IsOther behind →
     end_by_answer behind y means ≡ Some Moved → means ≡ judged_of.Moved
 behind_moved goes_on y means other is = cc
-behind_moved (ends_as end) y means other is = absurd (other (same_end end Moved is))
-  where
-    same_end : (end found : End) → Some end ≡ Some found → end ≡ found
-    same_end end found is = cc
+behind_moved (ends_as end) y means other is = absurd (ends_other end other is)
 behind_moved if_quiet (reply.credits c) means other is = absurd (quiet (c.counter == 0) c.counter is)
   where
     quiet : (none : Bool) (counter : ℕ) → cond none None (Some (Unquiet counter)) ≡ Some Moved → ⊥
@@ -229,9 +232,7 @@ AnswersOther r = ⊤
 
 answers_other : (d : DeviceSetup) (c : Command) → EachRow AnswersOther (rows_of d c)
 answers_other d (command.Ident addr) =
-    each_told AnswersOther (λ q. tt) (λ q is. cc) (ident_requests d.body)
-answers_other d (command.Start addr mask) = (tt, (tt, (tt, (tt, (((λ is. cc), (λ is. cc)), tt)))))
-answers_other d (command.Route addr way) = (((λ is. cc), (λ is. cc)), tt)
+    each_told AnswersOther (λ q. tt) (λ q. tt) (ident_requests d.body)
 answers_other d c = search rules
 
 first_moved : (rows : List TableRow) (y : Reply) (means : Judged) → EachRow AnswersOther rows →
@@ -263,10 +264,7 @@ tries_moved true is = cc
 tries_moved false is = cc
 
 bare_moved : (without : Then) → IsOther without → end_bare without ≡ Some Moved → ⊥
-bare_moved (ends_as end) other is = other (same_end end Moved is)
-  where
-    same_end : (end found : End) → Some end ≡ Some found → end ≡ found
-    same_end end found is = cc
+bare_moved (ends_as end) other is = ends_other end other is
 bare_moved without other is = cc
 
 first_unmoved : (rows : List TableRow) (failed : ℕ) → EachRow AnswersOther rows →

@@ -96,10 +96,8 @@ goes_by d c nexts past since l e (Some end) is_job no_end ends few enough = inl 
 paying_of : (body : DeviceBody) (c : Command) → suits body c ≡ true → is_payment c ≡ true → IsHopper body
 paying_of (Hopper life value) c suited pays = tt
 paying_of (Acceptor accepts values ids) (command.Pay addr id count) suited pays = absurd cc
-paying_of (Acceptor accepts values ids) (command.Settle addr) suited pays = absurd cc
 paying_of (Acceptor accepts values ids) c suited pays = absurd cc
 paying_of (Bill accepts values ids) (command.Pay addr id count) suited pays = absurd cc
-paying_of (Bill accepts values ids) (command.Settle addr) suited pays = absurd cc
 paying_of (Bill accepts values ids) c suited pays = absurd cc
 
 -- the premise that all coins have fallen where a status is asked

@@ -1,9 +1,9 @@
 -- What one step of a machine brought: the one view of a legal step by which each law goes by cases. That an exchange was
 -- forged, which the last entry of a `next` may tell, is no part of it (`Telling.antt`).
 use Rattle.std.proofs.Common.{◌≡◌, ◌<◌, inl, inr, ℕ, zero, suc, ◌==◌, cond, true, false, Bool, List, [], ◌∷◌, ◌++◌, refl, ap, sym, ◌∙◌, subst, Option, Some, None, MatchBool, eqb-true}
-use Rattle.std.specs.Prelude.{⊤, not}
-use Rattle.cct_model.specs.declared.judging.EpochState.{EpochState}
-use Rattle.cct_model.specs.declared.judging.EpochState.TheVariants.{Idle, Running}
+use Rattle.std.specs.Prelude.{◌&&◌, ⊤, not}
+use Rattle.std.specs.List.{list_any}
+use Rattle.cct_model.specs.declared.judging.EpochState.TheVariants.{Idle}
 use Rattle.cct_model.specs.terms.wire.CheckKind.{CheckKind}
 use Rattle.cct_model.specs.terms.wire.TheConstants.{BROADCAST, HOST}
 use Rattle.cct_model.specs.terms.device.DeviceBody.{DeviceBody}
@@ -43,17 +43,19 @@ use Rattle.cct_model.specs.Rows.{TableRow, row, row_of_sale, left_of_sale, end_o
 use Rattle.cct_model.specs.Money.{totals}
 use Rattle.cct_model.specs.Script.{IsCommand, IsInRange}
 use Rattle.cct_model.specs.Scan.{scan_row, end_of_scan, poll_of}
-use Rattle.cct_model.specs.Refusal.{unless, is_busy, epoch_refusal, value_refusal, start_refusal, order_refusal, state_fails, view_of, lines_for, last_id, refusal, state_tests}
+use Rattle.cct_model.specs.Refusal.{unless, is_busy, order_refusal, state_fails, view_of, lines_for, last_id, refusal, state_tests}
 use Rattle.cct_model.specs.Honest.{without_forged}
 use Rattle.cct_model.specs.Legal.{ServeEntries, is_idle, waits, is_odd, is_served, falls_short, pays, is_refused, ChangeEntries, happening_entry, step_of, command_entry, with_end, RowEntries, NextEntries, PollEntries, ScanEntries, SaleRowEntries, SaleEntries, BareNext, OfKnowing, OfNext, record_due, due_of, due_of_sale, due_there, due_at, bare_restart, keeping_restart, RestartEntries, EntriesOfRestart, Entries}
 use Rattle.cct_model.specs.Transcript.{met, owner, lines_of, scan_lines, scan_line, sale_lines, heard_after, heard_by_devices, pending, got_by, doses_of}
-use Rattle.cct_laws.specs.DeviceJobs.{is_for_acceptor, is_for_bills, is_for_hopper, suits, IsTaken}
+use Rattle.cct_laws.specs.DeviceJobs.{epoch_fails, suits, wants_device, wants_no_job, wants_other, IsTaken}
 use Rattle.cct_laws.specs.KeptHopper.{IsOwed}
 use Rattle.cct_laws.specs.Ending.{nexts_after}
 use Rattle.cct_laws.specs.Law.{HasBytes, IsCommandOfBytes, IsOf}
 use Rattle.cct_model.proofs.Doses.{job_undosed}
 use Rattle.cct_laws.proofs.setups.DeviceAt.{address_found}
-use Rattle.cct_laws.proofs.jobs.Tests.{Pass, tests_pass, test_holds}
+use Rattle.cct_model.specs.declared.tests.Test.{Test}
+use Rattle.cct_model.specs.declared.tests.Test.TheVariants.{AtATaker, AtAnAcceptor, AtABillAcceptor, AtAHopper, WithNoJob, WithNoEpoch, WithAnEpoch, WithValues}
+use Rattle.cct_laws.proofs.jobs.Tests.{Pass, none_fails, pass_other, tests_pass, test_holds}
 use Rattle.cct_model.specs.declared.judging.Judged.TheVariants.{Nothing}
 
 -- what comes to a device that met all this without being asked, over a step: the entry, what the device then met, and
@@ -368,50 +370,24 @@ unowed : (owed : Option OpenOrder) → order_refusal owed ≡ None → owed ≡ 
 unowed None none = refl
 unowed (Some o) none = absurd cc
 
-may_start : (mask : ℕ) (d : DeviceSetup) (state : EpochState) → epoch_refusal state ≡ None →
-    value_refusal mask (Some d) ≡ None → start_refusal mask d state ≡ None
-may_start mask d Idle idle none = none
-may_start mask d (Running running counter accepts) idle none = absurd cc
-
-suits_acceptor : (body : DeviceBody) (c : Command) → is_acceptor body ≡ true → is_for_acceptor c ≡ true → suits body c ≡ true
-suits_acceptor (Acceptor accepts values ids) c test suited = suited
-suits_acceptor (Hopper life value) c test suited = absurd cc
-suits_acceptor (Bill accepts values ids) c test suited = absurd cc
-
-suits_bills : (body : DeviceBody) (c : Command) → is_bill body ≡ true → is_for_bills c ≡ true → suits body c ≡ true
-suits_bills (Acceptor accepts values ids) c test suited = absurd cc
-suits_bills (Hopper life value) c test suited = absurd cc
-suits_bills (Bill accepts values ids) c test suited = suited
-
-suits_taker : (body : DeviceBody) (c : Command) → is_taker body ≡ true → is_for_acceptor c ≡ true → is_for_bills c ≡ true →
-    suits body c ≡ true
-suits_taker (Acceptor accepts values ids) c test coins bills = coins
-suits_taker (Hopper life value) c test coins bills = absurd cc
-suits_taker (Bill accepts values ids) c test coins bills = bills
-
-suits_hopper : (body : DeviceBody) (c : Command) → is_hopper body ≡ true → is_for_hopper c ≡ true → suits body c ≡ true
-suits_hopper (Acceptor accepts values ids) c test suited = absurd cc
-suits_hopper (Hopper life value) c test suited = suited
-suits_hopper (Bill accepts values ids) c test suited = absurd cc
-
-suits_ident : (body : DeviceBody) (addr : ℕ) → suits body (command.Ident addr) ≡ true
-suits_ident (Acceptor accepts values ids) addr = refl
-suits_ident (Hopper life value) addr = refl
-suits_ident (Bill accepts values ids) addr = refl
-
 -- what the tests of a command at a device tell of its epoch and of its open order
 PassesAt : DeviceSetup → List Line → ℕ → Command → Type 0
 PassesAt d lines last c = Pass (state_fails (view_of (Some d) lines last)) (state_tests c)
 
+epoch_passes : (d : DeviceSetup) (lines : List Line) (last : ℕ) (test : Test) →
+    state_fails (view_of (Some d) lines last) test ≡ None → epoch_fails d (epoch lines) test ≡ None
+epoch_passes d lines last WithNoEpoch pass = pass
+epoch_passes d lines last WithAnEpoch pass = pass
+epoch_passes d lines last (WithValues mask) pass = pass
+epoch_passes d lines last test pass = refl
+
 taken_by : (d : DeviceSetup) (lines : List Line) (last : ℕ) (c : Command) → PassesAt d lines last c →
     IsTaken d c (epoch lines)
 unfolding PassesAt
-taken_by d lines last (command.Start addr mask) passes =
-    may_start mask d (epoch lines) passes.1.1.1.0 passes.1.1.1.1.0
-taken_by d lines last (command.Round addr) passes = passes.1.1.1.0
-taken_by d lines last (command.Stop addr) passes = passes.1.1.1.0
-taken_by d lines last (command.Route addr way) passes = passes.1.1.1.0
-taken_by d lines last c passes = tt
+taken_by d lines last c passes =
+    none_fails (epoch_fails d (epoch lines)) (state_tests c)
+    (pass_other (state_fails (view_of (Some d) lines last)) (epoch_fails d (epoch lines)) (epoch_passes d lines last)
+    (state_tests c) passes)
 
 owed_by : (d : DeviceSetup) (lines : List Line) (last : ℕ) (c : Command) → PassesAt d lines last c →
     IsOwed c (order lines)
@@ -420,14 +396,72 @@ owed_by d lines last (command.Pay addr id count) passes = unowed (order lines) p
 owed_by d lines last (command.Settle addr) passes = passes.1.1.1.0
 owed_by d lines last c passes = tt
 
+-- .. of the kind of the device
+kind_fails : DeviceBody → Test → Option CommandNo
+kind_fails body AtATaker = unless (is_taker body) WrongKind
+kind_fails body AtAnAcceptor = unless (is_acceptor body) WrongKind
+kind_fails body AtABillAcceptor = unless (is_bill body) WrongKind
+kind_fails body AtAHopper = unless (is_hopper body) WrongKind
+kind_fails body test = None
+
+kind_passes : (d : DeviceSetup) (lines : List Line) (last : ℕ) (test : Test) →
+    state_fails (view_of (Some d) lines last) test ≡ None → kind_fails d.body test ≡ None
+unfolding kind_fails
+kind_passes d lines last AtATaker pass = pass
+kind_passes d lines last AtAnAcceptor pass = pass
+kind_passes d lines last AtABillAcceptor pass = pass
+kind_passes d lines last AtAHopper pass = pass
+kind_passes d lines last test pass = refl
+
+wants_own : (body : DeviceBody) (test : Test) → kind_fails body test ≡ None → wants_other (family_of body) test ≡ false
+unfolding kind_fails
+wants_own (Acceptor accepts values ids) AtAHopper pass = absurd cc
+wants_own (Acceptor accepts values ids) AtABillAcceptor pass = absurd cc
+wants_own (Hopper life value) AtATaker pass = absurd cc
+wants_own (Hopper life value) AtAnAcceptor pass = absurd cc
+wants_own (Hopper life value) AtABillAcceptor pass = absurd cc
+wants_own (Bill accepts values ids) AtAHopper pass = absurd cc
+wants_own (Bill accepts values ids) AtAnAcceptor pass = absurd cc
+wants_own (Acceptor accepts values ids) test pass = refl
+wants_own (Hopper life value) test pass = refl
+wants_own (Bill accepts values ids) test pass = refl
+
+none_other : (body : DeviceBody) (tests : List Test) → Pass (kind_fails body) tests →
+    list_any (wants_other (family_of body)) tests ≡ false
+none_other body [] pass = refl
+none_other body (test ∷ tests) pass = rw (wants_own body test pass.0) (none_other body tests pass.1)
+
+-- .. and of its job
+job_passes : (fails : Test → Option CommandNo) (tests : List Test) → Pass fails tests →
+    list_any wants_no_job tests ≡ true → fails WithNoJob ≡ None
+job_passes fails [] pass asks = absurd cc
+job_passes fails (WithNoJob ∷ tests) pass asks = pass.0
+job_passes fails (test ∷ tests) pass asks = job_passes fails tests pass.1 asks
+
+all_three : (a b c : Bool) → a ≡ true → b ≡ true → c ≡ false → (a && b && not c) ≡ true
+all_three a b c is_a is_b is_c = rw (is_a, is_b, is_c) refl
+
+suits_by : (d : DeviceSetup) (lines : List Line) (last : ℕ) (c : Command) → PassesAt d lines last c →
+    list_any wants_device (state_tests c) ≡ true → list_any wants_no_job (state_tests c) ≡ true → suits d.body c ≡ true
+unfolding PassesAt
+suits_by d lines last c passes at_device no_job =
+    all_three _ _ _ at_device no_job
+    (none_other d.body (state_tests c)
+    (pass_other (state_fails (view_of (Some d) lines last)) (kind_fails d.body) (kind_passes d lines last) (state_tests c)
+    passes))
+
 -- a command that begins a job at a device
 began_at : (capacity : ℕ) (setup : Setup) (past : List Entry) (s : Step) (c : Command) (d : DeviceSetup) → Gives s c →
-    device_at setup.devices (address_of c) ≡ Some d → refusal capacity setup past c ≡ None → suits d.body c ≡ true →
-    unless (not (is_busy (job (lines_of d past)))) Busy ≡ None → PassesAt d (lines_of d past) (last_id setup past) c →
-    Brought capacity setup past s (entry.Taken c ∷ [])
-began_at capacity setup past s c d gives was none suited is_free passes =
+    device_at setup.devices (address_of c) ≡ Some d → refusal capacity setup past c ≡ None →
+    PassesAt d (lines_of d past) (last_id setup past) c → list_any wants_device (state_tests c) ≡ true →
+    list_any wants_no_job (state_tests c) ≡ true → Brought capacity setup past s (entry.Taken c ∷ [])
+unfolding PassesAt
+began_at capacity setup past s c d gives was none passes at_device no_job =
     of_device d s (entry.Taken c ∷ []) (of_found setup (address_of c) d was)
-    (took s c gives suited (sym (address_found setup (address_of c) d was)) (free_if (job (lines_of d past)) is_free)
+    (took s c gives (suits_by d (lines_of d past) (last_id setup past) c passes at_device no_job)
+    (sym (address_found setup (address_of c) d was))
+    (free_if (job (lines_of d past))
+    (job_passes (state_fails (view_of (Some d) (lines_of d past) (last_id setup past))) (state_tests c) passes no_job))
     (taken_by d (lines_of d past) (last_id setup past) c passes)
     (owed_by d (lines_of d past) (last_id setup past) c passes) none)
 
@@ -443,9 +477,7 @@ paid_at capacity setup past s addr id count None gives was none passes =
     let device : unless false NoDevice ≡ None = passes.0 in
     absurd cc
 paid_at capacity setup past s addr id count (Some d) gives was none passes =
-    began_at capacity setup past s (command.Pay addr id count) d gives was none
-    (suits_hopper d.body (command.Pay addr id count) (test_holds (is_hopper d.body) WrongKind passes.1.0) refl)
-    passes.1.1.0 passes
+    began_at capacity setup past s (command.Pay addr id count) d gives was none passes refl refl
 
 taken_at : (capacity : ℕ) (setup : Setup) (past : List Entry) (c : Command) (found : Option DeviceSetup) →
     device_at setup.devices (address_of c) ≡ found → refusal capacity setup past c ≡ None →
@@ -462,24 +494,8 @@ taken_at capacity setup past (command.Halt addr) (Some d) was none passes =
     there capacity setup past (λ a. step.Command (command.Halt a)) (λ a. entry.Taken (command.Halt a) ∷ []) addr d was
     (halted (paying_by d.body (test_holds (is_hopper d.body) WrongKind passes.1.0))
     (test_holds (can_halt d (job (lines_of d past))) NoPayout passes.1.1.0))
-taken_at capacity setup past (command.Ident addr) (Some d) was none passes =
-    began_at capacity setup past (step.Command (command.Ident addr)) (command.Ident addr) d (own_command (command.Ident addr)) was none (suits_ident d.body addr) passes.1.0 passes
-taken_at capacity setup past (command.Pay addr id count) found was none passes =
-    paid_at capacity setup past (step.Command (command.Pay addr id count)) addr id count found
-    (own_command (command.Pay addr id count)) was none passes
-taken_at capacity setup past (command.Settle addr) (Some d) was none passes =
-    began_at capacity setup past (step.Command (command.Settle addr)) (command.Settle addr) d (own_command (command.Settle addr)) was none
-    (suits_hopper d.body (command.Settle addr) (test_holds (is_hopper d.body) WrongKind passes.1.0) refl) passes.1.1.0 passes
-taken_at capacity setup past (command.Path addr place path) (Some d) was none passes =
-    began_at capacity setup past (step.Command (command.Path addr place path)) (command.Path addr place path) d (own_command (command.Path addr place path)) was none
-    (suits_acceptor d.body (command.Path addr place path) (test_holds (is_acceptor d.body) WrongKind passes.1.0) refl)
-    passes.1.1.0 passes
-taken_at capacity setup past (command.Route addr way) (Some d) was none passes =
-    began_at capacity setup past (step.Command (command.Route addr way)) (command.Route addr way) d (own_command (command.Route addr way)) was none
-    (suits_bills d.body (command.Route addr way) (test_holds (is_bill d.body) WrongKind passes.1.0) refl) passes.1.1.0 passes
 taken_at capacity setup past c (Some d) was none passes =
-    began_at capacity setup past (step.Command c) c d (own_command c) was none
-    (suits_taker d.body c (test_holds (is_taker d.body) WrongKind passes.1.0) refl refl) passes.1.1.0 passes
+    began_at capacity setup past (step.Command c) c d (own_command c) was none passes refl refl
 
 command_brought : (capacity : ℕ) (setup : Setup) (past : List Entry) (c : Command) (why : Option CommandNo) →
     refusal capacity setup past c ≡ why → Brought capacity setup past (step.Command c) (command_entry c why ∷ [])

@@ -1,5 +1,5 @@
 -- A command that is taken passes its tests: those of the state, and those of the money and of the room.
-use Rattle.std.proofs.Common.{◌≡◌, ℕ, List, [], ◌∷◌, refl, Option, Some, None, Bool, true, false}
+use Rattle.std.proofs.Common.{◌≡◌, ℕ, List, [], ◌∷◌, refl, ap, ◌∙◌, Option, Some, None, Bool, true, false}
 use Rattle.std.specs.Prelude.{⊤}
 use Rattle.std.specs.Option.{option_or}
 use Rattle.cct_model.specs.terms.device.Setup.{Setup}
@@ -25,6 +25,19 @@ all_pass fails [] none = tt
 all_pass fails (test ∷ []) none = (none, tt)
 all_pass fails (test ∷ next ∷ tests) none =
     let both = both_pass (fails test) (first_of fails (next ∷ tests)) none in (both.0, all_pass fails (next ∷ tests) both.1)
+
+pub none_fails : (fails : Test → Option CommandNo) (tests : List Test) → Pass fails tests → first_of fails tests ≡ None
+none_fails fails [] pass = refl
+none_fails fails (test ∷ []) pass = pass.0
+none_fails fails (test ∷ next ∷ tests) pass =
+    ap (λ first. option_or first (first_of fails (next ∷ tests))) pass.0 ∙ none_fails fails (next ∷ tests) pass.1
+
+-- what passes these tests passes others, each of which fails only where its own does
+pub pass_other : (fails others : Test → Option CommandNo) → ((test : Test) → fails test ≡ None → others test ≡ None) →
+    (tests : List Test) → Pass fails tests → Pass others tests
+pass_other fails others weaker [] pass = tt
+pass_other fails others weaker (test ∷ tests) pass =
+    (weaker test pass.0, pass_other fails others weaker tests pass.1)
 
 -- what a test passes by
 pub test_holds : (holds : Bool) (why : CommandNo) → unless holds why ≡ None → holds ≡ true

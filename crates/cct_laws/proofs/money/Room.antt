@@ -1,5 +1,5 @@
 -- A command that is taken over a journal has room for its records, and what it spends is available.
-use Rattle.std.proofs.Common.{◌≡◌, ℕ, ◌+◌, ◌≤◌, nat_le, List, [], ◌∷◌, Bool, true, false, cond, length, refl, Option, Some, None, arith, leb-true}
+use Rattle.std.proofs.Common.{◌≡◌, ℕ, ◌+◌, ◌≤◌, nat_le, List, [], ◌∷◌, Bool, true, false, cond, length, refl, ap, sym, ◌∙◌, Option, Some, None, arith, leb-true}
 use Rattle.cct_model.specs.terms.device.DeviceSetup.{DeviceSetup}
 use Rattle.cct_model.specs.terms.device.Setup.{Setup}
 use Rattle.cct_model.specs.lines.command.Command.{Command}
@@ -39,20 +39,24 @@ short_pass setup past wanted is =
     (test_pass (nat_le wanted (available setup past)) (Short (available setup past)) is)
 
 -- the commands without the test for room want none, and put nothing
+unneeded : (found : Option DeviceSetup) (c : Command) → cond (asks_room (tests_of c)) 0 (need_for found c) ≡ 0
+unneeded (Some d) (command.Ident addr) =
+    told_fact (λ rows. need_in rows ≡ 0) refl (λ q behind rows same. same) (ident_requests d.body)
+unneeded None (command.Ident addr) = refl
+unneeded found c = refl
+
+unput : (found : Option DeviceSetup) (c : Command) → cond (asks_room (tests_of c)) 0 (puts_in (rows_for found c)) ≡ 0
+unput (Some d) (command.Ident addr) =
+    told_fact (λ rows. puts_in rows ≡ 0) refl (λ q behind rows same. same) (ident_requests d.body)
+unput None (command.Ident addr) = refl
+unput found c = refl
+
 pub unasked : (found : Option DeviceSetup) (c : Command) → asks_room (tests_of c) ≡ false →
     (need_for found c ≡ 0) × (puts_in (rows_for found c) ≡ 0)
-unasked found (command.Start addr mask) none = absurd cc
-unasked found (command.Round addr) none = absurd cc
-unasked found (command.Stop addr) none = absurd cc
-unasked found (command.Pay addr id count) none = absurd cc
-unasked found (command.Settle addr) none = absurd cc
-unasked found (command.Vend id price) none = absurd cc
-unasked (Some d) (command.Ident addr) none = (
-  told_fact (λ rows. need_in rows ≡ 0) refl (λ q behind rows same. same) (ident_requests d.body),
-  told_fact (λ rows. puts_in rows ≡ 0) refl (λ q behind rows same. same) (ident_requests d.body),
+unasked found c none = (
+  ap (λ b. cond b 0 (need_for found c)) (sym none) ∙ unneeded found c,
+  ap (λ b. cond b 0 (puts_in (rows_for found c))) (sym none) ∙ unput found c,
 )
-unasked (Some d) c none = (refl, refl)
-unasked None c none = (refl, refl)
 
 room_by : (capacity : ℕ) (setup : Setup) (past : List Entry) (need : ℕ) (tests : List Test) →
     Pass (room_fails capacity setup past need) tests → asks_room tests ≡ true →

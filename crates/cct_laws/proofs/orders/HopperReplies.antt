@@ -1,27 +1,23 @@
 -- What a hopper replies to each request that a job sends it.
-use Rattle.std.proofs.Common.{◌≡◌, ℕ, true, List, refl, ap, ◌∙◌, Option, Some, None, inl, inr, arith}
+use Rattle.std.proofs.Common.{◌≡◌, ℕ, List, refl, ap, ◌∙◌, Option, Some, None, inl, inr, arith}
 use Rattle.cct_model.specs.terms.device.DeviceSetup.{DeviceSetup}
 use Rattle.cct_model.specs.terms.device.DeviceBody.{DeviceBody}
 use Rattle.cct_model.specs.terms.device.DeviceBody.TheVariants.{Acceptor, Bill, Hopper}
 use Rattle.cct_model.specs.terms.request.Request.TheVariants.{Enable, Dispense, GetStatus, GetLife, StopNow, TestHopper}
-use Rattle.cct_model.specs.terms.request.TheConstants.{ENABLE_CODE}
 use Rattle.cct_model.specs.terms.request.ReplyForm.TheVariants as form
-use Rattle.cct_model.specs.lines.command.Command.{Command}
-use Rattle.cct_model.specs.lines.command.Command.TheVariants as command
 use Rattle.cct_model.specs.Request.{form_of}
 use Rattle.cct_model.specs.Reply as reply
 use Rattle.cct_model.specs.History.{Met}
 use Rattle.cct_model.specs.Hopper.{remaining, taken_of, life_count, status_of, register_of, dispense_reply, hopper_reply}
 use Rattle.cct_model.specs.Device.{IsSound, IsHopper, common_reply, reply_of}
-use Rattle.cct_model.specs.Job.{ident_requests, own_requests}
+use Rattle.cct_model.specs.Job.{own_requests}
 use Rattle.cct_msg.proofs.Exchanges.{serial_fits}
-use Rattle.cct_laws.specs.DeviceJobs.{is_for_hopper}
 use Rattle.cct_laws.proofs.wire.Exchanges.{Replied, Answers}
 use Rattle.cct_laws.proofs.wire.Replies.{start_of, hopper_is, replied_status, replied_stop, replied_life}
-use Rattle.cct_laws.proofs.wire.CommonReplies.{answers_so, each_answers, ident_replied}
+use Rattle.cct_laws.proofs.wire.CommonReplies.{answers_so}
 use Rattle.cct_model.proofs.Requests.{Each}
-use Rattle.cct_model.proofs.Rows.{EachRow, each_asked, Asks}
-use Rattle.cct_model.specs.Rows.{settling, rows_of}
+use Rattle.cct_model.proofs.Rows.{EachRow, Asks}
+use Rattle.cct_model.specs.Rows.{settling}
 
 -- a sound hopper
 pub record Payer (d : DeviceSetup) : Type 0 where
@@ -29,7 +25,7 @@ pub record Payer (d : DeviceSetup) : Type 0 where
   pub paying : IsHopper d.body
 
 -- what hoppers alone reply
-enable_replied : (d : DeviceSetup) (past : List Met) (code : ℕ) → Payer d → Replied d past (Enable code)
+pub enable_replied : (d : DeviceSetup) (past : List Met) (code : ℕ) → Payer d → Replied d past (Enable code)
 unfolding reply_of common_reply form_of hopper_reply
 enable_replied d past code payer =
     answers_so d past (Enable code) reply.ack form.Ack (hopper_is d.serial d.body past (Enable code) payer.paying)
@@ -41,7 +37,7 @@ status_replied d past payer =
     answers_so d past GetStatus (status_of d.serial past) form.Status
     (replied_status d past payer.paying) refl refl tt tt (λ serial count e. cc) refl
 
-life_replied : (d : DeviceSetup) (past : List Met) → Payer d → Replied d past GetLife
+pub life_replied : (d : DeviceSetup) (past : List Met) → Payer d → Replied d past GetLife
 unfolding form_of
 life_replied d past payer =
     answers_so d past GetLife (reply.life (life_count d.serial (start_of d.body) past)) form.Life
@@ -66,7 +62,7 @@ dispense_replied : (d : DeviceSetup) (past : List Met) (count : ℕ) → Payer d
 unfolding reply_of common_reply hopper_reply
 dispense_replied d past count payer = hopper_is d.serial d.body past (Dispense d.serial count) payer.paying
 
-dispense_by : (d : DeviceSetup) (past : List Met) (count : ℕ) (took : Option ℕ) → Payer d →
+pub dispense_by : (d : DeviceSetup) (past : List Met) (count : ℕ) (took : Option ℕ) → Payer d →
     taken_of d.serial past (Some (Dispense d.serial count)) ≡ took → Answers d past (Dispense d.serial count)
 unfolding form_of
 dispense_by d past count (Some many) payer test =
@@ -81,28 +77,14 @@ dispense_by d past count None payer test = inr (record {
 })
 
 -- all that a hopper is asked of itself
-owns_by : (d : DeviceSetup) (past : List Met) (body : DeviceBody) → IsHopper body → Payer d →
+pub owns_by : (d : DeviceSetup) (past : List Met) (body : DeviceBody) → IsHopper body → Payer d →
     Each (Replied d past) (own_requests body)
 owns_by d past (Acceptor accepts values ids) paying payer = absurd paying
 owns_by d past (Hopper life value) paying payer = (register_replied d past payer, tt)
 owns_by d past (Bill accepts values ids) paying payer = absurd paying
 
-settle_replied : (d : DeviceSetup) (past : List Met) → Payer d → EachRow (Asks (Answers d past)) settling
+pub settle_replied : (d : DeviceSetup) (past : List Met) → Payer d → EachRow (Asks (Answers d past)) settling
 settle_replied d past payer = (
   (inl (status_replied d past payer), inl (stop_replied d past payer)),
   (inl (life_replied d past payer), (tt, tt)),
 )
-
--- all that a command asks has a reply in the wanted form, or is a dispense that is refused
-pub hopper_answers : (d : DeviceSetup) (past : List Met) (c : Command) → Payer d → is_for_hopper c ≡ true →
-    EachRow (Asks (Answers d past)) (rows_of d c)
-hopper_answers d past (command.Pay addr id count) payer suited = (
-  inl (enable_replied d past ENABLE_CODE payer),
-  (inl (life_replied d past payer), (tt, (dispense_by d past count _ payer refl, settle_replied d past payer))),
-)
-hopper_answers d past (command.Settle addr) payer suited = settle_replied d past payer
-hopper_answers d past (command.Ident addr) payer suited =
-    each_asked (Answers d past) (ident_requests d.body)
-    (each_answers d past (ident_requests d.body)
-    (ident_replied d past d.body payer.sound (owns_by d past d.body payer.paying payer)))
-hopper_answers d past c payer suited = absurd cc

@@ -1,21 +1,18 @@
 -- What a hopper owes of its open order, over plain numbers, and what the rows of a job need besides; everything that
 -- comes keeps both. And that an order is closed with just the coins that fell.
-use Rattle.std.proofs.Common.{◌≡◌, ℕ, suc, ◌+◌, ◌-◌, ◌%◌, ◌^◌, ◌≤◌, refl, Option, Some, None, arith, List, [], ◌∷◌, true, rules}
+use Rattle.std.proofs.Common.{◌≡◌, ℕ, suc, ◌+◌, ◌-◌, ◌%◌, ◌^◌, ◌≤◌, refl, Option, Some, None, arith, List, [], ◌∷◌}
 use Rattle.std.specs.Prelude.{⊤}
 use Rattle.std.proofs.lemmas.Bool.{le-leb}
 use Rattle.cct_model.specs.lines.record.Record.TheVariants as record_of
 use Rattle.cct_model.specs.declared.judging.OpenOrder.{OpenOrder}
-use Rattle.cct_model.specs.lines.command.Command.{Command}
-use Rattle.cct_model.specs.lines.command.Command.TheVariants as command
 use Rattle.cct_model.specs.Order.{life_between, close, life_read}
-use Rattle.cct_model.specs.Job.{Job, free, works, ident_requests}
+use Rattle.cct_model.specs.Job.{Job, free, works}
 use Rattle.cct_model.specs.Paid.{OfOrder}
-use Rattle.cct_model.specs.Rows.{rows_of, new_order, order_end, TableRow, asks_for, asks_once, waits_for_coins, puts_due, telling, rest, Then}
+use Rattle.cct_model.specs.Rows.{new_order, order_end, TableRow, asks_for, asks_once, waits_for_coins, puts_due, telling, rest}
 use Rattle.cct_model.specs.terms.device.DeviceSetup.{DeviceSetup}
 use Rattle.cct_model.specs.terms.request.Request.{Request}
 use Rattle.cct_model.specs.terms.request.Request.TheVariants.{GetLife, Dispense}
 use Rattle.cct_model.proofs.Rows.{EachBefore, told_fact}
-use Rattle.cct_laws.specs.DeviceJobs.{is_for_hopper}
 
 -- what is counted: the coins that are left to fall and those that ever fell, and the dispenses that were taken and the
 -- coins that fell since an order was opened or closed
@@ -265,19 +262,6 @@ pub fits_falls : (d : DeviceSetup) (start : ℕ) (v w : View) (owed : Option Ope
 fits_falls d start v w owed free falls state fits = tt
 fits_falls d start v w owed (works c since) falls state fits =
     (fits.0, rows_fall d.serial start v w owed (life_read since) (rest d c since) falls state fits.1)
-
--- the rows of a hopper's job come so
-told_linked : (own : ℕ) (qs : List Request) →
-    ((q : Request) (behind : Then) → Follows own (telling qs) (asks_for q behind)) × AreLinked own (telling qs)
-told_linked own =
-    told_fact (λ rows. ((q : Request) (behind : Then) → Follows own rows (asks_for q behind)) × AreLinked own rows)
-    ((λ q behind. tt), tt) (λ q behind rows linked. ((λ x next. tt), ((tt, linked.0 q behind), linked.1)))
-
-pub rows_linked : (d : DeviceSetup) (c : Command) → is_for_hopper c ≡ true → AreLinked d.serial (rows_of d c)
-rows_linked d (command.Pay addr id count) played = search rules
-rows_linked d (command.Settle addr) played = search rules
-rows_linked d (command.Ident addr) played = (told_linked d.serial (ident_requests d.body)).1
-rows_linked d c played = absurd cc
 
 -- and what is asked one after the other needs nothing
 pub told_needs : (own start : ℕ) (v : View) (owed : Option OpenOrder) (life : Option ℕ) (qs : List Request) →

@@ -1,6 +1,6 @@
 -- Where a hopper has shown that nothing is left to pay, nothing is left to fall until the next order is opened: a
 -- payment lets it dispense only right after the record that opens its order.
-use Rattle.std.proofs.Common.{◌≡◌, ℕ, suc, ◌==◌, ◌||◌, not, cond, Bool, true, false, List, [], ◌∷◌, ◌++◌, refl, ap, sym, ◌∙◌, subst, Option, Some, None, arith, eqb-true, rules, true≢false}
+use Rattle.std.proofs.Common.{◌≡◌, ℕ, suc, ◌==◌, ◌||◌, not, cond, Bool, true, false, List, [], ◌∷◌, ◌++◌, refl, ap, sym, ◌∙◌, subst, Option, Some, None, arith, eqb-true, true≢false}
 use Rattle.std.specs.Prelude.{⊤}
 use Rattle.cct_model.specs.terms.request.TheConstants.{ENABLE_CODE}
 use Rattle.cct_model.specs.terms.device.DeviceSetup.{DeviceSetup}
@@ -18,8 +18,8 @@ use Rattle.cct_model.specs.Hopper.{remaining, taken_of}
 use Rattle.cct_model.specs.Device.{IsHopper, reply_of}
 use Rattle.cct_model.specs.Line.{Line, exchange, put, taken}
 use Rattle.cct_model.specs.Order.{order}
-use Rattle.cct_model.specs.Job.{Job, free, works, job, begun, with_line, epoch, sends, puts, Noted, noted_in, judged_in, open_row, ident_requests, address_of}
-use Rattle.cct_model.specs.Rows.{row, new_epoch, reading, epoch_end, new_order, order_end, sale, TableRow, asks_for, asks_once, waits_for_coins, puts_due, telling, rows_of, after, from, rest, done, first, sent_once, ends_first}
+use Rattle.cct_model.specs.Job.{Job, free, works, job, with_line, epoch, sends, puts, Noted, noted_in, judged_in, open_row, address_of}
+use Rattle.cct_model.specs.Rows.{row, new_epoch, reading, epoch_end, new_order, order_end, sale, TableRow, asks_for, asks_once, waits_for_coins, puts_due, rows_of, after, from, rest, done, first, sent_once, ends_first}
 use Rattle.cct_model.specs.Transcript.{doses, met, onto}
 use Rattle.cct_model.proofs.Hoppers.{left_heard, remaining_fall, remaining_jam, remaining_heard}
 use Rattle.cct_model.proofs.Doses.{job_undosed, same_over, doses_are}
@@ -29,7 +29,7 @@ use Rattle.cct_laws.specs.Law.{lines_in}
 use Rattle.cct_laws.specs.PaidOut.{shows_none, paid_out_by, is_paid_out}
 use Rattle.cct_laws.specs.Scope.{EachHopper}
 use Rattle.cct_laws.proofs.steps.EitherKind.{for_hopper}
-use Rattle.cct_model.proofs.Rows.{but_first, after_none, after_next, EachBefore, before_on, fact_after, told_fact}
+use Rattle.cct_model.proofs.Rows.{but_first, after_next, before_on, fact_after}
 use Rattle.cct_laws.proofs.steps.AllKept.{kept_hopper_legal}
 use Rattle.cct_model.proofs.Requests.{IsAgain}
 use Rattle.cct_model.proofs.Tries.{due_sends}
@@ -37,16 +37,12 @@ use Rattle.cct_model.proofs.RowEnds.{rest_asks, again_row, stays_again}
 use Rattle.cct_model.specs.declared.judging.EpochState.{EpochState}
 use Rattle.cct_model.specs.declared.judging.OpenOrder.{OpenOrder}
 use Rattle.cct_laws.proofs.wire.Replies.{replied_status}
+use Rattle.cct_laws.proofs.orders.Commands.{AreOpened, IsNotAtDispense, OpensFirst, rows_opened, taken_aside}
 
 -- a request lets no hopper dispense
 abbrev IsNoDispense : Request → Type 0
 IsNoDispense (Dispense serial count) = ⊥
 IsNoDispense q = ⊤
-
--- the job at an address doesn't stand at a row that is sent once, so at none that lets its hopper dispense
-abbrev IsNotAtDispense : DeviceSetup → Job → Type 0
-IsNotAtDispense d free = ⊤
-IsNotAtDispense d (works c since) = sent_once (rest d c since) ≡ false
 
 -- what is kept
 abbrev Rests : DeviceSetup → List Met → List Line → Type 0
@@ -56,25 +52,6 @@ Rests d past lines = is_paid_out lines ≡ true → (remaining d.serial past ≡
 undosed : (q : Request) → IsAgain q → IsNoDispense q
 undosed (Dispense serial count) again = absurd (true≢false (sym again))
 undosed q again = tt
-
--- what is sent once stands right after a row that opens an order
-abbrev OpensFirst : TableRow → List TableRow → Type 0
-OpensFirst (puts_due (new_order id count) behind) rows = ⊤
-OpensFirst r rows = sent_once rows ≡ false
-
-abbrev AreOpened : List TableRow → Type 0
-AreOpened rows = EachBefore OpensFirst rows
-
-told_opened : (qs : List Request) → (sent_once (telling qs) ≡ false) × AreOpened (telling qs)
-told_opened =
-    told_fact (λ rows. (sent_once rows ≡ false) × AreOpened rows) (refl, tt)
-    (λ q behind rows opened. (refl, (opened.0, opened.1)))
-
-rows_opened : (d : DeviceSetup) (c : Command) → is_for_hopper c ≡ true → AreOpened (rows_of d c)
-rows_opened d (command.Pay addr id count) played = search rules
-rows_opened d (command.Settle addr) played = search rules
-rows_opened d (command.Ident addr) played = (told_opened (ident_requests d.body)).1
-rows_opened d c played = absurd cc
 
 -- so the row after one that asks isn't sent once
 asked_opened : (addr : ℕ) (means : Judged) (p : Noted) (rows : List TableRow) (q : Request) → AreOpened rows →
@@ -229,13 +206,6 @@ rests_fall d past lines rests =
     rests_less d past (fall ∷ past) lines (λ none. omega (arith, remaining_fall d.serial past, none)) rests
 
 -- commands
-taken_aside : (d : DeviceSetup) (c : Command) (before : Job) → is_for_hopper c ≡ true → IsNotAtDispense d (begun c before)
-taken_aside d (command.Pay addr id count) before played = refl
-taken_aside d (command.Settle addr) before played = refl
-taken_aside d (command.Ident addr) before played =
-    ap sent_once (after_none (telling (ident_requests d.body))) ∙ (told_opened (ident_requests d.body)).0
-taken_aside d c before played = absurd cc
-
 halted_aside : (d : DeviceSetup) (addr : ℕ) (at_work : Job) → IsNotAtDispense d at_work →
     IsNotAtDispense d (with_line (taken (command.Halt addr)) at_work)
 halted_aside d addr free aside = tt

@@ -1,6 +1,6 @@
 -- What a hopper owes is kept by all that can come over an honest wire; and what follows: each order is paid at most
 -- once, without one nothing is left to fall, and no order is closed whose life counts don't fit it.
-use Rattle.std.proofs.Common.{◌≡◌, ℕ, ◌≤◌, ◌==◌, true, false, List, [], ◌∷◌, refl, subst, Option, Some, None, arith, sym}
+use Rattle.std.proofs.Common.{◌≡◌, ℕ, ◌≤◌, ◌==◌, true, false, List, [], ◌∷◌, refl, subst, Option, Some, None, arith}
 use Rattle.std.proofs.lemmas.Bool.Decides.{nat_tests}
 use Rattle.cct_model.specs.terms.device.DeviceSetup.{DeviceSetup}
 use Rattle.cct_model.specs.terms.request.Request.{Request}
@@ -16,19 +16,18 @@ use Rattle.cct_model.specs.Device.{IsHopper}
 use Rattle.cct_model.specs.Line.{Line, fell, put, taken, restarted}
 use Rattle.cct_model.specs.Line as line
 use Rattle.cct_model.specs.Order.{order}
-use Rattle.cct_model.specs.Job.{Job, free, works, job, begun, with_line, epoch, sends, puts, ident_requests}
-use Rattle.cct_model.specs.Rows.{row, telling}
+use Rattle.cct_model.specs.Job.{Job, free, works, job, with_line, epoch, sends, puts}
+use Rattle.cct_model.specs.Rows.{row}
 use Rattle.cct_model.specs.Paid.{dispenses, OfOrder, PaidBy, Paid}
-use Rattle.cct_model.specs.Refusal.{settle_refusal}
 use Rattle.cct_model.specs.Script.{IsCommand}
 use Rattle.cct_model.proofs.Hoppers.{remaining_fall, remaining_jam}
 use Rattle.cct_laws.specs.DeviceJobs.{IsForOthers, is_for_hopper}
 use Rattle.cct_laws.specs.LifeCounts.{HasFittingLife}
 use Rattle.cct_laws.specs.KeptHopper.{IsOwed, IsKeptHopper}
-use Rattle.cct_laws.proofs.orders.OwedCoins.{View, StateOf, Falls, state_falls, falls_of_order, IsOpen, FitsJob, fits_falls, FitsLeft, rows_linked, told_needs}
+use Rattle.cct_laws.proofs.orders.OwedCoins.{View, StateOf, Falls, state_falls, falls_of_order, FitsJob, fits_falls}
 use Rattle.cct_laws.proofs.orders.Payouts.{view, Pays, pays_less, less_rest, IsMany, less_heard, sent_fits, put_fits, pays_asks, pays_ended, pays_puts}
 use Rattle.cct_laws.proofs.wire.Replies.{start_of}
-use Rattle.cct_model.proofs.Rows.{after_none}
+use Rattle.cct_laws.proofs.orders.Commands.{taken_fits}
 
 -- before anything came
 pays_start : (d : DeviceSetup) → Pays d [] []
@@ -89,21 +88,6 @@ pays_elsewhere d past lines asked others pays =
     pays_less d past (heard asked ∷ past) lines (less_heard d past lines asked (many_others asked others)) pays
 
 -- a command is taken
-settle_open : (owed : Option OpenOrder) → settle_refusal owed ≡ None → IsOpen owed
-settle_open None fine = absurd cc
-settle_open (Some o) fine = tt
-
-taken_fits : (d : DeviceSetup) (start : ℕ) (v : View) (owed : Option OpenOrder) (c : Command) (before : Job) → is_for_hopper c ≡ true →
-    IsCommand c → IsOwed c owed → FitsJob d start v owed (begun c before)
-taken_fits d start v owed (command.Pay addr id count) before played in_range fine =
-    (rows_linked d (command.Pay addr id count) played, (fine, in_range.2))
-taken_fits d start v owed (command.Settle addr) before played in_range fine =
-    (rows_linked d (command.Settle addr) played, settle_open owed fine)
-taken_fits d start v owed (command.Ident addr) before played in_range fine =
-    subst (FitsLeft d.serial start v owed None) (sym (after_none (telling (ident_requests d.body))))
-    (rows_linked d (command.Ident addr) played, (told_needs d.serial start v owed None (ident_requests d.body)).1)
-taken_fits d start v owed c before played in_range fine = absurd cc
-
 pays_taken : (d : DeviceSetup) (past : List Met) (lines : List Line) (c : Command) → is_for_hopper c ≡ true →
     IsCommand c → IsOwed c (order lines) → Pays d past lines → Pays d past (taken c ∷ lines)
 pays_taken d past lines c played in_range fine pays = record {

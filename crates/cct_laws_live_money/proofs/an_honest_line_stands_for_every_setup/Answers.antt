@@ -1,5 +1,0 @@
-use Rattle.cct_laws_live_money.proofs.Standing.{stands}
-use Rattle.cct_laws_live_money.proofs.an_honest_line_stands_for_every_setup.Goals as goal
-
-pub returns : goal.returns
-returns c = stands

@@ -1,5 +1,0 @@
-use Rattle.cct_laws_live_money.proofs.Living.{life_right_over}
-use Rattle.cct_laws_live_money.proofs.over_an_honest_line_the_money_is_right.Goals as goal
-
-pub returns : goal.returns
-returns c start = life_right_over _ _

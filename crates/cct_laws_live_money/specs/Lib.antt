@@ -1,4 +1,0 @@
-pub mod AtOnce
-pub mod Devices
-pub mod Explained
-pub mod Lives

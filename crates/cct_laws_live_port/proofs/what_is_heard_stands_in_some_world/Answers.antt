@@ -1,5 +1,0 @@
-use Rattle.cct_laws_live_port.proofs.Answering.{in_some_world}
-use Rattle.cct_laws_live_port.proofs.what_is_heard_stands_in_some_world.Goals as goal
-
-pub returns : goal.returns
-returns c = in_some_world

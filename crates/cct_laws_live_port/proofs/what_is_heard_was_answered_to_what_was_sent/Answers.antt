@@ -1,5 +1,0 @@
-use Rattle.cct_laws_live_port.proofs.Prompting.{exchange_own}
-use Rattle.cct_laws_live_port.proofs.what_is_heard_was_answered_to_what_was_sent.Goals as goal
-
-pub returns : goal.returns
-returns c start = λ echoes longest coming silent answer prompt single. exchange_own _ _ longest coming silent answer prompt echoes single
