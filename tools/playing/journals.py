@@ -40,17 +40,30 @@ WRITTEN = (
     # a generation of the other half, and one above the base
     (16, 1, JOURNAL_LOST, 'journal alien'),
     (16, 2, JOURNAL_LOST, 'journal alien'),
+    (19, 2, JOURNAL_LOST, 'journal alien'),
+    # how many bodies the carry has, and the bytes after that
     (24, 2, JOURNAL_LOST, 'journal alien'),
     (24, 4, JOURNAL_LOST, 'journal alien'),
+    (24, 36, JOURNAL_LOST, 'journal alien'),
+    (25, 1, JOURNAL_LOST, 'journal alien'),
     (31, 1, JOURNAL_LOST, 'journal alien'),
     # another base, whose records have the empty carry
     (20, 7, DONE, 'record 7 epoch 2 ffff 0; record 8 reading 2 1 0 1 5/1; total 1 0 0 0 0'),
-    # the carry: the first byte of a slot, a kind, a sum that no record has, and a slot that isn't used
+    # the carry: the first byte of a slot, a kind, an id and a sum that no record has, the bytes after the sums, and a slot that
+    # isn't used
     (32, 1, JOURNAL_LOST, 'journal alien'),
+    (32, 165, JOURNAL_LOST, 'journal alien'),
+    (33, 0, JOURNAL_LOST, 'journal alien'),
     (33, 10, JOURNAL_LOST, 'journal alien'),
     (34, 1, JOURNAL_LOST, 'journal alien'),
+    (38, 1, JOURNAL_LOST, 'journal alien'),
+    (62, 1, JOURNAL_LOST, 'journal alien'),
+    (63, 1, JOURNAL_LOST, 'journal alien'),
+    (64, 1, JOURNAL_LOST, 'journal alien'),
+    (65, 11, JOURNAL_LOST, 'journal alien'),
     (66, 1, JOURNAL_LOST, 'journal alien'),
     (97, 0, JOURNAL_LOST, 'journal alien'),
+    (97, 12, JOURNAL_LOST, 'journal alien'),
     (114, 1, JOURNAL_LOST, 'journal alien'),
     (128, 1, JOURNAL_LOST, 'journal alien'),
     (1151, 1, JOURNAL_LOST, 'journal alien'),
@@ -96,6 +109,58 @@ def a_report_looks_at_each_byte_of_the_records(play):
     journal = play.call(['run'], lines(POSTED, globals()))[2]
     for place, byte, status, text in WRITTEN:
         reports(play, journal[:place] + bytes([byte]) + journal[place + 1:], status, text)
+
+
+# The headers of a first half without records before it, and of a second half with two of them. A carry has three bodies, and one
+# for each epoch and each order.
+HEADER = b'\xa5CCTALK JOURNAL\x03' + bytes(8) + b'\x03'
+SECOND = LENGTH // 2
+SECOND_HEADER = b'\xa5CCTALK JOURNAL\x03\x01\0\0\0\x02\0\0\0\x05'
+# A new journal, and one that turned once: its carry says what two records did, and one more is put, the end of an epoch.
+NEW = ((0, HEADER), (33, b'\x09'), (65, b'\x0a'), (97, b'\x0b'))
+TURNED = (*NEW, (SECOND, SECOND_HEADER),
+          (SECOND + 33, bytes([9, 7, 0, 0, 0, 44, 1, 0, 0, 0, 0, 0, 0, 100, 0, 0, 0, 0, 0, 0, 0, 50])),
+          (SECOND + 65, bytes([10, 6, 0, 0, 0, 0, 0, 0, 0, 1, 0, 0, 0, 0, 0, 0, 0, 2])),
+          (SECOND + 97, bytes([11, 3, 0, 0, 0, 0, 0, 0, 0, 150])), (SECOND + 129, bytes([12, 2, 2, 1, 5, 7, 8, 9])),
+          (SECOND + 161, bytes([5, 3, 7, 0, 0, 0, 4, 232, 3, 0])), (SECOND + 1152, b'\xa5\x04\x09'))
+NOTHING = 'total 0 0 0 0 0'
+LATE = 'record 2 epochend 9; total 6 1 2 3 150'
+MOST = (20, b'\xfe\xff\xff\xff')
+# What changes such a journal, and how a report then ends.
+HALVES = (
+    (TURNED, DONE, 'LATE'),
+    # the gate of either half
+    ((*TURNED, (SECOND, b'\0')), DONE, 'NOTHING'),
+    ((*TURNED, (0, b'\0')), DONE, 'LATE'),
+    # generations that are equal, and a first half that turned back
+    ((*TURNED, (SECOND + 16, b'\0')), DONE, 'NOTHING'),
+    ((*TURNED, (16, b'\x02'), (20, b'\x02')), DONE, 'NOTHING'),
+    # one turn more than there are records, and two
+    ((*TURNED, (16, b'\x02'), (20, b'\x01')), DONE, 'NOTHING'),
+    ((*TURNED, (16, b'\x04'), (20, b'\x02')), JOURNAL_LOST, 'journal alien'),
+    # an older half never is in for a current one that begins with no header and carry
+    ((*TURNED, (SECOND + 161, b'\x06')), JOURNAL_LOST, 'journal alien'),
+    ((*TURNED, (SECOND + 129, b'\x0d')), JOURNAL_LOST, 'journal alien'),
+    ((*TURNED, (SECOND + 20, b'\x01')), JOURNAL_LOST, 'journal alien'),
+    ((*TURNED, (16, b'\x01'), (20, b'\x01')), JOURNAL_LOST, 'journal alien'),
+    ((*TURNED, (16, b'\x03'), (20, b'\x03')), JOURNAL_LOST, 'journal alien'),
+    # the value of one record is at most 2^32
+    ((*NEW, (20, b'\x01'), (42, b'\x01')), DONE, 'NOTHING'),
+    ((*NEW, (20, b'\x01'), (42, b'\x01'), (38, b'\x01')), JOURNAL_LOST, 'journal alien'),
+    # after 4,294,967,294 records one more is the last, whatever is after it; after so many none is
+    ((*NEW, MOST), DONE, 'NOTHING'),
+    ((*NEW, MOST, (1152, b'\xa5\x04'), (1184, b'\xa5')), DONE, f'record {2**32 - 2} epochend 0; NOTHING'),
+    ((*NEW, MOST, (20, b'\xff'), (1152, b'\xa5\x04')), DONE, 'NOTHING'),
+    # the index of a bad record counts those before the half, and none counts after a shut gate
+    ((*TURNED, (SECOND + 1153, b'\0')), JOURNAL_LOST, 'journal bad 2'),
+    ((*TURNED, (SECOND + 1184, b'\xa5')), JOURNAL_LOST, 'journal bad 3'),
+    ((*TURNED, (SECOND + 1216, b'\xa5')), DONE, 'LATE'),
+)
+
+
+def the_current_half_counts(play):
+    for written, status, text in HALVES:
+        reports(play, blank(LENGTH, written), status, text)
 
 
 # Words, what else stands beside them, and how a run or a load ends. What comes first of these decides: the words, the length of

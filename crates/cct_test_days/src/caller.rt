@@ -16,7 +16,7 @@ use std::alloc::Global;
 use std::test::Fail;
 
 /// What became of what was to be done.
-#[derive(Clone, Copy, Debug, PartialEq, Eq)]
+#[derive(Clone, Copy, PartialEq, Eq)]
 pub(crate) enum Left {
     /// It is done, and nothing is left to do at the address.
     Done,

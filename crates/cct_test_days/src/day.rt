@@ -2,9 +2,6 @@
 //! same over a journal that turns at each put.
 
 use crate::turning;
-use cct_bench::{Status, bench};
-use cct_disk::MemDisk;
-use cct_edge::{MemSink, MemSource};
 use std::alloc::Global;
 use std::process::Abort;
 use std::test::Fail;
@@ -93,28 +90,18 @@ fn day(alloc: Global, cut: u32, calls: u8) -> Result<String, Fail> {
     Ok(script)
 }
 
-/// How many bytes a disk has that a journal is created on.
-const DISK: u64 = 2_097_152;
+/// How many bytes a disk has if each half takes one record, and how many if each takes more than a
+/// day has.
+const ONE_EACH: u64 = 2368;
 
-/// What a run of a script writes over a journal that doesn't turn. It has room if it is no longer
-/// than eight times the script.
-fn ran(rt: &impl Abort, alloc: Global, script: &str) -> Result<String, Fail> {
-    let words = vec![in alloc; String::from_str(alloc, "run")?]?;
-    let room = script.len().saturating_mul(8).saturating_add(4096);
-    let mut source = MemSource::new(script.as_bytes().to_vec(alloc)?, 4096, Vec::new(alloc));
-    let mut sink = MemSink::new(alloc, room, Vec::new(alloc))?;
-    let blank = MemDisk::new(alloc, DISK, Vec::new(alloc))?;
-    let (status, _) = bench(alloc, words.as_slice(), &mut source, &mut sink, blank);
-    assert_eq!(rt; status, Status::Done);
-    Ok(String::from_utf8(sink.bytes().to_vec(alloc)?)?)
-}
+const MANY_EACH: u64 = 8192;
 
 /// The day has the same lines over both journals, with this power cut more; these lines, and how
 /// many records there are.
 fn is_the_same(rt: &impl Abort, alloc: Global, cut: u32, calls: u8) -> Result<(String, u32), Fail> {
     let script = day(alloc, cut, calls)?;
-    let (turned, journal) = turning::played(rt, alloc, script.as_str())?;
-    let transcript = ran(rt, alloc, script.as_str())?;
+    let (turned, journal) = turning::played(rt, alloc, script.as_str(), ONE_EACH)?;
+    let (transcript, _) = turning::played(rt, alloc, script.as_str(), MANY_EACH)?;
     assert_eq!(rt;
         turned.as_str(),
         transcript.as_str(),
@@ -131,30 +118,13 @@ fn a_day_is_the_same_over_a_journal_that_turns(rt: HostRuntime) -> Result<(), Fa
     Ok(())
 }
 
-/// The same with a power cut before each step, after so many calls of the disk.
-fn outlasts(rt: &impl Abort, alloc: Global, calls: u8) -> Result<(), Fail> {
-    for cut in 0..STEPS {
-        is_the_same(rt, alloc, cut, calls)?;
+/// Before the put that a step makes, after its synced body, after its gate, and after it.
+#[test]
+fn a_day_outlasts_a_crash_before_each_step_and_in_each_put(rt: HostRuntime) -> Result<(), Fail> {
+    for calls in [0, 2, 3, 4] {
+        for cut in 0..STEPS {
+            is_the_same(&rt, rt.alloc(), cut, calls)?;
+        }
     }
     Ok(())
-}
-
-#[test]
-fn a_day_outlasts_a_crash_before_each_put(rt: HostRuntime) -> Result<(), Fail> {
-    outlasts(&rt, rt.alloc(), 0)
-}
-
-#[test]
-fn a_day_outlasts_a_crash_after_each_synced_body(rt: HostRuntime) -> Result<(), Fail> {
-    outlasts(&rt, rt.alloc(), 2)
-}
-
-#[test]
-fn a_day_outlasts_a_crash_after_each_gate(rt: HostRuntime) -> Result<(), Fail> {
-    outlasts(&rt, rt.alloc(), 3)
-}
-
-#[test]
-fn a_day_outlasts_a_crash_after_each_put(rt: HostRuntime) -> Result<(), Fail> {
-    outlasts(&rt, rt.alloc(), 4)
 }

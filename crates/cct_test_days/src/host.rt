@@ -1,5 +1,4 @@
-//! A host whose link says what is told to it, over a journal that is nearly full, and over one
-//! whose power is cut.
+//! A host whose link says what is told to it, over a journal that is nearly full.
 ghost use Rattle.std.specs.Prelude.{◌≡◌, ◌≤◌, false, IfOk, OnOk};
 ghost use Rattle.cct_model.specs.Device.{IsSound, IsSoundBody, IsWord};
 ghost use Rattle.cct_model.specs.Setup.{IsSoundSetup};
@@ -8,12 +7,11 @@ ghost use Rattle.cct_host.specs.Host.{has_failed};
 
 use arrayvec::ArrayVec;
 use cct_disk::{Disk, MemDisk};
-use cct_host::{CrashNo, Host};
-use cct_journal::{Journal, JournalNo};
-use cct_journal_carry::Tally;
+use cct_host::Host;
+use cct_journal::Journal;
 use cct_model::{
-    COIN_PLACES, CheckKind, Command, CommandNo, CrashAt, DeviceBody, DeviceSetup, Devices,
-    MOST_HEARD, Name, Record, Setup, Texts, Totals,
+    COIN_PLACES, CheckKind, Command, CommandNo, DeviceBody, DeviceSetup, Devices, MOST_HEARD, Name,
+    Setup, Texts, Totals,
 };
 use cct_wire::Link;
 use std::alloc::Global;
@@ -25,7 +23,7 @@ use std::test::Fail;
 /// credit, the mask, and one accepted coin. After these come those of a hopper that is to pay two
 /// coins: an acknowledgement, life count 0, an acknowledgement; none to three questions how far it
 /// is; then two coins paid, and life count 2.
-pub(crate) const REPLIES: [&[u8]; 16] = [
+const REPLIES: [&[u8]; 16] = [
     b"\x01\0\x02\0\xfd",
     b"\x01\x0b\x02\0\0\0\0\0\0\0\0\0\0\0\0\xf2",
     b"\x01\x03\x02\0\0\0\0\xfa",
@@ -114,11 +112,11 @@ pub(crate) fn setup() -> Setup
     Setup { devices }
 }
 
-/// A new journal on a disk of so many bytes whose calls with these numbers fail.
-fn created(alloc: Global, len: u64, fails: &[u64]) -> Result<Journal<MemDisk>, Fail>
+/// A new journal each of whose halves takes one record.
+fn created(alloc: Global) -> Result<Journal<MemDisk>, Fail>
     ensures { IfOk result (λ journal. journals.has_failed journal ≡ false) }
 {
-    match Journal::create(MemDisk::new(alloc, len, fails.to_vec(alloc)?)?) {
+    match Journal::create(MemDisk::new(alloc, 2368, Vec::new(alloc))?) {
         Ok(journal) => Ok(journal),
         Err((_, why)) => Err(Fail::from(why)),
     }
@@ -139,7 +137,7 @@ fn opened(disk: MemDisk) -> Result<Journal<MemDisk>, Fail>
 fn nearly_full(rt: &impl Abort, alloc: Global, room: u8) -> Result<Journal<MemDisk>, Fail>
     ensures { IfOk result (λ journal. journals.has_failed journal ≡ false) }
 {
-    let mut disk = created(alloc, 2368, &[])?.into_disk();
+    let mut disk = created(alloc)?.into_disk();
     let base = [255 - room, 255, 255, 255];
     for (place, byte) in base.into_iter().enumerate() {
         let at = 20 + place as u64;
@@ -218,58 +216,6 @@ fn pay(id: u32, count: u8) -> Command {
     Command::Pay { addr: 3, id, count }
 }
 
-#[test]
-fn a_round_wants_room_for_a_record(rt: HostRuntime) -> Result<(), Fail> {
-    let setup = setup();
-    let journal = nearly_full(&rt, rt.alloc(), 1)?;
-    assert_eq!(rt;
-        (journal.base(), journal.used()),
-        (4_294_967_294, 4_294_967_294)
-    );
-    let mut host = host(&setup, journal)?;
-    start(&mut host, &mut Told::default())?;
-    assert_eq!(rt; host.command(&ROUND), full(4_294_967_295, 0, 1));
-
-    // The journal that it leaves takes no put.
-    let mut journal = opened(host.into_disk())?;
-    assert_eq!(rt;
-        (journal.base(), journal.used()),
-        (4_294_967_294, 4_294_967_295)
-    );
-    let Some(mut tally) = Tally::resume(&setup, journal.base(), journal.carry()) else {
-        panic!(rt; "the empty carry fits");
-    };
-    assert!(rt;
-        tally.add(&Record::Epoch {
-            addr: 2,
-            mask: 0xffff,
-            accepts: 0
-        })
-    );
-    assert!(rt; tally.many() == journal.used());
-    let Err(
-        JournalNo::Full {
-            used: 4_294_967_295,
-        },
-    ) = journal.put(&Record::EpochEnd { addr: 2 }, tally.carry())
-    else {
-        panic!(rt; "one record more is put");
-    };
-    Ok(())
-}
-
-#[test]
-fn a_payment_wants_room_for_two_records(rt: HostRuntime) -> Result<(), Fail> {
-    let setup = setup();
-    let mut host = host(&setup, nearly_full(&rt, rt.alloc(), 3)?)?;
-    let mut link = Told::default();
-    start_and_read(&mut host, &mut link)?;
-    next(&mut host, 2, &mut link)?;
-    assert_eq!(rt; host.totals().available, 100);
-    assert_eq!(rt; host.command(&pay(41, 4)), full(4_294_967_294, 0, 2));
-    Ok(())
-}
-
 /// Two records more fit in: those of one order, which holds the room for what closes it.
 #[test]
 fn a_full_journal_refuses_commands_and_no_put(rt: HostRuntime) -> Result<(), Fail> {
@@ -279,20 +225,20 @@ fn a_full_journal_refuses_commands_and_no_put(rt: HostRuntime) -> Result<(), Fai
     start_and_read(&mut host, &mut link)?;
     next(&mut host, 2, &mut link)?;
     host.command(&pay(1, 2))?;
-    assert_eq!(rt; host.command(&ROUND), full(4_294_967_293, 2, 1));
-    assert_eq!(rt; host.command(&START_OTHER), full(4_294_967_293, 2, 1));
-    assert_eq!(rt; host.command(&STOP), full(4_294_967_293, 2, 2));
+    assert!(rt; host.command(&ROUND) == full(4_294_967_293, 2, 1));
+    assert!(rt; host.command(&START_OTHER) == full(4_294_967_293, 2, 1));
+    assert!(rt; host.command(&STOP) == full(4_294_967_293, 2, 2));
     next(&mut host, 3, &mut link)?;
     next(&mut host, 3, &mut link)?;
     next(&mut host, 3, &mut link)?;
-    assert_eq!(rt; host.command(&ROUND), full(4_294_967_294, 1, 1));
+    assert!(rt; host.command(&ROUND) == full(4_294_967_294, 1, 1));
 
     // It is told to pay, and doesn't answer any more: its order stays open.
     next(&mut host, 3, &mut link)?;
     next(&mut host, 3, &mut link)?;
     next(&mut host, 3, &mut link)?;
     next(&mut host, 3, &mut link)?;
-    assert_eq!(rt; host.command(&ROUND), full(4_294_967_294, 1, 1));
+    assert!(rt; host.command(&ROUND) == full(4_294_967_294, 1, 1));
     host.command(&SETTLE)?;
     next(&mut host, 3, &mut link)?;
     next(&mut host, 3, &mut link)?;
@@ -307,41 +253,16 @@ fn a_full_journal_refuses_commands_and_no_put(rt: HostRuntime) -> Result<(), Fai
 
 /// The journal has all its records: a coin of 100 was posted, and two of 10 were paid.
 fn is_full(rt: &impl Abort, host: &mut Host<'_, MemDisk>) -> Result<(), Fail> {
-    assert_eq!(rt; host.command(&ROUND), full(4_294_967_295, 0, 1));
-    assert_eq!(rt; host.command(&pay(2, 1)), full(4_294_967_295, 0, 2));
-    assert_eq!(rt; host.command(&pay(1, 1)), Err(CommandNo::OldId { last: 1 }));
-    assert_eq!(rt; host.command(&SETTLE), Err(CommandNo::NoOrder));
+    assert!(rt; host.command(&ROUND) == full(4_294_967_295, 0, 1));
+    assert!(rt; host.command(&pay(2, 1)) == full(4_294_967_295, 0, 2));
+    assert!(rt; host.command(&pay(1, 1)) == Err(CommandNo::OldId { last: 1 }));
+    assert!(rt; host.command(&SETTLE) == Err(CommandNo::NoOrder));
     let totals = Totals {
         available: 80,
         reserved: 0,
         paid: 20,
         sold: 0,
     };
-    assert_eq!(rt; host.totals(), totals);
-    Ok(())
-}
-
-/// How many records there are after a power cut in the put of a reading, or none where the disk
-/// failed, one of whose calls fails. Each half takes three records.
-fn crashed(setup: &Setup, alloc: Global, fails: u64) -> Result<Option<u32>, Fail>
-    requires { IsSoundSetup setup.now }
-{
-    let mut host = host(setup, created(alloc, 2496, &[fails])?)?;
-    start_and_read(&mut host, &mut Told::default())?;
-    match host.restart(Some(CrashAt { addr: 2, calls: 4 }), 1) {
-        Ok(crashed) => Ok(Some(crashed.records)),
-        Err(CrashNo::Disk) => Ok(None),
-        Err(why) => Err(Fail::from(why)),
-    }
-}
-
-// Of the disk's calls five make the journal, four put the record of the epoch, and four that of the
-// reading. One cuts the power, two look at the halves, one reads the start of the first, and three
-// read the slots: two of records, and the last, whose gate is shut. That is the twentieth.
-#[test]
-fn a_power_cut_reads_each_slot_once(rt: HostRuntime) -> Result<(), Fail> {
-    let setup = setup();
-    assert_eq!(rt; crashed(&setup, rt.alloc(), 20)?, None);
-    assert_eq!(rt; crashed(&setup, rt.alloc(), 21)?, Some(2));
+    assert!(rt; host.totals() == totals);
     Ok(())
 }

@@ -10,8 +10,6 @@ mod day;
 #[cfg(test)]
 mod host;
 #[cfg(test)]
-mod service;
-#[cfg(test)]
 mod stepwise;
 #[cfg(test)]
 mod turning;

@@ -1,11 +1,11 @@
 //! A host that calls nothing, asked by a caller who makes its calls in their order: what it posts
-//! over turns of its journal, in a second life, and where the power was cut before any of them.
+//! over turns of its journal, and in a second life, where the power was cut before any of them.
 ghost use Rattle.cct_model.specs.Setup.{IsSoundSetup};
 
 use crate::caller::{Caller, Left};
 use crate::host::setup;
 use cct_model::{Command, Setup};
-use cct_poll::{Ask, Poll, PollNo};
+use cct_poll::{Ask, Poll};
 use std::alloc::Global;
 use std::process::Abort;
 use std::test::Fail;
@@ -32,19 +32,6 @@ fn started<'s>(alloc: Global, caller: &mut Caller<'s>, setup: &'s Setup) -> Resu
     Ok(poll)
 }
 
-#[test]
-fn coins_are_posted_step_by_step(rt: HostRuntime) -> Result<(), Fail> {
-    let setup = setup();
-    let mut caller = Caller::new(rt.alloc(), &setup, 4096)?;
-    let mut poll = started(rt.alloc(), &mut caller, &setup)?;
-    assert_eq!(rt; caller.calls, MAKING + PUT);
-    caller.rounds(&mut poll, 3)?;
-    assert_eq!(rt; (caller.accepted, caller.told), (3, 3));
-    assert_eq!(rt; caller.calls, MAKING + 4 * PUT);
-    assert_eq!(rt; poll.totals().available, 300);
-    Ok(())
-}
-
 /// The fifth record and the ninth are put after a turn.
 #[test]
 fn a_journal_turns_within_ten_calls(rt: HostRuntime) -> Result<(), Fail> {
@@ -55,20 +42,6 @@ fn a_journal_turns_within_ten_calls(rt: HostRuntime) -> Result<(), Fail> {
     assert_eq!(rt; caller.calls, MAKING + 9 * PUT + 2 * TURN);
     assert_eq!(rt; caller.most, TURN + PUT);
     assert_eq!(rt; poll.totals().available, 800);
-    Ok(())
-}
-
-#[test]
-fn a_second_host_goes_on(rt: HostRuntime) -> Result<(), Fail> {
-    let setup = setup();
-    let mut caller = Caller::new(rt.alloc(), &setup, SHORT)?;
-    let mut poll = started(rt.alloc(), &mut caller, &setup)?;
-    caller.rounds(&mut poll, 5)?;
-    let mut second = caller.start(rt.alloc(), &setup)?;
-    assert_eq!(rt; second.totals().available, 500);
-    assert_eq!(rt; second.ask(2), Ask::Idle);
-    caller.rounds(&mut second, 1)?;
-    assert_eq!(rt; second.totals().available, 600);
     Ok(())
 }
 
@@ -86,7 +59,7 @@ fn is_whole_after_a_cut(
     let mut caller = Caller::new(alloc, setup, SHORT)?;
     let mut poll = started(alloc, &mut caller, setup)?;
     caller.power = calls;
-    assert_eq!(rt; caller.rounds(&mut poll, 8)?, Left::Cut, "{calls}");
+    assert!(rt; caller.rounds(&mut poll, 8)? == Left::Cut, "{calls}");
     caller.cut(choice)?;
     let mut second = caller.start(alloc, setup)?;
     let more = second
@@ -124,34 +97,12 @@ fn a_lost_call_ends_a_host(rt: HostRuntime) -> Result<(), Fail> {
     caller.power = 1;
     caller.rounds(&mut poll, 1)?;
     poll.lost();
-    assert_eq!(rt; poll.ask(2), Ask::Over);
+    assert!(rt; poll.ask(2) == Ask::Over);
     assert!(rt; poll.command(&START).is_err());
     assert!(rt; poll.done().is_err());
     caller.cut(0)?;
     let mut second = caller.start(rt.alloc(), &setup)?;
     caller.rounds(&mut second, 1)?;
     assert_eq!(rt; second.totals().available, 200);
-    Ok(())
-}
-
-/// Why a host isn't started over so many bytes, the first of which is this.
-fn refused(alloc: Global, len: usize, first: u8) -> Result<Option<PollNo>, Fail> {
-    let setup = setup();
-    let mut part = Vec::from_elem(alloc, 0u8, len)?;
-    if let Some(byte) = part.first_mut() {
-        *byte = first;
-    }
-    Ok(Poll::start(&setup, part).err())
-}
-
-#[test]
-fn a_part_is_refused(rt: HostRuntime) -> Result<(), Fail> {
-    for (len, first, why) in [
-        (2367, 0, Some(PollNo::Small)),
-        (2368, 0, None),
-        (2368, 1, Some(PollNo::Alien)),
-    ] {
-        assert_eq!(rt; refused(rt.alloc(), len, first)?, why, "{len} {first}");
-    }
     Ok(())
 }

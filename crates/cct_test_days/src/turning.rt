@@ -1,5 +1,5 @@
-//! A machine over a journal each of whose halves takes one record, so that each put but the first
-//! turns it: its lines are those of a machine whose journal doesn't turn.
+//! A machine over a journal that turns: where each of its halves takes one record, each put but the
+//! first turns it.
 ghost use Rattle.std.specs.Prelude.{◌≡◌};
 ghost use Rattle.cct_model.specs.Legal.{is_played};
 ghost use Rattle.cct_model.specs.Setup.{IsSoundSetup};
@@ -15,9 +15,6 @@ use cct_world::World;
 use std::alloc::Global;
 use std::process::Abort;
 use std::test::Fail;
-
-/// How many bytes a disk has if each half takes one record.
-const ONE_EACH: u64 = 2368;
 
 /// The devices of the setup lines of a script.
 fn setup_by(rt: &impl Abort, lines: &str) -> Setup
@@ -62,17 +59,18 @@ fn play_line<'s>(
     Ok(world)
 }
 
-/// Plays a whole script over a journal that turns, and gives what is written, and the journal. A
-/// transcript has room where it is no longer than eight times its script.
+/// Plays a whole script over a journal on a disk of so many bytes, and gives what is written, and
+/// the journal. A transcript has room where it is no longer than eight times its script.
 pub(crate) fn played(
     rt: &impl Abort,
     alloc: Global,
     script: &str,
+    len: u64,
 ) -> Result<(String, Journal<MemDisk>), Fail> {
     let (devices, steps) = script.split_once("begin\n").ok_or("no setup")?;
     let steps = steps.strip_suffix("end\n").ok_or("no end")?;
     let setup = setup_by(rt, devices);
-    let disk = MemDisk::new(alloc, ONE_EACH, Vec::new(alloc))?;
+    let disk = MemDisk::new(alloc, len, Vec::new(alloc))?;
     let journal = match Journal::create(disk) {
         Ok(journal) => journal,
         Err((_, why)) => return Err(Fail::from(why)),

@@ -4,7 +4,7 @@ use crate::wire::Wire;
 use cct_model::{DeviceSet, End, Entry, Record};
 
 /// Coins at each of the acceptors.
-#[derive(Clone, Copy, Debug, PartialEq, Eq)]
+#[derive(Clone, Copy, PartialEq, Eq)]
 pub(crate) struct AtAcceptors {
     pub(crate) at_2: u64,
     pub(crate) at_5: u64,
@@ -33,7 +33,7 @@ impl AtAcceptors {
 }
 
 /// Coins of each of six orders, whose ids are 1 to 6.
-#[derive(Clone, Copy, Debug, PartialEq, Eq)]
+#[derive(Clone, Copy, PartialEq, Eq)]
 pub(crate) struct OfOrders {
     pub(crate) coins: [u64; 6],
 }
@@ -58,7 +58,7 @@ impl OfOrders {
 }
 
 /// How many jobs ended in which way.
-#[derive(Clone, Copy, Debug, PartialEq, Eq)]
+#[derive(Clone, Copy, PartialEq, Eq)]
 pub(crate) struct Ends {
     /// An epoch began, and the acceptor took its inhibit mask; or it isn't known whether it did.
     pub(crate) started: u64,
@@ -131,7 +131,7 @@ pub(crate) fn path_at(addr: u8) -> u8 {
 }
 
 /// What came of a run.
-#[derive(Clone, Copy, Debug, PartialEq, Eq)]
+#[derive(Clone, Copy, PartialEq, Eq)]
 pub(crate) struct Account {
     /// In how many exchanges another reply was heard than that to the message, and in how many
     /// none, though one was given.

@@ -117,7 +117,7 @@ fn a_port_that_waits_too_short_posts_a_coin_twice(rt: HostRuntime) -> Result<(),
                 let options = hasty(echoes, longest);
                 let late = Some(Late { exchange: 10, by });
                 let played = run(rt.alloc(), &setup, ONE_COIN, options, late)?;
-                assert_eq!(rt; played.account, wanted);
+                assert!(rt; played.account == wanted);
             }
         }
     }
@@ -195,7 +195,7 @@ fn a_port_that_waits_too_short_closes_an_order_with_a_wrong_number(
                 let options = hasty(echoes, longest);
                 let late = Some(Late { exchange: 24, by });
                 let played = run(rt.alloc(), &setup, TWO_ORDERS, options, late)?;
-                assert_eq!(rt; played.account, wanted);
+                assert!(rt; played.account == wanted);
             }
         }
     }

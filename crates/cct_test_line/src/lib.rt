@@ -1,7 +1,7 @@
-//! Tests of a port over a line that is played: what it takes for a reply, what it drops as a late
-//! one, and how long it waits. And of a host over it to devices, whose replies come late: where the
-//! port waits long enough each coin is posted once and each order is closed with what fell, and
-//! where it doesn't a coin is posted twice, or an order is closed with a wrong number.
+//! Tests of a port over a line that is played: what it takes for a reply, and what it drops as a
+//! late one. And of a host over it to devices, whose replies come late: where the port waits long
+//! enough each coin is posted once and each order is closed with what fell, and where it doesn't a
+//! coin is posted twice, or an order is closed with a wrong number.
 #![tactic(auto)]
 
 #[cfg(test)]
@@ -14,8 +14,6 @@ mod hasty;
 mod late;
 #[cfg(test)]
 mod port;
-#[cfg(test)]
-mod silence;
 #[cfg(test)]
 mod steps;
 #[cfg(test)]

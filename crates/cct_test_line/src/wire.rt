@@ -21,7 +21,7 @@ struct Part {
 }
 
 /// Which reply is late, and by how much.
-#[derive(Clone, Copy, Debug)]
+#[derive(Clone, Copy)]
 pub(crate) struct Late {
     /// The number of its exchange; the first is 0.
     pub(crate) exchange: u64,

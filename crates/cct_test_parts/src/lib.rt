@@ -9,4 +9,6 @@ mod machine;
 #[cfg(test)]
 mod memory;
 #[cfg(test)]
+mod records;
+#[cfg(test)]
 mod turns;

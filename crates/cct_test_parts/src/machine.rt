@@ -1,4 +1,4 @@
-//! The devices of the tests, and the machine of those of records: an acceptor and two hoppers.
+//! The devices of the tests, and the machine of those of records: an acceptor and a hopper.
 ghost use Rattle.std.specs.Prelude.{◌≡◌, ◌≤◌, All};
 ghost use Rattle.cct_model.specs.Device.{IsAcceptor, IsBill, IsSound, IsSoundBody, IsWord};
 ghost use Rattle.cct_model.specs.Setup.{IsSoundSetup};
@@ -64,15 +64,13 @@ pub(crate) fn bills() -> DeviceBody
     }
 }
 
-/// An acceptor at 2 whose coins are worth 100, a hopper at 3 whose coins are worth 10, and one at 5
-/// whose are worth 50.
+/// An acceptor at 2 whose coins are worth 100, and a hopper at 3 whose coins are worth 10.
 pub(crate) fn setup() -> Setup
     ensures { IsSoundSetup result }
 {
     let mut devices = Devices::new();
     devices.push(device(2, acceptor()));
     devices.push(device(3, DeviceBody::Hopper { life: 0, value: 10 }));
-    devices.push(device(5, DeviceBody::Hopper { life: 0, value: 50 }));
     Setup { devices }
 }
 
@@ -82,19 +80,5 @@ pub(crate) fn one_coin() -> Coins
 {
     let mut coins = Coins::new();
     coins.push(Coin { place: 5, path: 1 });
-    coins
-}
-
-/// Five coins of place 5.
-pub(crate) fn five_coins() -> Coins
-    ensures { All IsPlaced result }
-{
-    let coin = Coin { place: 5, path: 1 };
-    let mut coins = Coins::new();
-    coins.push(coin);
-    coins.push(coin);
-    coins.push(coin);
-    coins.push(coin);
-    coins.push(coin);
     coins
 }

@@ -1,13 +1,15 @@
 //! The setup that is drafted of a line.
 
-use crate::lossy::Empty;
 use crate::setups::{read_of, setup_of};
 use crate::worths::Telling;
+use arrayvec::ArrayVec;
 use cct_bus::Bus;
 use cct_edge::MemSink;
 use cct_live_draft::{Drafted, draft};
-use cct_model::LineKind;
+use cct_model::{LineKind, MOST_HEARD};
 use cct_script::SetupNo;
+use cct_wire::Link;
+use std::alloc::Global;
 use std::test::Fail;
 
 /// The devices that are there, under both checks, one at an address that isn't usual. The third
@@ -131,33 +133,51 @@ address 23 of 24
 address 24 of 24
 ";
 
+/// A line without devices, which gives the echo or doesn't.
+#[derive(Drop)]
+struct Empty {
+    echoes: bool,
+}
+
+impl Link for Empty {
+    ghost gives = { λ _ _ _ _. Unit {0} };
+
+    fn exchange(&mut self, sent: &[u8], heard: &mut ArrayVec<u8, MOST_HEARD>) {
+        heard.clear();
+        if self.echoes {
+            let _ = heard.try_extend_from_slice(sent);
+        }
+    }
+}
+
+/// What is drafted of a line, if that goes through: how it ended, the setup and the notes.
+fn drafted<L: Link>(
+    alloc: Global,
+    line: &mut L,
+) -> Result<(Option<Drafted>, MemSink, MemSink), Fail> {
+    let mut out = MemSink::new(alloc, 1000, Vec::new(alloc))?;
+    let mut notes = MemSink::new(alloc, 1000, Vec::new(alloc))?;
+    let how = draft(line, &mut out, &mut notes).ok();
+    Ok((how, out, notes))
+}
+
 #[test]
 fn what_bills_and_coins_are_worth_is_drafted(rt: HostRuntime) -> Result<(), Fail> {
     let there = setup_of(rt.alloc(), RICH)?;
     let bus = Bus::new(rt.alloc(), &there)?;
-    let mut line = Telling { bus };
-    let mut out = MemSink::new(rt.alloc(), 1000, Vec::new(rt.alloc()))?;
-    let mut notes = MemSink::new(rt.alloc(), 1000, Vec::new(rt.alloc()))?;
-    assert_eq!(rt;
-        draft(&mut line, &mut out, &mut notes).ok(),
-        Some(Drafted::Heard)
-    );
-    assert_eq!(rt; out.bytes(), RICH_DRAFT);
-    assert_eq!(rt; notes.bytes(), RICH_NOTES);
+    let (how, out, notes) = drafted(rt.alloc(), &mut Telling { bus })?;
+    assert!(rt; how == Some(Drafted::Heard));
+    assert!(rt; out.bytes() == RICH_DRAFT);
+    assert!(rt; notes.bytes() == RICH_NOTES);
     Ok(())
 }
 
 #[test]
 fn a_dead_line_is_told(rt: HostRuntime) -> Result<(), Fail> {
     for echoes in [true, false] {
-        let mut line = Empty { echoes };
-        let mut out = MemSink::new(rt.alloc(), 1000, Vec::new(rt.alloc()))?;
-        let mut notes = MemSink::new(rt.alloc(), 1000, Vec::new(rt.alloc()))?;
-        assert_eq!(rt;
-            draft(&mut line, &mut out, &mut notes).ok(),
-            Some(Drafted::Dead)
-        );
-        assert_eq!(rt; out.bytes(), b"begin\n".as_slice());
+        let (how, out, _) = drafted(rt.alloc(), &mut Empty { echoes })?;
+        assert!(rt; how == Some(Drafted::Dead));
+        assert!(rt; out.bytes() == b"begin\n".as_slice());
     }
     Ok(())
 }
@@ -165,15 +185,10 @@ fn a_dead_line_is_told(rt: HostRuntime) -> Result<(), Fail> {
 #[test]
 fn a_setup_is_drafted(rt: HostRuntime) -> Result<(), Fail> {
     let there = setup_of(rt.alloc(), THERE)?;
-    let mut bus = Bus::new(rt.alloc(), &there)?;
-    let mut out = MemSink::new(rt.alloc(), 1000, Vec::new(rt.alloc()))?;
-    let mut notes = MemSink::new(rt.alloc(), 1000, Vec::new(rt.alloc()))?;
-    assert_eq!(rt;
-        draft(&mut bus, &mut out, &mut notes).ok(),
-        Some(Drafted::Heard)
-    );
-    assert_eq!(rt; out.bytes(), DRAFT);
-    assert_eq!(rt; notes.bytes(), NOTES);
+    let (how, out, notes) = drafted(rt.alloc(), &mut Bus::new(rt.alloc(), &there)?)?;
+    assert!(rt; how == Some(Drafted::Heard));
+    assert!(rt; out.bytes() == DRAFT);
+    assert!(rt; notes.bytes() == NOTES);
     Ok(())
 }
 
@@ -183,15 +198,9 @@ fn a_draft_is_read_back_once_it_is_filled_in(rt: HostRuntime) -> Result<(), Fail
         number: 4,
         kind: LineKind::Form,
     };
-    assert_eq!(rt; read_of(rt.alloc(), DRAFT)?.err(), Some(no_value));
+    assert!(rt; read_of(rt.alloc(), DRAFT)?.err() == Some(no_value));
     let read = setup_of(rt.alloc(), FILLED_IN)?;
-    let mut bus = Bus::new(rt.alloc(), &read)?;
-    let mut out = MemSink::new(rt.alloc(), 1000, Vec::new(rt.alloc()))?;
-    let mut notes = MemSink::new(rt.alloc(), 1000, Vec::new(rt.alloc()))?;
-    assert_eq!(rt;
-        draft(&mut bus, &mut out, &mut notes).ok(),
-        Some(Drafted::Heard)
-    );
-    assert_eq!(rt; out.bytes(), DRAFT);
+    let (_, out, _) = drafted(rt.alloc(), &mut Bus::new(rt.alloc(), &read)?)?;
+    assert!(rt; out.bytes() == DRAFT);
     Ok(())
 }

@@ -1,21 +1,14 @@
 //! Tests of a service over devices on a bus of which some don't answer, and over a link that fails.
-//! And of what comes before it: what a survey finds of devices that aren't as the setup says, the
-//! setup that is drafted of a line, and the setup beside a journal, which is read back as it was
-//! written.
+//! And of what comes before it: the setup that is drafted of a line, and the setup beside a journal,
+//! which is read back as it was written.
 #![tactic(auto)]
 
-#[cfg(test)]
-mod differences;
 #[cfg(test)]
 mod drafting;
 #[cfg(test)]
 mod line;
 #[cfg(test)]
-mod lossy;
-#[cfg(test)]
 mod polls;
-#[cfg(test)]
-mod roll;
 #[cfg(test)]
 mod setups;
 #[cfg(test)]

@@ -11,7 +11,7 @@ use cct_disk::{MADE_LEN, MemDisk};
 use cct_edge::{MemSink, MemSource};
 use cct_host_change::Desk;
 use cct_live_port::{CountedLink, is_answered};
-use cct_live_service::{AtEnd, Beside, OrderTold, Outside, Page, Served, serve};
+use cct_live_service::{AtEnd, Beside, Outside, Page, Served, serve};
 use cct_live_survey::Roll;
 use cct_model::{Happening, LineKind, MOST_HEARD, Setup};
 use cct_wire::Link;
@@ -116,8 +116,8 @@ impl CountedLink for Troubled<'_> {
     }
 }
 
-/// A program around the service that keeps the last refused line, and knows one order that was
-/// closed.
+/// A program around the service that keeps the last refused line, and can't open the journal once
+/// more.
 #[derive(Drop)]
 pub(crate) struct Around {
     /// How many lines were refused.
@@ -134,14 +134,6 @@ impl Outside for Around {
     fn refused(&mut self, _: u32, _: LineKind, line: &[u8]) {
         self.refused = self.refused.wrapping_add(1);
         self.first = line.first().copied();
-    }
-
-    fn order(&mut self, id: u32) -> OrderTold {
-        if id == 7 {
-            OrderTold::Closed { paid: 1, unpaid: 2 }
-        } else {
-            OrderTold::Unknown
-        }
     }
 }
 

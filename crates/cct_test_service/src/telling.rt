@@ -23,16 +23,17 @@ fn without_wire(alloc: Global, text: &[u8]) -> Result<Vec<u8>, AllocError> {
     Ok(told)
 }
 
-/// A message that wasn't written is reported so, and that the line is back.
+/// A message that wasn't written is reported so; that the line failed is told once, and that it is
+/// back.
 #[test]
 fn an_unsent_message_is_told(rt: HostRuntime) -> Result<(), Fail> {
     let alloc = rt.alloc();
     let setup = setup_of(alloc, MACHINE)?;
     let trouble = Trouble {
-        unsent: &[1, 2],
+        unsent: &[1, 2, 4],
         ..QUIET
     };
-    let lines = b"start 2 0001\nnext 2\nnext 2\nnext 2\nnext 2\n";
+    let lines = b"start 2 0001\nnext 2\nnext 2\nnext 2\nnext 2\nnext 2\n";
     let (out, _) = written(alloc, &setup, trouble, AtEnd::Leave, lines)?;
     let mut words = Vec::new(alloc);
     for line in out.bytes().split(|byte| *byte == b'\n') {
@@ -41,22 +42,22 @@ fn an_unsent_message_is_told(rt: HostRuntime) -> Result<(), Fail> {
     }
     assert_eq!(rt;
         words.as_slice(),
-        b"made ok wire unsent linefault unsent wire lineback  ".as_slice()
+        b"made ok wire unsent linefault unsent wire lineback unsent linefault  ".as_slice()
     );
     Ok(())
 }
 
-/// What is known of orders, and that there is no journal beside the host to read; a line that is
-/// refused is reported outside too.
+/// There is no journal beside the host to read, by an order or a state; a line that is refused is
+/// reported outside too.
 #[test]
 fn orders_and_refused_lines(rt: HostRuntime) -> Result<(), Fail> {
     let alloc = rt.alloc();
     let setup = setup_of(alloc, MACHINE)?;
-    let lines = b"order 7\norder 8\nstate\nstate 7\nabc 1\n";
+    let lines = b"order 7\nstate\nstate 7\nabc 1\n";
     let (out, around) = written(alloc, &setup, QUIET, AtEnd::Leave, lines)?;
     assert_eq!(rt;
         out.bytes(),
-        b"made 0 0 0\norder 7 closed 1 2\norder 8 unknown\nstate unread\nrefused 4 form\nrefused 5 word\n".as_slice()
+        b"made 0 0 0\norder 7 unread\nstate unread\nrefused 3 form\nrefused 4 word\n".as_slice()
     );
     assert_eq!(rt; around.refused, 2);
     assert_eq!(rt; around.first, Some(b'a'));

@@ -2,8 +2,6 @@
 
 use crate::setups::setup_of;
 use crate::texts::{SETUPS, read_back, written};
-use cct_edge::MemSink;
-use cct_live_setup_copy::{first_difference, write_setup};
 use cct_model_lines::LineKind;
 use cct_script::SetupNo;
 use std::alloc::Global;
@@ -16,12 +14,7 @@ fn each_setup_is_read_back_as_it_was(rt: HostRuntime) -> Result<(), Fail> {
         let setup = setup_of(alloc, text.as_bytes())?;
         let bytes = written(alloc, &setup)?;
         let back = read_back(alloc, bytes.as_slice())?.ok().flatten();
-        assert_eq!(rt; back.as_ref(), Some(&setup), "of {text}");
-        assert_eq!(rt;
-            first_difference(&back.ok_or("none")?, &setup),
-            None,
-            "of {text}"
-        );
+        assert!(rt; back.as_ref() == Some(&setup), "of {text}");
     }
     Ok(())
 }
@@ -39,7 +32,7 @@ fn thirty_two_devices_are_read_back(rt: HostRuntime) -> Result<(), Fail> {
     assert_eq!(rt; setup.devices.as_slice().len(), 32);
     let bytes = written(alloc, &setup)?;
     let back = read_back(alloc, bytes.as_slice())?.ok().flatten();
-    assert_eq!(rt; back.as_ref(), Some(&setup));
+    assert!(rt; back.as_ref() == Some(&setup));
     Ok(())
 }
 
@@ -60,7 +53,7 @@ fn no_front_is_taken_for_a_setup(rt: HostRuntime) -> Result<(), Fail> {
     for text in SETUPS {
         assert_eq!(rt; fronts_taken(alloc, text.as_bytes())?, 0, "of {text}");
     }
-    assert_eq!(rt; read_back(alloc, b"")?, Ok(None));
+    assert!(rt; read_back(alloc, b"")? == Ok(None));
     Ok(())
 }
 
@@ -74,20 +67,7 @@ fn what_follows_begin_or_is_no_line_is_refused(rt: HostRuntime) -> Result<(), Fa
         (b"hopper 3 crc 1 0 0\nbegin\n", 1, LineKind::Form),
     ];
     for (text, number, kind) in texts {
-        assert_eq!(rt;
-            read_back(alloc, text)?,
-            Err(SetupNo::Line { number, kind })
-        );
+        assert!(rt; read_back(alloc, text)? == Err(SetupNo::Line { number, kind }));
     }
-    Ok(())
-}
-
-#[test]
-fn a_put_that_fails_is_told(rt: HostRuntime) -> Result<(), Fail> {
-    let alloc = rt.alloc();
-    let setup = setup_of(alloc, SETUPS[6].as_bytes())?;
-    let mut sink = MemSink::new(alloc, 30_000, [2].to_vec(alloc)?)?;
-    assert!(rt; write_setup(&setup, &mut sink).is_err());
-    assert_eq!(rt; sink.bytes(), b"acceptor 7 simple 1 0\n".as_slice());
     Ok(())
 }
