@@ -5,7 +5,9 @@
 mod capture;
 mod lines;
 mod log;
+mod measure;
 mod notes;
+mod page;
 mod picture;
 mod put_buffer;
 mod rows;
@@ -15,7 +17,8 @@ mod text;
 mod words;
 
 pub use capture::write_capture;
-pub use picture::{Part, show_page, show_picture};
+pub use page::show_page;
+pub use picture::{Part, show_picture};
 pub use rows::{RowForm, show_rows};
 pub use status::{Status, Stop};
 pub use taps::Held;

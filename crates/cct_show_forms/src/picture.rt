@@ -1,5 +1,5 @@
-//! The forms `svg` and `html`: a sequence picture of all lines, or of a part; and a page for a
-//! browser.
+//! The form `svg`: a sequence picture of all lines, or of a part; and its marks, with the page of
+//! them, for the form `html`.
 
 use crate::lines::{LineSink, read_lines};
 use crate::log::{Half, Log, MOST_SAID, copy};
@@ -20,9 +20,6 @@ use cct_show_words::read_line;
 use std::alloc::{AllocError, Global};
 use std::fmt::Write;
 
-/// The most rows of the picture that is folded into a page: two pages of it.
-const PICTURE_ROWS: usize = 400;
-
 /// More bytes than a note has.
 const MOST_NOTE: usize = 200;
 
@@ -37,6 +34,14 @@ const STACK: u8 = 1;
 pub struct Part {
     pub from: u64,
     pub to: u64,
+}
+
+impl Part {
+    /// All lines.
+    pub(crate) const WHOLE: Part = Part {
+        from: 1,
+        to: u64::MAX,
+    };
 }
 
 /// A request of a log whose reply may stand in a later line.
@@ -60,14 +65,14 @@ struct LineNote {
 
 /// The marks of the lines so far, and the page of them where one is wanted.
 #[derive(Drop)]
-struct Marks {
+pub(crate) struct Marks {
     alloc: Global,
-    picture: Picture,
-    page: Option<Page>,
+    pub(crate) picture: Picture,
+    pub(crate) page: Option<Page>,
     part: Part,
     /// How many rows the picture has at most, and whether it has no more of them.
     most: usize,
-    is_full: bool,
+    pub(crate) is_full: bool,
     /// How many lines there were.
     count: u64,
     /// The last line of the part, where a line equal to it has the same mark.
@@ -93,19 +98,9 @@ pub fn show_picture<S: Source, K: Sink>(
     Status::of(marks.write_picture(source, out))
 }
 
-/// Writes a page of all lines of a source, after the last one.
-pub fn show_page<S: Source, K: Sink>(alloc: Global, source: &mut S, out: &mut K) -> Status {
-    let part = Part {
-        from: 1,
-        to: u64::MAX,
-    };
-    let mut marks = Marks::new(alloc, part, PICTURE_ROWS, Some(Page::new(alloc)));
-    Status::of(marks.write_page(source, out))
-}
-
 impl Marks {
     /// No mark yet.
-    fn new(alloc: Global, part: Part, most: usize, page: Option<Page>) -> Marks {
+    pub(crate) fn new(alloc: Global, part: Part, most: usize, page: Option<Page>) -> Marks {
         Marks {
             alloc,
             picture: Picture::new(alloc),
@@ -129,23 +124,14 @@ impl Marks {
         source: &mut S,
         out: &mut K,
     ) -> Result<(), Stop> {
-        self.read(source)?;
+        read_lines(source, self)?;
+        self.finish()?;
         self.picture.write(out)?;
         Ok(())
     }
 
-    /// Reads all lines, and writes their page.
-    fn write_page<S: Source, K: Sink>(&mut self, source: &mut S, out: &mut K) -> Result<(), Stop> {
-        self.read(source)?;
-        if let Some(page) = &self.page {
-            page.write(&self.picture, self.is_full, out)?;
-        }
-        Ok(())
-    }
-
-    /// Reads all lines, and takes what stays without an end.
-    fn read<S: Source>(&mut self, source: &mut S) -> Result<(), Stop> {
-        read_lines(source, self)?;
+    /// After the last line takes what stays without an end.
+    pub(crate) fn finish(&mut self) -> Result<(), Stop> {
         self.log.end();
         let is_of_part = self.is_of_part();
         self.take_said(Label::empty(), is_of_part)?;

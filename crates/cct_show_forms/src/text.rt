@@ -16,7 +16,7 @@ use std::fmt::Write;
 
 /// Lines with what they say, on their way to a sink.
 #[derive(Drop)]
-struct Text<'k, K> {
+pub(crate) struct Text<'k, K> {
     out: PutBuffer<'k, K>,
     log: Log,
     rows: Rows,
@@ -33,13 +33,7 @@ pub fn show_text<S: Source, K: Sink, N: Sink>(
     out: &mut K,
     notes: &mut N,
 ) -> Status {
-    let mut text = Text {
-        out: PutBuffer::new(out),
-        log: Log::new(),
-        rows: Rows::new(),
-        lines: Unread::new(),
-        is_transcript: false,
-    };
+    let mut text = Text::new(out);
     let shown = text.show(source);
     if text.is_transcript || text.lines.read == 0 || shown.is_err() {
         return Status::of(shown);
@@ -53,10 +47,26 @@ pub fn show_text<S: Source, K: Sink, N: Sink>(
     }
 }
 
-impl<K: Sink> Text<'_, K> {
+impl<'k, K: Sink> Text<'k, K> {
+    /// No line yet.
+    pub(crate) fn new(out: &'k mut K) -> Text<'k, K> {
+        Text {
+            out: PutBuffer::new(out),
+            log: Log::new(),
+            rows: Rows::new(),
+            lines: Unread::new(),
+            is_transcript: false,
+        }
+    }
+
     /// Shows all lines, and what stays without an end.
     fn show<S: Source>(&mut self, source: &mut S) -> Result<(), Stop> {
         read_lines(source, self)?;
+        self.finish()
+    }
+
+    /// After the last line shows what stays without an end.
+    pub(crate) fn finish(&mut self) -> Result<(), Stop> {
         self.log.end();
         self.tell_said()?;
         self.out.write_out()?;

@@ -2,6 +2,7 @@
 //! out are left out.
 
 use crate::Page;
+use crate::form::PageForm;
 use crate::needs::Needs;
 use crate::rows::write_rows;
 use crate::style::write_style;
@@ -10,15 +11,35 @@ use cct_edge::{Failed, Sink};
 use cct_show_pen::Pen;
 use cct_show_picture::Picture;
 
-/// Writes a page, with a picture of all of its lines, or of the first ones, folded into it.
+/// What is before a text that is a page by itself: the least that HTML wants. The encoding is told
+/// by a byte order mark.
+const LEAST_HEAD: &[u8] = b"\xef\xbb\xbf<!DOCTYPE html><title>.</title><pre>";
+
+/// Writes lines as they are as a page.
+pub fn write_lines<K: Sink>(lines: &[u8], out: &mut K) -> Result<(), Failed> {
+    let mut pen = Pen::new(out);
+    pen.push(LEAST_HEAD);
+    for byte in lines {
+        match *byte {
+            b'\n' | b'\t' | b'>' => pen.push(&[*byte]),
+            _ => pen.push_text(&[*byte]),
+        }
+    }
+    pen.push(b"</pre>");
+    pen.finish()
+}
+
+/// Writes a page in a form; the full one has a picture of all of its lines, or of the first ones,
+/// folded into it.
 pub(crate) fn write_page<K: Sink>(
     page: &Page,
+    form: PageForm,
     picture: &Picture,
     is_part: bool,
     out: &mut K,
 ) -> Result<(), Failed> {
     let mut pen = Pen::new(out);
-    let needs = Needs::of(page, picture);
+    let needs = Needs::of(page, form, picture);
     write_head(&mut pen, page, &needs);
     write_sums(&mut pen, page, &needs);
     write_red(&mut pen, page);
@@ -39,8 +60,11 @@ pub(crate) fn write_page<K: Sink>(
 
 /// Writes the head, and the title.
 fn write_head<K: Sink>(pen: &mut Pen<'_, K>, page: &Page, needs: &Needs) {
-    pen.push(b"<!DOCTYPE html><html lang=en><meta charset=utf-8>");
-    pen.push(b"<meta name=viewport content=\"width=device-width\"><title>ccTalk, ");
+    pen.push(b"<!DOCTYPE html>");
+    if !needs.plain {
+        pen.push(b"<html lang=en><meta name=viewport content=\"width=device-width\">");
+    }
+    pen.push(b"<meta charset=utf-8><title>ccTalk, ");
     pen.push_number(page.lines);
     pen.push(b" lines</title><style>");
     write_style(pen, page, needs);

@@ -6,6 +6,7 @@ mod classes;
 mod column;
 mod device;
 mod entry;
+mod form;
 mod frame;
 mod job;
 mod known;
@@ -18,4 +19,6 @@ mod style;
 mod sums;
 mod words;
 
+pub use form::PageForm;
+pub use frame::write_lines;
 pub use page::Page;

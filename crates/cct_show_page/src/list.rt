@@ -85,16 +85,17 @@ impl List {
 /// Writes the classes of a row: its devices, where they can be chosen and it isn't in a fold, and
 /// what it is. One that is red has its id.
 fn push_classes<K: Sink>(pen: &mut Pen<'_, K>, needs: &Needs, row: &Row, is_unnumbered: bool) {
-    let is_odd = row.tone == Tone::Odd;
+    let is_odd = needs.odd && row.tone == Tone::Odd;
+    let is_record = needs.records && row.is_record;
     let has_devices = needs.choose_devices && row.job.is_none();
     let devices = if has_devices { device_count(row) } else { 0 };
-    let tones = usize::from(is_odd) + usize::from(row.is_record) + usize::from(is_unnumbered);
+    let tones = usize::from(is_odd) + usize::from(is_record) + usize::from(is_unnumbered);
     let mut classes = Classes::new(devices.saturating_add(tones));
     if has_devices {
         push_devices(pen, &mut classes, row);
     }
     classes.push_tone(pen, is_odd, b"o");
-    classes.push_tone(pen, row.is_record, b"w");
+    classes.push_tone(pen, is_record, b"w");
     classes.push_tone(pen, is_unnumbered, b"n");
     classes.finish(pen);
 }

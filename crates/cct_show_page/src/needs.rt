@@ -2,6 +2,7 @@
 
 use crate::Page;
 use crate::device::Device;
+use crate::form::PageForm;
 use crate::row::{Body, Row, Tone};
 use crate::sums::is_red;
 use cct_show_picture::Picture;
@@ -21,6 +22,8 @@ const LONG_WORD: usize = 40;
 /// What a page has, so that it needs rules and choices for it.
 #[derive(Clone, Copy)]
 pub(crate) struct Needs {
+    /// Whether it has no rules but those without which its rows can't be read.
+    pub(crate) plain: bool,
     /// Of the picture, where there is one.
     pub(crate) tab_width: Option<u32>,
     pub(crate) folds: bool,
@@ -39,28 +42,31 @@ pub(crate) struct Needs {
 }
 
 impl Needs {
-    /// What the rows of a page, and a picture of them, need.
-    pub(crate) fn of(page: &Page, picture: &Picture) -> Needs {
+    /// What the rows of a page, and a picture of them, need in a form.
+    pub(crate) fn of(page: &Page, form: PageForm, picture: &Picture) -> Needs {
         let rows = page.rows.as_slice();
-        let has_choices = rows.len() > FEW_ROWS;
-        let red = rows.iter().any(|row| is_red(page, row));
-        let records = rows.iter().any(|row| row.is_record);
+        let plain = form == PageForm::Plain;
+        let has_choices = rows.len() > FEW_ROWS && !plain;
+        let has_red = rows.iter().any(|row| is_red(page, row));
+        let has_bad = page.jobs.iter().any(|job| !job.is_well());
+        let records = !plain && rows.iter().any(|row| row.is_record);
         Needs {
-            tab_width: if picture.has_sketch() {
+            plain,
+            tab_width: if form == PageForm::Full && picture.has_sketch() {
                 Some(picture.tab_width())
             } else {
                 None
             },
             folds: !page.jobs.is_empty(),
-            red,
-            odd: rows.iter().any(|row| row.tone == Tone::Odd),
+            red: !plain && (has_red || has_bad),
+            odd: !plain && rows.iter().any(|row| row.tone == Tone::Odd),
             records,
             many_rows: rows.len() > MANY_ROWS,
             wide_numbers: page.lines >= WIDE_NUMBER,
             long_words: rows.iter().any(has_long_word),
             unnumbered: page.has_taps && rows.iter().any(|row| row.place.tap.is_none()),
             choose_devices: has_choices && page.devices.count() > 1,
-            choose_red: has_choices && red,
+            choose_red: has_choices && has_red,
             choose_records: has_choices && records,
             choose_bytes: has_choices && rows.iter().any(has_bytes),
         }

@@ -2,6 +2,7 @@
 
 use crate::device::Devices;
 use crate::entry::{addr_of_command, addr_of_entry, is_record, tone_of_entry, tone_of_note};
+use crate::form::PageForm;
 use crate::frame::write_page;
 use crate::job::{Ending, Job};
 use crate::known::{Known, is_poll};
@@ -113,15 +114,16 @@ impl Page {
         }
     }
 
-    /// Writes the page, with this picture folded into it: of the first lines, where it isn't of
-    /// all.
+    /// Writes the page in a form. The full one has this picture folded into it: of the first lines,
+    /// where it isn't of all.
     pub fn write<K: Sink>(
         &self,
+        form: PageForm,
         picture: &Picture,
         is_part: bool,
         out: &mut K,
     ) -> Result<(), Failed> {
-        write_page(self, picture, is_part, out)
+        write_page(self, form, picture, is_part, out)
     }
 
     /// The job at an address, where one is given.

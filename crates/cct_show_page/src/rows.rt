@@ -48,7 +48,7 @@ fn write_fold<K: Sink>(
     if !job.has_end() {
         push_count(pen, b" id=", place as u64, b"");
     }
-    let is_red = job.reds > 0 || !is_well;
+    let is_red = !needs.plain && (job.reds > 0 || !is_well);
     let has_device = needs.choose_devices && job.addr != 0;
     let mut classes = Classes::new(usize::from(has_device) + usize::from(is_red));
     if has_device {

@@ -6,13 +6,15 @@ use crate::needs::Needs;
 use cct_edge::Sink;
 use cct_show_pen::Pen;
 
-/// What every page needs. A row is an item of a list, which numbers it; in its words a line feed
-/// represents itself. Numbers, times and bytes are grey.
-const ALWAYS: &[u8] = b"\
+/// What every page needs but a plain one: numbers, times and bytes are grey.
+const LOOK: &[u8] = b"\
 :root{color-scheme:light dark;font:14px system-ui}\
 ol{margin:0}\
-::marker,i,b{color:gray;font:12px monospace}\
-li{white-space:pre-wrap";
+::marker,i,b{color:gray;font:12px monospace}";
+
+/// What every page needs. A row is an item of a list, which numbers it; in its words a line feed
+/// represents itself.
+const ROWS: &[u8] = b"li{white-space:pre-wrap";
 
 /// What every page needs, after what a row needs for long words.
 const ROWS_END: &[u8] = b"}";
@@ -66,11 +68,19 @@ const MANY_COLUMNS: usize = 5;
 
 /// Writes the style of a page.
 pub(crate) fn write_style<K: Sink>(pen: &mut Pen<'_, K>, page: &Page, needs: &Needs) {
-    let columns = page.devices.column_count();
-    pen.push(ALWAYS);
+    push_rule(pen, !needs.plain, LOOK);
+    pen.push(ROWS);
     push_rule(pen, needs.long_words, LONG);
     pen.push(ROWS_END);
     push_rule(pen, needs.unnumbered, UNNUMBERED);
+    if !needs.plain {
+        write_rules(pen, page, needs);
+    }
+}
+
+/// Writes the rules without which a page can be read, too.
+fn write_rules<K: Sink>(pen: &mut Pen<'_, K>, page: &Page, needs: &Needs) {
+    let columns = page.devices.column_count();
     push_rule(pen, needs.wide_numbers, WIDE);
     push_rule(pen, columns >= SEVERAL_COLUMNS, NUMBERS);
     push_rule(pen, columns >= MANY_COLUMNS, WIDE_TABLE);

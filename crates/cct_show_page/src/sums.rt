@@ -58,16 +58,16 @@ fn write_device<K: Sink>(pen: &mut Pen<'_, K>, page: &Page, needs: &Needs, devic
     }
     for column in &Column::ALL {
         if page.devices.has_column(*column) {
-            write_sum(pen, *column, device);
+            write_sum(pen, needs, *column, device);
         }
     }
 }
 
 /// Writes a number of a table, in red where any is too many; or what is open at a device: its
 /// order, or its epoch.
-fn write_sum<K: Sink>(pen: &mut Pen<'_, K>, column: Column, device: &Device) {
+fn write_sum<K: Sink>(pen: &mut Pen<'_, K>, needs: &Needs, column: Column, device: &Device) {
     let number = device.sum(column);
-    match column.is_bad(device) {
+    match needs.red && column.is_bad(device) {
         true => pen.push(b"<td class=x>"),
         false => pen.push(b"<td>"),
     }
