@@ -9,6 +9,22 @@ use cct_model_lines::LineKind;
 use cct_script::ranged;
 use std::fmt;
 
+const REFUSED: &[u8] = b"refused";
+
+const LINES: &[u8] = b"lines";
+
+const LONG: &[u8] = b"long";
+
+const CUT: &[u8] = b"cut";
+
+const WORD: &[u8] = b"word";
+
+const FORM: &[u8] = b"form";
+
+const DEVICE: &[u8] = b"device";
+
+const AGAIN: &[u8] = b"again";
+
 /// What is said of how the program ended: one line, without its line feed.
 #[derive(Drop)]
 pub struct Advice<'a>(Said<'a>);
@@ -27,10 +43,10 @@ enum Said<'a> {
 /// named as `journal`.
 pub fn advise<'a>(last: &'a [u8], script: &'a Window, journal: &'a str) -> Option<Advice<'a>> {
     let (word, rest) = word_and_rest(last);
-    match word {
-        b"refused" => Some(Advice(Said::Refusal(refusal_of(rest, script)?))),
-        _ => advise_end(last, journal),
+    if word == REFUSED {
+        return Some(Advice(Said::Refusal(refusal_of(rest, script)?)));
     }
+    advise_end(last, journal)
 }
 
 /// As [`advise`], where the last line refuses no line of a script.
@@ -47,7 +63,7 @@ pub fn advise_end<'a>(last: &'a [u8], journal: &'a str) -> Option<Advice<'a>> {
 pub fn advise_line(number: u32, kind: LineKind, line: &[u8]) -> Advice<'_> {
     Advice(Said::Refusal(Refusal {
         number: u64::from(number),
-        kind: kind_word(kind),
+        kind,
         part: Part::Live,
         line,
         is_given: false,
@@ -61,7 +77,7 @@ pub(crate) fn setup_advice(setup: &Window, number: u32, kind: LineKind) -> Optio
     let line = setup.line(number)?;
     Some(Advice(Said::Refusal(Refusal {
         number,
-        kind: kind_word(kind),
+        kind,
         part: Part::Setup,
         line,
         is_given: setup.is_given(addr_in(line), number),
@@ -78,17 +94,17 @@ fn word_and_rest(line: &[u8]) -> (&[u8], &[u8]) {
     (word, rest.unwrap_or(b""))
 }
 
-/// The word by which a transcript says why a line is refused.
-fn kind_word(kind: LineKind) -> &'static [u8] {
-    match kind {
-        LineKind::Trailing => b"trailing",
-        LineKind::Lines => b"lines",
-        LineKind::Long => b"long",
-        LineKind::Cut => b"cut",
-        LineKind::Word => b"word",
-        LineKind::Form => b"form",
-        LineKind::Device => b"device",
-        LineKind::Again => b"again",
+/// Why a line is refused, by the word of a transcript that says it.
+fn kind_named(word: &[u8]) -> LineKind {
+    match word {
+        _ if word == LINES => LineKind::Lines,
+        _ if word == LONG => LineKind::Long,
+        _ if word == CUT => LineKind::Cut,
+        _ if word == WORD => LineKind::Word,
+        _ if word == FORM => LineKind::Form,
+        _ if word == DEVICE => LineKind::Device,
+        _ if word == AGAIN => LineKind::Again,
+        _ => LineKind::Trailing,
     }
 }
 
@@ -99,7 +115,7 @@ fn refusal_of<'a>(rest: &'a [u8], script: &'a Window) -> Option<Refusal<'a>> {
     let line = script.line(number)?;
     Some(Refusal {
         number,
-        kind: kind?,
+        kind: kind_named(kind?),
         part: script.part(number),
         line,
         is_given: script.is_given(addr_in(line), number),

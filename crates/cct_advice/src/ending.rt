@@ -93,48 +93,31 @@ pub(crate) enum Meaning {
     },
 }
 
-/// What a last line means that is no refusal of a script's line, by its fields.
+/// The last lines that refuse no line of a script: the word, the field after it, or none where the
+/// word says it all, and the meaning. The first that fits counts.
+static ENDINGS: [(&str, &str, Meaning); 13] = [
+    ("words", "", Meaning::Plain(USAGE)),
+    ("readfault", "", UNREAD),
+    ("diskfault", "", DISK_FAULT),
+    ("notblank", "", NOT_BLANK),
+    ("disksize", "0", EMPTY),
+    ("disksize", "", OTHER_SIZE),
+    ("inuse", "journal", IN_USE),
+    ("journal", "alien", ALIEN),
+    ("journal", "bad", BAD),
+    ("journal", "lost", LOST),
+    ("upgrade", "current", CURRENT),
+    ("upgrade", "room", NO_ROOM),
+    ("upgrade", "epoch", EPOCH_RUNS),
+];
+
+/// What a last line means that is no refusal of a script's line, by its word and what is after it.
 pub(crate) fn meaning_of(word: &[u8], rest: &[u8]) -> Option<Meaning> {
-    match word {
-        b"words" => Some(Meaning::Plain(USAGE)),
-        b"readfault" => Some(UNREAD),
-        b"diskfault" => Some(DISK_FAULT),
-        b"notblank" => Some(NOT_BLANK),
-        b"disksize" => Some(match rest {
-            b"0" => EMPTY,
-            _ => OTHER_SIZE,
-        }),
-        b"inuse" => in_use_meaning(rest),
-        b"journal" => journal_meaning(rest),
-        b"upgrade" => upgrade_meaning(rest),
-        _ => None,
+    let (field, _) = first_field(rest);
+    for (first, second, meaning) in &ENDINGS {
+        if first.as_bytes() == word && (second.is_empty() || second.as_bytes() == field) {
+            return Some(*meaning);
+        }
     }
-}
-
-/// What another process uses, by what is after the word `inuse`.
-fn in_use_meaning(rest: &[u8]) -> Option<Meaning> {
-    match rest {
-        b"journal" => Some(IN_USE),
-        _ => None,
-    }
-}
-
-/// What is wrong with a journal, by what is after the word `journal`.
-fn journal_meaning(rest: &[u8]) -> Option<Meaning> {
-    match first_field(rest).0 {
-        b"alien" => Some(ALIEN),
-        b"bad" => Some(BAD),
-        b"lost" => Some(LOST),
-        _ => None,
-    }
-}
-
-/// Why a journal isn't brought forward, by what is after the word `upgrade`.
-fn upgrade_meaning(rest: &[u8]) -> Option<Meaning> {
-    match first_field(rest).0 {
-        b"current" => Some(CURRENT),
-        b"room" => Some(NO_ROOM),
-        b"epoch" => Some(EPOCH_RUNS),
-        _ => None,
-    }
+    None
 }

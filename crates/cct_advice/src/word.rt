@@ -117,42 +117,26 @@ fn write_known<W: fmt::Write>(
         let shown = Shown(word);
         return write!(f, "words are in lower case; write {name}, not \"{shown}\"");
     }
-    match form.part() {
-        Part::Setup => write!(
-            f,
-            "{name} is a word of setup lines, which stand up to the line begin"
-        ),
-        Part::Steps => write!(
-            f,
-            "{name} is a word of step lines, which stand after the line begin"
-        ),
-        Part::Watches => write!(
-            f,
-            "{name} is a word of watch lines, which stand up to the line begin"
-        ),
-        Part::Taps => write!(
-            f,
-            "{name} is a word of tap lines, which stand after the line begin"
-        ),
-        Part::Live => write!(f, "{name} is a word of the lines of a host"),
-    }
+    let lines = match form.part() {
+        Part::Setup => "setup lines, which stand up to the line begin",
+        Part::Steps => "step lines, which stand after the line begin",
+        Part::Watches => "watch lines, which stand up to the line begin",
+        Part::Taps => "tap lines, which stand after the line begin",
+        Part::Live => "the lines of a host",
+    };
+    write!(f, "{name} is a word of {lines}")
 }
 
 /// Writes that no line has a word, and the words of its part.
 fn write_unknown<W: fmt::Write>(part: Part, word: &[u8], f: &mut fmt::Formatter<W>) -> fmt::Result {
     let shown = Shown(word);
     let words = WordsOf(part);
-    match part {
-        Part::Setup => write!(
-            f,
-            "\"{shown}\" is no word of a setup line; they are {words}"
-        ),
-        Part::Steps => write!(f, "\"{shown}\" is no word of a step line; they are {words}"),
-        Part::Watches => write!(
-            f,
-            "\"{shown}\" is no word of a watch line; they are {words}"
-        ),
-        Part::Taps => write!(f, "\"{shown}\" is no word of a tap line; they are {words}"),
-        Part::Live => write!(f, "\"{shown}\" is no word here; they are {words}"),
-    }
+    let owner = match part {
+        Part::Setup => "of a setup line",
+        Part::Steps => "of a step line",
+        Part::Watches => "of a watch line",
+        Part::Taps => "of a tap line",
+        Part::Live => "here",
+    };
+    write!(f, "\"{shown}\" is no word {owner}; they are {words}")
 }

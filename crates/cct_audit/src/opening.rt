@@ -35,7 +35,7 @@ pub(crate) enum Manner {
 }
 
 /// What a line before `begin` says.
-#[derive(Clone, Copy, Debug, PartialEq, Eq)]
+#[derive(Clone, Copy)]
 pub(crate) enum WatchLine {
     /// `watch A CHECK KIND`, or with the word `quiet` or `premises` after it, where KIND may be
     /// `bills` too.

@@ -20,7 +20,7 @@ use cct_monitor::{Family, Monitor, Said, WATCHED};
 use cct_script::{CaptureLine, Lines, ScriptStop, before_end, read_capture_line};
 
 /// What a line before `begin` does.
-#[derive(Clone, Copy, Debug, PartialEq, Eq)]
+#[derive(Clone, Copy)]
 pub(crate) enum Opened {
     /// A device more is watched.
     Watched,
@@ -29,7 +29,7 @@ pub(crate) enum Opened {
 }
 
 /// What a line after `begin` does.
-#[derive(Clone, Copy, Debug, PartialEq, Eq)]
+#[derive(Clone, Copy)]
 pub(crate) enum Tapped {
     /// It is a tap.
     Tapped,

@@ -22,7 +22,7 @@ use cct_epoch::distance;
 const COUNTS: u32 = 1 << 24;
 
 /// The serial number that a hopper showed first.
-#[derive(Clone, Copy, Debug, PartialEq, Eq)]
+#[derive(Clone, Copy, PartialEq, Eq)]
 pub struct KnownSerial {
     /// The number of the tap.
     pub number: u32,
@@ -30,7 +30,7 @@ pub struct KnownSerial {
 }
 
 /// The last life count of a hopper, and what came since.
-#[derive(Clone, Copy, Debug, PartialEq, Eq)]
+#[derive(Clone, Copy, PartialEq, Eq)]
 pub struct KnownLife {
     /// The number of the tap.
     pub number: u32,
@@ -45,7 +45,7 @@ pub struct KnownLife {
 }
 
 /// The last event counter of a hopper, or 0 at a reset, and what came since.
-#[derive(Clone, Copy, Debug, PartialEq, Eq)]
+#[derive(Clone, Copy, PartialEq, Eq)]
 pub struct KnownCounter {
     /// The number of the tap.
     pub number: u32,
@@ -57,7 +57,7 @@ pub struct KnownCounter {
 }
 
 /// What is known of a hopper.
-#[derive(Clone, Copy, Debug, PartialEq, Eq)]
+#[derive(Clone, Copy, PartialEq, Eq)]
 pub struct KnownHopper {
     pub serial: Option<KnownSerial>,
     /// The tap since which it may not pay, where there is one.

@@ -6,7 +6,7 @@ ghost use Rattle.cct_model.specs.Job.{settled, settled_events};
 use cct_model::{Credits, Pair};
 
 /// The money that an acceptor takes in.
-#[derive(Clone, Copy, Debug, PartialEq, Eq)]
+#[derive(Clone, Copy, PartialEq, Eq)]
 pub enum Money {
     /// Coins, by place and sorter path. Header 229 reads them.
     Coins,

@@ -4,7 +4,7 @@ ghost use Rattle.std.specs.Prelude.{◌≡◌};
 use cct_model::Coins;
 
 /// What is taken for granted of an acceptor or of a hopper, and taps can show broken.
-#[derive(Clone, Copy, Debug, PartialEq, Eq)]
+#[derive(Clone, Copy, PartialEq, Eq)]
 pub enum Premise {
     /// With event counter 0 its buffer is empty.
     Buffer,
@@ -29,7 +29,7 @@ pub enum Premise {
 /// What a monitor says of the watched device at `addr`: `first` and `last` are the numbers of two
 /// taps, from 1. All but the last are of a span: two readings of an acceptor's credits with none
 /// between them, or two life counts of a hopper.
-#[derive(Clone, Debug, Drop, PartialEq, Eq)]
+#[derive(Clone, Drop, PartialEq, Eq)]
 pub enum Said {
     /// The acceptor accepted these coins between its two readings, oldest first: those among as
     /// many of the newest events as the two event counters tell, at most five (ccTalk Generic

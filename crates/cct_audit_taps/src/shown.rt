@@ -11,7 +11,7 @@ use cct_model::{CheckKind, Credits, Reply, ReplyForm, Request};
 use cct_msg::wanted_reply;
 
 /// What a tap shows of an acceptor.
-#[derive(Clone, Copy, Debug, PartialEq, Eq)]
+#[derive(Clone, Copy, PartialEq, Eq)]
 pub enum Shown {
     /// A reading: its event counter and its credit buffer (header 229), or those of a bill acceptor
     /// as they are credited (159).

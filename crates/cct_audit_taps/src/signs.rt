@@ -43,7 +43,7 @@ pub enum Sign {
 
 /// The inhibit mask that an acceptor had at a tap, since which none was asked for: it is still this
 /// one, or 0 after a reset.
-#[derive(Clone, Copy, Debug, PartialEq, Eq)]
+#[derive(Clone, Copy, PartialEq, Eq)]
 pub struct KnownMask {
     /// The number of the tap.
     pub number: u32,

@@ -58,6 +58,8 @@ pub fn audit_capture<S: Source, K: Sink>(script: &mut S, out: &mut K) -> (Status
 }
 
 /// Audits a capture, and writes the last line where a line of it is refused or reading it failed.
+// In a frame of its own it takes no room where a script is played.
+#[inline(never)]
 pub(crate) fn run_audit<S: Source, K: Sink>(script: &mut S, out: &mut K) -> Status
     ensures audited { OfBytes (S.left script.old) (λ bytes. AuditRan bytes result None (S.left script.new)
         (Rose (S.faults script.old) (S.faults script.new))

@@ -25,6 +25,8 @@ use std::alloc::Global;
 
 /// Plays a load over a disk, which it gives back, and writes the last line where its status has
 /// one. The line of the load is written before its first step, and its sums after the last one.
+// In a frame of its own it takes no room where a script is played.
+#[inline(never)]
 pub fn run_load<K: Sink, D: Disk>(alloc: Global, load: Load, out: &mut K, disk: D) -> (Status, D)
     requires rounds { load.rounds ≤ MOST_ROUNDS }
     // what was played and written, and what is left on the disk

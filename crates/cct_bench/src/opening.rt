@@ -21,7 +21,7 @@ use cct_model::{LineKind, Setup, SetupLine};
 use cct_script::{Lines, ScriptStop, add, before_end, read_setup_line};
 
 /// What a setup line does to the setup.
-#[derive(Clone, Copy, Debug, PartialEq, Eq)]
+#[derive(Clone, Copy)]
 enum Opened {
     /// It adds to it.
     Added,

@@ -14,6 +14,8 @@ use cct_script_check::{ProofEnd, proofread};
 use cct_text::TextLine;
 
 /// Proofreads a script, and writes the last line where reading it failed.
+// In a frame of its own it takes no room where a script is played.
+#[inline(never)]
 pub fn run_check<S: Source, K: Sink>(script: &mut S, out: &mut K) -> Status
     ensures checked { OfBytes (S.left script.old) (λ bytes. CheckRan bytes result (S.left script.new)
         (Rose (S.faults script.old) (S.faults script.new))

@@ -25,6 +25,8 @@ use cct_text::TextLine;
 
 /// Lists the journal on a disk, which it gives back, and writes the last line where the status has
 /// one.
+// In a frame of its own it takes no room where a script is played.
+#[inline(never)]
 pub fn report<K: Sink, D: Disk>(out: &mut K, line: &mut TextLine, disk: D) -> (Status, D)
     // what was written, by what the image of the disk is, and by the records that it has
     ensures reported { (image : List ℕ) → D.seen disk ≡ Some image → Reported (image_known (D.size disk) (Rose (D.faults disk) (D.faults result.1)) image) result.0

@@ -30,6 +30,8 @@ use cct_text::TextLine;
 /// Reads a setup, where one is given, and says what the journal on a disk knows now; the disk is
 /// given back. No call of it but that for its length is made before the script's end. A script
 /// without a whole line gives no setup.
+// In a frame of its own it takes no room where a script is played.
+#[inline(never)]
 pub fn run_state<S: Source, K: Sink, D: Disk>(script: &mut S, out: &mut K, disk: D) -> (Status, D)
     // what was taken and written, by what the image of the disk is
     ensures stated { (image : List ℕ) → D.seen disk ≡ Some image → OfBytes (S.left script.old) (λ bytes.

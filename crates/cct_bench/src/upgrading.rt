@@ -27,6 +27,8 @@ use cct_text::TextLine;
 /// Reads the script of an upgrade, brings the journal on a disk forward for its devices, gives the
 /// disk back, and writes the one line that says how that went. No call of the disk but that for its
 /// length is made before the script's end.
+// In a frame of its own it takes no room where a script is played.
+#[inline(never)]
 pub fn run_upgrade<S: Source, K: Sink, D: Disk>(script: &mut S, out: &mut K, disk: D) -> (Status, D)
     ensures upgraded { OfBytes (S.left script.old) (λ bytes. Upgraded
         (old_disk D.size D.honest D.seen D.may_leave D.moment D.left_since D.cuts D.faults disk result.1)

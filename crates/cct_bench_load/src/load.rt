@@ -33,14 +33,14 @@ const ROUND_LINES: u32 = 20;
 pub const MOST_ROUNDS: u32 = 10_000;
 
 /// Which load is played: the seed that its lines are drawn from, and its rounds, 10,000 at most.
-#[derive(Clone, Copy, Debug, PartialEq, Eq)]
+#[derive(Clone, Copy, PartialEq, Eq)]
 pub struct Load {
     pub seed: u64,
     pub rounds: u32,
 }
 
 /// How the playing of a load came to its end.
-#[derive(Clone, Copy, Debug, PartialEq, Eq)]
+#[derive(Clone, Copy, PartialEq, Eq)]
 pub enum LoadEnd {
     /// All steps were played, and all was written.
     Done,

@@ -13,7 +13,7 @@ use cct_model::{Entry, Record, SumOf};
 ///
 /// A step has eight entries at most, and an entry adds fewer than 2^33 to all sums together, so the
 /// number of the steps bounds each of them.
-#[derive(Clone, Copy, Debug)]
+#[derive(Clone, Copy)]
 pub struct LoadSums {
     steps: u64,
     accepted: u64,

@@ -6,7 +6,7 @@ ghost use Rattle.cct_bench_report.specs.Listing.{total_in};
 use cct_model_lines::{Carry, Entry, Record};
 
 /// Sums over records: coins posted, coins lost, coins paid and unpaid, and prices.
-#[derive(Clone, Copy, Debug, PartialEq, Eq)]
+#[derive(Clone, Copy, PartialEq, Eq)]
 pub struct Sums {
     pub posted: u64,
     pub lost: u64,

@@ -9,7 +9,7 @@ use cct_model::{Carry, EpochState, OpenOrder, Record};
 
 /// The epoch and the open order at an address, and how many coins were posted, told to be lost, and
 /// paid there since the journal last turned.
-#[derive(Clone, Copy, Debug, PartialEq, Eq)]
+#[derive(Clone, Copy)]
 pub(crate) struct Account {
     pub(crate) addr: u8,
     pub(crate) epoch: EpochState,

@@ -15,7 +15,7 @@ use cct_model::{Carry, Record, Setup};
 
 /// What the records tell so far: of each address, the greatest id, the sums over all, and, where a
 /// setup is given, what they are worth.
-#[derive(Debug, Drop)]
+#[derive(Drop)]
 pub(crate) struct Books<'s> {
     pub(crate) accounts: ArrayVec<Account, ADDRESSES>,
     pub(crate) last_id: u32,

@@ -23,7 +23,7 @@ use cct_model::Setup;
 use cct_text::TextLine;
 
 /// How the telling of a state came to its end.
-#[derive(Debug, Drop)]
+#[derive(Drop)]
 pub enum StateEnd {
     /// The whole state was written.
     Done,

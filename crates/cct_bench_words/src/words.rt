@@ -13,7 +13,7 @@ use std::alloc::Global;
 use thiserror::Error;
 
 /// What the program is to do.
-#[derive(Clone, Copy, Debug, PartialEq, Eq)]
+#[derive(Clone, Copy, PartialEq, Eq)]
 pub enum Words {
     /// Play the script on standard input.
     Run,

@@ -6,7 +6,7 @@ use cct_acceptor::Inserted;
 use cct_model::Coin;
 
 /// What became of something that happened to a device.
-#[derive(Clone, Copy, Debug, PartialEq, Eq)]
+#[derive(Clone, Copy, PartialEq, Eq)]
 pub enum Outcome {
     /// The coin was taken, by the sorter path of its place.
     Accepted(Coin),

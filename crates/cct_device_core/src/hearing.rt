@@ -14,7 +14,7 @@ use cct_msg::asked_of;
 use cct_wire::Framer;
 
 /// What a device is asked, and whom it answers.
-#[derive(Clone, Copy, Debug, PartialEq, Eq)]
+#[derive(Clone, Copy, PartialEq, Eq)]
 pub struct Asked {
     pub request: Request,
     pub asker: u8,
@@ -23,7 +23,7 @@ pub struct Asked {
 /// How a device hears the bytes of the wire, one by one. The first byte of a message says whom it
 /// is for: where that is another device, the others pass by, since whatever they are asks nothing
 /// of this one. Its contracts tell it by the bytes that came since the last gap.
-#[derive(Clone, Copy, Debug)]
+#[derive(Clone, Copy)]
 pub struct Listener {
     framer: Framer,
     /// Whether the bytes since the gap are of a message for another device. The framer has none of

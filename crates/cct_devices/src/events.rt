@@ -10,7 +10,7 @@ use cct_model::{Happening, LineKind, Step};
 use cct_script::{Line, Lines, LinesNo, read_step_line};
 
 /// Something that happens to the device at an address.
-#[derive(Clone, Copy, Debug, PartialEq, Eq)]
+#[derive(Clone, Copy)]
 pub(crate) struct Event {
     pub(crate) addr: u8,
     pub(crate) what: Happening,

@@ -5,7 +5,7 @@ use cct_script::SetupNo;
 use std::alloc::AllocError;
 
 /// Which text a line is of.
-#[derive(Clone, Copy, Debug, PartialEq, Eq)]
+#[derive(Clone, Copy)]
 pub(crate) enum Text {
     /// The setup.
     Setup,
@@ -14,14 +14,14 @@ pub(crate) enum Text {
 }
 
 /// A refused line: its number, counted from 1, and why.
-#[derive(Clone, Copy, Debug, PartialEq, Eq)]
+#[derive(Clone, Copy)]
 pub(crate) struct Refused {
     pub(crate) number: u32,
     pub(crate) kind: LineKind,
 }
 
 /// Why the devices stop before the line is silent.
-#[derive(Clone, Copy, Debug, PartialEq, Eq)]
+#[derive(Clone, Copy)]
 pub(crate) enum Stop {
     /// A line is refused.
     Line(Text, Refused),
@@ -53,7 +53,7 @@ impl From<AllocError> for Stop {
 }
 
 /// How the program ends, with its exit status.
-#[derive(Clone, Copy, Debug, PartialEq, Eq)]
+#[derive(Clone, Copy)]
 pub(crate) enum Status {
     /// 0: the line is silent, and every event was read.
     Done,

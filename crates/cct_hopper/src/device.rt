@@ -9,7 +9,7 @@ use cct_model_wire::DeviceSetup;
 
 /// The hopper itself, without what its state tells: whether it may pay, and how many coins are left
 /// to fall.
-#[derive(Clone, Copy, Debug)]
+#[derive(Clone, Copy)]
 pub(crate) struct Device<'s> {
     pub(crate) setup: &'s DeviceSetup,
     pub(crate) listener: Listener,

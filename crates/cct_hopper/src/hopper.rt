@@ -24,7 +24,7 @@ use cct_model_wire::{DeviceBody, DeviceSetup, ENABLE_CODE, MOST_SENT, Reply, Req
 
 /// A hopper of a setup, in one of its three states. Its contracts tell it by all that it met,
 /// newest first.
-#[derive(Debug, Drop)]
+#[derive(Drop)]
 pub enum Hopper<'s> {
     /// It may not pay.
     Off(HopperOff<'s>),

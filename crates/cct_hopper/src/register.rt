@@ -4,7 +4,7 @@ ghost use Rattle.std.specs.Prelude.{◌≡◌, ⊤, ◌+◌, ◌^◌, [], ◌∷
 use bitflags::{Flag, Flags};
 
 /// The test register of a hopper, as a set of named bits.
-#[derive(Clone, Copy, Debug, PartialEq, Eq)]
+#[derive(Clone, Copy, PartialEq, Eq)]
 pub struct Register(u8);
 
 impl Register {

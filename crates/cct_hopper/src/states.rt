@@ -11,19 +11,19 @@ use cct_model_wire::DeviceSetup;
 use thiserror::Error;
 
 /// A hopper that may not pay, as it is after power-up.
-#[derive(Debug, Drop)]
+#[derive(Drop)]
 pub struct HopperOff<'s> {
     pub(crate) device: Device<'s>,
 }
 
 /// A hopper that may pay, with no coin left to pay.
-#[derive(Debug, Drop)]
+#[derive(Drop)]
 pub struct HopperIdle<'s> {
     pub(crate) device: Device<'s>,
 }
 
 /// A hopper that pays.
-#[derive(Debug, Drop)]
+#[derive(Drop)]
 pub struct HopperPaying<'s> {
     pub(crate) device: Device<'s>,
     /// How many coins are left to fall.
@@ -33,7 +33,7 @@ pub struct HopperPaying<'s> {
 }
 
 /// What a hopper is after a coin of its payout fell.
-#[derive(Debug, Drop)]
+#[derive(Drop)]
 pub enum AfterFall<'s> {
     /// Coins are left to fall.
     Paying(HopperPaying<'s>),

@@ -22,7 +22,7 @@ use std::alloc::{AllocError, Global};
 use std::marker::Model;
 
 /// How a session of change ended with a rest, in units of the setup's values.
-#[derive(Clone, Copy, Debug, PartialEq, Eq)]
+#[derive(Clone, Copy, PartialEq, Eq)]
 pub struct Shortfall {
     /// So much of its amount was paid.
     pub paid: u32,
@@ -31,7 +31,7 @@ pub struct Shortfall {
 }
 
 /// What a `serve` comes to (`docs/SCRIPT.md`).
-#[derive(Clone, Copy, Debug, PartialEq, Eq)]
+#[derive(Clone, Copy, PartialEq, Eq)]
 pub enum Serving {
     /// No session runs.
     Idle,

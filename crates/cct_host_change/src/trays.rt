@@ -12,7 +12,7 @@ use cct_model::{DeviceBody, DeviceSetup, Phase, Tray};
 use cct_plan::TRAYS;
 
 /// What becomes of the stock of a tray.
-#[derive(Clone, Copy, Debug, PartialEq, Eq)]
+#[derive(Clone, Copy)]
 pub(crate) enum NewStock {
     /// The operator counted so many coins.
     Counted(u32),

@@ -7,7 +7,7 @@ ghost use Rattle.cct_ident.specs.Identity.{setup_of, text_of};
 use cct_model_wire::{DeviceBody, DeviceSetup, MOST_NAME};
 
 /// The texts by which a device names itself.
-#[derive(Clone, Copy, Debug, PartialEq, Eq)]
+#[derive(Clone, Copy, PartialEq, Eq)]
 pub enum IdentText {
     /// Header 246: who made it.
     Maker,
@@ -22,7 +22,7 @@ pub enum IdentText {
 }
 
 /// The identity of a device of a setup. It borrows the setup and copies nothing of it.
-#[derive(Clone, Copy, Debug, PartialEq, Eq)]
+#[derive(Clone, Copy, PartialEq, Eq)]
 pub struct Identity<'s> {
     setup: &'s DeviceSetup,
 }

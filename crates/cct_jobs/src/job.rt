@@ -33,7 +33,7 @@ use crate::{asks, scan};
 use cct_model::{CheckKind, DeviceSet, End, Listed, Record, Request};
 
 /// A job of the host, by the row at which it stands.
-#[derive(Debug, Drop)]
+#[derive(Drop)]
 pub enum Job {
     /// A row that asks the job's device is tried three times in succession at most: `failed` of its
     /// tries got no wanted reply so far.
@@ -107,7 +107,7 @@ pub enum Job {
 }
 
 /// What a job needs next.
-#[derive(Debug, Drop)]
+#[derive(Drop)]
 pub enum Need {
     /// An exchange on the wire.
     Exchange,
@@ -118,7 +118,7 @@ pub enum Need {
 }
 
 /// A request that a job sends: to whom, and under which check.
-#[derive(Clone, Copy, Debug, PartialEq, Eq)]
+#[derive(Clone, Copy, PartialEq, Eq)]
 pub struct Sending {
     pub to: u8,
     pub kind: CheckKind,

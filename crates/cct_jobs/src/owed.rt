@@ -4,7 +4,7 @@ ghost use Rattle.std.specs.Prelude.{◌<◌, ◌^◌};
 use cct_model::OpenOrder;
 
 /// An order whose life count is one that a hopper tells, in three bytes.
-#[derive(Clone, Copy, Debug, PartialEq, Eq)]
+#[derive(Clone, Copy, PartialEq, Eq)]
 pub struct Owed {
     pub order: OpenOrder,
     pub ghost fits: { order.life < 2 ^ 24 },

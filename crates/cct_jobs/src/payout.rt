@@ -12,7 +12,7 @@ use cct_model::{ENABLE_CODE, OpenOrder, ReplyForm, Request};
 use cct_order::DispenseTicket;
 
 /// By which job an order is closed.
-#[derive(Clone, Copy, Debug, PartialEq, Eq)]
+#[derive(Clone, Copy, PartialEq, Eq)]
 pub enum Closing {
     /// By the payment that opened it.
     Payment,
@@ -21,7 +21,7 @@ pub enum Closing {
 }
 
 /// A row of a payment or a settlement that asks the hopper, and what the job knows there.
-#[derive(Clone, Copy, Debug, PartialEq, Eq)]
+#[derive(Clone, Copy, PartialEq, Eq)]
 pub enum Payout {
     /// A payment enables its hopper.
     Enables {

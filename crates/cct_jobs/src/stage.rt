@@ -18,7 +18,7 @@ const INHIBIT: Request = Request::SetMaster { value: 0 };
 
 /// What is recorded of an epoch that runs: its inhibit mask, the event counter of its last recorded
 /// reading, or 0, and what its acceptor counted at its last record.
-#[derive(Clone, Copy, Debug, PartialEq, Eq)]
+#[derive(Clone, Copy, PartialEq, Eq)]
 pub struct Recorded {
     pub mask: u16,
     pub counter: u8,
@@ -26,7 +26,7 @@ pub struct Recorded {
 }
 
 /// By which job an acceptor is read.
-#[derive(Clone, Copy, Debug, PartialEq, Eq)]
+#[derive(Clone, Copy, PartialEq, Eq)]
 pub enum ReadBy {
     /// By a round.
     Round,
@@ -35,7 +35,7 @@ pub enum ReadBy {
 }
 
 /// A row of a job that asks a device, and what the job knows there.
-#[derive(Clone, Copy, Debug, PartialEq, Eq)]
+#[derive(Clone, Copy, PartialEq, Eq)]
 pub enum Stage {
     /// A start resets its acceptor.
     StartResets {

@@ -13,7 +13,7 @@ use cct_msg::wanted_reply;
 const TRIES: u8 = 3;
 
 /// What a job knows of its device: its address, its check, its family, and its serial number.
-#[derive(Clone, Copy, Debug, PartialEq, Eq)]
+#[derive(Clone, Copy, PartialEq, Eq)]
 pub struct Target {
     pub addr: u8,
     pub kind: CheckKind,

@@ -190,13 +190,7 @@ begins_none setup d (command.Ident addr) (Hopper life value) is paying own suite
     clash same = cc same
 begins_none setup d (command.Settle addr) (Hopper life value) is paying own suited here owed apart = cc owed
 begins_none setup d (command.Vend id price) (Hopper life value) is paying own suited here owed apart = apart
-begins_none setup d (command.Start addr mask) (Hopper life value) is paying own suited here owed apart = cc suited
-begins_none setup d (command.Round addr) (Hopper life value) is paying own suited here owed apart = cc suited
-begins_none setup d (command.Stop addr) (Hopper life value) is paying own suited here owed apart = cc suited
-begins_none setup d (command.Halt addr) (Hopper life value) is paying own suited here owed apart = cc suited
-begins_none setup d command.Scan (Hopper life value) is paying own suited here owed apart = cc suited
-begins_none setup d (command.Path addr place path) (Hopper life value) is paying own suited here owed apart = cc suited
-begins_none setup d (command.Route addr way) (Hopper life value) is paying own suited here owed apart = cc suited
+begins_none setup d c (Hopper life value) is paying own suited here owed apart = cc suited
 
 pub clear_on : (setup : Setup) (d : DeviceSetup) (past news : List Entry) → IsOf setup d → IsHopper d.body →
     Turn d past news → All (IsUnrelated setup) (commands_in news) → IsClear d past → IsClear d (news ++ past)
@@ -227,14 +221,7 @@ hopper_rows d (command.Ident addr) (Hopper life value) paying suited =
     each_told EndsWhereCloses (λ q. tt) (λ q. tt) (ident_requests d.body)
 hopper_rows d (command.Pay addr id count) (Hopper life value) paying suited = search rules
 hopper_rows d (command.Settle addr) (Hopper life value) paying suited = search rules
-hopper_rows d (command.Vend id price) (Hopper life value) paying suited = cc suited
-hopper_rows d (command.Start addr mask) (Hopper life value) paying suited = cc suited
-hopper_rows d (command.Round addr) (Hopper life value) paying suited = cc suited
-hopper_rows d (command.Stop addr) (Hopper life value) paying suited = cc suited
-hopper_rows d (command.Halt addr) (Hopper life value) paying suited = cc suited
-hopper_rows d command.Scan (Hopper life value) paying suited = cc suited
-hopper_rows d (command.Path addr place path) (Hopper life value) paying suited = cc suited
-hopper_rows d (command.Route addr way) (Hopper life value) paying suited = cc suited
+hopper_rows d c (Hopper life value) paying suited = cc suited
 
 abbrev EndsIfCloses : List TableRow → Record → Type 0
 EndsIfCloses rows r = IsClosing r → end_kept rows r ≡ None → ⊥

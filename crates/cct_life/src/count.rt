@@ -5,7 +5,7 @@ ghost use Rattle.std.specs.Prelude.{◌≡◌, ℕ, ◌+◌, ◌-◌, ◌%◌, �
 const COUNTS: u32 = 1 << 24;
 
 /// How many coins a hopper ever paid, modulo 2^24. No reset clears it.
-#[derive(Clone, Copy, Debug, PartialEq, Eq)]
+#[derive(Clone, Copy, PartialEq, Eq)]
 pub struct LifeCount {
     count: u32,
     ghost fits: { count < 2 ^ 24 },

@@ -13,7 +13,7 @@ use cct_wire::Link;
 const NO_BILL: [u8; 7] = *b".......";
 
 /// What is known of the scaling of a country's bills.
-#[derive(Clone, Copy, Debug, PartialEq, Eq)]
+#[derive(Clone, Copy)]
 enum Scaling {
     /// It wasn't asked yet.
     Unasked,

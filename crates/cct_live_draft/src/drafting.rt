@@ -15,7 +15,7 @@ use cct_text::TextLine;
 use cct_wire::Link;
 
 /// What was heard while a setup was drafted.
-#[derive(Clone, Copy, Debug, PartialEq, Eq)]
+#[derive(Clone, Copy, PartialEq, Eq)]
 pub enum Drafted {
     /// Bytes came that aren't the echo of what was sent.
     Heard,

@@ -10,7 +10,7 @@ use cct_text_worth::value_told;
 use cct_wire::Link;
 
 /// What a hopper tells of the value of its coins.
-#[derive(Clone, Copy, Debug, PartialEq, Eq)]
+#[derive(Clone, Copy)]
 enum Worth {
     /// Each is worth so much, 1 to 1,000,000.
     Each(u32),

@@ -16,7 +16,7 @@ use cct_wire::{Link, bare_after_echo};
 const ADDRESS_POLL: [u8; 5] = [0, 0, 1, 253, 2];
 
 /// How a port uses its line. Times are numbers of reads in a row that brought nothing.
-#[derive(Clone, Copy, Debug, PartialEq, Eq)]
+#[derive(Clone, Copy, PartialEq, Eq)]
 pub struct Options {
     /// Whether the line gives back what is sent. Where it doesn't, the port writes the echo itself.
     pub echoes: bool,

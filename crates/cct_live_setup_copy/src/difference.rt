@@ -9,7 +9,7 @@ use std::fmt;
 /// What differs at an address, by the first of these that does. Texts, coins' identifications, the
 /// counts at which a bench's devices begin and the paths of a sorter aren't compared: they touch
 /// neither the records of a journal nor money.
-#[derive(Clone, Copy, Debug, PartialEq, Eq)]
+#[derive(Clone, Copy, PartialEq, Eq)]
 pub enum What {
     /// The setup that is kept has a device there, and the other has none.
     Missing,

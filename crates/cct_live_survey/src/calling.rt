@@ -12,7 +12,7 @@ use cct_model_lines::DeviceSetup;
 use cct_wire::Link;
 
 /// What a device is asked about.
-#[derive(Clone, Copy, Debug, Default, PartialEq, Eq)]
+#[derive(Clone, Copy, Default)]
 pub(crate) enum About {
     /// Its serial number (header 242).
     #[default]
@@ -24,7 +24,7 @@ pub(crate) enum About {
 }
 
 /// What came of a question that was asked once.
-#[derive(Debug, Drop, PartialEq, Eq)]
+#[derive(Drop)]
 pub(crate) enum Called {
     /// It wasn't answered.
     Silent,

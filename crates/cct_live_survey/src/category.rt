@@ -18,7 +18,7 @@ const PAYOUT: &[u8] = b"Payout";
 const BILLS: &[u8] = b"Bill Validator";
 
 /// The text by which a device says what it is.
-#[derive(Clone, Debug, Default, Drop, PartialEq, Eq)]
+#[derive(Clone, Default, Drop, PartialEq, Eq)]
 pub struct Category {
     text: Bytes<MOST_CATEGORY>,
 }

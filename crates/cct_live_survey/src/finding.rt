@@ -12,7 +12,7 @@ use cct_model_lines::MOST_TEXT;
 use cct_text::TextLine;
 
 /// In what the device at an address of the setup isn't as the setup says.
-#[derive(Clone, Debug, Drop, PartialEq, Eq)]
+#[derive(Clone, Drop, PartialEq, Eq)]
 pub enum Finding {
     /// It told no serial number (header 242), asked three times.
     Absent {

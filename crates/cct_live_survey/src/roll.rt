@@ -25,7 +25,7 @@ use std::marker::Model;
 pub const MOST_FINDINGS: usize = 608;
 
 /// A device that is still to be asked: what it is asked next, and how often it was silent to that.
-#[derive(Clone, Copy, Debug, Default, PartialEq, Eq)]
+#[derive(Clone, Copy, Default)]
 pub(crate) struct Turn {
     pub(crate) addr: u8,
     pub(crate) about: About,
@@ -33,7 +33,7 @@ pub(crate) struct Turn {
 }
 
 /// How a call of the roll ended.
-#[derive(Clone, Copy, Debug, PartialEq, Eq)]
+#[derive(Clone, Copy, PartialEq, Eq)]
 pub enum Answered {
     /// Each question that was asked was answered. So it is too where nothing was left to ask.
     All,

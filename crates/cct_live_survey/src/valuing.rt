@@ -17,7 +17,7 @@ use cct_wire::{Heard, Link, hear};
 pub const MOST_VALUE_DATA: usize = 8;
 
 /// A question what a bill or a coin is worth (ccTalk Generic Specification 4, part 3).
-#[derive(Clone, Copy, Debug, PartialEq, Eq)]
+#[derive(Clone, Copy, PartialEq, Eq)]
 pub enum ValueRequest {
     /// Header 157, one data byte, the place of a bill: its identification, seven characters.
     BillId { place: u8 },

@@ -8,7 +8,7 @@ use crate::finding::Finding;
 use cct_model_lines::{Command, has_place};
 
 /// Why a command isn't to be given to the host.
-#[derive(Clone, Copy, Debug, PartialEq, Eq)]
+#[derive(Clone, Copy, PartialEq, Eq)]
 pub enum Withheld {
     /// A payment, and the device told another serial number than the setup's. It would take no
     /// dispense that is meant for the hopper of the setup.

@@ -120,6 +120,8 @@ fn tell_meant(rt: &impl Eprint, call: &Call<'_>) {
 
 /// Audits the capture, and says on standard error how many of its exchanges were for each watched
 /// device.
+// In a frame of its own it takes no room where a script is played.
+#[inline(never)]
 fn audit(rt: &HostRuntime) -> Status {
     let mut script = KeptSource::of_capture(StdSource::new(rt.reader()));
     let mut out = KeptSink::new(StdSink::new(io::writer(rt)));
@@ -139,6 +141,8 @@ fn audit(rt: &HostRuntime) -> Status {
 }
 
 /// Tells each line of the script that is refused, and says on standard error what is wrong with it.
+// In a frame of its own it takes no room where a script is played.
+#[inline(never)]
 fn check(rt: &HostRuntime, call: &Call<'_>) -> Status {
     let window = RefCell::new(Window::of_script());
     let mut script = SharedSource::new(StdSource::new(rt.reader()), &window);

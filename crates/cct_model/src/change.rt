@@ -1,7 +1,7 @@
 //! Sessions of change: what the operator's desk knows of one.
 
 /// The coins of one hopper, as the operator counted them.
-#[derive(Clone, Copy, Debug, Default, PartialEq, Eq)]
+#[derive(Clone, Copy, Default, PartialEq, Eq)]
 pub struct Tray {
     /// The address of the hopper.
     pub addr: u8,
@@ -13,7 +13,7 @@ pub struct Tray {
 
 /// A payment that a session of change gave the host: hopper `addr` is to pay `count` coins, and the
 /// order has this id.
-#[derive(Clone, Copy, Debug, PartialEq, Eq)]
+#[derive(Clone, Copy, PartialEq, Eq)]
 pub struct Payment {
     pub addr: u8,
     pub id: u32,
@@ -21,7 +21,7 @@ pub struct Payment {
 }
 
 /// What became of a payment.
-#[derive(Clone, Copy, Debug, PartialEq, Eq)]
+#[derive(Clone, Copy, PartialEq, Eq)]
 pub enum Phase {
     /// Its job is to open its order.
     Begun,
@@ -36,14 +36,14 @@ pub enum Phase {
 }
 
 /// The last payment of a session, which isn't settled yet.
-#[derive(Clone, Copy, Debug, PartialEq, Eq)]
+#[derive(Clone, Copy, PartialEq, Eq)]
 pub struct Due {
     pub payment: Payment,
     pub phase: Phase,
 }
 
 /// A session of change (`docs/SCRIPT.md`). Its amounts are in units of the setup's values.
-#[derive(Clone, Copy, Debug, PartialEq, Eq)]
+#[derive(Clone, Copy, PartialEq, Eq)]
 pub struct Session {
     /// What is to be paid, 1 to 10,000.
     pub amount: u32,

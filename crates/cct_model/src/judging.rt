@@ -3,7 +3,7 @@
 use crate::Record;
 
 /// What a reading means beside what was recorded before.
-#[derive(Debug, Drop)]
+#[derive(Drop)]
 pub enum Judged {
     /// No event came and no coin was accepted.
     Nothing,
@@ -16,7 +16,7 @@ pub enum Judged {
 }
 
 /// What is recorded of an acceptor.
-#[derive(Clone, Copy, Debug, PartialEq, Eq)]
+#[derive(Clone, Copy, PartialEq, Eq)]
 pub enum EpochState {
     /// No epoch runs.
     Idle,
@@ -31,7 +31,7 @@ pub enum EpochState {
 
 /// An order that is open: its id, its hopper, how many coins it is for, and the life count of the
 /// hopper, below 2^24, that was read before.
-#[derive(Clone, Copy, Debug, PartialEq, Eq)]
+#[derive(Clone, Copy, PartialEq, Eq)]
 pub struct OpenOrder {
     pub id: u32,
     pub addr: u8,

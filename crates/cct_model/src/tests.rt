@@ -6,7 +6,7 @@ ghost use Rattle.cct_model.specs.Refusal.{listed, need_for, room_tests, state_te
 use cct_model_lines::Command;
 
 /// What has to hold that a command isn't refused.
-#[derive(Clone, Copy, Debug, PartialEq, Eq)]
+#[derive(Clone, Copy, PartialEq, Eq)]
 pub enum Test {
     /// A device is at the address.
     AtADevice,

@@ -13,7 +13,7 @@ pub const GREATEST_AMOUNT: u32 = 10_000;
 pub const GREATEST_FIRST: u32 = 4_000_000_000;
 
 /// A command of the operator to the host.
-#[derive(Clone, Copy, Debug, PartialEq, Eq)]
+#[derive(Clone, Copy, PartialEq, Eq)]
 pub enum Command {
     /// Let acceptor `addr`, of coins or of bills, accept the places whose bit in the inhibit mask
     /// is 1. Bit 0 is place 1.
@@ -86,7 +86,7 @@ pub enum CommandNo {
 }
 
 /// What is wrong on the wire in the next exchange.
-#[derive(Clone, Debug, Drop)]
+#[derive(Clone, Drop)]
 pub enum WireFault {
     /// Nothing.
     Clear,
@@ -110,14 +110,14 @@ impl WireFault {
 
 /// Where in a put of a record the host's power is cut: the job at this address has made so many, 0
 /// to 4, of the four disk calls of its put.
-#[derive(Clone, Copy, Debug, PartialEq, Eq)]
+#[derive(Clone, Copy, PartialEq, Eq)]
 pub struct CrashAt {
     pub addr: u8,
     pub calls: u8,
 }
 
 /// One atomic step of a script.
-#[derive(Debug, Drop)]
+#[derive(Drop)]
 pub enum Step {
     /// A coin of this coin place, 1 to 16, falls into acceptor `addr`.
     Coin { addr: u8, place: u8 },

@@ -5,7 +5,7 @@ use std::marker::Model;
 
 /// A set of addresses, 0 to 255. Contracts see which address is a member, in rising order of the
 /// addresses, and the members as one list in that order, `addresses_in`.
-#[derive(Clone, Copy, Debug, PartialEq, Eq)]
+#[derive(Clone, Copy, PartialEq, Eq)]
 pub struct DeviceSet {
     /// Address `a` is bit `a % 64` of word `a / 64`.
     words: [u64; 4],

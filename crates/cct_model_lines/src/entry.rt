@@ -14,14 +14,14 @@ pub const MOST_LINES: u32 = 1_048_576;
 pub const MOST_TEXT: usize = 3000;
 
 /// The devices that answered a scan, by the check under which they did.
-#[derive(Clone, Copy, Debug, PartialEq, Eq)]
+#[derive(Clone, Copy, PartialEq, Eq)]
 pub struct Listed {
     pub simple: DeviceSet,
     pub crc: DeviceSet,
 }
 
 /// How a job ended.
-#[derive(Clone, Copy, Debug, PartialEq, Eq)]
+#[derive(Clone, Copy, PartialEq, Eq)]
 pub enum End {
     /// The epoch was recorded, and the acceptor took its inhibit mask.
     Started,
@@ -100,7 +100,7 @@ pub enum LineKind {
 }
 
 /// What a sum over a load's transcript counts.
-#[derive(Clone, Copy, Debug, PartialEq, Eq)]
+#[derive(Clone, Copy, PartialEq, Eq)]
 pub enum SumOf {
     /// Steps played.
     Steps,
@@ -119,7 +119,7 @@ pub enum SumOf {
 /// What a monitor says of the watched device at `addr`: `first` and `last` are the numbers of two
 /// taps, from 1. All three are of a span: two readings of an acceptor's credits with none between
 /// them, or two life counts of a hopper.
-#[derive(Clone, Debug, Drop, PartialEq, Eq)]
+#[derive(Clone, Drop, PartialEq, Eq)]
 pub enum Said {
     /// The acceptor accepted these coins between its two readings, oldest first: those among as
     /// many of the newest events as the two event counters tell, at most five (ccTalk Generic
@@ -162,7 +162,7 @@ impl Default for Said {
 }
 
 /// One entry of a transcript, which is one line of text (`docs/TRANSCRIPT.md`).
-#[derive(Debug, Drop)]
+#[derive(Drop)]
 pub enum Entry {
     /// An acceptor took a coin.
     Accepted {

@@ -3,7 +3,7 @@
 use crate::{DeviceSetup, Texts};
 
 /// What a setup line of a script says.
-#[derive(Debug, Drop)]
+#[derive(Drop)]
 pub enum SetupLine {
     /// There is this coin acceptor.
     Acceptor(DeviceSetup),

@@ -6,7 +6,7 @@ use crate::command::Command;
 use cct_model_wire::{BROADCAST, COIN_PLACES, HOST, PATHS, RETURN_CODE, STACK_CODE};
 
 /// What a field of a command's line spells.
-#[derive(Clone, Copy, Debug, PartialEq, Eq)]
+#[derive(Clone, Copy, PartialEq, Eq)]
 pub enum Field {
     /// There is no field.
     Nothing,

@@ -43,7 +43,7 @@ pub struct Pair {
 
 /// The answer to header 229: the event counter (0 after a reset, then 1 to 255, and 1 again) and
 /// the last five events, newest first.
-#[derive(Clone, Copy, Debug, PartialEq, Eq)]
+#[derive(Clone, Copy, PartialEq, Eq)]
 pub struct Credits {
     pub counter: u8,
     pub pairs: [Pair; EVENTS],

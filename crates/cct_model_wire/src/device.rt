@@ -13,7 +13,7 @@ use std::alloc::AllocError;
 use std::marker::Model;
 
 /// The texts by which a device names itself: 1 to 24 printing characters each.
-#[derive(Clone, Debug, Default, Drop, PartialEq, Eq)]
+#[derive(Clone, Default, Drop, PartialEq, Eq)]
 pub struct Texts {
     pub maker: Name,
     pub product: Name,
@@ -22,7 +22,7 @@ pub struct Texts {
 }
 
 /// What kind of device it is, with what its kind needs.
-#[derive(Clone, Copy, Debug, PartialEq, Eq)]
+#[derive(Clone, Copy, PartialEq, Eq)]
 pub enum DeviceBody {
     /// A coin acceptor. Its accept counter starts at `accepts`, below 2^24. For each coin place,
     /// place 1 first, it has the value of its coin, 1 to 1,000,000 or 0 for none, and the six
@@ -116,7 +116,7 @@ impl DeviceBody {
 
 /// One device of a setup: its address, 2 to 255, its check, its serial number, below 2^24, and its
 /// texts, which a script says by a line of their own or not at all.
-#[derive(Clone, Debug, Default, Drop, PartialEq, Eq)]
+#[derive(Clone, Default, Drop, PartialEq, Eq)]
 pub struct DeviceSetup {
     pub addr: u8,
     pub kind: CheckKind,
@@ -144,7 +144,7 @@ pub const DEVICES: usize = 32;
 const ADDRESSES: usize = 256;
 
 /// The devices of a setup, in the order of the script.
-#[derive(Clone, Debug, Drop, PartialEq, Eq)]
+#[derive(Clone, Drop, PartialEq, Eq)]
 pub struct Devices {
     devices: ArrayVec<DeviceSetup, DEVICES>,
     /// The place of the first device at each address.
@@ -248,7 +248,7 @@ fn replace_in(devices: &mut [DeviceSetup], device: &DeviceSetup)
 }
 
 /// The machine that a script plays on.
-#[derive(Clone, Debug, Default, Drop, PartialEq, Eq)]
+#[derive(Clone, Default, Drop, PartialEq, Eq)]
 pub struct Setup {
     pub devices: Devices,
 }

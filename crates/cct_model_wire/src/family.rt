@@ -4,7 +4,7 @@ ghost use Rattle.cct_model_wire.specs.declared.family.Family.TheVariants as fami
 ghost use Rattle.cct_model_wire.specs.Family.{is_same, known_to, takes_money};
 
 /// What happens to a device besides the bytes that it hears.
-#[derive(Clone, Copy, Debug, PartialEq, Eq)]
+#[derive(Clone, Copy, PartialEq, Eq)]
 pub enum Happening {
     /// A coin of this coin place, 1 to 16, falls in.
     Coin { place: u8 },
@@ -22,7 +22,7 @@ pub enum Happening {
 
 /// A family of devices: they have the same requests of their own, and the same things happen to
 /// them.
-#[derive(Clone, Copy, Debug, PartialEq, Eq)]
+#[derive(Clone, Copy, PartialEq, Eq)]
 pub enum Family {
     /// Coin acceptors (ccTalk Generic Specification 4, part 2).
     Acceptor,

@@ -16,7 +16,7 @@ pub const RETURN_CODE: u8 = 0;
 pub const STACK_CODE: u8 = 1;
 
 /// A request to a device. Where nothing is said, it has no data bytes.
-#[derive(Clone, Copy, Debug, PartialEq, Eq)]
+#[derive(Clone, Copy, PartialEq, Eq)]
 pub enum Request {
     /// Header 254: is the device there?
     SimplePoll,
@@ -88,7 +88,7 @@ pub enum Request {
 }
 
 /// A device's answer. Where nothing is said, it has header 0.
-#[derive(Clone, Copy, Debug, PartialEq, Eq)]
+#[derive(Clone, Copy, PartialEq, Eq)]
 pub enum Reply<'a> {
     /// No data byte.
     Ack,
@@ -155,7 +155,7 @@ pub enum Reply<'a> {
 }
 
 /// The form in which the host wants a reply: a kind of [`Reply`] with header 0.
-#[derive(Clone, Copy, Debug, PartialEq, Eq)]
+#[derive(Clone, Copy, PartialEq, Eq)]
 pub enum ReplyForm {
     Ack,
     Credits,

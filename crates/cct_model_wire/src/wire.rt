@@ -22,7 +22,7 @@ pub const MOST_NAME: usize = 24;
 
 /// Which check a device's messages carry: one byte that makes their sum 0, or a CRC of 16 bits
 /// (ccTalk Generic Specification 4, part 1).
-#[derive(Clone, Copy, Debug, Default, PartialEq, Eq)]
+#[derive(Clone, Copy, Default, PartialEq, Eq)]
 pub enum CheckKind {
     #[default]
     Simple,
@@ -30,7 +30,7 @@ pub enum CheckKind {
 }
 
 /// A run of bytes, at most `MOST`.
-#[derive(Clone, Debug, Default, Drop, PartialEq, Eq)]
+#[derive(Clone, Default, Drop, PartialEq, Eq)]
 pub struct Bytes<const MOST: usize> {
     bytes: ArrayVec<u8, MOST>,
 }

@@ -11,7 +11,7 @@ use cct_epoch::{distance, posted};
 use cct_model::{Credits, EVENTS};
 
 /// The last reading of an acceptor.
-#[derive(Clone, Copy, Debug, PartialEq, Eq)]
+#[derive(Clone, Copy, PartialEq, Eq)]
 pub(crate) struct LastReading {
     /// The number of its tap.
     pub number: u32,
@@ -22,7 +22,7 @@ pub(crate) struct LastReading {
 }
 
 /// A span that waits to be said.
-#[derive(Clone, Copy, Debug, PartialEq, Eq)]
+#[derive(Clone, Copy, PartialEq, Eq)]
 pub(crate) struct WaitingSpan {
     /// The numbers of the taps of its two readings.
     pub first: u32,
@@ -34,7 +34,7 @@ pub(crate) struct WaitingSpan {
 }
 
 /// What is kept of a watched acceptor.
-#[derive(Clone, Copy, Debug, PartialEq, Eq)]
+#[derive(Clone, Copy, PartialEq, Eq)]
 pub(crate) struct AcceptorWatch {
     last: Option<LastReading>,
     waiting: Option<WaitingSpan>,

@@ -7,7 +7,7 @@ use arrayvec::ArrayVec;
 use cct_audit_taps::{Said, fallen_between};
 
 /// The last life count of a hopper.
-#[derive(Clone, Copy, Debug, PartialEq, Eq)]
+#[derive(Clone, Copy, PartialEq, Eq)]
 pub struct LastLife {
     /// The number of the tap that showed it.
     pub number: u32,

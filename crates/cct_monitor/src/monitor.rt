@@ -17,7 +17,7 @@ use cct_model::CheckKind;
 ///
 /// A contract shows it by all that came to it, newest first: the devices that it was to watch, and
 /// the taps. A device is watched from the next tap on.
-#[derive(Debug, Drop)]
+#[derive(Drop)]
 pub struct Monitor {
     taps: u32,
     devices: ArrayVec<Watched, WATCHED>,

@@ -7,7 +7,7 @@ use cct_audit_taps::{Deed, Shown, Sign};
 
 /// How many taps were for a watched device, and what they showed. Each number stands still at its
 /// type's end.
-#[derive(Clone, Copy, Debug, PartialEq, Eq)]
+#[derive(Clone, Copy, PartialEq, Eq)]
 pub struct Tally {
     /// Taps in which a message was sent to it, under its check.
     pub messages: u32,

@@ -16,7 +16,7 @@ use cct_audit_taps::{
 use cct_model::CheckKind;
 
 /// What a watched device is, and what is taken for granted of it.
-#[derive(Clone, Copy, Debug, PartialEq, Eq)]
+#[derive(Clone, Copy, PartialEq, Eq)]
 pub enum Family {
     /// An acceptor of coins. Its spans are sure where its inhibit mask shows that it didn't reset.
     Acceptor,
@@ -32,7 +32,7 @@ pub enum Family {
 }
 
 /// What is kept of a watched device, by its family.
-#[derive(Clone, Copy, Debug, PartialEq, Eq)]
+#[derive(Clone, Copy, PartialEq, Eq)]
 pub(crate) enum Kept {
     Acceptor(AcceptorWatch),
     QuietAcceptor(Money, Option<LastReading>),
@@ -42,7 +42,7 @@ pub(crate) enum Kept {
 }
 
 /// A watched device.
-#[derive(Clone, Copy, Debug, PartialEq, Eq)]
+#[derive(Clone, Copy, PartialEq, Eq)]
 pub(crate) struct Watched {
     pub addr: u8,
     pub kind: CheckKind,
@@ -51,7 +51,7 @@ pub(crate) struct Watched {
 }
 
 /// A watched device, and how many taps were for it.
-#[derive(Clone, Copy, Debug, PartialEq, Eq)]
+#[derive(Clone, Copy, PartialEq, Eq)]
 pub struct Heard {
     pub addr: u8,
     pub kind: CheckKind,

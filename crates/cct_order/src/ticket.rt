@@ -5,7 +5,6 @@ use cct_model::OpenOrder;
 
 /// Lets a hopper dispense the coins of an order once: the hopper's serial number and the count of
 /// the order. It can't be copied, and what holds it has to spend it.
-#[derive(Debug)]
 pub struct DispenseTicket {
     serial: u32,
     count: u8,

@@ -15,7 +15,7 @@ const NO_EVENT: Pair = Pair { a: 0, b: 0 };
 ///
 /// A contract shows a buffer by the list of all events put into it since it was made or cleared,
 /// newest first.
-#[derive(Debug, Drop)]
+#[derive(Drop)]
 pub struct CreditRing {
     counter: u8,
     newest: HeapCircularBuffer<Pair>,

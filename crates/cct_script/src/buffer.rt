@@ -18,7 +18,7 @@ use std::marker::Model;
 const ROOM: usize = MOST_LINE + 1;
 
 /// What the reader found at the front of the bytes that it holds.
-#[derive(Clone, Copy, Debug, PartialEq, Eq)]
+#[derive(Clone, Copy, PartialEq, Eq)]
 pub(crate) enum Held {
     /// A whole line of so many bytes, and after it its line feed.
     Line(usize),

@@ -22,7 +22,7 @@ const ACCEPTOR: &[u8] = b"acceptor";
 const HOPPER: &[u8] = b"hopper";
 
 /// What a line of a capture says.
-#[derive(Debug, Drop)]
+#[derive(Drop)]
 pub enum CaptureLine {
     /// `watch A CHECK KIND`: an acceptor of coins or a hopper is at the address, 2 to 255, with
     /// this check.

@@ -12,7 +12,7 @@ use cct_edge::{Failed, Source};
 pub const MOST_PASSED: u32 = 1_048_576;
 
 /// What comes next in an input that is read line by line.
-#[derive(Clone, Copy, Debug)]
+#[derive(Clone, Copy)]
 pub enum NextLine<'a> {
     /// The bytes of a line, 1,200 at most, without its line feed.
     Text(&'a [u8]),
@@ -25,7 +25,7 @@ pub enum NextLine<'a> {
 }
 
 /// What was found in the bytes held.
-#[derive(Clone, Copy, Debug, PartialEq, Eq)]
+#[derive(Clone, Copy, PartialEq, Eq)]
 enum Found {
     /// A whole line of so many bytes, and after it its line feed.
     Text(usize),

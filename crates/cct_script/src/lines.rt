@@ -10,7 +10,7 @@ use cct_model_lines::MOST_LINES;
 use thiserror::Error;
 
 /// A line, or the end of the input.
-#[derive(Clone, Copy, Debug)]
+#[derive(Clone, Copy)]
 pub enum Line<'a> {
     /// The bytes of a line, 1,200 at most, without its line feed.
     Text(&'a [u8]),

@@ -19,7 +19,7 @@ const POLL: &[u8] = b"poll";
 const STATUS: &[u8] = b"status";
 
 /// What a line says to a host on a real line.
-#[derive(Clone, Copy, Debug, PartialEq, Eq)]
+#[derive(Clone, Copy, PartialEq, Eq)]
 pub enum LiveLine {
     /// `start`, `pay` and the other commands of a script.
     Command(Command),

@@ -18,7 +18,7 @@ use cct_script::{Lines, ScriptStop, behind_end};
 use cct_text::{TextLine, write_entry};
 
 /// How the proofreading of a script came to its end.
-#[derive(Clone, Copy, Debug, PartialEq, Eq)]
+#[derive(Clone, Copy, PartialEq, Eq)]
 pub enum ProofEnd {
     /// No line of it is refused.
     Clean,

@@ -9,7 +9,7 @@ use cct_model_lines::{LineKind, Setup, SetupLine, Step};
 use cct_script::{add, read_setup_line, read_step_into};
 
 /// Which lines stand next in a script that hasn't ended.
-#[derive(Clone, Copy, Debug, PartialEq, Eq)]
+#[derive(Clone, Copy)]
 pub(crate) enum Part {
     /// Those of its setup.
     Setup,
@@ -18,7 +18,7 @@ pub(crate) enum Part {
 }
 
 /// What a line was found to be.
-#[derive(Clone, Copy, Debug, PartialEq, Eq)]
+#[derive(Clone, Copy)]
 pub(crate) enum Looked {
     /// A line of the script, after which such lines stand.
     Goes(Part),

@@ -12,7 +12,7 @@ use cct_model_wire::{COIN_PLACES, PATHS, has_place};
 use thiserror::Error;
 
 /// What an acceptor was told of coins since its last reset.
-#[derive(Clone, Copy, Debug, PartialEq, Eq)]
+#[derive(Clone, Copy, PartialEq, Eq)]
 pub struct CoinTable {
     mask: u16,
     normal: bool,

@@ -25,7 +25,7 @@ pub enum Fed {
 /// that says. It needs no device, so a host may take its replies from a line by it. Each byte goes
 /// into the sum or the CRC when it comes, and none is looked at again. Its contracts tell it by the
 /// bytes that came since the last gap.
-#[derive(Clone, Copy, Debug)]
+#[derive(Clone, Copy)]
 pub struct Framer {
     kind: CheckKind,
     /// The first bytes since the gap.

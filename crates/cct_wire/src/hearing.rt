@@ -10,7 +10,7 @@ use cct_frame::{FrameFault, FrameView, read};
 use cct_model_wire::CheckKind;
 
 /// What the host hears in one exchange.
-#[derive(Clone, Copy, Debug, PartialEq, Eq)]
+#[derive(Clone, Copy, PartialEq, Eq)]
 pub enum Heard<'a> {
     /// The echo is damaged: what was heard differs from what was sent first at the place `at`, or
     /// ends there.
