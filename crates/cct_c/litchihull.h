@@ -54,8 +54,7 @@ enum {
     LH_BAD_PART = 29,     /* the part isn't all 0, and has no journal of this version */
     LH_BAD_RECORD = 30,   /* a record can't be read, or doesn't follow those before it under this setup */
     LH_BAD_COMMAND = 31,  /* the line is no command */
-    LH_NOT_NOW = 32,      /* something else is due first: lh_host_ask tells what */
-    LH_OVER = 33          /* raw calls alone: no part leads here */
+    LH_NOT_NOW = 32       /* something else is due first: lh_host_ask tells what */
 };
 
 /* Checks: one byte that makes the sum of all 0, or a CRC of 16 bits. */

@@ -35,7 +35,7 @@ static uint8_t *fence(void) {
 }
 
 static void want_code(uint32_t code) {
-    WANT(code <= LH_OVER);
+    WANT(code <= LH_NOT_NOW);
 }
 
 #endif

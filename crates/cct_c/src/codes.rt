@@ -103,9 +103,6 @@ pub const BAD_COMMAND: u32 = 31;
 /// This isn't due now.
 pub const NOT_NOW: u32 = 32;
 
-/// The host is over.
-pub const OVER: u32 = 33;
-
 /// The forms of replies by their codes.
 const FORMS: [ReplyForm; 14] = [
     ReplyForm::Ack,

@@ -7,7 +7,7 @@ ghost use Rattle.cct_poll.specs.Starts.{RefusesStart, Starts};
 ghost use Rattle.cct_poll.specs.Steps.{Tells};
 
 use crate::codes::{
-    BAD_COMMAND, BAD_PART, BAD_RECORD, NO_MEMORY, NO_ROOM, NOT_NOW, OK, OVER, SMALL_PART, TOO_LONG,
+    BAD_COMMAND, BAD_PART, BAD_RECORD, NO_MEMORY, NO_ROOM, NOT_NOW, OK, SMALL_PART, TOO_LONG,
 };
 use crate::frames::put;
 use crate::machine::Machine;
@@ -95,7 +95,6 @@ impl Hosted {
             → RefusesStart machine.now.setup part.now PollNo.Alien }
         ensures bad { result ≡ Err BAD_RECORD → RefusesStart machine.now.setup part.now
             (PollNo.BadRecord index.new) }
-        ensures over { result ≡ Err OVER → RefusesStart machine.now.setup part.now PollNo.Disk }
     {
         let Ok(part) = part.to_vec(alloc) else {
             return Err(NO_MEMORY);
@@ -111,7 +110,6 @@ impl Hosted {
                 *index = bad;
                 Err(BAD_RECORD)
             }
-            Err(PollNo::Disk) => Err(OVER),
         }
     }
 

@@ -1,12 +1,14 @@
 -- A write of a disk in memory does what a write of a disk does, also where it fails.
-use Rattle.std.proofs.Common.{◌≡◌, ◌⊎◌, inl, inr, ⊎_elim, true, ℕ, ◌+◌, ◌≤◌, Option, Some, Result, Ok, Err, OnOk, OnErr}
-use Rattle.std.proofs.Common.{List, length, refl, sym, ◌∙◌, ap, subst, arith}
+use Rattle.std.proofs.Common.{◌≡◌, ◌⊎◌, inl, inr, ⊎_elim, true, ℕ, ◌+◌, ◌<◌, ◌≤◌, Option, Some, Result, Ok, Err, IsErr, OnOk, OnErr}
+use Rattle.std.proofs.Common.{List, drop, length, refl, sym, ◌∙◌, ap, subst, arith}
 use Rattle.std.proofs.lemmas.Bool.{cases_lt}
+use Rattle.std.proofs.lemmas.List.{length-append, length-take}
+use Rattle.cct_edge.specs.Memory.{FailsNext}
 use Rattle.cct_edge.specs.declared.fault.Failed.{Failed}
-use Rattle.cct_disk.specs.Disk.{put_at, SameOutside}
-use Rattle.cct_disk.specs.Content.{written}
+use Rattle.cct_disk.specs.Disk.{IsReady, SameOutside, Spends, put_at, sure_bytes, sure_calls}
+use Rattle.cct_disk.specs.Content.{Content, window, written}
 use Rattle.cct_disk.specs.Laws.{told}
-use Rattle.cct_disk.specs.Memory.{MemoryDisk, LacksRoom, after_change, after_fault, after_torn}
+use Rattle.cct_disk.specs.Memory.{LacksRoom, MemoryDisk, Spent, after_change, after_fault, after_read, after_torn}
 use Rattle.cct_disk.specs.declared.traced.TheConstants.{MOST_CHANGES, MOST_REPLACED}
 use Rattle.cct_disk.proofs.Tears.{tear_outside}
 
@@ -57,3 +59,44 @@ module _ (at : ℕ) (bytes : List ℕ) (old new : MemoryDisk) where
     fails_torn (Ok _) by_name by_room = tt
     fails_torn (Err _) by_name by_room =
         ⊎_elim (λ lacks. untouched (by_room lacks)) (λ has. torn (by_name has)) lacks_or_not
+
+-- a call that never fails: none is told to, and there is room
+sure : (old : MemoryDisk) (many calls bytes : ℕ) → Spent old calls bytes → calls < sure_calls → bytes + many ≤ sure_bytes
+    → FailsNext old.fails old.calls ⊎ LacksRoom old many → ⊥
+sure old many calls bytes spent few short (inl told) =
+    let none = subst (λ (fails : List ℕ). FailsNext fails old.calls) spent.told_none told in omega (arith, none.1)
+sure old many calls bytes spent few short (inr (inl full)) = omega (arith, spent.few, few, full)
+sure old many calls bytes spent few short (inr (inr full)) = omega (arith, spent.short, short, full)
+
+-- a change is one more of those that never fail
+pub spends : (content : Content) (many : ℕ) (old new : MemoryDisk) (result : Result (Unit {0}) Failed)
+    → (IsErr result → FailsNext old.fails old.calls ⊎ LacksRoom old many)
+    → OnOk result (new ≡ after_change content old) → length content.replaced ≤ length old.content.replaced + many
+    → Spends Spent many old new
+spends content many old new (Ok _) fails after more calls bytes spent few short =
+    subst (λ (d : MemoryDisk). Spent d (calls + 1) (bytes + many)) (sym after) (record {
+      told_none = spent.told_none;
+      unfailed = spent.unfailed;
+      few = omega (arith, spent.few);
+      short = omega (arith, spent.short, more);
+    })
+spends content many old new (Err _) fails after more calls bytes spent few short =
+    absurd (sure old many calls bytes spent few short (fails refl))
+
+-- how many bytes a write replaces
+pub replaces : (at : ℕ) (bytes : List ℕ) (old : Content)
+    → length (written at bytes old).replaced ≤ length old.replaced + length bytes
+replaces at bytes old =
+    omega (arith, length-append old.replaced (window at (length bytes) old.bytes), length-take (length bytes) (drop at old.bytes))
+
+-- a read of a disk that is ready leaves it so
+pub reads_on : (old new : MemoryDisk) (result : Result (Unit {0}) Failed) → (IsErr result → FailsNext old.fails old.calls)
+    → OnOk result (new ≡ after_read old) → IsReady Spent old → IsReady Spent new
+reads_on old new (Ok _) fails after ready =
+    subst (λ (d : MemoryDisk). Spent d 0 0) (sym after) (record {
+      told_none = ready.told_none;
+      unfailed = ready.unfailed;
+      few = ready.few;
+      short = ready.short;
+    })
+reads_on old new (Err _) fails after ready = absurd (sure old 0 0 0 ready (omega arith) (omega arith) (inl (fails refl)))

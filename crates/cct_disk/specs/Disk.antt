@@ -1,5 +1,6 @@
 -- What the calls of a disk do to its bytes, and what a power cut may make of them.
-use Rattle.std.specs.Prelude.{◌≡◌, ◌⊎◌, ℕ, ◌+◌, ◌≤◌, Bool, true, Option, Some, is_some, List, ◌++◌}
+use Rattle.std.specs.Prelude.{◌≡◌, ◌⊎◌, ℕ, ◌+◌, ◌<◌, ◌≤◌, Bool, true, Option, Some, is_some, List}
+use Rattle.std.specs.Prelude.{◌++◌}
 use Rattle.std.specs.Prelude.{length, take, drop}
 use Rattle.std.specs.Prelude.{Result, MatchResult}
 use Rattle.cct_edge.specs.Faults.{next_count}
@@ -74,6 +75,23 @@ pub record IsCutBy {D : Type 0} (honest : D → Bool) (seen : D → Option (List
 -- a power cut counts one more cut, and one that failed none
 abbrev pub CountsCut : {T E : Type 0} → ℕ → ℕ → Result T E → Type 0
 CountsCut before now result = MatchResult result (λ _. now ≡ next_count before) (λ _. now ≡ before)
+
+-- how many writes and syncs never fail on a disk that was ready, and how many bytes of them
+abbrev pub sure_calls : ℕ
+sure_calls = 12
+
+abbrev pub sure_bytes : ℕ
+sure_bytes = 1280
+
+-- the next calls of a disk never fail: any reads, and then so many writes and syncs
+abbrev pub IsReady : {D : Type 0} → (D → ℕ → ℕ → Type 0) → D → Type 0
+IsReady spent disk = spent disk 0 0
+
+-- a write of so many bytes, or a sync, which writes none, is one more of those that never fail
+abbrev pub Spends : {D : Type 0} → (D → ℕ → ℕ → Type 0) → ℕ → D → D → Type 0
+Spends spent many old new =
+    (calls bytes : ℕ) → spent old calls bytes → calls < sure_calls → bytes + many ≤ sure_bytes
+    → spent new (calls + 1) (bytes + many)
 
 -- a cut at any moment from `old` to `new` might have left only what has P; and one since an earlier
 -- moment only that, or what it might have left before

@@ -3,6 +3,8 @@ use Rattle.std.specs.Prelude.{◌≡◌, ℕ, Option, None, Some, List, [], ◌�
 use mathlib.Core.Path.{sym, ap, subst}
 use mathlib.Core.Logic.{inl, inr}
 use Rattle.std.proofs.Math.Nat.{lt_irrefl}
+use Rattle.std.proofs.Common.{arith}
+use Rattle.cct_edge.specs.Faults.{Caused}
 use Rattle.cct_disk.specs.Content.{Content, IsImage, IsImageSince, may_leave}
 use Rattle.cct_disk.specs.declared.traced.Change.{Change}
 
@@ -47,3 +49,8 @@ IsUntold (Some bytes) = ⊥
 -- a disk that doesn't tell its bytes has no bytes of another length
 pub untold_fits : (size : ℕ) (bytes : List ℕ) → None ≡ Some bytes → length bytes ≡ size
 untold_fits size bytes is = absurd (subst IsUntold is tt)
+
+-- A call that fails counts its fault: so none has failed where none is counted.
+pub sure : (before now : ℕ) (Fails : Type 0) → before ≡ 0 → now ≡ 0 → Caused before now Fails
+    → Fails → ⊥
+sure before now Fails none still caused fails = omega (arith, none, still, caused.rose fails)

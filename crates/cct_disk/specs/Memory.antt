@@ -1,10 +1,11 @@
 -- The value as which contracts see a disk in memory, and what a call makes of it.
-use Rattle.std.specs.Prelude.{◌≡◌, ◌⊎◌, ◌↔◌, ℕ, ◌+◌, true, Some, List, [], length, replicate}
+use Rattle.std.specs.Prelude.{◌≡◌, ◌⊎◌, ◌↔◌, ◌≤◌, ℕ, ◌+◌, true, Some, List, [], length, replicate}
 use Rattle.std.specs.Prelude.{Result, IsErr, OnOk, OnErr}
 use Rattle.cct_edge.specs.Faults.{HasCause, next_count}
 use Rattle.cct_edge.specs.Memory.{FailsNext}
 use Rattle.cct_disk.specs.Content.{Content, IsCut, written, written_torn}
-use Rattle.cct_disk.specs.Disk.{GoesOn, Outlasts}
+use Rattle.cct_disk.specs.declared.traced.TheConstants.{MOST_CHANGES, MOST_REPLACED}
+use Rattle.cct_disk.specs.Disk.{GoesOn, Outlasts, sure_bytes, sure_calls}
 use Rattle.cct_disk.specs.Traced.{PassesRoom}
 
 -- its content, how many writes, syncs and cuts changed it, the numbers of the calls that fail, and
@@ -31,6 +32,14 @@ blank n fails = record {
 -- one more change that replaces so many bytes passes the room
 abbrev pub LacksRoom : MemoryDisk → ℕ → Type 0
 LacksRoom disk more = PassesRoom disk.changes (length disk.content.replaced) more
+
+-- no call is told to fail, and none has failed; and since it was ready it took at most so many
+-- changes, which replaced at most so many bytes
+pub record Spent (disk : MemoryDisk) (calls bytes : ℕ) : Type 0 where
+  pub told_none : disk.fails ≡ []
+  pub unfailed : disk.faults ≡ 0
+  pub few : disk.changes + sure_calls ≤ MOST_CHANGES + calls
+  pub short : length disk.content.replaced + sure_bytes ≤ MOST_REPLACED + bytes
 
 -- a disk after a call that failed
 abbrev pub after_fault : MemoryDisk → MemoryDisk

@@ -2,7 +2,7 @@
 ghost use Rattle.std.specs.Prelude.{◌≡◌, ℕ, ◌+◌, ◌≤◌, Bool, true, Option, Some, List, OnOk, OnErr};
 ghost use Rattle.std.specs.Prelude.{length, take, drop};
 ghost use Rattle.cct_disk.specs.Disk.{put_at, SameOutside, Follows, IsWithin, Only, Elapses};
-ghost use Rattle.cct_disk.specs.Disk.{GoesOn, Outlasts, IsCutBy, CountsCut};
+ghost use Rattle.cct_disk.specs.Disk.{GoesOn, Outlasts, IsCutBy, CountsCut, IsReady, Spends};
 ghost use Rattle.cct_edge.specs.Faults.{HasCause};
 
 use cct_edge::Failed;
@@ -35,6 +35,11 @@ pub trait Disk {
     /// How often a call has failed: a count that never falls, and may stand still at 2^64 - 1.
     ghost faults: { Self → ℕ };
 
+    /// No call has failed, and since the disk was ready it took at most so many writes and syncs,
+    /// of at most so many bytes in all: so a ready disk reads, and then takes 12 of them, of 1,280
+    /// bytes. A disk whose calls may fail at any time is never so.
+    ghost spent: { Self → ℕ → ℕ → Type 0 };
+
     /// How often the power was cut: a count that each cut raises by one, and that stands still at
     /// 2^64 - 1.
     ghost cuts: { Self → ℕ };
@@ -61,6 +66,7 @@ pub trait Disk {
         // what it leaves alone, and why it fails
         ensures goes_on { GoesOn size honest seen cuts self.old self.new }
         ensures time { Elapses moment left_since may_leave self.old self.new }
+        ensures ready { IsReady spent self.old → IsReady spent self.new }
         ensures cause { HasCause (faults self.old) (faults self.new) result };
 
     /// Puts `bytes` in place of those from `at` on. Until a sync or a cut a power cut may leave any
@@ -81,6 +87,7 @@ pub trait Disk {
         // what it leaves alone, and why it fails
         ensures goes_on { GoesOn size honest seen cuts self.old self.new }
         ensures time { Elapses moment left_since may_leave self.old self.new }
+        ensures spends { Spends spent (length bytes.now) self.old self.new }
         ensures cause { HasCause (faults self.old) (faults self.new) result };
 
     /// Keeps what was written: from here on a power cut leaves what a read gives. A call that fails
@@ -96,6 +103,7 @@ pub trait Disk {
         // what it leaves alone, and why it fails
         ensures goes_on { GoesOn size honest seen cuts self.old self.new }
         ensures time { Elapses moment left_since may_leave self.old self.new }
+        ensures spends { Spends spent 0 self.old self.new }
         ensures cause { HasCause (faults self.old) (faults self.new) result };
 
     /// Cuts the power: from here on a read gives one of the images that this might leave, which one
@@ -117,6 +125,9 @@ pub trait Disk {
 
     /// What a read gives is one of the images.
     ghost is_image: { (disk : Self) (s : List ℕ) → honest disk ≡ true → seen disk ≡ Some s → may_leave disk s };
+
+    /// No call has failed of a disk that promises something of the next ones.
+    ghost unfailed: { (disk : Self) (calls bytes : ℕ) → spent disk calls bytes → faults disk ≡ 0 };
 
     /// This moment is one of those since an earlier one.
     ghost counts_now: { (disk : Self) (t : ℕ) (c : List ℕ) → t ≤ moment disk → may_leave disk c → left_since disk t c };

@@ -218,6 +218,8 @@ impl<R: Files> Disk for FileDisk<R> {
 
     ghost faults = { file_faults };
 
+    ghost spent = { λ _ _ _. ⊥ };
+
     ghost cuts = { file_cuts };
 
     ghost cut_to = { λ before _ now. file_cuts now ≡ next_count (file_cuts before) };
@@ -225,6 +227,8 @@ impl<R: Files> Disk for FileDisk<R> {
     ghost fits = { λ s bytes is. untold_fits (file_len s) bytes is };
 
     ghost is_image = { λ _ _ _ _. tt };
+
+    ghost unfailed = { λ _ _ _ spent. absurd spent };
 
     ghost counts_now = { λ _ _ _ _ _. tt };
 

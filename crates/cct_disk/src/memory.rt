@@ -10,7 +10,7 @@ ghost use Rattle.cct_disk.specs.Disk.{SameOutside, Follows, IsWithin, Only};
 ghost use Rattle.cct_disk.specs.Traced.{IsTraced, HasRoom, PassesRoom};
 ghost use Rattle.cct_disk.specs.Memory.{blank, Answers, AnswersTorn, IsAfterCut, LacksRoom};
 ghost use Rattle.cct_disk.specs.Memory.{after_change, after_read};
-ghost use Rattle.cct_disk.specs.Memory.{MemoryGoesOn, MemoryOutlasts};
+ghost use Rattle.cct_disk.specs.Memory.{MemoryGoesOn, MemoryOutlasts, Spent};
 ghost use Rattle.cct_disk.specs.Laws.{fits_bytes, bytes_are_image, now_counts, now_only};
 
 use crate::Disk;
@@ -135,6 +135,8 @@ impl Disk for MemDisk {
 
     ghost faults = { λ s. s.faults };
 
+    ghost spent = { Spent };
+
     ghost cuts = { λ s. s.cuts };
 
     ghost cut_to = { λ before choice now. IsAfterCut choice before now };
@@ -142,6 +144,8 @@ impl Disk for MemDisk {
     ghost fits = { λ s bytes is. fits_bytes s.content bytes is };
 
     ghost is_image = { λ s bytes _ is. bytes_are_image s.content bytes is };
+
+    ghost unfailed = { λ _ _ _ spent. spent.unfailed };
 
     ghost counts_now = { λ s t image _ now. now_counts s.content.past s.content.replaced s.content.bytes t image now };
 

@@ -68,6 +68,8 @@ impl Disk for TornDisk {
 
     ghost faults = { λ s. s.memory.faults };
 
+    ghost spent = { λ _ _ _. ⊥ };
+
     ghost cuts = { λ s. s.memory.cuts };
 
     ghost cut_to = { λ before choice now. IsTornAfterCut choice before now };
@@ -75,6 +77,8 @@ impl Disk for TornDisk {
     ghost fits = { λ s bytes is. fits_bytes s.memory.content bytes is };
 
     ghost is_image = { λ s bytes _ is. bytes_are_image s.memory.content bytes is };
+
+    ghost unfailed = { λ _ _ _ spent. absurd spent };
 
     ghost counts_now = { λ s t image _ now. now_counts s.memory.content.past s.memory.content.replaced
         s.memory.content.bytes t image now };

@@ -1,10 +1,11 @@
 -- What one more call adds to the images, and what is left where it failed.
-use Rattle.std.proofs.Common.{◌≡◌, inl, inr, ℕ, ◌+◌, ◌≤◌, List, [], ◌∷◌, length, refl, sym, ◌∙◌, ap, subst, arith, Result, Ok, Err, OnOk, OnErr}
+use Rattle.std.proofs.Common.{◌≡◌, inl, inr, ℕ, ◌+◌, ◌<◌, ◌≤◌, List, [], ◌∷◌, length, refl, sym, ◌∙◌, ap, subst, arith, true≢false, Result, Ok, Err, IsOk, OnOk, OnErr}
 use Rattle.cct_edge.specs.declared.fault.Failed.{Failed}
-use Rattle.cct_disk.specs.Disk.{SameOutside, Follows, IsWithin}
+use Rattle.cct_disk.specs.Disk.{Follows, IsReady, IsWithin, SameOutside, Spends}
 use Rattle.cct_disk.proofs.Ranges.{put_outside}
-use Rattle.cct_disk_queue.specs.Calls.{Act, AreWithin, Sync, Write, after}
-use Rattle.cct_disk_queue.specs.Queue.{Queue, QueueGoesOn, bytes_of, faulted, image_after, leaves, noted}
+use Rattle.cct_disk_queue.specs.Calls.{Act, AreWithin, Sync, Write, after, bytes_in}
+use Rattle.cct_disk_queue.specs.declared.calls.TheConstants.{MOST_BYTES, MOST_CALLS}
+use Rattle.cct_disk_queue.specs.Queue.{Queue, QueueGoesOn, Spent, bytes_of, faulted, image_after, leaves, noted}
 
 module _ (at : ℕ) (bytes : List ℕ) (old new : Queue) (within : at + length bytes ≤ length (bytes_of old)) where
   noted_follows : Follows (SameOutside at (length bytes)) (leaves old) (leaves (noted at bytes old))
@@ -66,3 +67,28 @@ module _ (old new : Queue) (settled : new ≡ record old { base = bytes_of old; 
 
   pub same_bytes : bytes_of new ≡ bytes_of old
   same_bytes = ap bytes_of settled
+
+-- a call that is noted is one more of those that never fail, and a read where none is noted stays so
+module _ (old new : Queue) where
+  pub write_spends : (at : ℕ) (bytes : List ℕ) (result : Result (Unit {0}) Failed)
+      → OnOk result (new ≡ noted at bytes old)
+      → (length old.calls < MOST_CALLS → bytes_in old.calls + length bytes ≤ MOST_BYTES → IsOk result)
+      → Spends Spent (length bytes) old new
+  write_spends at bytes (Ok _) done sure calls many spent few short =
+      subst (λ (q : Queue). Spent q (calls + 1) (many + length bytes)) (sym done)
+      (record { unfailed = spent.unfailed; few = omega (arith, spent.few); short = omega (arith, spent.short) })
+  write_spends at bytes (Err _) done sure calls many spent few short =
+      absurd (true≢false (sym (sure (omega (arith, spent.few, few)) (omega (arith, spent.short, short)))))
+
+  pub sync_spends : (result : Result (Unit {0}) Failed) → OnOk result (new ≡ record old { calls = Sync ∷ old.calls })
+      → (length old.calls < MOST_CALLS → IsOk result) → Spends Spent 0 old new
+  sync_spends (Ok _) done sure calls many spent few short =
+      subst (λ (q : Queue). Spent q (calls + 1) (many + 0)) (sym done)
+      (record { unfailed = spent.unfailed; few = omega (arith, spent.few); short = omega (arith, spent.short) })
+  sync_spends (Err _) done sure calls many spent few short =
+      absurd (true≢false (sym (sure (omega (arith, spent.few, few)))))
+
+  pub read_stays : (result : Result (Unit {0}) Failed) → OnOk result (new ≡ old) → (length old.calls ≡ 0 → IsOk result)
+      → IsReady Spent old → IsReady Spent new
+  read_stays (Ok _) same sure ready = subst (λ (q : Queue). Spent q 0 0) (sym same) ready
+  read_stays (Err _) same sure ready = absurd (true≢false (sym (sure (omega (arith, ready.few)))))

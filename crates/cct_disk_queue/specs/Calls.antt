@@ -34,6 +34,12 @@ after base [] = base
 after base (Write at bytes ∷ before) = put_at (after base before) at bytes
 after base (Sync ∷ before) = after base before
 
+-- how many bytes calls write in all
+abbrev pub bytes_in : List Act → ℕ
+bytes_in [] = 0
+bytes_in (Write at bytes ∷ before) = bytes_in before + length bytes
+bytes_in (Sync ∷ before) = bytes_in before
+
 -- Each write is within a part of this size.
 abbrev pub AreWithin : ℕ → List Act → Type 0
 AreWithin size [] = Unit {0}

@@ -1,11 +1,11 @@
 -- A disk that notes calls, as it stands for its caller.
-use Rattle.std.specs.Prelude.{◌≡◌, ℕ, true, Some, None, Option, List, [], ◌∷◌, length}
+use Rattle.std.specs.Prelude.{◌≡◌, ◌≤◌, ℕ, true, Some, None, Option, List, [], ◌∷◌, length}
 use mathlib.Core.Path.{refl, sym, ap, subst}
 use mathlib.Core.Logic.{inl, inr}
 use Rattle.std.proofs.Math.Nat.{lt_irrefl}
 use Rattle.cct_edge.specs.Faults.{next_count}
 use Rattle.cct_disk.specs.Disk.{GoesOn, Elapses}
-use Rattle.cct_disk_queue.specs.Calls.{Act, AreWithin, Leaves, Since, Sync, Write, after}
+use Rattle.cct_disk_queue.specs.Calls.{Act, AreWithin, Leaves, Since, Sync, Write, after, bytes_in}
 
 -- what the part held before the calls that are noted, these, newest first, and how often a call
 -- failed
@@ -33,6 +33,12 @@ noted at bytes s = record s { calls = Write at bytes ∷ s.calls }
 -- after a call that failed
 abbrev pub faulted : Queue → Queue
 faulted s = record s { faults = next_count s.faults }
+
+-- no call has failed, and at most so many are noted, with at most so many bytes
+pub record Spent (s : Queue) (calls bytes : ℕ) : Type 0 where
+  pub unfailed : s.faults ≡ 0
+  pub few : length s.calls ≤ calls
+  pub short : bytes_in s.calls ≤ bytes
 
 -- the calls are within the bytes, and leave as many
 pub record IsQueued (base : List ℕ) (calls : List Act) : Type 0 where

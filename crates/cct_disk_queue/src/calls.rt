@@ -1,5 +1,6 @@
 //! Calls that are noted: where each write goes, and its bytes, all in one buffer.
-ghost use Rattle.std.specs.Prelude.{◌≡◌, ◌∷◌, [], length, map, reverse, slice_get, OnOk, OnErr};
+ghost use Rattle.std.specs.Prelude.{◌≡◌, ◌+◌, ◌<◌, ◌≤◌, ◌∷◌, [], length, map, reverse};
+ghost use Rattle.std.specs.Prelude.{slice_get, IsOk, OnOk, OnErr};
 ghost use Rattle.std.specs.Option.{option_map};
 ghost use Rattle.cct_disk_queue.specs.Calls.{AreIn, AreWithin, Write, act_of, after, called};
 
@@ -42,8 +43,13 @@ pub(crate) fn note_write(
     ensures there { AreIn (length kept.new.items) (reverse notes.new.items) }
     ensures noted { OnOk result (map (called kept.new.items) (reverse notes.new.items)
         ≡ Write at bytes.now ∷ map (called kept.old.items) (reverse notes.old.items)) }
+    ensures counted { OnOk result (length kept.new.items
+        ≡ length kept.old.items + length bytes.now) }
     ensures failed { OnErr result ((notes.new.items ≡ notes.old.items)
         × (kept.new.items ≡ kept.old.items)) }
+    // It fails only where there is no room.
+    ensures sure { length notes.old.items < MOST_CALLS
+        → length kept.old.items + length bytes.now ≤ MOST_BYTES → IsOk result }
 {
     let from = kept.len();
     if notes.is_full() || kept.try_extend_from_slice(bytes).is_err() {

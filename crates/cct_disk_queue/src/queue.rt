@@ -1,11 +1,13 @@
 //! The disk whose calls a caller makes.
-ghost use Rattle.std.specs.Prelude.{◌≡◌, ◌+◌, ◌≤◌, ◌∷◌, [], ℕ, List, Option, length, map, take};
-ghost use Rattle.std.specs.Prelude.{drop, reverse, slice_get, true, Some, OnOk, OnErr, IsErr};
+ghost use Rattle.std.specs.Prelude.{◌≡◌, ◌+◌, ◌<◌, ◌≤◌, ◌∷◌, [], ℕ, List, Option, length, map};
+ghost use Rattle.std.specs.Prelude.{drop, reverse, slice_get, take, true, Some, OnOk, OnErr};
+ghost use Rattle.std.specs.Prelude.{IsErr, IsOk};
 ghost use Rattle.cct_edge.specs.Faults.{next_count, HasCause};
+ghost use Rattle.cct_disk.specs.Disk.{IsReady};
 ghost use Rattle.std.specs.Option.{option_map};
-ghost use Rattle.cct_disk_queue.specs.Calls.{AreIn, Sync, act_of, called};
-ghost use Rattle.cct_disk_queue.specs.Queue.{bytes_of, faulted, fits_bytes, image_now, leaves};
-ghost use Rattle.cct_disk_queue.specs.Queue.{noted, now_counts, now_only, since};
+ghost use Rattle.cct_disk_queue.specs.Calls.{AreIn, Sync, act_of, bytes_in, called};
+ghost use Rattle.cct_disk_queue.specs.Queue.{Spent, bytes_of, faulted, fits_bytes, image_now};
+ghost use Rattle.cct_disk_queue.specs.Queue.{leaves, noted, now_counts, now_only, since};
 
 use crate::calls::{Call, MOST_BYTES, MOST_CALLS, Note, call_at, make_all, note_write};
 use arrayvec::ArrayVec;
@@ -17,8 +19,8 @@ use std::marker::Model;
 /// calls that are noted, and says what they make of that.
 ///
 /// It is honest if its caller is: if he makes the calls in their order, each on a part that keeps
-/// what was synced, and says that he made them only where none failed. A call fails where there is
-/// no room to note it, a read where a call is noted, and each power cut.
+/// what was synced, and says that he made them only where none failed. A call fails only where
+/// there is no room to note it, a read only where a call is noted, and each power cut.
 #[derive(Drop)]
 pub struct QueueDisk {
     base: Vec<u8>,
@@ -29,8 +31,8 @@ pub struct QueueDisk {
 }
 
 impl Model for QueueDisk {
-    ghost use Rattle.std.specs.Prelude.{length, map, reverse};
-    ghost use Rattle.cct_disk_queue.specs.Calls.{AreIn, called};
+    ghost use Rattle.std.specs.Prelude.{◌≡◌, length, map, reverse};
+    ghost use Rattle.cct_disk_queue.specs.Calls.{AreIn, bytes_in, called};
     ghost use Rattle.cct_disk_queue.specs.Queue.{Queue, IsQueued};
 
     ghost Value = { Queue };
@@ -42,13 +44,15 @@ impl Model for QueueDisk {
     } };
 
     ghost invariant = { λ s. AreIn (length s.kept.items) (reverse s.notes.items)
-        × IsQueued s.base.items (map (called s.kept.items) (reverse s.notes.items)) };
+        × IsQueued s.base.items (map (called s.kept.items) (reverse s.notes.items))
+        × (bytes_in (map (called s.kept.items) (reverse s.notes.items)) ≡ length s.kept.items) };
 }
 
 impl QueueDisk {
     /// The disk over what the caller's part holds, with no call noted.
     pub fn new(base: Vec<u8>) -> QueueDisk
-        ensures { result ≡ record { base = base.items; calls = []; faults = 0 } }
+        ensures value { result ≡ record { base = base.items; calls = []; faults = 0 } }
+        ensures ready { IsReady Spent result }
     {
         QueueDisk {
             base,
@@ -70,6 +74,21 @@ impl QueueDisk {
         ensures { option_map act_of result ≡ slice_get (reverse self.now.calls) index }
     {
         call_at(self.notes.as_slice(), self.kept.as_slice(), index)
+    }
+
+    /// What the part holds once its calls are made.
+    pub fn into_part(self) -> Vec<u8>
+        ensures { result.items ≡ bytes_of self }
+    {
+        let QueueDisk {
+            base,
+            notes,
+            kept,
+            faults: _,
+        } = self;
+        let mut part = base;
+        make_all(&mut part, notes.as_slice(), kept.as_slice());
+        part
     }
 
     /// The calls that are noted, and the bytes of their writes.
@@ -105,6 +124,8 @@ impl Disk for QueueDisk {
 
     ghost faults = { λ s. s.faults };
 
+    ghost spent = { Spent };
+
     ghost cuts = { λ _. 0 };
 
     ghost cut_to = { λ _ _ _. ⊥ };
@@ -112,6 +133,8 @@ impl Disk for QueueDisk {
     ghost fits = { λ s bytes is. fits_bytes s bytes is };
 
     ghost is_image = { λ s bytes _ is. image_now s bytes is };
+
+    ghost unfailed = { λ _ _ _ spent. spent.unfailed };
 
     ghost counts_now = { λ s t image le now. now_counts s.base s.calls t image now };
 
@@ -127,6 +150,7 @@ impl Disk for QueueDisk {
             ≡ take (length room.new) (drop at (bytes_of self.old))) }
         ensures room { length room.new ≡ length room.old }
         ensures stays { OnOk result (self.new ≡ self.old) }
+        ensures sure { length self.old.calls ≡ 0 → IsOk result }
         ensures failed { OnErr result (self.new ≡ faulted self.old) }
         ensures cause { HasCause self.old.faults self.new.faults result }
     {
@@ -141,6 +165,8 @@ impl Disk for QueueDisk {
     fn write(&mut self, at: u64, bytes: &[u8]) -> Result<(), Failed>
         requires { at + length bytes.now ≤ length (bytes_of self.old) }
         ensures written { OnOk result (self.new ≡ noted at bytes.now self.old) }
+        ensures sure { length self.old.calls < MOST_CALLS
+            → bytes_in self.old.calls + length bytes.now ≤ MOST_BYTES → IsOk result }
         ensures failed { OnErr result (self.new ≡ faulted self.old) }
         ensures cause { HasCause self.old.faults self.new.faults result }
     {
@@ -152,6 +178,7 @@ impl Disk for QueueDisk {
 
     fn sync(&mut self) -> Result<(), Failed>
         ensures synced { OnOk result (self.new ≡ record self.old { calls = Sync ∷ self.old.calls }) }
+        ensures sure { length self.old.calls < MOST_CALLS → IsOk result }
         ensures failed { OnErr result (self.new ≡ faulted self.old) }
         ensures cause { HasCause self.old.faults self.new.faults result }
     {

@@ -111,6 +111,8 @@ impl Disk for PartDisk {
 
     ghost faults = { λ s. s.faults };
 
+    ghost spent = { λ _ _ _. ⊥ };
+
     ghost cuts = { λ s. s.cuts };
 
     ghost cut_to = { λ before _ now. now.cuts ≡ next_count before.cuts };
@@ -118,6 +120,8 @@ impl Disk for PartDisk {
     ghost fits = { λ _ bytes is. untold_fits BYTES bytes is };
 
     ghost is_image = { λ _ _ _ _. tt };
+
+    ghost unfailed = { λ _ _ _ spent. absurd spent };
 
     ghost counts_now = { λ _ _ _ _ _. tt };
 

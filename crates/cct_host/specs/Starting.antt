@@ -9,7 +9,7 @@ use Rattle.cct_model.specs.Following.{Known, all_follow, follows}
 use Rattle.cct_journal.specs.declared.place.Place.{Place}
 use Rattle.cct_edge.specs.Faults.{Caused}
 use Rattle.cct_disk.specs.declared.disk.Disk.{Ghosts}
-use Rattle.cct_disk.specs.Disk.{OnlyReads}
+use Rattle.cct_disk.specs.Disk.{IsReady, OnlyReads}
 use Rattle.cct_journal.specs.declared.journal.Journal.{Journal}
 use Rattle.cct_journal.specs.Journal as journals
 use Rattle.cct_journal_carry.specs.Tally as tallies
@@ -97,6 +97,7 @@ pub record OnlyReadIn {D : Type 0} {g : Ghosts D} (old new : Journal D g) (Fails
     pub disk : OnlyReads g.size g.honest g.seen g.may_leave g.moment g.left_since g.cuts
         (journals.disk_of old)
         (journals.disk_of new)
+    pub ready : IsReady g.spent (journals.disk_of old) → IsReady g.spent (journals.disk_of new)
     pub cause : Caused (g.faults (journals.disk_of old)) (g.faults (journals.disk_of new)) Fails
 
 -- A host is over records, newest first, as one that has just started: its desks and its ledger have

@@ -1,8 +1,8 @@
 //! The host over its journal: a record is put before its entry is reported, and no put finds the
 //! journal full.
-ghost use Rattle.std.specs.Prelude.{◌≡◌, ◌≤◌, ◌+◌, List, [], Option, Some, None, Err, IfErr, IfOk};
+ghost use Rattle.std.specs.Prelude.{◌≡◌, ◌≢◌, ◌≤◌, ◌+◌, List, [], Option, Some, None, Err, IfErr};
 ghost use Rattle.std.specs.Prelude.{MatchResult, OnErr, OnOk, IsTrue, false, is_ok, is_some};
-ghost use Rattle.std.specs.Prelude.{reverse};
+ghost use Rattle.std.specs.Prelude.{IfOk, reverse};
 ghost use Rattle.std.specs.Option.{option_or};
 ghost use Rattle.arrayvec.specs.ArrayVec.{array_vec_len};
 ghost use Rattle.cct_edge.specs.Faults.{Caused, HasCause};
@@ -14,7 +14,7 @@ ghost use Rattle.cct_model.specs.Records.{records};
 ghost use Rattle.cct_model.specs.Refusal as refusals;
 ghost use Rattle.cct_model.specs.Script.{IsCrash};
 ghost use Rattle.cct_model.specs.Setup.{IsSoundSetup};
-ghost use Rattle.cct_disk.specs.Disk.{OnlyReads};
+ghost use Rattle.cct_disk.specs.Disk.{IsReady, OnlyReads};
 ghost use Rattle.cct_journal.specs.Journal as journals;
 ghost use Rattle.cct_disk.specs.Disk.{GoesOn};
 ghost use Rattle.cct_disk.specs.Settle.{Settles};
@@ -108,6 +108,8 @@ impl<'s, D: Disk> Host<'s, D> {
             → FirstFollow setup.now reads → RefusesStart e.1 setup.now records) }
         ensures cause { MatchResult result (λ host. D.faults (journals.disk_of journal) ≤ D.faults (disk_of host))
             (λ e. Caused (D.faults (journals.disk_of journal)) (D.faults e.0) (e.1 ≡ StartNo.Disk)) }
+        ensures sure { IsReady D.spent (journals.disk_of journal)
+            → IfErr result (λ e. e.1 ≢ StartNo.Disk) }
 
         // over a journal without records
         ensures starts { journals.used_of journal ≡ 0 → IsTrue (is_ok result) }
@@ -174,7 +176,7 @@ impl<'s, D: Disk> Host<'s, D> {
     }
 
     /// Why the first of these tests of the money and the room fails, if one does, where so much
-    /// room is wanted.
+    /// room is wanted. Most commands want room alone, which is then the one test that is there.
     #[tactic(auto, using(crate::proofs::Testing::first_more))]
     fn room_failing(&self, tests: &[Option<Test>], need: u32) -> Option<CommandNo>
         ensures affords { result ≡ None → money_in (setup_of self.now) (listed tests.now)
@@ -188,6 +190,7 @@ impl<'s, D: Disk> Host<'s, D> {
         match tests {
             [] => None,
             [None, more @ ..] => self.room_failing(more, need),
+            [Some(test), None] => self.room_fails(test, need),
             [Some(test), more @ ..] => match self.room_fails(test, need) {
                 Some(why) => Some(why),
                 None => self.room_failing(more, need),

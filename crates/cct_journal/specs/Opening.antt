@@ -103,3 +103,8 @@ pub record RefusesRecord {D : Type 0} (seen : D → Option (List ℕ)) (disk : D
       RefusesRead index (body_in place index image) why
   -- A record that a read of the disk gives is refused only if the disk failed.
   pub never : (rest : List Record) → ReadsFrom seen disk place rest → why ≡ reading.Disk
+
+-- Why no journal is read through, one of whose records wasn't read.
+abbrev pub open_no : ReadNo → OpenNo
+open_no reading.Disk = Disk
+open_no (reading.BadRecord index) = BadRecord index

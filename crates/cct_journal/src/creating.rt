@@ -2,7 +2,7 @@
 ghost use Rattle.std.specs.Prelude.{◌≡◌, ◌≢◌, ℕ, ◌+◌, ◌<◌, ◌≤◌, true, Err, Some, List, length};
 ghost use Rattle.std.specs.Prelude.{IfErr, IfOk, IfSome, MatchOption, OnOk};
 ghost use Rattle.cct_edge.specs.Faults.{Caused, HasCause};
-ghost use Rattle.cct_disk.specs.Disk.{GoesOn, Holds, LeavesOnly, OnlyReads};
+ghost use Rattle.cct_disk.specs.Disk.{GoesOn, Holds, IsReady, LeavesOnly, OnlyReads};
 ghost use Rattle.cct_journal.specs.Image.{IsBlank, IsBlankBetween, IsFirstByteFrom};
 ghost use Rattle.cct_journal.specs.Creating.{Creates, IsCreated, IsNotBlank, RefusesCreate};
 ghost use Rattle.cct_journal.specs.Stands.{IsPlaced};
@@ -43,6 +43,7 @@ fn read_block<D: Disk>(disk: &mut D, at: u64, room: &mut [u8]) -> Result<Option<
         (λ index. IsFirstByteFrom at image (at + index))) }
     ensures reads { OnlyReads D.size D.honest D.seen D.may_leave D.moment D.left_since D.cuts
         disk.old disk.new }
+    ensures ready { IsReady D.spent disk.old → IsReady D.spent disk.new }
     ensures cause { HasCause (D.faults disk.old) (D.faults disk.new) result }
 {
     disk.read(at, room)?;
@@ -56,6 +57,7 @@ fn check_blank<D: Disk>(disk: &mut D) -> Result<(), CreateNo>
     ensures refused { IfErr result (λ why. IsNotBlank (D.seen disk.old) why) }
     ensures reads { OnlyReads D.size D.honest D.seen D.may_leave D.moment D.left_since D.cuts
         disk.old disk.new }
+    ensures ready { IsReady D.spent disk.old → IsReady D.spent disk.new }
     ensures cause { Caused (D.faults disk.old) (D.faults disk.new) (result ≡ Err CreateNo.Disk) }
 {
     let len = disk.len();
@@ -87,6 +89,7 @@ pub(crate) fn lay_header<D: Disk>(disk: &mut D) -> Result<Place, CreateNo>
     ensures moments { (image : List ℕ) → Holds D.honest D.seen D.may_leave disk.old image
         → LeavesOnly D.moment D.left_since disk.old disk.new (IsCreated image) }
     ensures goes_on { GoesOn D.size D.honest D.seen D.cuts disk.old disk.new }
+    ensures sure { IsReady D.spent disk.old → D.faults disk.new ≡ 0 }
     ensures cause { Caused (D.faults disk.old) (D.faults disk.new) (result ≡ Err CreateNo.Disk) }
 {
     let len = disk.len();

@@ -10,7 +10,7 @@ ghost use Rattle.cct_model_lines.specs.declared.record.Record.{Record};
 ghost use Rattle.cct_record.specs.Body.{Encodable};
 ghost use Rattle.cct_disk.specs.Settle.{Settles};
 ghost use Rattle.cct_disk.specs.Disk.{CountsCut, GoesOn, Holds, IsCutBy, IsWithin, LeavesOnly};
-ghost use Rattle.cct_disk.specs.Disk.{OnlyReads, Outlasts};
+ghost use Rattle.cct_disk.specs.Disk.{IsReady, OnlyReads, Outlasts};
 ghost use Rattle.cct_journal.specs.Image.{StandsFor, StandsForOneOf, half_room, kept_before};
 ghost use Rattle.cct_journal.specs.Image.{least_size};
 ghost use Rattle.cct_journal.specs.Creating.{Creates, IsCreated, RefusesCreate};
@@ -79,6 +79,7 @@ impl<D: Disk> Journal<D> {
             (λ e. GoesOn D.size D.honest D.seen D.cuts disk e.0) }
         ensures cause { MatchResult result (λ journal. D.faults disk ≤ D.faults (disk_of journal))
             (λ e. Caused (D.faults disk) (D.faults e.0) (e.1 ≡ CreateNo.Disk)) }
+        ensures sure { IsReady D.spent disk → IfErr result (λ e. e.1 ≢ CreateNo.Disk) }
     {
         let mut disk = disk;
         match lay_header(&mut disk) {
@@ -136,6 +137,8 @@ impl<D: Disk> Journal<D> {
             (λ e. OnlyReads D.size D.honest D.seen D.may_leave D.moment D.left_since D.cuts disk e.0) }
         ensures cause { MatchResult result (λ opened. D.faults disk ≤ D.faults (disk_of opened.0))
             (λ e. Caused (D.faults disk) (D.faults e.0) (e.1 ≡ OpenNo.Disk)) }
+        ensures sure { IsReady D.spent disk → MatchResult result
+            (λ opened. IsReady D.spent (disk_of opened.0)) (λ e. e.1 ≢ OpenNo.Disk) }
     {
         let mut disk = disk;
         match find_place(&mut disk, &mut OnlyCounted) {
@@ -227,6 +230,7 @@ impl<D: Disk> Journal<D> {
         ensures unbroken { has_failed self.new ≡ has_failed self.old }
         ensures reads { OnlyReads D.size D.honest D.seen D.may_leave D.moment D.left_since D.cuts (disk_of self.old)
             (disk_of self.new) }
+        ensures ready { IsReady D.spent (disk_of self.old) → IsReady D.spent (disk_of self.new) }
         ensures cause { Caused (D.faults (disk_of self.old)) (D.faults (disk_of self.new))
             (result ≡ Err ReadNo.Disk) }
     {

@@ -5,7 +5,7 @@ ghost use Rattle.std.specs.Prelude.{IfErr, IfOk, IfSome, MatchOption};
 ghost use Rattle.cct_edge.specs.Faults.{Caused, HasCause};
 ghost use Rattle.cct_model_lines.specs.declared.carry.Carry.{Carry};
 ghost use Rattle.cct_model_lines.specs.declared.record.Record.{Record};
-ghost use Rattle.cct_disk.specs.Disk.{OnlyReads};
+ghost use Rattle.cct_disk.specs.Disk.{IsReady, OnlyReads};
 ghost use Rattle.cct_journal.specs.Half.{IsCurrent, IsOpen, IsVersionOf, half};
 ghost use Rattle.cct_journal.specs.Start.{Begins, MayBegin};
 ghost use Rattle.cct_journal.specs.Fronts.{BeginsAt, IsCurrentHalf, IsFront, before_records};
@@ -91,6 +91,7 @@ fn look_at<D: Disk>(disk: &mut D, second: bool) -> Result<Front, Failed>
         → IsFront second front (half image second)) }
     ensures reads { OnlyReads D.size D.honest D.seen D.may_leave D.moment D.left_since D.cuts
         disk.old disk.new }
+    ensures ready { IsReady D.spent disk.old → IsReady D.spent disk.new }
     ensures cause { HasCause (D.faults disk.old) (D.faults disk.new) result }
 {
     let mut bytes = [0; FRONT];
@@ -127,6 +128,7 @@ pub(crate) fn find_current<D: Disk>(disk: &mut D) -> Result<Option<Current>, Fai
         → MatchOption found ((second : Bool) → IsCurrent second image → ⊥) (IsCurrentHalf image)) }
     ensures reads { OnlyReads D.size D.honest D.seen D.may_leave D.moment D.left_since D.cuts
         disk.old disk.new }
+    ensures ready { IsReady D.spent disk.old → IsReady D.spent disk.new }
     ensures cause { HasCause (D.faults disk.old) (D.faults disk.new) result }
 {
     let first = look_at(disk, false)?;
@@ -158,6 +160,7 @@ pub(crate) fn find_start<D: Disk>(disk: &mut D, second: bool) -> Result<Option<S
         (λ s. Begins second s.generation s.base s.carry (half image second))) }
     ensures reads { OnlyReads D.size D.honest D.seen D.may_leave D.moment D.left_since D.cuts
         disk.old disk.new }
+    ensures ready { IsReady D.spent disk.old → IsReady D.spent disk.new }
     ensures cause { HasCause (D.faults disk.old) (D.faults disk.new) result }
 {
     let mut bytes = [0; START];
@@ -175,6 +178,7 @@ fn find_half<D: Disk>(disk: &mut D) -> Result<Place, OpenNo>
         RefusesOpen why image) }
     ensures reads { OnlyReads D.size D.honest D.seen D.may_leave D.moment D.left_since D.cuts
         disk.old disk.new }
+    ensures ready { IsReady D.spent disk.old → IsReady D.spent disk.new }
     ensures cause { Caused (D.faults disk.old) (D.faults disk.new) (result ≡ Err OpenNo.Disk) }
 {
     let Some(current) = find_current(disk)? else {
@@ -206,6 +210,7 @@ pub(crate) fn find_place<D: Disk, R: Replay>(disk: &mut D, replay: &mut R) -> Re
     // the disk
     ensures reads { OnlyReads D.size D.honest D.seen D.may_leave D.moment D.left_since D.cuts
         disk.old disk.new }
+    ensures ready { IsReady D.spent disk.old → IsReady D.spent disk.new }
     ensures cause { Caused (D.faults disk.old) (D.faults disk.new) (result ≡ Err OpenNo.Disk) }
 {
     if disk.len() < LEAST {

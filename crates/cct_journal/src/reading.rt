@@ -3,7 +3,7 @@ ghost use Rattle.std.specs.Prelude.{◌≡◌, ℕ, ◌+◌, ◌*◌, ◌<◌, �
 ghost use Rattle.std.specs.Prelude.{IfOk, OnOk, drop, slice_index, take};
 ghost use Rattle.cct_edge.specs.Faults.{Caused, HasCause};
 ghost use Rattle.cct_model_lines.specs.declared.record.Record.{Record};
-ghost use Rattle.cct_disk.specs.Disk.{OnlyReads};
+ghost use Rattle.cct_disk.specs.Disk.{IsReady, OnlyReads};
 ghost use Rattle.cct_journal.specs.Half.{half, slots_in, start_at, window};
 ghost use Rattle.cct_journal.specs.Image.{body_at, gate_at, least_size, room_of};
 ghost use Rattle.cct_journal.specs.Stands.{IsPlaced};
@@ -74,6 +74,7 @@ pub(crate) fn read_in<D: Disk>(
     ensures room { length room.new ≡ length room.old }
     ensures reads { OnlyReads D.size D.honest D.seen D.may_leave D.moment D.left_since D.cuts
         disk.old disk.new }
+    ensures ready { IsReady D.spent disk.old → IsReady D.spent disk.new }
     ensures cause { HasCause (D.faults disk.old) (D.faults disk.new) result }
 {
     let start = start_on(disk.len(), second);
@@ -89,6 +90,7 @@ pub(crate) fn read_slot<D: Disk>(disk: &mut D, second: bool, many: u32) -> Resul
         → found.body ≡ body_at (half image second) (FIRST_SLOT + many)) }
     ensures reads { OnlyReads D.size D.honest D.seen D.may_leave D.moment D.left_since D.cuts
         disk.old disk.new }
+    ensures ready { IsReady D.spent disk.old → IsReady D.spent disk.new }
     ensures cause { HasCause (D.faults disk.old) (D.faults disk.new) result }
 {
     let mut bytes = [0; 32];
@@ -120,6 +122,7 @@ pub(crate) fn replay_records<D: Disk, R: Replay>(
         → StopsCount why image place.now.second place.now.base) }
     ensures reads { OnlyReads D.size D.honest D.seen D.may_leave D.moment D.left_since D.cuts
         disk.old disk.new }
+    ensures ready { IsReady D.spent disk.old → IsReady D.spent disk.new }
     ensures cause { Caused (D.faults disk.old) (D.faults disk.new) (result ≡ Err OpenNo.Disk) }
 {
     let base = place.base;
@@ -152,6 +155,7 @@ pub(crate) fn read_record<D: Disk>(
     ensures refused { IfErr result (RefusesRecord D.seen disk.old place.now index) }
     ensures reads { OnlyReads D.size D.honest D.seen D.may_leave D.moment D.left_since D.cuts
         disk.old disk.new }
+    ensures ready { IsReady D.spent disk.old → IsReady D.spent disk.new }
     ensures cause { Caused (D.faults disk.old) (D.faults disk.new) (result ≡ Err ReadNo.Disk) }
 {
     let slot = read_slot(disk, place.second, index - place.base)?;

@@ -75,6 +75,19 @@ impl From<Failed> for ReadNo {
     }
 }
 
+impl From<ReadNo> for OpenNo {
+    ghost use Rattle.cct_journal.specs.Opening.{open_no};
+
+    ghost from_gives = { λ why no. no ≡ open_no why };
+
+    fn from(why: ReadNo) -> Self {
+        match why {
+            ReadNo::Disk => OpenNo::Disk,
+            ReadNo::BadRecord { index } => OpenNo::BadRecord { index },
+        }
+    }
+}
+
 /// Why a record wasn't put.
 #[derive(Debug, Drop, Error)]
 pub enum JournalNo {

@@ -5,7 +5,7 @@ ghost use Rattle.cct_edge.specs.Faults.{HasCause};
 ghost use Rattle.cct_model_lines.specs.Carried.{IsRightly};
 ghost use Rattle.cct_model_lines.specs.declared.carry.Carry.{Carry};
 ghost use Rattle.cct_model_lines.specs.declared.record.Record.{Record};
-ghost use Rattle.cct_disk.specs.Disk.{GoesOn, Holds, LeavesOnly};
+ghost use Rattle.cct_disk.specs.Disk.{GoesOn, Holds, IsReady, LeavesOnly};
 ghost use Rattle.cct_journal.specs.Gated.{IsBegun, behind_open_gate};
 ghost use Rattle.cct_journal.specs.Image.{StandsFor, half_room, kept_before, least_size};
 ghost use Rattle.cct_journal.specs.Image.{room_of};
@@ -80,6 +80,7 @@ pub(crate) fn write_start<D: Disk>(
         (behind_open_gate at (behind_start generation base carry.now) image)) }
     ensures whole { length (start_of generation base carry.now) ≡ START }
     ensures goes_on { GoesOn D.size D.honest D.seen D.cuts disk.old disk.new }
+    ensures sure { IsReady D.spent disk.old → D.faults disk.new ≡ 0 }
     ensures cause { HasCause (D.faults disk.old) (D.faults disk.new) result }
 {
     let bytes = spell_behind(generation, base, carry);

@@ -8,7 +8,7 @@ ghost use Rattle.cct_live_order.specs.Looking.{IsKnownBy, Looks, ReadsNext};
 
 use crate::told::{OrderTold, told_after};
 use cct_disk::Disk;
-use cct_journal::{Journal, OpenNo, ReadNo};
+use cct_journal::{Journal, OpenNo};
 use cct_model::Record;
 
 /// What the records since the last turn of the journal on a disk tell of the order of an id; or why
@@ -78,7 +78,6 @@ fn look_next<D: Disk>(
 {
     match journal.read_at(index) {
         Ok(entry) => Ok(told_after(told, &entry, id)),
-        Err(ReadNo::Disk) => Err(OpenNo::Disk),
-        Err(ReadNo::BadRecord { index }) => Err(OpenNo::BadRecord { index }),
+        Err(why) => Err(OpenNo::from(why)),
     }
 }

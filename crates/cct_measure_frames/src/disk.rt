@@ -57,6 +57,8 @@ impl Disk for PlainDisk {
 
     ghost faults = { λ _. 0 };
 
+    ghost spent = { λ _ _ _. ⊥ };
+
     ghost cuts = { λ s. s.cuts };
 
     ghost cut_to = { λ before _ now. now.cuts ≡ next_count before.cuts };
@@ -64,6 +66,8 @@ impl Disk for PlainDisk {
     ghost fits = { λ s bytes is. untold_fits (length s.bytes.items) bytes is };
 
     ghost is_image = { λ _ _ _ _. tt };
+
+    ghost unfailed = { λ _ _ _ spent. absurd spent };
 
     ghost counts_now = { λ _ _ _ _ _. tt };
 

@@ -1,6 +1,6 @@
 -- What a host begins with that is started over a part.
 use Rattle.std.proofs.Common.{◌≡◌, ◌⊎◌, inl, inr, ℕ, ◌+◌, ◌*◌, ◌<◌, ◌≤◌, Bool, true, false, List, [], length, drop, reverse, slice_index, refl, sym, ◌∙◌, ap, subst, arith, Option, Some, None, is_some, Result, Ok, Err}
-use Rattle.std.specs.Prelude.{IfErr, IsErr, IsErrAnd}
+use Rattle.std.specs.Prelude.{IfErr, IfOk, IsErr, IsErrAnd}
 use Rattle.std.proofs.lemmas.List.{get_or-drop, get_or-take, reverse-reverse}
 use Rattle.cct_model.specs.terms.device.Setup.{Setup}
 use Rattle.cct_model.specs.lines.carry.Carry.{Carry}
@@ -16,14 +16,11 @@ use Rattle.cct_disk.specs.Disk.{Holds, Only, OnlyReads}
 use Rattle.cct_journal.specs.Creating.{IsCreated, RefusesCreate}
 use Rattle.cct_journal.specs.Half.{half, open_gate, slots_in, start_at}
 use Rattle.cct_journal.specs.Image as images
-use Rattle.cct_journal.specs.Image.{HasFrom, IsBlank, least_size}
+use Rattle.cct_journal.specs.Image.{HasFrom, IsAlien, IsBlank, least_size}
 use Rattle.cct_journal.specs.Journal as journals
-use Rattle.cct_journal.specs.Opening.{RefusesOpen}
 use Rattle.cct_journal.specs.declared.journal.Journal.{Journal}
 use Rattle.cct_journal.specs.declared.refusal.CreateNo.{CreateNo}
 use Rattle.cct_journal.specs.declared.refusal.CreateNo.TheVariants as create_no
-use Rattle.cct_journal.specs.declared.refusal.OpenNo.{OpenNo}
-use Rattle.cct_journal.specs.declared.refusal.OpenNo.TheVariants as open_no
 use Rattle.cct_journal.specs.declared.refusal.ReadNo.TheVariants.{BadRecord}
 use Rattle.cct_journal.proofs.Moments.{reads_then, then_leaves}
 use Rattle.cct_journal_carry.proofs.Resumed.{carry_of_none}
@@ -60,7 +57,7 @@ bytes_in : Option (List ℕ) → List ℕ
 bytes_in (Some bytes) = bytes
 bytes_in None = []
 
-some_same : (a b : List ℕ) → Some a ≡ Some b → a ≡ b
+pub some_same : (a b : List ℕ) → Some a ≡ Some b → a ≡ b
 unfolding bytes_in
 some_same a b is = ap bytes_in is
 
@@ -71,15 +68,17 @@ passed_on (Ok x) why P passed is = absurd passed.1
 passed_on (Err e) why P passed is = subst P (sym passed.1) is
 
 -- bytes that have no journal, and aren't blank
-pub refused_alien : (setup : Setup) (part : List ℕ) (at size : ℕ) (seen : Option (List ℕ)) (opens : OpenNo) (creates : CreateNo)
-    → opens ≡ open_no.Alien → creates ≡ create_no.NotBlank at → RefusesOpen opens part → RefusesCreate size seen creates
-    → size ≡ length part → seen ≡ Some part → RefusesStart setup part no.Alien
-refused_alien setup part at size seen opens creates alien blank refused refuses sized tells =
-    let why = subst (RefusesCreate size seen) blank refuses in (
-      subst (λ n. least_size ≤ n) sized why.0,
-      (at, why.1 part tells),
-      subst (λ o. RefusesOpen o part) alien refused,
-    )
+pub refused_alien : (setup : Setup) (part : List ℕ) (at size : ℕ) (seen : Option (List ℕ)) (creates : CreateNo)
+    → creates ≡ create_no.NotBlank at → IsAlien part → RefusesCreate size seen creates → size ≡ length part
+    → seen ≡ Some part → RefusesStart setup part no.Alien
+refused_alien setup part at size seen creates blank alien refuses sized tells =
+    let why = subst (RefusesCreate size seen) blank refuses in
+    (subst (λ n. least_size ≤ n) sized why.0, (at, why.1 part tells), alien)
+
+-- what is so of a journal that was made is so of one that was found or made
+pub if_ok_more : {T E : Type 0} {P Q : T → Type 0} (r : Result T E) → ((x : T) → P x → Q x) → IfOk r P → IfOk r Q
+if_ok_more (Ok x) more is = more x is
+if_ok_more (Err why) more is = tt
 
 module _ {D : Type 0} {g : Ghosts D} (disk : D) (journal : Journal D g) (setup : Setup) (part : List ℕ)
     (seen_is : g.seen disk ≡ Some part) where

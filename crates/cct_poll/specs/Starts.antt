@@ -52,14 +52,12 @@ HeldRecords setup part (found base c rest) before =
 
 -- Why no host is started over a part: it is too short; it has a byte that isn't 0, and no journal;
 -- a record of its journal can't be read, or its carry or a record doesn't follow under this setup.
--- Of a call that failed only this is known: the part isn't too short.
 abbrev pub RefusesStart : Setup → List ℕ → PollNo → Type 0
 RefusesStart setup part no.Small = length part < least_size
 RefusesStart setup part no.Alien =
     (least_size ≤ length part) × ((at : ℕ) × IsFirstByteFrom 0 part at) × IsAlien part
 RefusesStart setup part (no.BadRecord index) =
     IsBadAt part index ⊎ ((many : ℕ) × FindsBad setup part many index)
-RefusesStart setup part no.Disk = least_size ≤ length part
 
 -- The disk over a part, with no call noted.
 abbrev pub untouched : List ℕ → Queue

@@ -6,6 +6,7 @@ ghost use Rattle.std.specs.Option.{IfSome, option_map};
 ghost use Rattle.cct_edge.specs.Faults.{Rose};
 ghost use Rattle.cct_host.specs.Desks.{due_on, sending_on};
 ghost use Rattle.cct_host.specs.Host.{Keeps, StandsFor, disk_of, has_failed, setup_of};
+ghost use Rattle.cct_journal.specs.Image.{IsAlien};
 ghost use Rattle.cct_journal.specs.Journal as journals;
 ghost use Rattle.cct_model.specs.Exchange as exchanges;
 ghost use Rattle.cct_model.specs.Money.{totals};
@@ -13,7 +14,9 @@ ghost use Rattle.cct_model.specs.Setup.{IsSoundSetup};
 ghost use Rattle.cct_model.specs.terms.device.Setup.{Setup};
 ghost use Rattle.cct_model.specs.lines.entry.Entry.{Entry};
 ghost use Rattle.cct_model.specs.terms.wire.TheConstants.{MOST_HEARD};
+ghost use Rattle.cct_disk.specs.Disk.{IsReady};
 ghost use Rattle.cct_disk_queue.specs.Calls.{act_of};
+ghost use Rattle.cct_disk_queue.specs.Queue.{Spent};
 ghost use Rattle.cct_poll.specs.Starts.{RefusesStart, Starts, WasFound, WasMade, untouched};
 ghost use Rattle.cct_poll.specs.Awaits.{Awaits, Awaits-prop};
 ghost use Rattle.cct_poll.specs.Steps.{Says, Steps, Tells};
@@ -94,7 +97,7 @@ impl<'s> Poll<'s> {
                 over: false,
             }),
             Err((_, StartNo::BadRecord { index })) => Err(PollNo::BadRecord { index }),
-            Err((_, StartNo::Disk)) => Err(PollNo::Disk),
+            Err((_, StartNo::Disk)) => unreachable!(),
         }
     }
 
@@ -356,17 +359,30 @@ fn journal_on(part: Vec<u8>) -> Result<Journal<QueueDisk>, PollNo>
     ensures whole { IfOk result (λ journal. journals.has_failed journal ≡ false) }
     ensures opens { IfOk result (λ journal. WasFound journal (untouched part.items)
         ⊎ WasMade journal (untouched part.items)) }
+    // No call of its disk fails while a host is started over it.
+    ensures sure { IfOk result (λ journal. (journals.used_of journal ≡ 0)
+        ⊎ IsReady Spent (journals.disk_of journal)) }
     ensures refused { IfErr result (λ why. (setup : Setup) → RefusesStart setup part.items why) }
 {
     match Journal::reopen(QueueDisk::new(part)) {
         Ok((journal, _)) => Ok(journal),
-        Err((disk, OpenNo::Alien)) => match Journal::create(disk) {
-            Ok(journal) => Ok(journal),
-            Err((_, CreateNo::Small { .. })) => Err(PollNo::Small),
-            Err((_, CreateNo::NotBlank { .. })) => Err(PollNo::Alien),
-            Err((_, CreateNo::Disk)) => Err(PollNo::Disk),
-        },
+        Err((disk, OpenNo::Alien)) => make_journal(disk.into_part()),
         Err((_, OpenNo::BadRecord { index })) => Err(PollNo::BadRecord { index }),
-        Err((_, OpenNo::Disk)) => Err(PollNo::Disk),
+        Err((_, OpenNo::Disk)) => unreachable!(),
+    }
+}
+
+/// A new journal on a part that has none, if each of its bytes is 0.
+fn make_journal(part: Vec<u8>) -> Result<Journal<QueueDisk>, PollNo>
+    requires { IsAlien part.items }
+    ensures whole { IfOk result (λ journal. journals.has_failed journal ≡ false) }
+    ensures made { IfOk result (λ journal. WasMade journal (untouched part.items)) }
+    ensures refused { IfErr result (λ why. (setup : Setup) → RefusesStart setup part.items why) }
+{
+    match Journal::create(QueueDisk::new(part)) {
+        Ok(journal) => Ok(journal),
+        Err((_, CreateNo::Small { .. })) => Err(PollNo::Small),
+        Err((_, CreateNo::NotBlank { .. })) => Err(PollNo::Alien),
+        Err((_, CreateNo::Disk)) => unreachable!(),
     }
 }

@@ -18,7 +18,4 @@ pub enum PollNo {
     /// The record of this index can't be read, or doesn't follow those before it under this setup.
     #[error("record {index} of the journal is bad")]
     BadRecord { index: u32 },
-    /// A call was made that the disk doesn't take: no part leads here.
-    #[error("the disk failed")]
-    Disk,
 }

@@ -19,6 +19,7 @@ pub loop-at-preserved : goal.loop-at-preserved
 loop-at-preserved g c = record {
   within = omega (arith, c.min-count.ensures, c.loop-at-test.true);
   reads = reads_then c.loop-at.invariant.reads c.read_block.ensures.reads;
+  ready = λ is. c.read_block.ensures.ready (c.loop-at.invariant.ready is);
   later = omega (arith, c.loop-at.invariant.later, c.read_block.ensures.cause.later);
   blank = λ image told.
       let seen = c.loop-at.invariant.reads.same_seen ∙ told in

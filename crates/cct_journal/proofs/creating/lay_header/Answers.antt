@@ -39,3 +39,12 @@ returns-clause-moments g c image held =
     (begun_created_by image blank
     (omega (arith, g.met.D.Disk.fits _ image held.tells, c.len-len.ensures, c.if-len-lt-LEAST.false))
     c.empty-carry.result c.empty-carry.ensures c.write_start.ensures.whole) (λ c same. inl same)
+
+pub returns-then-len-lt-LEAST-clause-sure : goal.returns-then-len-lt-LEAST-clause-sure
+returns-then-len-lt-LEAST-clause-sure g c ready = g.met.D.Disk.unfailed _ 0 0 ready
+
+pub returns-in_err-check_blank-clause-sure : goal.returns-in_err-check_blank-clause-sure
+returns-in_err-check_blank-clause-sure g c ready = g.met.D.Disk.unfailed _ 0 0 (c.check_blank.ensures.ready ready)
+
+pub returns-in_err-write_start-clause-sure : goal.returns-in_err-write_start-clause-sure
+returns-in_err-write_start-clause-sure g c ready = c.write_start.ensures.sure (c.check_blank.ensures.ready ready)

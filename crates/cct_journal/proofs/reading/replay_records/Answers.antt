@@ -29,6 +29,7 @@ returns-in-None-clause-stopped g c image told =
 pub loop-many-preserved : goal.loop-many-preserved
 loop-many-preserved g c = record {
   reads = reads_then c.loop-many.invariant.reads c.read_slot.ensures.reads;
+  ready = λ is. c.read_slot.ensures.ready (c.loop-many.invariant.ready is);
   later = omega (arith, c.loop-many.invariant.later, c.read_slot.ensures.cause.later);
   replayed = replayed_on _ c.args.place.now.second _ _ _ _ _ c.loop-many.many c.in-Some.entry _
       c.loop-many.invariant.replayed

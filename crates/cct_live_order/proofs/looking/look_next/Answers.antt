@@ -1,5 +1,7 @@
+use Rattle.std.proofs.Common.{ap, ◌∙◌}
+use Rattle.cct_journal.specs.Opening.{open_no}
 use Rattle.cct_live_order.proofs.looking.look_next.Goals as goal
 
-pub returns-in-Err-BadRecord-clause-refused : goal.returns-in-Err-BadRecord-clause-refused
-returns-in-Err-BadRecord-clause-refused g c rest held =
-    let is = c.in-Err-BadRecord.ensures.refused.never rest held in absurd cc
+pub returns-in-Err-clause-refused : goal.returns-in-Err-clause-refused
+returns-in-Err-clause-refused g c rest held =
+    c.from.ensures ∙ ap open_no (c.in-Err.ensures.refused.never rest held)

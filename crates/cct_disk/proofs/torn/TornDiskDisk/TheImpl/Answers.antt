@@ -14,5 +14,6 @@ write-tells c =
       images = λ _. c.ensures.images;
       goes_on = c.ensures.goes_on;
       time = c.ensures.time;
+      spends = λ _ _ never. absurd never;
       cause = answers.cause;
     }

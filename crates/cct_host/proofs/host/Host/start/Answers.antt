@@ -1,4 +1,5 @@
-use Rattle.std.proofs.Common.{◌∙◌, ap, arith, sym}
+use Rattle.std.proofs.Common.{◌∙◌, ap, arith, rules, sym}
+use Rattle.cct_disk.specs.Laws.{sure}
 use Rattle.cct_journal.specs.declared.place.Place.{Place}
 use Rattle.cct_host.proofs.Begun.{begin_from, begun_empty, resumed_all, resumed_by, resumed_some}
 use Rattle.cct_host.proofs.Records.{refuses_start}
@@ -50,3 +51,9 @@ pub returns-in-Err-clause-refused : goal.returns-in-Err-clause-refused
 returns-in-Err-clause-refused g c records reads first =
     refuses_start c.args.setup.now _ _ reads.rest records c.requires.sound reads.continues c.in-Err.why first
     (c.in-Err.ensures.refused reads.rest reads.reads)
+
+pub returns-in-Err-clause-sure : goal.returns-in-Err-clause-sure
+returns-in-Err-clause-sure g c ready = λ failed.
+    let only = c.replay_all.ensures.reads in
+    sure _ _ _ (g.met.D.Disk.unfailed _ 0 0 ready) (g.met.D.Disk.unfailed _ 0 0 (only.ready ready)) only.cause
+    (search (rules, failed))
