@@ -95,8 +95,9 @@ fn may_sell(setup: &Setup, carry: &Carry, id: u32, price: u32) -> bool
     id != 0 && price != 0 && u64::from(price) <= available(setup, carry)
 }
 
-/// What is available.
-fn available(setup: &Setup, carry: &Carry) -> u64
+/// What is available by a carry: the value posted, less what was paid and sold, what open orders
+/// reserve, and what stays reserved of those whose counts of life didn't fit.
+pub fn available(setup: &Setup, carry: &Carry) -> u64
     requires { IsCovered setup.now carry.now }
     ensures { result ≡ available_held setup.now carry.now 0 }
 {
@@ -105,7 +106,7 @@ fn available(setup: &Setup, carry: &Carry) -> u64
 }
 
 /// The amounts of open orders.
-pub(crate) fn owed(setup: &Setup, orders: &[CarryOrder]) -> u64
+pub fn owed(setup: &Setup, orders: &[CarryOrder]) -> u64
     requires { owed_by setup.now orders.now < 2 ^ 64 }
     ensures { result ≡ owed_by setup.now orders.now }
 {

@@ -13,6 +13,7 @@ mod told;
 mod values;
 mod worth;
 
+pub use following::{available, owed};
 pub use held::{epoch_held, order_held};
 pub use laws::{
     a_carry_goes_on_by_more_records, a_carry_goes_on_by_one_record, a_carry_of_no_record_is_empty,

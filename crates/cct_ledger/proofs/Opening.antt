@@ -1,7 +1,7 @@
 -- When an order may be opened, and what its record changes.
 use Rattle.std.proofs.Common.{◌≡◌, ℕ, ◌+◌, ◌<◌, ◌≤◌, ◌==◌, ◌&&◌, nat_le, not, Bool, true, false, List, ◌∷◌, set, length, get_or, refl, ap, ap₂, sym, ◌∙◌, subst, Option, Some, None, is_none, arith, le-leb, leb-true}
 use Rattle.std.specs.Prelude.{slice_get}
-use Rattle.std.specs.List.{list_any, position}
+use Rattle.std.specs.List.{list_any}
 use Rattle.std.specs.Option.{option_map}
 use Rattle.std.proofs.lemmas.Bool.{and_parts, not-true}
 use Rattle.std.proofs.lemmas.Option.{slice_get-map, slice_get-get_or, get_or_from_slice_get}
@@ -10,13 +10,14 @@ use Rattle.cct_model.specs.terms.device.Setup.{Setup}
 use Rattle.cct_model.specs.lines.record.Record.{Record}
 use Rattle.cct_model.specs.lines.record.Record.TheVariants.{Opened}
 use Rattle.cct_model.specs.declared.judging.OpenOrder.{OpenOrder}
+use Rattle.cct_model.specs.Exchange.{device_at, hopper_there}
 use Rattle.cct_model.specs.Setup.{AreDistinct}
 use Rattle.cct_model.specs.Records.{order_in, is_open}
 use Rattle.cct_model.specs.Money.{coins_of, available_in, available_beside, reserved_in}
 use Rattle.cct_model.specs.Following.{is_allowed}
-use Rattle.cct_ledger.specs.Orders.{has_id, KeepsOrders}
+use Rattle.cct_ledger.specs.Orders.{has_id, IsHopperAt, KeepsOrders}
 use Rattle.cct_ledger.proofs.Orders.{keeps_opened, order_as, owed_next}
-use Rattle.cct_ledger.proofs.Places.{hopper_is_at, hopper_at, hopper_there_at, hopper_nowhere}
+use Rattle.cct_ledger.proofs.Places.{hopper_there_at}
 
 -- what is available beside what is reserved is no more than what the records leave
 beside_less : (setup : Setup) (before : List Record) (beside : ℕ) →
@@ -33,20 +34,19 @@ absorbed false second third implied = refl
 
 -- where no hopper is, no order is opened
 pub refused_nowhere : (setup : Setup) (before : List Record) (beside id addr count life : ℕ) →
-    None ≡ position (hopper_is_at addr) setup.devices → false ≡ is_allowed setup before beside (Opened id addr count life)
+    hopper_there (device_at setup.devices addr) ≡ false → false ≡ is_allowed setup before beside (Opened id addr count life)
 refused_nowhere setup before beside id addr count life none =
     sym (ap (λ there. (there && is_none (order_in addr before) && not (id == 0) && not (is_open id before) && not
     (count == 0)
     && nat_le (coins_of setup addr count) (available_in setup before))
     && nat_le (coins_of setup addr count) (available_beside setup before beside))
-    (hopper_nowhere setup.devices addr (sym none)))
+    none)
 
 -- the order at the place of a hopper
 order_at_place : (setup : Setup) (before : List Record) (orders : List (Option OpenOrder)) (addr place : ℕ) →
-    KeepsOrders setup before orders → Some place ≡ position (hopper_is_at addr) setup.devices →
+    KeepsOrders setup before orders → IsHopperAt setup.devices addr place →
     slice_get orders place ≡ Some (order_in addr before)
-order_at_place setup before orders addr place keeps is =
-    let at = hopper_at setup.devices addr place (sym is) in
+order_at_place setup before orders addr place keeps at =
     ap (λ (os : List (Option OpenOrder)). slice_get os place) keeps.at_devices
     ∙ slice_get-map (λ (d : DeviceSetup). order_in d.addr before) setup.devices place
     ∙ ap (λ (found : Option DeviceSetup). option_map (λ (d : DeviceSetup). order_in d.addr before) found) at.there
@@ -61,11 +61,11 @@ tests orders place id count amount available =
 pub allowed_at : (setup : Setup) (before : List Record) (orders : List (Option OpenOrder))
     (place beside id addr count life amount available : ℕ) → AreDistinct setup.devices →
     KeepsOrders setup before orders →
-    Some place ≡ position (hopper_is_at addr) setup.devices → amount ≡ coins_of setup addr count →
+    IsHopperAt setup.devices addr place → amount ≡ coins_of setup addr count →
     available ≡ available_beside setup before beside →
     tests orders place id count amount available ≡ is_allowed setup before beside (Opened id addr count life)
 allowed_at setup before orders place beside id addr count life amount available distinct keeps is worth left =
-    let hopper = hopper_there_at setup.devices addr place distinct (hopper_at setup.devices addr place (sym is)) in
+    let hopper = hopper_there_at setup.devices addr place distinct is in
     let here =
     get_or_from_slice_get orders place (order_in addr before) None
     (order_at_place setup before orders addr place keeps is) in
@@ -105,7 +105,7 @@ passed_tests a b c d e all =
 
 pub reserves : (setup : Setup) (before : List Record) (orders later : List (Option OpenOrder))
     (place id addr count life amount available : ℕ) → AreDistinct setup.devices → KeepsOrders setup before orders →
-    Some place ≡ position (hopper_is_at addr) setup.devices → tests orders place id count amount available ≡ true →
+    IsHopperAt setup.devices addr place → tests orders place id count amount available ≡ true →
     place < length orders → later ≡ set orders place (Some (order_as id addr count life)) →
     Reserves setup before later id addr count life amount available
 reserves setup before orders later place id addr count life amount available distinct keeps is passed within same =
@@ -116,7 +116,7 @@ reserves setup before orders later place id addr count life amount available dis
     let none : slice_get orders place ≡ Some None =
     slice_get-get_or orders place None within ∙ ap Some (none_is (get_or orders place None) parts.0) in
     let next =
-    keeps_opened setup before orders place id addr count life distinct (hopper_at setup.devices addr place (sym is))
+    keeps_opened setup before orders place id addr count life distinct is
     none
     (not-true (list_any (has_id id) orders) parts.1) keeps in
     let owed =

@@ -16,10 +16,10 @@ use Rattle.cct_model.specs.Order.{order_by}
 use Rattle.cct_model.specs.Records.{named_by, order_named, hopper_of, opened_in, owner_in, order_in, is_open_by, is_open}
 use Rattle.cct_model.specs.Money.{amount, owed_in}
 use Rattle.cct_model.proofs.OpenOrders.{order_next, order_own, order_else}
-use Rattle.cct_ledger.specs.Orders.{has_id, KeepsOrders}
+use Rattle.cct_ledger.specs.Orders.{has_id, IsHopperAt, KeepsOrders}
 use Rattle.cct_ledger.proofs.Lists.{any_set, set_cases, none_get}
 use Rattle.cct_ledger.proofs.Positions.{any_at}
-use Rattle.cct_ledger.proofs.Places.{same_place, map_same, map_set, sum_over-map, IsHopperAt}
+use Rattle.cct_ledger.proofs.Places.{same_place, map_same, map_set, sum_over-map}
 
 -- the open order at an address is one of that address
 

@@ -2,7 +2,6 @@
 use Rattle.std.proofs.Common.{◌≡◌, ◌≢◌, ℕ, ◌+◌, ◌≤◌, ◌==◌, Bool, true, false, cond, ◌||◌, List, [], ◌∷◌, length, map, sum_by, Option, Some, None, option_map, refl, ap, sym, ◌∙◌, subst, arith, eq-eqb, eqb-true, ne_eqb}
 use Rattle.std.specs.List.{list_any}
 use Rattle.std.specs.Option.{option_map_or}
-use Rattle.std.proofs.lemmas.List.Sums.{sum_by-cons}
 use Rattle.cct_model.specs.terms.device.DeviceSetup.{DeviceSetup}
 use Rattle.cct_model.specs.terms.device.Setup.{Setup}
 use Rattle.cct_model.specs.lines.record.Record.{Record}
@@ -23,14 +22,6 @@ use Rattle.cct_ledger.specs.Orders.{KeepsOrders, has_id}
 use Rattle.cct_ledger.specs.Resumed.{IsResumed}
 use Rattle.cct_ledger.specs.declared.ledger.Ledger.{Ledger}
 use Rattle.cct_ledger.proofs.Places.{sum_over-map}
-
--- the worth of orders is a sum
-pub worth_each : (setup : Setup) (orders : List CarryOrder) →
-    owed_by setup orders ≡ sum_by (λ (o : CarryOrder). coins_of setup o.addr o.count) orders
-worth_each setup [] = refl
-worth_each setup (o ∷ orders) =
-    ap (λ n. coins_of setup o.addr o.count + n) (worth_each setup orders)
-    ∙ sym (sum_by-cons (λ (o : CarryOrder). coins_of setup o.addr o.count) o orders)
 
 -- what the orders at the devices are worth
 

@@ -1,15 +1,22 @@
 -- The devices of a setup by their places in it.
-use Rattle.std.proofs.Common.{◌≡◌, ◌≢◌, ℕ, zero, suc, ◌+◌, ◌==◌, ◌&&◌, Bool, true, false, cond, List, [], ◌∷◌, map, set, sum_by, refl, ap, ap₂, sym, ◌∙◌, Some, None, eq-eqb, eqb-true, true≢false}
+use Rattle.std.proofs.Common.{◌≡◌, ◌≢◌, ℕ, zero, suc, ◌+◌, ◌==◌, Bool, true, false, cond, List, [], ◌∷◌, map, set, sum_by, get_or, refl, ap, ap₂, sym, ◌∙◌, Some, None, eq-eqb, eqb-true, true≢false}
 use Rattle.std.specs.Prelude.{slice_get}
 use Rattle.std.specs.List.{list_any, position}
-use Rattle.std.proofs.lemmas.Bool.{and_parts, ne_eqb, or_parts}
+use Rattle.std.proofs.lemmas.Bool.{ne_eqb, or_parts}
+use Rattle.std.proofs.lemmas.List.Quantifiers.{position-Some}
 use Rattle.std.proofs.lemmas.List.Sums.{sum_by-cons}
+use Rattle.std.proofs.lemmas.Option.{slice_get-get_or}
 use Rattle.cct_model.specs.terms.device.DeviceSetup.{DeviceSetup}
 use Rattle.cct_model.specs.Device.{is_hopper}
 use Rattle.cct_model.specs.Exchange.{device_at, hopper_there}
 use Rattle.cct_model.specs.Setup.{AreDistinct}
 use Rattle.cct_model.specs.Money.{sum_over}
-use Rattle.cct_ledger.proofs.Positions.{at_position, none_passes}
+use Rattle.cct_ledger.specs.Orders.{IsHopperAt}
+use Rattle.cct_ledger.proofs.Positions.{none_passes}
+
+-- a device is of an address
+abbrev is_at : ℕ → DeviceSetup → Bool
+is_at addr d = d.addr == addr
 
 -- a device has no address that no device has
 pub apart : (ds : List DeviceSetup) (addr i : ℕ) (d : DeviceSetup) → device_at ds addr ≡ None →
@@ -95,25 +102,16 @@ sum_over-map worth f (d ∷ ds) =
 
 -- a hopper is found by its address
 
-abbrev pub hopper_is_at : ℕ → DeviceSetup → Bool
-hopper_is_at addr d = (d.addr == addr) && is_hopper d.body
-
-pub record IsHopperAt (ds : List DeviceSetup) (addr place : ℕ) : Type 0 where
-  pub device : DeviceSetup
-  pub there : slice_get ds place ≡ Some device
-  pub here : device.addr ≡ addr
-  pub kind : is_hopper device.body ≡ true
-
-pub hopper_at : (ds : List DeviceSetup) (addr place : ℕ) → position (hopper_is_at addr) ds ≡ Some place →
+pub hopper_at : (ds : List DeviceSetup) (addr place : ℕ) (d : DeviceSetup) →
+    position (is_at addr) ds ≡ Some place → d ≡ get_or ds place d → is_hopper d.body ≡ true →
     IsHopperAt ds addr place
-hopper_at ds addr place is =
-    let at = at_position (hopper_is_at addr) ds place is in
-    let parts = and_parts (at.item.addr == addr) (is_hopper at.item.body) at.passes in
+hopper_at ds addr place d is own kind =
+    let at = position-Some (is_at addr) ds place d is in
     record {
-      device = at.item;
-      there = at.there;
-      here = eqb-true at.item.addr addr parts.0;
-      kind = parts.1;
+      device = d;
+      there = slice_get-get_or ds place d at.0 ∙ ap Some (sym own);
+      here = eqb-true d.addr addr (ap (is_at addr) own ∙ at.1);
+      kind = kind;
     }
 
 pub hopper_there_at : (ds : List DeviceSetup) (addr place : ℕ) → AreDistinct ds → IsHopperAt ds addr place →
@@ -122,18 +120,23 @@ hopper_there_at ds addr place distinct at =
     let found = ap (device_at ds) (sym at.here) ∙ at_place ds place at.device distinct at.there in
     ap hopper_there found ∙ at.kind
 
-no_hopper : (ds : List DeviceSetup) (addr : ℕ) → list_any (hopper_is_at addr) ds ≡ false →
-    hopper_there (device_at ds addr) ≡ false
-no_hopper [] addr none = refl
-no_hopper (e ∷ ds) addr none =
-    let parts = or_parts (hopper_is_at addr e) (list_any (hopper_is_at addr) ds) none in
-    by_here (e.addr == addr) parts.0 (no_hopper ds addr parts.1)
-  where
-    by_here : (here : Bool) → (here && is_hopper e.body) ≡ false → hopper_there (device_at ds addr) ≡ false →
-        hopper_there (cond here (Some e) (device_at ds addr)) ≡ false
-    by_here true test rest = test
-    by_here false test rest = rest
+-- and none is there where the first device of the address is no hopper, or no device is of it
 
-pub hopper_nowhere : (ds : List DeviceSetup) (addr : ℕ) → position (hopper_is_at addr) ds ≡ None →
+pub other_at : (ds : List DeviceSetup) (addr place : ℕ) (d : DeviceSetup) →
+    position (is_at addr) ds ≡ Some place → d ≡ get_or ds place d → is_hopper d.body ≡ false → AreDistinct ds →
     hopper_there (device_at ds addr) ≡ false
-hopper_nowhere ds addr none = no_hopper ds addr (none_passes (hopper_is_at addr) ds none)
+other_at ds addr place d is own kind distinct =
+    let at = position-Some (is_at addr) ds place d is in
+    let here = eqb-true d.addr addr (ap (is_at addr) own ∙ at.1) in
+    let there = slice_get-get_or ds place d at.0 ∙ ap Some (sym own) in
+    ap (λ a. hopper_there (device_at ds a)) (sym here) ∙ ap hopper_there (at_place ds place d distinct there) ∙ kind
+
+no_device : (ds : List DeviceSetup) (addr : ℕ) → list_any (is_at addr) ds ≡ false → device_at ds addr ≡ None
+no_device [] addr none = refl
+no_device (e ∷ ds) addr none =
+    let parts = or_parts (is_at addr e) (list_any (is_at addr) ds) none in
+    ap (λ b. cond b (Some e) (device_at ds addr)) parts.0 ∙ no_device ds addr parts.1
+
+pub nothing_at : (ds : List DeviceSetup) (addr : ℕ) → position (is_at addr) ds ≡ None →
+    hopper_there (device_at ds addr) ≡ false
+nothing_at ds addr none = ap hopper_there (no_device ds addr (none_passes (is_at addr) ds none))

@@ -17,9 +17,9 @@ ghost use Rattle.cct_model.specs.Following.{all_follow};
 ghost use Rattle.cct_ledger.specs.Orders.{has_id};
 
 use crate::lookup::{hopper_place, none_open, opened, put_order};
-use crate::resumed::{open_orders, worth_of};
+use crate::resumed::open_orders;
 use arrayvec::ArrayVec;
-use cct_journal_carry::{coins_of, coins_value};
+use cct_journal_carry::{available, coins_of, coins_value, owed};
 use cct_model::{Carry, Coins, DEVICES, OpenOrder, Record, Setup, Totals};
 use thiserror::Error;
 
@@ -91,13 +91,12 @@ impl<'s> Ledger<'s> {
         ensures stands { (before : List Record) → length before ≡ base → all_follow setup.now before ≡ true
             → carry.now ≡ carries.carry setup.now before → StandsFor result before 0 }
     {
-        let owed = worth_of(setup, carry.orders.as_slice()) + carry.odd_value;
         Ledger {
             setup,
             records: base,
             orders: open_orders(setup, carry),
-            available: carry.value - owed - carry.paid_value - carry.sold,
-            owed,
+            available: available(setup, carry),
+            owed: owed(setup, carry.orders.as_slice()) + carry.odd_value,
             reserved: 0,
             paid: carry.paid_value,
             sold: carry.sold,

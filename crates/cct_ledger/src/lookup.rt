@@ -1,8 +1,9 @@
 //! Hoppers and open orders, looked up by their places in a setup.
-ghost use Rattle.std.specs.Prelude.{◌≡◌, ◌<◌, ◌==◌, ◌&&◌, None, length, map, IfSome, slice_set};
+ghost use Rattle.std.specs.Prelude.{◌≡◌, ◌<◌, None, false, length, map, IfNone, IfSome, slice_set};
 ghost use Rattle.std.specs.List.{position};
-ghost use Rattle.cct_model.specs.Device.{is_hopper};
-ghost use Rattle.cct_ledger.specs.Orders.{Finds, has_id};
+ghost use Rattle.cct_model.specs.Exchange.{device_at, hopper_there};
+ghost use Rattle.cct_model.specs.Setup.{AreDistinct};
+ghost use Rattle.cct_ledger.specs.Orders.{Finds, IsHopperAt, has_id};
 
 use arrayvec::ArrayVec;
 use cct_model::{DEVICES, OpenOrder, Setup};
@@ -19,16 +20,22 @@ pub(crate) fn none_open(setup: &Setup) -> ArrayVec<Option<OpenOrder>, DEVICES>
     orders
 }
 
-/// The place of the hopper at an address, or none.
+/// The place of the hopper at an address, or none. The devices of a sound setup have an address
+/// each, so none is a hopper there where the first device of the address is none.
+#[tactic(auto, using(crate::proofs::Places::hopper_at, crate::proofs::Places::other_at, crate::proofs::Places::nothing_at))]
 pub(crate) fn hopper_place(setup: &Setup, addr: u8) -> Option<usize>
-    ensures first { result ≡ position (λ d. (d.addr == addr) && is_hopper d.body) setup.now.devices }
+    ensures found { IfSome result (IsHopperAt setup.now.devices addr) }
+    ensures none { AreDistinct setup.now.devices
+        → IfNone result (hopper_there (device_at setup.now.devices addr) ≡ false) }
     ensures within { IfSome result (λ place. place < length setup.now.devices) }
 {
-    setup
-        .devices
-        .as_slice()
-        .iter()
-        .position(|device| device.addr == addr && device.body.is_hopper())
+    let place = setup.devices.place_of(addr)?;
+    let device = &setup.devices.as_slice()[place];
+    if device.body.is_hopper() {
+        Some(place)
+    } else {
+        None
+    }
 }
 
 /// The place of the open order with an id and the order, or none.

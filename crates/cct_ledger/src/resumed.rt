@@ -1,11 +1,10 @@
-//! What a ledger begins with: the open orders of a carry, at the devices of a setup, and what they
-//! are worth.
-ghost use Rattle.std.specs.Prelude.{◌≡◌, ◌<◌, ◌^◌, map};
-ghost use Rattle.cct_model.specs.Carry.{order_held, owed_by};
+//! What a ledger begins with: the open orders of a carry, at the devices of a setup.
+ghost use Rattle.std.specs.Prelude.{◌≡◌, map};
+ghost use Rattle.cct_model.specs.Carry.{order_held};
 
 use arrayvec::ArrayVec;
-use cct_journal_carry::{coins_of, order_held};
-use cct_model::{Carry, CarryOrder, DEVICES, OpenOrder, Setup};
+use cct_journal_carry::order_held;
+use cct_model::{Carry, DEVICES, OpenOrder, Setup};
 
 /// The open order of each device by a carry.
 pub(crate) fn open_orders(setup: &Setup, carry: &Carry) -> ArrayVec<Option<OpenOrder>, DEVICES>
@@ -17,16 +16,4 @@ pub(crate) fn open_orders(setup: &Setup, carry: &Carry) -> ArrayVec<Option<OpenO
         orders.push(order_held(carry, device.addr));
     }
     orders
-}
-
-/// What these open orders are worth.
-#[tactic(auto, using(crate::proofs::OverCarry::worth_each))]
-pub(crate) fn worth_of(setup: &Setup, orders: &[CarryOrder]) -> u64
-    requires small { owed_by setup.now orders.now < 2 ^ 64 }
-    ensures { result ≡ owed_by setup.now orders.now }
-{
-    orders
-        .iter()
-        .map(|order| coins_of(setup, order.addr, order.count))
-        .sum()
 }

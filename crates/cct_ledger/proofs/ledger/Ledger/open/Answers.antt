@@ -9,7 +9,7 @@ returns-in_default c = record {
   counted = tt;
   exactly = λ before beside stands.
       refused_nowhere c.args.self.now.setup.now before beside c.args.order.id c.args.order.addr c.args.order.count
-      c.args.order.life c.in_default.ensures.first;
+      c.args.order.life (c.in_default.ensures.none stands.sound.distinct);
   taken = tt;
   refused = refl;
 }
@@ -23,7 +23,7 @@ returns-then-not-may_open c = record {
       sym c.if-not-may_open.true ∙ c.may_open.ensures
       ∙ allowed_at c.args.self.now.setup.now before c.args.self.now.orders.items c.in-Some.place beside c.args.order.id
       c.args.order.addr c.args.order.count c.args.order.life c.coins_of-amount.result c.args.self.now.available
-      stands.sound.distinct stands.orders c.in-Some.ensures.first c.coins_of-amount.ensures (omega arith);
+      stands.sound.distinct stands.orders c.in-Some.ensures.found c.coins_of-amount.ensures (omega arith);
   taken = tt;
   refused = refl;
 }
@@ -37,12 +37,12 @@ returns c = record {
       sym c.if-not-may_open.false ∙ c.may_open.ensures
       ∙ allowed_at c.args.self.now.setup.now before c.args.self.now.orders.items c.in-Some.place beside c.args.order.id
       c.args.order.addr c.args.order.count c.args.order.life c.coins_of-amount.result c.args.self.now.available
-      stands.sound.distinct stands.orders c.in-Some.ensures.first c.coins_of-amount.ensures (omega arith);
+      stands.sound.distinct stands.orders c.in-Some.ensures.found c.coins_of-amount.ensures (omega arith);
   taken = λ before beside stands.
       let reserves =
       reserves c.args.self.now.setup.now before c.args.self.now.orders.items c.put_order.new.orders.items
       c.in-Some.place c.args.order.id c.args.order.addr c.args.order.count c.args.order.life c.coins_of-amount.result
-      c.args.self.now.available stands.sound.distinct stands.orders c.in-Some.ensures.first
+      c.args.self.now.available stands.sound.distinct stands.orders c.in-Some.ensures.found
       (sym c.may_open.ensures ∙ c.if-not-may_open.false)
       (omega (arith, c.in-Some.ensures.within, c.args.self.now.places)) c.put_order.ensures in
       record {

@@ -8,7 +8,7 @@ use Rattle.cct_ledger.proofs.ledger.Ledger.resume.Goals as goal
 
 pub invariant_of-result : goal.invariant_of-result
 invariant_of-result c =
-    let owed = c.worth_of.ensures ∙ ap (owed_by c.args.setup.now) c.as_slice.ensures.value in
+    let owed = c.owed.ensures ∙ ap (owed_by c.args.setup.now) c.as_slice.ensures.value in
     let worth =
     kept_worth c.args.setup.now c.args.carry.now c.open_orders.result.items c.requires.sound.distinct
     c.open_orders.ensures in
@@ -23,7 +23,7 @@ invariant_of-result c =
 
 pub returns-clause-stands : goal.returns-clause-stands
 returns-clause-stands c = λ before count follow is.
-    let owed = c.worth_of.ensures ∙ ap (owed_by c.args.setup.now) c.as_slice.ensures.value in
+    let owed = c.owed.ensures ∙ ap (owed_by c.args.setup.now) c.as_slice.ensures.value in
     resumed_stands c.args.setup.now c.args.base c.args.carry.now _ before c.requires.sound (record {
       setup_is = refl;
       counted = refl;
