@@ -72,7 +72,10 @@ pub fn opened<D: Disk>(disk: D) -> Result<Journal<D>, (Ending, D)>
 /// Plays a step and writes its entries: the buffers of both.
 #[derive(Drop)]
 struct StepPlayer {
-    /// The entries of the last step.
+    /// The entries of the last `next`. Most of these are exchanges, and an entry that stands in the
+    /// place of one of its kind is only filled.
+    attempt: ArrayVec<Entry, 8>,
+    /// The entries of the last step that was none.
     report: ArrayVec<Entry, 8>,
     line: TextLine,
 }
@@ -120,14 +123,65 @@ impl StepPlayer {
             (λ next. D.faults (disk_of world.entry) ≤ D.faults (disk_of next))
             (λ e. Caused (D.faults (disk_of world.entry)) (D.faults e.1) (status_of e.0 ≡ Status.DiskFault)) }
     {
-        let world = match world.step(step, &mut self.report) {
-            Ok(world) => world,
-            Err((disk, why)) => return Err((Ending::Unplayed(why), disk)),
-        };
-        match write_entries(out, &mut self.line, self.report.as_slice()) {
-            Ok(()) => Ok(world),
-            Err(Failed) => Err((Ending::Unwritten, world.into_disk())),
+        match step {
+            Step::Next { .. } => play_step(step, world, &mut self.attempt, &mut self.line, out),
+            _ => play_step(step, world, &mut self.report, &mut self.line, out),
         }
+    }
+}
+
+/// Plays a step, whose entries go into the report, and writes them by way of the line; or says how
+/// the run ends, and gives the disk back.
+#[inline(always)]
+fn play_step<'s, K: Sink, D: Disk>(
+    step: &Step,
+    world: World<'s, D>,
+    report: &mut ArrayVec<Entry, 8>,
+    line: &mut TextLine,
+    out: &mut K,
+) -> Result<World<'s, D>, (Ending, D)>
+    requires can { CanPlay (setup_of world) step.now }
+    requires size { D.size (disk_of world) ≡ JOURNAL_BYTES }
+    ensures plays { IfOk result (λ next. PlaysOn (IsTrusted D.honest D.seen (disk_of world.entry))
+        (StandsFor world.entry) (StandsFor next) (setup_of world.entry) (desk_of world.entry) (desk_of next) step.now
+        (CutsIn step.now D.size D.honest D.seen D.cuts D.cut_to (disk_of world.entry) (disk_of next))
+        (used_of world.entry) (used_of next) (D.seen (disk_of next))
+        (λ report. Writes K.written K.puts out.old report (Ok tt) out.new)) }
+    ensures setup { IfOk result (λ next. setup_of next ≡ setup_of world.entry) }
+
+    // how the run ends
+    ensures ended { IfErr result (λ e. ((e.0 ≡ Ending.Unwritten) × (failed : Failed) × (many : ℕ)
+        × (next : Desk) × PlaysOn (IsTrusted D.honest D.seen (disk_of world.entry)) (StandsFor world.entry)
+        (Books (setup_of world.entry) D.honest D.seen D.may_leave e.1) (setup_of world.entry) (desk_of world.entry)
+        next step.now
+        (CutsIn step.now D.size D.honest D.seen D.cuts D.cut_to (disk_of world.entry) e.1) (used_of world.entry)
+        many (D.seen e.1) (λ report. Writes K.written K.puts out.old report (Err failed) out.new))
+        ⊎ ((why : CrashNo) × (e.0 ≡ Ending.Unplayed why) × Breaks world.entry e.1 why step.now
+        × (why ≢ crash_no.Disk
+        → CutsIn step.now D.size D.honest D.seen D.cuts D.cut_to (disk_of world.entry) e.1)
+        × (out.new ≡ out.old))) }
+    ensures memory { IfErr result (λ e. e.0 ≢ Ending.NoMemory) }
+    ensures unread { IfErr result (λ e. e.0 ≢ Ending.Unread) }
+    ensures lost_cause { IfErr result (λ e. status_of e.0 ≡ Status.JournalLost
+        → Rose (D.cuts (disk_of world.entry)) (D.cuts e.1)) }
+
+    // the sink and the disk
+    ensures sink { Serves K.written K.faults out.old out.new
+        (MatchResult result (λ _. ⊥) (λ e. e.0 ≡ Ending.Unwritten)) }
+    ensures lasts { MatchResult result
+        (λ next. LastsIn step.now D.size D.honest D.seen D.cuts (disk_of world.entry) (disk_of next))
+        (λ e. LastsIn step.now D.size D.honest D.seen D.cuts (disk_of world.entry) e.1) }
+    ensures disk_cause { MatchResult result
+        (λ next. D.faults (disk_of world.entry) ≤ D.faults (disk_of next))
+        (λ e. Caused (D.faults (disk_of world.entry)) (D.faults e.1) (status_of e.0 ≡ Status.DiskFault)) }
+{
+    let world = match world.step(step, report) {
+        Ok(world) => world,
+        Err((disk, why)) => return Err((Ending::Unplayed(why), disk)),
+    };
+    match write_entries(out, line, report.as_slice()) {
+        Ok(()) => Ok(world),
+        Err(Failed) => Err((Ending::Unwritten, world.into_disk())),
     }
 }
 
@@ -218,6 +272,7 @@ impl Bench {
                 lines: Lines::new(),
                 step: Step::End,
                 player: StepPlayer {
+                    attempt: ArrayVec::new(),
                     report: ArrayVec::new(),
                     line: TextLine::new(),
                 },

@@ -23,6 +23,7 @@ pub fn is_end(step: &Step) -> bool
 }
 
 /// Reads what one whole step line says into the room for a step.
+#[inline(always)]
 fn take_step_line<D: Disk>(
     world: &World<'_, D>,
     line: &[u8],

@@ -5,3 +5,4 @@ pub mod Lives
 pub mod Orders
 pub mod Places
 pub mod Said
+pub mod Tables

@@ -23,12 +23,14 @@ ghost use Rattle.cct_acceptor.specs.Acceptor.{inserted};
 ghost use Rattle.cct_bus.specs.Device.{Stands, setup_in, setups_in};
 ghost use Rattle.cct_bus.specs.Fault.{IsShort};
 ghost use Rattle.cct_bus.specs.Room.{most_answered};
+ghost use Rattle.cct_model_wire.specs.Places.{places_of};
 
 use crate::device::Device;
 use crate::fault::{heard_by_devices, heard_by_host, use_up};
 use crate::hearing::all_hear;
 use crate::honesty::is_honest;
 use crate::outcome::Outcome;
+use crate::table::{ADDRESSES, place_of, places_of};
 use arrayvec::ArrayVec;
 use cct_acceptor::Inserted;
 use cct_model::{COIN_PLACES, DeviceSetup, Happening, MOST_HEARD, MOST_SENT, Setup, WireFault};
@@ -43,6 +45,8 @@ pub struct Bus<'s> {
     setup: &'s Setup,
     /// The devices in rising order of address.
     devices: Vec<Device<'s>>,
+    /// For each address the index of the device there, or none.
+    places: [Option<u8>; ADDRESSES],
     /// What is wrong in the next exchange.
     fault: WireFault,
     /// Whether the last exchange was forged.
@@ -50,6 +54,7 @@ pub struct Bus<'s> {
     /// The room for one answer.
     frame: ArrayVec<u8, MOST_SENT>,
     ghost order: { setups_in devices.items ≡ by_address setup.now.devices },
+    ghost table: { places ≡ places_of (setups_in devices.items) },
     ghost room: { (piece : List ℕ) → most_answered piece setup.now.devices ≤ MOST_SENT },
     ghost short: { (piece : List ℕ) → fault ≡ HostHears piece → length piece ≤ MOST_SENT },
 }
@@ -67,9 +72,11 @@ impl<'s> Bus<'s> {
         ensures fresh { IfOk result (λ bus. StandsFor bus []) }
     {
         let devices = devices_of(alloc, setup.devices.as_slice())?;
+        let places = places_of(&devices);
         Ok(Bus {
             setup,
             devices,
+            places,
             fault: WireFault::Clear,
             forged: false,
             frame: ArrayVec::new(),
@@ -249,7 +256,7 @@ impl<'s> Bus<'s> {
             ≡ Some result }
         ensures within { result < length self.now.devices.items }
     {
-        place_of(&self.devices, addr).unwrap()
+        place_of(&self.places, &self.devices, addr).unwrap()
     }
 }
 
@@ -265,7 +272,13 @@ impl Link for Bus<'_> {
         heard.clear();
         heard.try_extend_from_slice(sent).unwrap();
         let piece = heard_by_devices(&self.fault, sent);
-        all_hear(&mut self.devices, piece, &mut self.frame, heard);
+        all_hear(
+            &mut self.devices,
+            &self.places,
+            piece,
+            &mut self.frame,
+            heard,
+        );
         heard_by_host(&self.fault, sent, heard);
         self.forged = !is_honest(&self.fault, sent);
         use_up(&mut self.fault);
@@ -306,12 +319,4 @@ fn place_not_below(devices: &[Device<'_>], addr: u8) -> Option<usize>
     ensures within { IfSome result (λ place. place < length devices.now) }
 {
     devices.iter().position(|device| addr <= device.setup.addr)
-}
-
-/// The index of the device at an address, or none.
-pub(crate) fn place_of(devices: &[Device<'_>], addr: u8) -> Option<usize>
-    ensures first { result ≡ position (λ device. (setup_in device).addr == addr) devices.now }
-    ensures within { IfSome result (λ place. place < length devices.now) }
-{
-    devices.iter().position(|device| device.setup.addr == addr)
 }

@@ -6,23 +6,27 @@ ghost use Rattle.cct_model.specs.terms.device.DeviceSetup.{DeviceSetup};
 ghost use Rattle.cct_model.specs.Exchange.{answer, asks_of};
 ghost use Rattle.cct_model.specs.History.{Met, heard};
 ghost use Rattle.cct_model.specs.Setup.{AreDistinct};
+ghost use Rattle.cct_model_wire.specs.Places.{places_of};
 ghost use Rattle.cct_bus.specs.Device.{Stands, setups_in};
 ghost use Rattle.cct_bus.specs.Room.{most_answered};
 
-use crate::bus::place_of;
 use crate::device::Device;
+use crate::table::{ADDRESSES, place_of};
 use arrayvec::ArrayVec;
 use cct_model::{BROADCAST, MOST_HEARD, MOST_SENT};
 
 /// The devices hear a piece and then a gap: one that it is for by its first byte, or each, if it is
 /// for all; it asks nothing of the others. What they answer goes after what `answers` holds, in the
-/// order of the devices; `frame` is room for one answer.
+/// order of the devices; `places` has the index of the one at each address, and `frame` is room for
+/// one answer.
 pub(crate) fn all_hear(
     devices: &mut [Device<'_>],
+    places: &[Option<u8>; ADDRESSES],
     piece: &[u8],
     frame: &mut ArrayVec<u8, MOST_SENT>,
     answers: &mut ArrayVec<u8, MOST_HEARD>,
 )
+    requires places { places.now ≡ places_of (setups_in devices.old) }
     requires room { length answers.old.items + most_answered piece.now (setups_in devices.old)
         ≤ MOST_HEARD }
     ensures setups { setups_in devices.new ≡ setups_in devices.old }
@@ -33,7 +37,7 @@ pub(crate) fn all_hear(
         ≡ answers.old.items ++ flat_map (λ d. unwrap_or (answer d (history d) piece.now) []) (setups_in devices.old) }
 {
     match piece {
-        [to, ..] if *to != BROADCAST => one_hears(devices, *to, piece, frame, answers),
+        [to, ..] if *to != BROADCAST => one_hears(devices, places, *to, piece, frame, answers),
         _ => each_hears(devices, piece, frame, answers),
     }
 }
@@ -41,11 +45,13 @@ pub(crate) fn all_hear(
 /// The device at an address hears a piece that is for it, if there is one.
 fn one_hears(
     devices: &mut [Device<'_>],
+    places: &[Option<u8>; ADDRESSES],
     to: u8,
     piece: &[u8],
     frame: &mut ArrayVec<u8, MOST_SENT>,
     answers: &mut ArrayVec<u8, MOST_HEARD>,
 )
+    requires places { places.now ≡ places_of (setups_in devices.old) }
     requires first { slice_index piece.now 0 ≡ to }
     requires one { to ≢ BROADCAST }
     requires room { length answers.old.items + most_answered piece.now (setups_in devices.old)
@@ -57,7 +63,7 @@ fn one_hears(
         → All (Stands history) devices.old → answers.new.items
         ≡ answers.old.items ++ flat_map (λ d. unwrap_or (answer d (history d) piece.now) []) (setups_in devices.old) }
 {
-    match place_of(devices, to) {
+    match place_of(places, devices, to) {
         None => {}
         Some(index) => {
             devices[index].hear(piece, frame);

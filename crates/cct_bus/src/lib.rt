@@ -8,6 +8,7 @@ mod fault;
 mod hearing;
 mod honesty;
 mod outcome;
+mod table;
 
 pub use bus::Bus;
 pub use outcome::Outcome;

@@ -56,7 +56,9 @@ pub(crate) fn ranged_u8(least: u8, most: u8, field: &[u8]) -> Option<u8>
     Some(ranged(u64::from(least), u64::from(most), field)? as u8)
 }
 
-/// The number of four bytes, from `least` up to `most`, that a field spells.
+/// The number of four bytes, from `least` up to `most`, that a field spells. Where both are known,
+/// no step of the sum is looked at for an overflow.
+#[inline(always)]
 pub(crate) fn ranged_u32(least: u32, most: u32, field: &[u8]) -> Option<u32>
     ensures { Reads result (ranged least most field.now)
         (λ number. (least ≤ number) × (number ≤ most)) }

@@ -1,6 +1,7 @@
 //! The step lines of a script (`docs/SCRIPT.md`).
-ghost use Rattle.std.specs.Prelude.{◌≡◌, Ok, Err, IfOk, MatchResult, OnOk};
-ghost use Rattle.cct_model_lines.specs.Grammar.{step_line};
+ghost use Rattle.std.specs.Prelude.{◌≡◌, ◌∷◌, Ok, Err, IfOk, MatchResult, OnOk};
+ghost use Rattle.std.specs.List.{slice_split};
+ghost use Rattle.cct_model_lines.specs.Grammar.{is_space, step_line};
 ghost use Rattle.cct_model_lines.specs.Script.{IsInRange};
 ghost use Rattle.cct_model_lines.specs.declared.command.Step.TheVariants as steps;
 ghost use Rattle.cct_script.specs.Fields.{fields_after};
@@ -13,6 +14,8 @@ use crate::step_fields::{
     route_into, start_into, stock_into, vend_into,
 };
 use cct_model_lines::{Command, LineKind, Step};
+
+const NEXT: &[u8] = b"next";
 
 const COIN: &[u8] = b"coin";
 
@@ -65,6 +68,7 @@ const END: &[u8] = b"end";
 /// Puts into `step` what the word of a step line says that is `next`: the next attempt of a job; or
 /// another word. Most lines have this one, so it is looked for first.
 #[tactic(auto, unfolding(crate::specs::Steps::next_step))]
+#[inline(always)]
 fn next_step(word: &[u8], rest: Option<&[u8]>, step: &mut Step) -> Result<(), LineKind>
     ensures { ReadsInto result step.new (next_step word.now (fields_after rest.entry)) }
 {
@@ -78,8 +82,10 @@ fn next_step(word: &[u8], rest: Option<&[u8]>, step: &mut Step) -> Result<(), Li
 }
 
 /// Puts into `step` what the word of a step line says that is `coin`, `alien`, `bill`, `fall`,
-/// `jam` or `reset`: what happens to a device; or another word.
+/// `jam` or `reset`: what happens to a device; or another word. In a function of its own it takes
+/// nothing where a line is a `next`.
 #[tactic(auto, unfolding(crate::specs::Steps::device_step))]
+#[inline(never)]
 fn device_step(word: &[u8], rest: Option<&[u8]>, step: &mut Step) -> Result<(), LineKind>
     ensures { ReadsInto result step.new (device_step word.now (fields_after rest.entry)) }
 {
@@ -185,16 +191,28 @@ fn desk_step(word: &[u8], rest: Option<&[u8]>, step: &mut Step) -> Result<(), Li
     Ok(())
 }
 
+/// The first field of a step line, and what is after its space, if there is one. Most lines are a
+/// `next`, whose five bytes are looked at all together.
+fn first_word(line: &[u8]) -> (&[u8], Option<&[u8]>)
+    ensures { slice_split is_space line.now ≡ result.0.now ∷ fields_after result.1 }
+{
+    match line {
+        [b'n', b'e', b'x', b't', b' ', rest @ ..] => (NEXT, Some(rest)),
+        _ => first_field(line),
+    }
+}
+
 /// Reads what a step line says, without its line feed, into the room for a step. `Word` where the
 /// first field is no word of a step line, else `Form` where the line isn't in a form of its word;
 /// then anything may stand in the room.
+#[inline(always)]
 pub fn read_step_into(line: &[u8], step: &mut Step) -> Result<(), LineKind>
     ensures reads { MatchResult result
         (λ _. step_line line.now ≡ Ok step.new)
         (λ why. step_line line.now ≡ Err why) }
     ensures ranged { OnOk result (IsInRange step.new) }
 {
-    let (word, rest) = first_field(line);
+    let (word, rest) = first_word(line);
     next_step(word, rest, step)
 }
 

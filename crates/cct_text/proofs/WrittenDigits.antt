@@ -18,6 +18,39 @@ pub more_digits_length : (n : ℕ) → 10 ≤ n → n < 2 ^ 64 → length (decim
 more_digits_length n large fits =
     ap length (decimal_step n large fits) ∙ length-append (decimal (n / 10)) ((48 + n % 10) ∷ [])
 
+pub two_digits_length : (n : ℕ) → 10 ≤ n → n < 100 → length (decimal n) ≡ 2
+two_digits_length n large small =
+    omega (arith, more_digits_length n large (omega arith), one_digit_length (n / 10) (omega arith))
+
+pub three_digits_length : (n : ℕ) → 100 ≤ n → n < 1000 → length (decimal n) ≡ 3
+three_digits_length n large small =
+    omega (arith, more_digits_length n (omega arith) (omega arith), two_digits_length (n / 10) (omega arith) (omega arith))
+
+pub four_digits_length : (n : ℕ) → 1000 ≤ n → n < 10000 → length (decimal n) ≡ 4
+four_digits_length n large small =
+    omega (arith, more_digits_length n (omega arith) (omega arith), three_digits_length (n / 10) (omega arith) (omega arith))
+
+two_more_digits : (n : ℕ) → 100 ≤ n → n < 2 ^ 64 → length (decimal n) ≡ length (decimal (n / 100)) + 2
+two_more_digits n large fits =
+    let whole : (n / 10) / 10 ≡ n / 100 = omega arith in
+    omega (
+      arith,
+      more_digits_length n (omega arith) fits,
+      more_digits_length (n / 10) (omega arith) (omega arith),
+      ap (λ m. length (decimal m)) whole,
+    )
+
+-- and one with four more
+pub four_more_digits : (n : ℕ) → 10000 ≤ n → n < 2 ^ 64 → length (decimal n) ≡ length (decimal (n / 10000)) + 4
+four_more_digits n large fits =
+    let whole : (n / 100) / 100 ≡ n / 10000 = omega arith in
+    omega (
+      arith,
+      two_more_digits n (omega arith) fits,
+      two_more_digits (n / 100) (omega arith) (omega arith),
+      ap (λ m. length (decimal m)) whole,
+    )
+
 -- how many digits a number of 64 bits has at most, and a byte
 pub decimal_length : (n : ℕ) → n < 2 ^ 64 → length (decimal n) ≤ 20
 decimal_length n fits = length-decimal-le 20 n (omega arith) (omega arith) fits

@@ -4,4 +4,4 @@ use Rattle.cct_script.proofs.step.read_step_into.Goals as goal
 
 pub returns-clause-reads : goal.returns-clause-reads
 returns-clause-reads c =
-    said_by _ _ _ (groups _ _ _ c.first_field.ensures ∙ sym c.next_step.ensures.reads)
+    said_by _ _ _ (groups _ _ _ c.first_word.ensures ∙ sym c.next_step.ensures.reads)

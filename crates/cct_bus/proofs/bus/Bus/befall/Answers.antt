@@ -1,6 +1,7 @@
 use Rattle.std.proofs.Common.{◌∙◌, ap, sym}
 use Rattle.cct_model.specs.Transcript.{met}
 use Rattle.cct_model.proofs.Knowing.{found_knows, of_known}
+use Rattle.cct_model_wire.specs.Places.{places_of}
 use Rattle.cct_bus.specs.Device.{setup_in}
 use Rattle.cct_bus.proofs.Buses.{entry_stands, happening_tells, one_lived, one_stands, setup_found}
 use Rattle.cct_bus.proofs.Hears.{setups_kept}
@@ -16,6 +17,7 @@ befall-requires-clause-known c =
 pub invariant_of-self : goal.invariant_of-self
 invariant_of-self c = record {
   order = setups_kept _ _ _ _ c.befall.ensures.setup c.index_mut.ensures.value ∙ c.args.self.now.order;
+  table = c.args.self.now.table ∙ ap places_of (sym (setups_kept _ _ _ _ c.befall.ensures.setup c.index_mut.ensures.value));
   room = c.args.self.now.room;
   short = c.args.self.now.short;
 }

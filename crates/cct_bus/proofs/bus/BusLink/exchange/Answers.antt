@@ -6,6 +6,7 @@ use Rattle.cct_model.specs.History.{Met}
 use Rattle.cct_model.specs.Honest.{is_honest}
 use Rattle.cct_model.specs.Setup.{AreDistinct}
 use Rattle.cct_model.specs.Transcript.{heard_by_devices, heard_by_host, met, pending}
+use Rattle.cct_model_wire.specs.Places.{places_of}
 use Rattle.cct_bus.specs.Device.{Stands, setups_in}
 use Rattle.cct_bus.specs.Room.{most_answered}
 use Rattle.cct_bus.proofs.Buses.{exchange_stands, exchanged, room_in_order}
@@ -21,7 +22,10 @@ all_hear-requires c =
     let room : most_answered piece (setups_in c.args.self.now.devices.items) ≤ 260 = room_in_order piece _ _ c.args.self.now.order (c.args.self.now.room piece) in
     let same : most_answered piece (setups_in c.deref_mut.result.now) ≡ most_answered piece (setups_in c.args.self.now.devices.items) = ap (λ ds. most_answered piece (setups_in ds)) c.deref_mut.ensures.value in
     let sent : length c.try_extend_from_slice.new.self.items ≡ length c.args.sent.now = ap length (echo ∙ ap (λ front. front ++ c.args.sent.now) c.clear.ensures) in
-    record { room = omega arith }
+    record {
+      places = c.args.self.now.table ∙ sym (ap (λ ds. places_of (setups_in ds)) c.deref_mut.ensures.value);
+      room = omega arith;
+    }
 
 pub returns : goal.returns
 returns c =

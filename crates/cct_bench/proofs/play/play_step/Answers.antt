@@ -5,7 +5,7 @@ use Rattle.cct_world.specs.World.{StandsFor, desk_of, disk_of, setup_of, used_of
 use Rattle.cct_text.specs.Writing.{Writes}
 use Rattle.cct_world.proofs.Holding.{restarts_in}
 use Rattle.cct_bench.proofs.Keeping.{books_play}
-use Rattle.cct_bench.proofs.play.StepPlayer.play.Goals as goal
+use Rattle.cct_bench.proofs.play.play_step.Goals as goal
 
 pub returns-in-Err-write_entries-clause-ended : goal.returns-in-Err-write_entries-clause-ended
 returns-in-Err-write_entries-clause-ended g c =
