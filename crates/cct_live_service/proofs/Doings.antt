@@ -22,8 +22,8 @@ use Rattle.cct_live_service.specs.declared.stopping.AtEnd.TheVariants as at_end
 use Rattle.cct_live_service.specs.declared.input.InputLine.TheVariants as input
 use Rattle.cct_live_service.specs.declared.notice.Notice.{Notice}
 use Rattle.cct_live_service.specs.Watch.{IsOfWatch}
-use Rattle.cct_live_service.specs.Doing.{AreAttempts, Does, DoesKnown, DoesLine, DoesLines, EndsAs, FrontOf, GoesOn, IsAttempt, IsAttemptWith, IsLastTry, IsStating, IsStepOf, MakesAttempts, Many, PlaysLines, ServesLines, ServesOn, Tells, TellsOne, Then, ThenBy, Times, is_known}
-use Rattle.cct_live_service.specs.Ends.{is_end, is_unanswered, tells_end, tells_some, tells_unanswered}
+use Rattle.cct_live_service.specs.Doing.{Does, DoesKnown, DoesLine, DoesLines, EndsAs, FrontOf, GoesOn, IsAttempt, IsAttemptWith, IsLastTry, IsStating, MakesAttempts, PlaysLines, ServesLines, ServesOn, Tells, TellsOne, Then, ThenBy, Times, is_known}
+use Rattle.cct_live_service.specs.Ends.{IsOfEnd, is_end, is_moved, is_unanswered, tells_end, tells_some}
 use Rattle.cct_live_service.specs.Known.{Knows, Rests}
 use Rattle.cct_live_service.specs.Said.{Said}
 use Rattle.cct_live_service.specs.Told.{Told, as_told, attempt_told, entry, findings_in, notice, notices_told, told_unsent, unheard}
@@ -43,41 +43,12 @@ times_more P n s1 s2 t1 t2 h k = record {
   next = k;
 }
 
-pub many_none : (P : List LiveStep → List Told → Type 0) → Many P [] []
-many_none P = (0, (refl, refl))
-
-pub many_one : (P : List LiveStep → List Told → Type 0) (steps : List LiveStep) (told : List Told) → P steps told →
-    Many P steps told
-many_one P steps told h = (1, times_more P 0 [] steps [] told (refl, refl) h)
-
-nothing_after : (P : List LiveStep → List Told → Type 0) (s1 s2 : List LiveStep) (t1 t2 : List Told) → s2 ≡ [] → t2 ≡ [] →
+-- and nothing more
+pub nothing_after : (P : List LiveStep → List Told → Type 0) (s1 s2 : List LiveStep) (t1 t2 : List Told) → s2 ≡ [] → t2 ≡ [] →
     P s1 t1 → P (s1 ++ s2) (t1 ++ t2)
 nothing_after P s1 s2 t1 t2 s t h =
     subst (λ steps. P steps (t1 ++ t2)) (sym (ap (λ more. s1 ++ more) s ∙ append-nil s1))
     (subst (P s1) (sym (ap (λ more. t1 ++ more) t ∙ append-nil t1)) h)
-
-many_times : (P : List LiveStep → List Told → Type 0) (m : ℕ) (s1 s2 : List LiveStep) (t1 t2 : List Told) →
-    Many P s1 t1 → Times m P s2 t2 → Many P (s1 ++ s2) (t1 ++ t2)
-many_times P zero s1 s2 t1 t2 h k = nothing_after (Many P) s1 s2 t1 t2 k.0 k.1 h
-many_times P (suc m) s1 s2 t1 t2 h k =
-    let r = many_times P m s1 k.before t1 k.said h k.first in (
-      suc r.0,
-      record {
-        before = s1 ++ k.before;
-        after = k.after;
-        said = t1 ++ k.said;
-        added = k.added;
-        steps_are = ap (λ s. s1 ++ s) k.steps_are ∙ sym (append_assoc s1 k.before k.after);
-        told_is = ap (λ t. t1 ++ t) k.told_is ∙ sym (append_assoc t1 k.said k.added);
-        first = r.1;
-        next = k.next;
-      },
-    )
-
--- many, and many more
-pub many_then : (P : List LiveStep → List Told → Type 0) (s1 s2 : List LiveStep) (t1 t2 : List Told) → Many P s1 t1 →
-    Many P s2 t2 → Many P (s1 ++ s2) (t1 ++ t2)
-many_then P s1 s2 t1 t2 h k = many_times P k.0 s1 s2 t1 t2 h k.1
 
 -- what is one thing is also another
 times_weaker : (P Q : List LiveStep → List Told → Type 0) →
@@ -95,11 +66,6 @@ times_weaker P Q to (suc n) steps told h = record {
   next = to h.after h.added h.next;
 }
 
-pub many_weaker : (P Q : List LiveStep → List Told → Type 0) →
-    ((steps : List LiveStep) (told : List Told) → P steps told → Q steps told) → (steps : List LiveStep) (told : List Told) →
-    Many P steps told → Many Q steps told
-many_weaker P Q to steps told h = (h.0, times_weaker P Q to h.0 steps told h.1)
-
 -- an attempt that isn't made breaks one off
 pub attempt_broken : (sent : Bool) (entries : List Entry) (addr : ℕ) → FrontOf (IsAttemptWith sent entries addr) [] []
 attempt_broken sent entries addr = record {
@@ -108,94 +74,91 @@ attempt_broken sent entries addr = record {
   whole = (refl, ([], All-nil IsOfWatch, refl));
 }
 
--- one of the entries that an attempt tells is such where one of its entries is
-module _ (is_such : Entry → Bool) (other : (addr : ℕ) (sent heard : List ℕ) → is_such (entry_of.Wire addr sent heard) ≡ false)
-  where
-    some_notices : (notices : List Notice) → tells_some is_such (notices_told notices) ≡ false
-    some_notices [] = refl
-    some_notices (n ∷ notices) = some_notices notices
+-- by a test of how jobs ended
+module _ (is_such : Entry → Bool) (of_end : IsOfEnd is_such) where
+  -- one of the entries that an attempt tells is such where one of its entries is
+  some_notices : (notices : List Notice) → tells_some is_such (notices_told notices) ≡ false
+  some_notices [] = refl
+  some_notices (n ∷ notices) = some_notices notices
 
-    some_as : (entries : List Entry) (notices : List Notice) →
-        tells_some is_such (as_told entries ++ notices_told notices) ≡ list_any is_such entries
-    some_as [] notices = some_notices notices
-    some_as (e ∷ entries) notices = ap (λ b. is_such e || b) (some_as entries notices)
+  some_as : (entries : List Entry) (notices : List Notice) →
+      tells_some is_such (as_told entries ++ notices_told notices) ≡ list_any is_such entries
+  some_as [] notices = some_notices notices
+  some_as (e ∷ entries) notices = ap (λ b. is_such e || b) (some_as entries notices)
 
-    some_unsent : (e : Entry) (told : List Told) →
-        tells_some is_such (told_unsent e (unheard e) ∷ told) ≡ (is_such e || tells_some is_such told)
-    some_unsent (entry_of.Wire addr sent []) told = ap (λ b. b || tells_some is_such told) (sym (other addr sent []))
-    some_unsent (entry_of.Wire addr sent (byte ∷ heard)) told = refl
-    some_unsent e told = refl
+  some_unsent : (e : Entry) (told : List Told) →
+      tells_some is_such (told_unsent e (unheard e) ∷ told) ≡ (is_such e || tells_some is_such told)
+  some_unsent (entry_of.Wire addr sent []) told =
+      ap (λ b. b || tells_some is_such told) (sym (of_end (entry_of.Wire addr sent []) refl))
+  some_unsent (entry_of.Wire addr sent (byte ∷ heard)) told = refl
+  some_unsent e told = refl
 
-    some_attempt : (sent : Bool) (entries : List Entry) (notices : List Notice) →
-        tells_some is_such (attempt_told sent entries ++ notices_told notices) ≡ list_any is_such entries
-    some_attempt true entries notices = some_as entries notices
-    some_attempt false [] notices = some_notices notices
-    some_attempt false (e ∷ entries) notices =
-        some_unsent e (as_told entries ++ notices_told notices) ∙ ap (λ b. is_such e || b) (some_as entries notices)
+  some_attempt : (sent : Bool) (entries : List Entry) (notices : List Notice) →
+      tells_some is_such (attempt_told sent entries ++ notices_told notices) ≡ list_any is_such entries
+  some_attempt true entries notices = some_as entries notices
+  some_attempt false [] notices = some_notices notices
+  some_attempt false (e ∷ entries) notices =
+      some_unsent e (as_told entries ++ notices_told notices) ∙ ap (λ b. is_such e || b) (some_as entries notices)
 
-    some_with : (sent : Bool) (entries : List Entry) (addr : ℕ) (steps : List LiveStep) (told : List Told) →
-        IsAttemptWith sent entries addr steps told → tells_some is_such told ≡ list_any is_such entries
-    some_with sent entries addr steps told h = ap (tells_some is_such) h.1.2 ∙ some_attempt sent entries h.1.0
+  some_with : (sent : Bool) (entries : List Entry) (addr : ℕ) (steps : List LiveStep) (told : List Told) →
+      IsAttemptWith sent entries addr steps told → tells_some is_such told ≡ list_any is_such entries
+  some_with sent entries addr steps told h = ap (tells_some is_such) h.1.2 ∙ some_attempt sent entries h.1.0
+
+  -- an attempt that doesn't end its job has none
+  apart : (b c : Bool) → (b || c) ≡ false → (b ≡ false) × (c ≡ false)
+  apart false c k = (refl, k)
+  apart true c k = cc k
+
+  none_such : (told : List Told) → tells_end told ≡ false → tells_some is_such told ≡ false
+  none_such [] h = refl
+  none_such (entry e ∷ told) h =
+      let parts = apart (is_end e) (tells_end told) h in
+      ap (λ b. b || tells_some is_such told) (of_end e parts.0) ∙ none_such told parts.1
+  none_such (what ∷ told) h = none_such told h
+
+  such_then : (t1 t2 : List Told) → tells_some is_such t1 ≡ false →
+      tells_some is_such (t1 ++ t2) ≡ tells_some is_such t2
+  such_then [] t2 h = refl
+  such_then (entry e ∷ t1) t2 h =
+      let parts = apart (is_such e) (tells_some is_such t1) h in
+      ap (λ b. b || tells_some is_such (t1 ++ t2)) parts.0 ∙ such_then t1 t2 parts.1
+  such_then (what ∷ t1) t2 h = such_then t1 t2 h
+
+  pub times_such : (addr n : ℕ) (steps : List LiveStep) (told : List Told) → Times n (GoesOn addr) steps told →
+      tells_some is_such told ≡ false
+  times_such addr zero steps told h = ap (tells_some is_such) h.1
+  times_such addr (suc n) steps told h =
+      ap (tells_some is_such) h.told_is ∙ such_then h.said h.added (times_such addr n h.before h.said h.first)
+      ∙ none_such h.added h.next.1
+
+  -- nor do the entries of one
+  pub list_such : (entries : List Entry) → list_any is_end entries ≡ false → list_any is_such entries ≡ false
+  list_such [] h = refl
+  list_such (e ∷ entries) h =
+      let parts = apart (is_end e) (list_any is_end entries) h in
+      ap (λ b. b || list_any is_such entries) (of_end e parts.0) ∙ list_such entries parts.1
+
+  -- attempts, and the last one
+  pub ended_as : (addr made : ℕ) (sent : Bool) (entries : List Entry) (s1 s2 : List LiveStep) (t1 t2 : List Told) →
+      Times made (GoesOn addr) s1 t1 → IsAttemptWith sent entries addr s2 t2 →
+      tells_some is_such (t1 ++ t2) ≡ list_any is_such entries
+  ended_as addr made sent entries s1 s2 t1 t2 h k =
+      such_then t1 t2 (times_such addr made s1 t1 h) ∙ some_with sent entries addr s2 t2 k
 
 with_end : (sent : Bool) (entries : List Entry) (addr : ℕ) (steps : List LiveStep) (told : List Told) →
     IsAttemptWith sent entries addr steps told → tells_end told ≡ list_any is_end entries
-with_end = some_with is_end (λ addr sent heard. refl)
+with_end = some_with is_end (λ e on. on)
 
--- an attempt that doesn't end its job isn't the last one for want of an answer
-end_unanswered : (e : Entry) (b : Bool) → is_end e ≡ false → b ≡ false → (is_unanswered e || b) ≡ false
-end_unanswered (entry_of.Ended addr end) b on k = cc on
-end_unanswered e b on k = k
+pub unanswered_ends : IsOfEnd is_unanswered
+unanswered_ends (entry_of.Ended addr end) on = cc on
+unanswered_ends e on = refl
 
-none_unanswered : (told : List Told) → tells_end told ≡ false → tells_unanswered told ≡ false
-none_unanswered [] h = refl
-none_unanswered (entry e ∷ told) h =
-    let parts = apart (is_end e) (tells_end told) h in
-    end_unanswered e (tells_unanswered told) parts.0 (none_unanswered told parts.1)
-  where
-    apart : (b c : Bool) → (b || c) ≡ false → (b ≡ false) × (c ≡ false)
-    apart false c k = (refl, k)
-    apart true c k = cc k
-none_unanswered (what ∷ told) h = none_unanswered told h
-
-unanswered_then : (t1 t2 : List Told) → tells_unanswered t1 ≡ false → tells_unanswered (t1 ++ t2) ≡ tells_unanswered t2
-unanswered_then [] t2 h = refl
-unanswered_then (entry e ∷ t1) t2 h =
-    let parts = apart (is_unanswered e) (tells_unanswered t1) h in
-    ap (λ b. b || tells_unanswered (t1 ++ t2)) parts.0 ∙ unanswered_then t1 t2 parts.1
-  where
-    apart : (b c : Bool) → (b || c) ≡ false → (b ≡ false) × (c ≡ false)
-    apart false c k = (refl, k)
-    apart true c k = cc k
-unanswered_then (what ∷ t1) t2 h = unanswered_then t1 t2 h
-
-pub times_unanswered : (addr n : ℕ) (steps : List LiveStep) (told : List Told) → Times n (GoesOn addr) steps told →
-    tells_unanswered told ≡ false
-times_unanswered addr zero steps told h = ap tells_unanswered h.1
-times_unanswered addr (suc n) steps told h =
-    ap tells_unanswered h.told_is ∙ unanswered_then h.said h.added (times_unanswered addr n h.before h.said h.first)
-    ∙ none_unanswered h.added h.next.1
-
--- nor are the entries of one
-pub list_unanswered : (entries : List Entry) → list_any is_end entries ≡ false → list_any is_unanswered entries ≡ false
-list_unanswered [] h = refl
-list_unanswered (e ∷ entries) h =
-    let parts = apart (is_end e) (list_any is_end entries) h in
-    end_unanswered e (list_any is_unanswered entries) parts.0 (list_unanswered entries parts.1)
-  where
-    apart : (b c : Bool) → (b || c) ≡ false → (b ≡ false) × (c ≡ false)
-    apart false c k = (refl, k)
-    apart true c k = cc k
-
--- attempts, and the last one
-pub ended_as : (addr made : ℕ) (sent : Bool) (entries : List Entry) (s1 s2 : List LiveStep) (t1 t2 : List Told) →
-    Times made (GoesOn addr) s1 t1 → IsAttemptWith sent entries addr s2 t2 →
-    tells_unanswered (t1 ++ t2) ≡ list_any is_unanswered entries
-ended_as addr made sent entries s1 s2 t1 t2 h k =
-    unanswered_then t1 t2 (times_unanswered addr made s1 t1 h)
-    ∙ some_with is_unanswered (λ addr sent heard. refl) sent entries addr s2 t2 k
+pub moved_ends : IsOfEnd is_moved
+moved_ends (entry_of.Ended addr end) on = cc on
+moved_ends e on = refl
 
 -- attempts, none of which is the last one, and one more
-then_one : (P Q : List LiveStep → List Told → Type 0) (s1 s2 : List LiveStep) (t1 t2 : List Told) → P s1 t1 → Q s2 t2 →
+pub then_one : (P Q : List LiveStep → List Told → Type 0) (s1 s2 : List LiveStep) (t1 t2 : List Told) → P s1 t1 → Q s2 t2 →
     Then P Q (s1 ++ s2) (t1 ++ t2)
 then_one P Q s1 s2 t1 t2 h k = record {
   before = s1;
@@ -321,46 +284,11 @@ pub broken_as : (how : Served) (entries : List Entry) (P : List LiveStep → Lis
     (told : List Told) → FrontOf P steps told → FrontOf (EndsAs (Err how) entries P) steps told
 broken_as how entries P steps told h = record { undone = h.undone; untold = h.untold; whole = (h.whole, tt) }
 
--- attempts are attempts
-pub none_made : (addr : ℕ) → AreAttempts addr MOST_ATTEMPTS [] []
-none_made addr = (0, omega arith, (refl, refl))
-
-tried : (until : Until) (addr made : ℕ) (steps : List LiveStep) (told : List Told) → IsLastTry until made addr steps told →
+-- the last try is an attempt
+pub tried : (until : Until) (addr made : ℕ) (steps : List LiveStep) (told : List Told) → IsLastTry until made addr steps told →
     IsAttempt addr steps told
 tried until_of.Ended addr made steps told h = h.0
 tried until_of.Failed addr made steps told h = h
-
-pub made_are : (until : Until) (addr : ℕ) (steps : List LiveStep) (told : List Told) → MakesAttempts until addr steps told →
-    AreAttempts addr MOST_ATTEMPTS steps told
-made_are until addr steps told h = (
-  suc h.0,
-  h.1,
-  record {
-    before = h.2.before;
-    after = h.2.after;
-    said = h.2.said;
-    added = h.2.added;
-    steps_are = h.2.steps_are;
-    told_is = h.2.told_is;
-    first = times_weaker (GoesOn addr) (IsAttempt addr) (λ s t k. k.0) h.0 h.2.before h.2.said h.2.first;
-    next = tried until addr h.0 h.2.after h.2.added h.2.next;
-  },
-)
-
--- an attempt, or attempts, or a command: steps of a kind
-pub attempt_step : (begun : ℕ → Command) (sent : Bool) (entries : List Entry) (addr : ℕ) (steps : List LiveStep)
-    (told : List Told) → IsAttemptWith sent entries addr steps told → Many (IsStepOf begun) steps told
-attempt_step begun sent entries addr steps told h =
-    many_one (IsStepOf begun) steps told (inr (addr, (sent, entries, h)))
-
-pub attempts_steps : (begun : ℕ → Command) (addr most : ℕ) (steps : List LiveStep) (told : List Told) →
-    AreAttempts addr most steps told → Many (IsStepOf begun) steps told
-attempts_steps begun addr most steps told h =
-    (h.0, times_weaker (IsAttempt addr) (IsStepOf begun) (λ s t k. inr (addr, k)) h.0 steps told h.2)
-
-pub command_step : (begun : ℕ → Command) (addr : ℕ) (steps : List LiveStep) (told : List Told) →
-    TellsOne (live.command (begun addr)) steps told → Many (IsStepOf begun) steps told
-command_step begun addr steps told h = many_one (IsStepOf begun) steps told (inl (addr, h))
 
 -- what is done for a line, where more is known
 does_weaker : (A B : Bool → Type 0) → ((rest : Bool) → A rest → B rest) → (M N : Type 0) → (M → N) → (devices : List DeviceSetup)

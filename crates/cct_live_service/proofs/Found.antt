@@ -4,7 +4,6 @@ use Rattle.std.proofs.lemmas.List.{append-nil, map-append}
 use Rattle.cct_model.specs.terms.device.DeviceSetup.{DeviceSetup}
 use Rattle.cct_model.specs.terms.device.Setup.{Setup}
 use Rattle.cct_model.specs.lines.command.Command.{Command}
-use Rattle.cct_model.specs.lines.command.Command.TheVariants as command
 use Rattle.cct_model.specs.lines.entry.Entry.{Entry}
 use Rattle.cct_model.specs.lines.entry.Entry.TheVariants as entry_of
 use Rattle.cct_model.specs.lines.entry.LineKind.{LineKind}
@@ -16,11 +15,11 @@ use Rattle.cct_live_survey.specs.Finding.{withheld_by}
 use Rattle.cct_live_service.specs.declared.attempts.Until.{Until}
 use Rattle.cct_live_service.specs.declared.notice.Notice.{Notice}
 use Rattle.cct_live_service.specs.declared.notice.Notice.TheVariants as notice_of
-use Rattle.cct_live_service.specs.Doing.{Decides, DoesCommand, DoesLine, DoesLines, Finds, FrontOf, IsAsking, IsAttempt, IsFound, IsOfPoll, IsOrder, IsPoll, IsStatus, IsStepOf, IsVisit, MakesAttempts, Tells, TellsOne, Times}
+use Rattle.cct_live_service.specs.Doing.{Decides, DoesCommand, DoesLine, DoesLines, Finds, FrontOf, GoesOn, IsAsking, IsAttempt, IsFound, IsOrder, IsStatus, MakesAttempts, Tells, TellsOne, Times}
 use Rattle.cct_live_service.specs.Told.{Told, as_told, attempt_told, entry, falls_short, finding, findings_in, found_told, knows, last, notice, notices_told, operates, pays, refused, told_unsent, unheard, unsent}
 use Rattle.cct_live_service.specs.Known.{Knows, Rests}
 use Rattle.cct_live_service.specs.Said.{Said}
-use Rattle.cct_live_service.proofs.Doings.{line_then, made_are, many_none, many_one, many_weaker}
+use Rattle.cct_live_service.proofs.Doings.{line_then, tried}
 
 -- what was found among what is reported first and then
 pub found_then : (first then : List Told) → findings_in (first ++ then) ≡ findings_in first ++ findings_in then
@@ -71,12 +70,7 @@ attempt_finds addr steps told h =
 pub one_finds : (s : LiveStep) (steps : List LiveStep) (told : List Told) → TellsOne s steps told → findings_in told ≡ []
 one_finds s steps told h = ap findings_in h.1.1
 
-step_finds : (begun : ℕ → Command) (steps : List LiveStep) (told : List Told) → IsStepOf begun steps told →
-    findings_in told ≡ []
-step_finds begun steps told (inl h) = one_finds (live.command (begun h.0)) steps told h.1
-step_finds begun steps told (inr h) = attempt_finds h.0 steps told h.1
-
-times_find : (P : List LiveStep → List Told → Type 0) →
+pub times_find : (P : List LiveStep → List Told → Type 0) →
     ((steps : List LiveStep) (told : List Told) → P steps told → findings_in told ≡ []) → (n : ℕ) (steps : List LiveStep)
     (told : List Told) → Times n P steps told → findings_in told ≡ []
 times_find P none zero steps told h = ap findings_in h.1
@@ -84,15 +78,13 @@ times_find P none (suc n) steps told h =
     ap findings_in h.told_is ∙ found_then h.said h.added
     ∙ ap (λ fs. fs ++ findings_in h.added) (times_find P none n h.before h.said h.first) ∙ none h.after h.added h.next
 
-visit_finds : (steps : List LiveStep) (told : List Told) → IsVisit steps told → findings_in told ≡ []
-visit_finds steps told h =
-    times_find (IsStepOf (λ addr. command.Round addr)) (step_finds (λ addr. command.Round addr)) h.0 steps told h.1
-
 pub attempts_find : (until : Until) (addr : ℕ) (steps : List LiveStep) (told : List Told) →
     MakesAttempts until addr steps told → findings_in told ≡ []
 attempts_find until addr steps told h =
-    let all = made_are until addr steps told h in
-    times_find (IsAttempt addr) (attempt_finds addr) all.0 steps told all.2
+    ap findings_in h.2.told_is ∙ found_then h.2.said h.2.added
+    ∙ ap (λ fs. fs ++ findings_in h.2.added)
+    (times_find (GoesOn addr) (λ s t k. attempt_finds addr s t k.0) h.0 h.2.before h.2.said h.2.first)
+    ∙ attempt_finds addr h.2.after h.2.added (tried until addr h.0 h.2.after h.2.added h.2.next)
 
 pub status_finds : (devices : List DeviceSetup) (steps : List LiveStep) (told : List Told) →
     IsStatus devices steps told → findings_in told ≡ []
@@ -131,27 +123,7 @@ pub finds_weaker : (a b : List Finding) (P Q : List LiveStep → List Told → T
     Finds a b P steps told → Finds a b Q steps told
 finds_weaker a b P Q to steps told h = (to steps told h.0, h.1)
 
--- visits and questions are of a poll
-visit_polled : (steps : List LiveStep) (told : List Told) → IsVisit steps told → IsPoll steps told
-visit_polled steps told h =
-    many_weaker (IsStepOf (λ addr. command.Round addr)) IsOfPoll (λ s t k. inl k) steps told h
-
-asking_polled : (steps : List LiveStep) (told : List Told) → IsAsking steps told → IsPoll steps told
-asking_polled steps told h = many_one IsOfPoll steps told (inr h)
-
-pub visit_finds_polled : (findings : List Finding) (steps : List LiveStep) (told : List Told) → IsVisit steps told →
-    Finds findings findings IsPoll steps told
-visit_finds_polled findings steps told h =
-    finds_weaker findings findings IsVisit IsPoll visit_polled steps told
-    (finds_none findings IsVisit visit_finds steps told h)
-
-pub asking_finds_polled : (a b : List Finding) (steps : List LiveStep) (told : List Told) → Finds a b IsAsking steps told →
-    Finds a b IsPoll steps told
-asking_finds_polled a b = finds_weaker a b IsAsking IsPoll asking_polled
-
-pub poll_none_finds : (findings : List Finding) → Finds findings findings IsPoll [] []
-poll_none_finds findings = (many_none IsOfPoll, sym (append-nil findings))
-
+-- no question
 pub asking_none : (findings : List Finding) → Finds findings findings IsAsking [] []
 asking_none findings = (([], (refl, refl)), sym (append-nil findings))
 

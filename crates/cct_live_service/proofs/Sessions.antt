@@ -24,10 +24,10 @@ use Rattle.cct_script.specs.declared.live.LiveLine.{LiveLine}
 use Rattle.cct_live_survey.specs.declared.finding.Finding.{Finding}
 use Rattle.cct_live_survey.specs.declared.withholding.Withheld.{Withheld}
 use Rattle.cct_live_survey.specs.Finding.{withheld_by}
-use Rattle.cct_live_service.specs.Doing.{DecidesPay, Does, DoesKnown, DoesPay, Finds, FrontOf, IsAsking, IsOfPoll, IsPoll, IsServing, ServesOn, Tells, TellsStep, Then}
+use Rattle.cct_live_service.specs.Doing.{DecidesPay, Does, DoesKnown, DoesPay, Finds, FrontOf, IsAsking, IsPoll, IsServing, ServesOn, Tells, TellsStep, Then}
 use Rattle.cct_live_service.specs.Session.{HasAsked}
 use Rattle.cct_live_service.specs.Told.{Told, falls_short, findings_in, operates, pay_of, pays, refused, refused_for, taken, withheld_for}
-use Rattle.cct_live_service.proofs.Doings.{many_none}
+use Rattle.cct_live_service.proofs.Polling.{poll_none}
 use Rattle.cct_live_service.proofs.Found.{finds_weaker, found_on}
 
 -- the first count of a plan that isn't 0 can be given to a host
@@ -172,7 +172,7 @@ served_alone Rested known now =
       steps_are = sym (append-nil steps);
       told_is = sym (append-nil told);
       first = h;
-      next = many_none IsOfPoll;
+      next = poll_none;
     })
 
 -- what a line says is done for it, where it names what is there, and else it is refused

@@ -22,24 +22,16 @@ use Rattle.cct_live_service.specs.declared.served.Served.{Served}
 use Rattle.cct_live_service.specs.declared.served.Served.TheVariants as served
 use Rattle.cct_live_service.specs.declared.stopping.AtEnd.{AtEnd}
 use Rattle.cct_live_service.specs.declared.stopping.AtEnd.TheVariants as at_end
-use Rattle.cct_live_service.specs.Doing.{AreAttempts, DoesLines, FrontOf, GivesStop, GoesOnTo, IsDone, MakesAttempts, PlaysLines, ServesLines, StopsAt, StopsBy, StopsRunning, StopsStill, StopsUpTo, TellsOne, ends_by}
+use Rattle.cct_live_service.specs.Doing.{DoesLines, FrontOf, GivesStop, GoesOnTo, IsDone, MakesAttempts, PlaysLines, ServesLines, StopsAt, StopsBy, StopsRunning, StopsStill, StopsUpTo, TellsOne, ends_by}
 use Rattle.cct_live_service.specs.Watch.{IsOfWatch}
 use Rattle.cct_live_service.specs.Ends.{tells_unanswered}
 use Rattle.cct_live_service.specs.Known.{HasJob, IsKnown, KnownAfter, Knows, Rests, Runs}
 use Rattle.cct_live_service.specs.Parts.{LivesOn, LivesTo}
 use Rattle.cct_live_service.specs.Said.{IsOfInput, Said}
 use Rattle.cct_live_service.specs.Told.{Told, attempt_told, entry, findings_in, notices_told}
-use Rattle.cct_live_service.proofs.Doings.{end_none, last_made, line_weaker, made_are, none_made, then_by}
+use Rattle.cct_live_service.proofs.Doings.{end_none, last_made, line_weaker, then_by}
 use Rattle.cct_live_service.proofs.KnownLater.{GoesTo, known_later, known_now, known_then}
 use Rattle.cct_live_service.proofs.Parts.{front_whole, lives_front, lives_weaker}
-
--- attempts, where a job is, are attempts
-pub gone_are : (NoJob : Type 0) (until : Until) (addr : ℕ) (steps : List LiveStep) (told : List Told) →
-    GoesOnTo NoJob until addr steps told → AreAttempts addr MOST_ATTEMPTS steps told
-gone_are NoJob until addr steps told (inl none) =
-    subst (λ s. AreAttempts addr MOST_ATTEMPTS s told) (sym none.0.0)
-    (subst (AreAttempts addr MOST_ATTEMPTS []) (sym none.0.1) (none_made addr))
-gone_are NoJob until addr steps told (inr made) = made_are until addr steps told made
 
 -- one attempt
 once : ℕ → List Told

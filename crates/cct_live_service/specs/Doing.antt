@@ -1,7 +1,8 @@
 -- What a host does for each line of its input, and what is told of it.
-use Rattle.std.specs.Prelude.{◌≡◌, ◌≤◌, ◌⊎◌, ℕ, zero, suc, Bool, true, false, List, [], ◌∷◌, ◌++◌}
+use Rattle.std.specs.Prelude.{◌≡◌, ◌≢◌, ◌≤◌, ◌⊎◌, ℕ, zero, suc, Bool, true, false, List, [], ◌∷◌, ◌++◌}
 use Rattle.std.specs.Prelude.{length, Option, Some, None, OnOk, Result, Ok, Err, ⊤}
 use Rattle.std.specs.List.{All, list_any}
+use Rattle.std.specs.Option.{option_to_list}
 use Rattle.cct_model.specs.lines.command.Command.{Command}
 use Rattle.cct_model.specs.lines.command.Command.TheVariants as command
 use Rattle.cct_model.specs.lines.command.CommandNo.{CommandNo}
@@ -21,6 +22,7 @@ use Rattle.cct_live_survey.specs.Finding.{withheld_by}
 use Rattle.cct_laws_live.specs.LiveStep.{LiveStep}
 use Rattle.cct_laws_live.specs.LiveStep as live
 use Rattle.cct_live_service.specs.declared.attempts.TheConstants.{MOST_ATTEMPTS}
+use Rattle.cct_live_service.specs.declared.visit.TheConstants.{MOST_ROUNDS}
 use Rattle.cct_live_service.specs.declared.attempts.Until.{Until}
 use Rattle.cct_live_service.specs.declared.attempts.Until.TheVariants as until_of
 use Rattle.cct_live_service.specs.declared.input.InputLine.TheVariants as input
@@ -32,7 +34,8 @@ use Rattle.cct_live_service.specs.declared.served.Served.{Served}
 use Rattle.cct_live_service.specs.declared.served.Served.TheVariants as served
 use Rattle.cct_live_service.specs.declared.stopping.AtEnd.{AtEnd}
 use Rattle.cct_live_service.specs.declared.stopping.AtEnd.TheVariants as at_end
-use Rattle.cct_live_service.specs.Ends.{is_unanswered, tells_end, tells_unanswered}
+use Rattle.cct_live_service.specs.Ends.{IsOfEnd, tells_end, tells_moved, tells_some}
+use Rattle.cct_live_service.specs.Ends.{tells_unanswered}
 use Rattle.cct_live_service.specs.Known.{HasJob, Knows, Rests, Runs}
 use Rattle.cct_live_service.specs.Said.{Said}
 use Rattle.cct_live_service.specs.Status.{AreOfStatus}
@@ -88,10 +91,6 @@ abbrev pub Times : ℕ → (List LiveStep → List Told → Type 0) → List Liv
 Times zero Each = IsNothing
 Times (suc n) Each = Then (Times n Each) Each
 
--- It is done and told any number of times in a row.
-abbrev pub Many : (List LiveStep → List Told → Type 0) → List LiveStep → List Told → Type 0
-Many Each steps told = (n : ℕ) × Times n Each steps told
-
 -- What is told of an attempt, whose message was written or not, where it made an exchange: its
 -- entries, and then of the line and the bills that are held. `Exchanges` says what.
 abbrev pub TellsAttempt : Bool → List Entry → List Told → Type 0
@@ -110,10 +109,6 @@ abbrev pub IsAttempt : ℕ → List LiveStep → List Told → Type 0
 IsAttempt addr steps told =
     (is_sent : Bool) × (entries : List Entry) × IsAttemptWith is_sent entries addr steps told
 
--- The job at an address makes so many attempts at most.
-abbrev pub AreAttempts : ℕ → ℕ → List LiveStep → List Told → Type 0
-AreAttempts addr most steps told = (n : ℕ) × (n ≤ most) × Times n (IsAttempt addr) steps told
-
 -- The job at an address makes an attempt that isn't its last one.
 abbrev pub GoesOn : ℕ → List LiveStep → List Told → Type 0
 GoesOn addr steps told = IsAttempt addr steps told × (tells_end told ≡ false)
@@ -131,15 +126,48 @@ MakesAttempts until addr steps told =
     (made : ℕ) × (suc made ≤ MOST_ATTEMPTS)
     × Then (Times made (GoesOn addr)) (IsLastTry until made addr) steps told
 
--- A command of this kind is given to the host, or a job makes an attempt.
-abbrev pub IsStepOf : (ℕ → Command) → List LiveStep → List Told → Type 0
-IsStepOf begun steps told =
-    ((addr : ℕ) × TellsOne (live.command (begun addr)) steps told)
-    ⊎ ((addr : ℕ) × IsAttempt addr steps told)
+-- The job at an address makes attempts up to there, where one is; where none is, nothing is done.
+abbrev pub GoesOnTo : Type 0 → Until → ℕ → List LiveStep → List Told → Type 0
+GoesOnTo NoJob until addr steps told =
+    (IsNothing steps told × NoJob) ⊎ MakesAttempts until addr steps told
 
--- Rounds are begun, and jobs make attempts.
-abbrev pub IsVisit : List LiveStep → List Told → Type 0
-IsVisit = Many (IsStepOf (λ addr. command.Round addr))
+-- A round is begun at an address, or none is.
+abbrev pub BeginsRound : ℕ → List LiveStep → List Told → Type 0
+BeginsRound addr steps told =
+    IsNothing steps told ⊎ TellsOne (live.command (command.Round addr)) steps told
+
+-- And then its job makes attempts up to its end, or up to a failed try, if there is one. They end
+-- so.
+abbrev pub IsRound : (List Told → Type 0) → ℕ → List LiveStep → List Told → Type 0
+IsRound Ends addr =
+    Then (BeginsRound addr)
+    (λ steps told. GoesOnTo ⊤ until_of.Failed addr steps told × Ends told)
+
+-- An acceptor is read by a round after which a further one comes: a coin came meanwhile.
+abbrev pub IsMovedRound : ℕ → List LiveStep → List Told → Type 0
+IsMovedRound = IsRound (λ told. tells_moved told ≡ true)
+
+-- After so many such rounds it is read by the last one: no coin came meanwhile, or that was the
+-- last one that is made.
+abbrev pub IsLastRound : ℕ → ℕ → List LiveStep → List Told → Type 0
+IsLastRound before =
+    IsRound (λ told. (tells_moved told ≡ false) ⊎ (suc before ≡ MOST_ROUNDS))
+
+-- An acceptor is read out by rounds.
+abbrev pub ReadsOut : ℕ → List LiveStep → List Told → Type 0
+ReadsOut addr steps told =
+    (before : ℕ) × (suc before ≤ MOST_ROUNDS)
+    × Then (Times before (IsMovedRound addr)) (IsLastRound before addr) steps told
+
+-- What a poll does at a device: nothing, or one attempt, or it reads out an acceptor.
+abbrev pub IsVisit : ℕ → List LiveStep → List Told → Type 0
+IsVisit addr steps told =
+    IsNothing steps told ⊎ (IsAttempt addr steps told ⊎ ReadsOut addr steps told)
+
+-- It does so at devices of these addresses, newest first, one after another.
+abbrev pub AreVisits : List ℕ → List LiveStep → List Told → Type 0
+AreVisits [] = IsNothing
+AreVisits (addr ∷ before) = Then (AreVisits before) (IsVisit addr)
 
 -- These findings are reported.
 abbrev pub IsFound : List Finding → List LiveStep → List Told → Type 0
@@ -149,13 +177,31 @@ IsFound findings steps told = (steps ≡ []) × (told ≡ found_told findings)
 abbrev pub IsAsking : List LiveStep → List Told → Type 0
 IsAsking steps told = (findings : List Finding) × IsFound findings steps told
 
--- What a poll does: rounds are begun, jobs make attempts, and findings are reported.
-abbrev pub IsOfPoll : List LiveStep → List Told → Type 0
-IsOfPoll steps told = IsStepOf (λ addr. command.Round addr) steps told ⊎ IsAsking steps told
+-- None of these addresses comes twice.
+abbrev pub AreDistinct : List ℕ → Type 0
+AreDistinct [] = ⊤
+AreDistinct (addr ∷ before) = All (λ other. addr ≢ other) before × AreDistinct before
 
--- Such things are done any number of times.
+-- The devices at other addresses than this one are visited, none of them twice.
+abbrev pub VisitsOthers : Option ℕ → List LiveStep → List Told → Type 0
+VisitsOthers turn steps told =
+    (visited : List ℕ) × AreDistinct (option_to_list turn ++ visited)
+    × AreVisits visited steps told
+
+-- At last this one is, if there is one; before or after it findings are reported.
+abbrev pub VisitsLast : Option ℕ → List LiveStep → List Told → Type 0
+VisitsLast turn steps told =
+    Then IsAsking (AreVisits (option_to_list turn)) steps told
+    ⊎ Then (AreVisits (option_to_list turn)) IsAsking steps told
+
+-- What a poll does: it visits devices, none of them twice, and reports findings.
 abbrev pub IsPoll : List LiveStep → List Told → Type 0
-IsPoll = Many IsOfPoll
+IsPoll steps told = (turn : Option ℕ) × Then (VisitsOthers turn) (VisitsLast turn) steps told
+
+-- The device at an address is visited or not; and it isn't, where it has its turn later.
+abbrev pub VisitsUnless : Option ℕ → ℕ → List LiveStep → List Told → Type 0
+VisitsUnless turn addr steps told =
+    IsNothing steps told ⊎ (IsVisit addr steps told × (turn ≢ Some addr))
 
 -- A command is given to the host, which answers; or it is reported that it isn't, and why.
 abbrev pub DoesCommand : Command → Option Withheld → List LiveStep → List Told → Type 0
@@ -269,18 +315,22 @@ abbrev pub Finds : List Finding → List Finding → (List LiveStep → List Tol
     List LiveStep → List Told → Type 0
 Finds before now Doing steps told = Doing steps told × (now ≡ before ++ findings_in told)
 
--- It is done so. And where the host lives on, an entry of the last attempt says that its job ended
--- for want of an answer exactly where one does among all that is reported.
+-- It is done so. And where the host lives on, how jobs ended stands in the entries of the last
+-- attempt: one of them is such exactly where one is among all that is reported.
 abbrev pub EndsAs : Result (Unit {0}) Served → List Entry → (List LiveStep → List Told → Type 0) →
     List LiveStep → List Told
     → Type 0
 EndsAs result entries Doing steps told =
-    Doing steps told × OnOk result (tells_unanswered told ≡ list_any is_unanswered entries)
+    Doing steps told
+    × OnOk result ((is_such : Entry → Bool) → IsOfEnd is_such
+    → tells_some is_such told ≡ list_any is_such entries)
 
--- The job at an address makes attempts up to there, where one is; where none is, nothing is done.
-abbrev pub GoesOnTo : Type 0 → Until → ℕ → List LiveStep → List Told → Type 0
-GoesOnTo NoJob until addr steps told =
-    (IsNothing steps told × NoJob) ⊎ MakesAttempts until addr steps told
+-- A round is begun at an address, or none is, and its job makes attempts. And where the host lives
+-- on, how they ended stands in the entries of the last one.
+abbrev pub EndsRound : Result (Unit {0}) Served → List Entry → ℕ → List LiveStep → List Told →
+    Type 0
+EndsRound result entries addr =
+    Then (BeginsRound addr) (EndsAs result entries (GoesOnTo ⊤ until_of.Failed addr))
 
 -- A stop is begun at an address, and its job makes attempts up to its end, if it was taken.
 abbrev pub GivesStop : Knows → Setup → ℕ → List LiveStep → List Told → Type 0

@@ -1,8 +1,10 @@
 //! The line `poll`: all that is to be done for a while.
-ghost use Rattle.std.specs.Prelude.{◌≡◌, false};
+ghost use Rattle.std.specs.Prelude.{◌≡◌, ◌≢◌, ◌<◌, ◌+◌, ◌%◌, Some, false, true};
+ghost use Rattle.std.specs.Option.{option_to_list};
 ghost use Rattle.cct_host.specs.Host.{has_failed, setup_of};
 ghost use Rattle.cct_live_service.specs.AtDesk.{Both, FollowsDesk, IsApart};
-ghost use Rattle.cct_live_service.specs.Doing.{Finds, IsPoll, IsVisit, ServesOn, Then};
+ghost use Rattle.cct_live_service.specs.Doing.{AreVisits, Finds, IsAsking, IsPoll, IsVisit};
+ghost use Rattle.cct_live_service.specs.Doing.{ServesOn, Then, VisitsLast, VisitsOthers, VisitsUnless};
 ghost use Rattle.cct_live_service.specs.Known.{Rested};
 ghost use Rattle.cct_live_service.specs.Linked.{Exchanges, UsesLink, watched};
 ghost use Rattle.cct_live_service.specs.Parts.{Acts};
@@ -65,16 +67,19 @@ fn visit_all<K: Sink, D: Disk, L: CountedLink>(
         (FollowsDesk result desk.old desk.new))
         (Finds roll.old.findings roll.new.findings IsPoll) result out.old out.new host.old host.new }
 {
-    match visit_sound(host, desk, link, out, page) {
-        Ok(()) => try_others(host, roll, desk, link, out, page),
+    let turn = next_doubtful(host, page);
+    match visit_sound(host, turn, desk, link, out, page) {
+        Ok(()) => visit_last(host, turn, roll, desk, link, out, page),
         Err(how) => Err(how),
     }
 }
 
 /// Visits the devices that are neither doubtful nor left alone, up to the first try that isn't
-/// answered. The next poll begins after that device.
+/// answered. The next poll begins after that device. The doubtful one that has its turn comes
+/// later.
 fn visit_sound<K: Sink, D: Disk, L: CountedLink>(
     host: &mut Host<'_, D>,
+    turn: Option<u8>,
     desk: &mut Desk,
     link: &mut L,
     out: &mut K,
@@ -84,12 +89,12 @@ fn visit_sound<K: Sink, D: Disk, L: CountedLink>(
     ensures acts { Acts K.written K.puts K.faults (Both (Exchanges L.gives L.sent L.failures (setup_of host.old).devices
         (watched link.old page.old) (watched link.new page.new))
         (FollowsDesk result desk.old desk.new))
-        IsVisit result out.old out.new host.old host.new }
+        (VisitsOthers turn) result out.old out.new host.old host.new }
 {
     let first = page.rests.first();
     for step in 0..ADDRESSES {
-        let addr = first.wrapping_add(step as u8);
-        match visit_if_sound(host, addr, desk, link, out, page) {
+        let addr = address_after(first, step);
+        match visit_if_sound(host, addr, turn, desk, link, out, page) {
             Ok(()) => {}
             Err(how) => return Err(how),
         }
@@ -102,10 +107,11 @@ fn visit_sound<K: Sink, D: Disk, L: CountedLink>(
     Ok(())
 }
 
-/// Visits the device at an address, unless it is doubtful or left alone.
+/// Visits the device at an address, unless it is doubtful or left alone, or has its turn later.
 fn visit_if_sound<K: Sink, D: Disk, L: CountedLink>(
     host: &mut Host<'_, D>,
     addr: u8,
+    turn: Option<u8>,
     desk: &mut Desk,
     link: &mut L,
     out: &mut K,
@@ -115,19 +121,39 @@ fn visit_if_sound<K: Sink, D: Disk, L: CountedLink>(
     ensures acts { Acts K.written K.puts K.faults (Both (Exchanges L.gives L.sent L.failures (setup_of host.old).devices
         (watched link.old page.old) (watched link.new page.new))
         (FollowsDesk result desk.old desk.new))
-        IsVisit result out.old out.new host.old host.new }
+        (VisitsUnless turn addr) result out.old out.new host.old host.new }
 {
-    if page.rests.is_sound(addr) {
+    if is_now(page, addr, turn) {
         visit(host, addr, desk, link, out, page)
     } else {
         Ok(())
     }
 }
 
+/// Whether the device at an address is visited now: it is neither doubtful nor left alone, and
+/// doesn't have its turn later.
+fn is_now(page: &Page, addr: u8, turn: Option<u8>) -> bool
+    ensures { result ≡ true → turn ≢ Some addr }
+{
+    match turn {
+        Some(other) => other != addr && page.rests.is_sound(addr),
+        None => page.rests.is_sound(addr),
+    }
+}
+
+/// The address so many places after the first one. After the last address comes 0.
+fn address_after(first: u8, step: u16) -> u8
+    requires few { step < 256 }
+    ensures { result ≡ (first + step) % 256 }
+{
+    first.wrapping_add(step as u8)
+}
+
 /// What is done after the visits of a poll: the doubtful device whose turn it is, and questions
 /// that are left. Which of both comes first changes from poll to poll.
-fn try_others<K: Sink, D: Disk, L: CountedLink>(
+fn visit_last<K: Sink, D: Disk, L: CountedLink>(
     host: &mut Host<'_, D>,
+    turn: Option<u8>,
     roll: &mut Roll,
     desk: &mut Desk,
     link: &mut L,
@@ -139,12 +165,12 @@ fn try_others<K: Sink, D: Disk, L: CountedLink>(
         (Both (UsesLink L.gives L.sent L.failures (setup_of host.old).devices roll.old roll.new
         (watched link.old page.old) (watched link.new page.new))
         (FollowsDesk result desk.old desk.new))
-        (Finds roll.old.findings roll.new.findings IsPoll) result out.old out.new host.old host.new }
+        (Finds roll.old.findings roll.new.findings (VisitsLast turn)) result out.old out.new host.old host.new }
 {
     if page.rests.asks_first() {
-        ask_then_visit(host, roll, desk, link, out, page)
+        ask_then_visit(host, turn, roll, desk, link, out, page)
     } else {
-        visit_then_ask(host, roll, desk, link, out, page)
+        visit_then_ask(host, turn, roll, desk, link, out, page)
     }
 }
 
@@ -152,6 +178,7 @@ fn try_others<K: Sink, D: Disk, L: CountedLink>(
 /// spent before.
 fn ask_then_visit<K: Sink, D: Disk, L: CountedLink>(
     host: &mut Host<'_, D>,
+    turn: Option<u8>,
     roll: &mut Roll,
     desk: &mut Desk,
     link: &mut L,
@@ -163,10 +190,10 @@ fn ask_then_visit<K: Sink, D: Disk, L: CountedLink>(
         (Both (UsesLink L.gives L.sent L.failures (setup_of host.old).devices roll.old roll.new
         (watched link.old page.old) (watched link.new page.new))
         (FollowsDesk result desk.old desk.new))
-        (Finds roll.old.findings roll.new.findings IsPoll) result out.old out.new host.old host.new }
+        (Finds roll.old.findings roll.new.findings (VisitsLast turn)) result out.old out.new host.old host.new }
 {
     match ask_if_unspent(host, roll, link, out, page) {
-        Ok(()) => visit_doubtful(host, desk, link, out, page),
+        Ok(()) => visit_doubtful(host, turn, desk, link, out, page),
         Err(how) => Err(how),
     }
 }
@@ -175,6 +202,7 @@ fn ask_then_visit<K: Sink, D: Disk, L: CountedLink>(
 /// spent before.
 fn visit_then_ask<K: Sink, D: Disk, L: CountedLink>(
     host: &mut Host<'_, D>,
+    turn: Option<u8>,
     roll: &mut Roll,
     desk: &mut Desk,
     link: &mut L,
@@ -186,9 +214,9 @@ fn visit_then_ask<K: Sink, D: Disk, L: CountedLink>(
         (Both (UsesLink L.gives L.sent L.failures (setup_of host.old).devices roll.old roll.new
         (watched link.old page.old) (watched link.new page.new))
         (FollowsDesk result desk.old desk.new))
-        (Finds roll.old.findings roll.new.findings IsPoll) result out.old out.new host.old host.new }
+        (Finds roll.old.findings roll.new.findings (VisitsLast turn)) result out.old out.new host.old host.new }
 {
-    match visit_doubtful(host, desk, link, out, page) {
+    match visit_doubtful(host, turn, desk, link, out, page) {
         Ok(()) => ask_if_unspent(host, roll, link, out, page),
         Err(how) => Err(how),
     }
@@ -207,7 +235,7 @@ fn ask_if_unspent<K: Sink, D: Disk, L: CountedLink>(
         (Both (UsesLink L.gives L.sent L.failures (setup_of host.old).devices roll.old roll.new
         (watched link.old page.old) (watched link.new page.new))
         IsApart)
-        (Finds roll.old.findings roll.new.findings IsPoll) result out.old out.new host.old host.new }
+        (Finds roll.old.findings roll.new.findings IsAsking) result out.old out.new host.old host.new }
 {
     if page.rests.is_spent() {
         Ok(())
@@ -219,6 +247,7 @@ fn ask_if_unspent<K: Sink, D: Disk, L: CountedLink>(
 /// Visits the doubtful device whose turn it is, if there is one, unless the poll is spent.
 fn visit_doubtful<K: Sink, D: Disk, L: CountedLink>(
     host: &mut Host<'_, D>,
+    turn: Option<u8>,
     desk: &mut Desk,
     link: &mut L,
     out: &mut K,
@@ -228,26 +257,42 @@ fn visit_doubtful<K: Sink, D: Disk, L: CountedLink>(
     ensures acts { Acts K.written K.puts K.faults (Both (Exchanges L.gives L.sent L.failures (setup_of host.old).devices
         (watched link.old page.old) (watched link.new page.new))
         (FollowsDesk result desk.old desk.new))
-        IsVisit result out.old out.new host.old host.new }
+        (AreVisits (option_to_list turn)) result out.old out.new host.old host.new }
 {
-    match next_doubtful(host, page) {
-        Some(addr) => {
-            page.rests.take_turn(addr);
-            visit(host, addr, desk, link, out, page)
-        }
+    match turn {
+        Some(addr) => visit_if_unspent(host, addr, desk, link, out, page),
         None => Ok(()),
     }
 }
 
-/// The address of the doubtful device whose turn it is: the first with something to do after the
-/// one that had the last turn. None where the poll is spent.
-fn next_doubtful<D: Disk>(host: &Host<'_, D>, page: &Page) -> Option<u8> {
+/// The device at an address has its turn and is visited, unless the poll is spent.
+fn visit_if_unspent<K: Sink, D: Disk, L: CountedLink>(
+    host: &mut Host<'_, D>,
+    addr: u8,
+    desk: &mut Desk,
+    link: &mut L,
+    out: &mut K,
+    page: &mut Page,
+) -> Result<(), Served>
+    requires whole { has_failed host.old ≡ false }
+    ensures acts { Acts K.written K.puts K.faults (Both (Exchanges L.gives L.sent L.failures (setup_of host.old).devices
+        (watched link.old page.old) (watched link.new page.new))
+        (FollowsDesk result desk.old desk.new))
+        (IsVisit addr) result out.old out.new host.old host.new }
+{
     if page.rests.is_spent() {
-        return None;
+        return Ok(());
     }
+    page.rests.take_turn(addr);
+    visit(host, addr, desk, link, out, page)
+}
+
+/// The address of the doubtful device whose turn it is: the first with something to do after the
+/// one that had the last turn.
+fn next_doubtful<D: Disk>(host: &Host<'_, D>, page: &Page) -> Option<u8> {
     let first = page.rests.next_turn();
-    for step in 0..=u8::MAX {
-        let addr = first.wrapping_add(step);
+    for step in 0..ADDRESSES {
+        let addr = address_after(first, step);
         if page.rests.is_due(addr) && has_task(host, addr) {
             return Some(addr);
         }

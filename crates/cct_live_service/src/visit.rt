@@ -1,8 +1,10 @@
 //! What a poll does at one device.
 ghost use Rattle.std.specs.Prelude.{◌≡◌, false};
+ghost use Rattle.std.specs.List.{list_any};
 ghost use Rattle.cct_host.specs.Host.{has_failed, setup_of};
 ghost use Rattle.cct_live_service.specs.AtDesk.{Both, FollowsDesk, IsApart};
-ghost use Rattle.cct_live_service.specs.Doing.{IsVisit};
+ghost use Rattle.cct_live_service.specs.Doing.{BeginsRound, EndsRound, IsVisit, ReadsOut};
+ghost use Rattle.cct_live_service.specs.Ends.{is_moved};
 ghost use Rattle.cct_live_service.specs.Linked.{AreQuiet, Exchanges, watched};
 ghost use Rattle.cct_live_service.specs.Parts.{Acts};
 
@@ -20,7 +22,7 @@ use cct_model::{Command, End, Entry};
 
 /// How many rounds read out an acceptor in a poll, each after the first since a coin came while it
 /// was being read.
-const MOST_ROUNDS: u8 = 4;
+pub(crate) const MOST_ROUNDS: u8 = 4;
 
 /// What is to be done at an address.
 #[derive(Clone, Copy)]
@@ -67,7 +69,7 @@ pub(crate) fn visit<K: Sink, D: Disk, L: CountedLink>(
     ensures acts { Acts K.written K.puts K.faults (Both (Exchanges L.gives L.sent L.failures (setup_of host.old).devices
         (watched link.old page.old) (watched link.new page.new))
         (FollowsDesk result desk.old desk.new))
-        IsVisit result out.old out.new host.old host.new }
+        (IsVisit addr) result out.old out.new host.old host.new }
 {
     match task_at(host, addr) {
         Task::Nothing => Ok(()),
@@ -90,14 +92,14 @@ fn read_out<K: Sink, D: Disk, L: CountedLink>(
     ensures acts { Acts K.written K.puts K.faults (Both (Exchanges L.gives L.sent L.failures (setup_of host.old).devices
         (watched link.old page.old) (watched link.new page.new))
         (FollowsDesk result desk.old desk.new))
-        IsVisit result out.old out.new host.old host.new }
+        (ReadsOut addr) result out.old out.new host.old host.new }
 {
     for _round in 0..MOST_ROUNDS {
         match round(host, addr, desk, link, out, page) {
             Ok(()) => {}
             Err(how) => return Err(how),
         }
-        if !has_moved(page.report.as_slice()) {
+        if !has_moved(page) {
             return Ok(());
         }
     }
@@ -105,17 +107,23 @@ fn read_out<K: Sink, D: Disk, L: CountedLink>(
     Ok(())
 }
 
-/// Whether the last of these entries says that a coin came while an acceptor was being read.
-fn has_moved(entries: &[Entry]) -> bool {
+/// Whether the last attempt ended a round since a coin came while its acceptor was being read.
+fn has_moved(page: &Page) -> bool
+    ensures { result ≡ list_any is_moved page.now.report.items }
+{
+    page.report.as_slice().iter().any(|entry| is_moved(entry))
+}
+
+/// Whether an entry says that a round ended since a coin came while its acceptor was being read.
+fn is_moved(entry: &Entry) -> bool
+    ensures { result ≡ is_moved entry.now }
+{
     matches!(
-        entries,
-        [
-            ..,
-            Entry::Ended {
-                end: End::Moved,
-                ..
-            }
-        ]
+        entry,
+        Entry::Ended {
+            end: End::Moved,
+            ..
+        }
     )
 }
 
@@ -133,7 +141,7 @@ fn round<K: Sink, D: Disk, L: CountedLink>(
     ensures acts { Acts K.written K.puts K.faults (Both (Exchanges L.gives L.sent L.failures (setup_of host.old).devices
         (watched link.old page.old) (watched link.new page.new))
         (FollowsDesk result desk.old desk.new))
-        IsVisit result out.old out.new host.old host.new }
+        (EndsRound result page.new.report.items addr) result out.old out.new host.old host.new }
 {
     match begin_round(host, addr, out, page) {
         Ok(()) => go_on(host, addr, Until::Failed, desk, link, out, page),
@@ -149,8 +157,8 @@ fn begin_round<K: Sink, D: Disk>(
     page: &mut Page,
 ) -> Result<(), Served>
     requires whole { has_failed host.old ≡ false }
-    ensures acts { Acts K.written K.puts K.faults (Both AreQuiet IsApart) IsVisit result out.old
-        out.new host.old host.new }
+    ensures acts { Acts K.written K.puts K.faults (Both AreQuiet IsApart) (BeginsRound addr)
+        result out.old out.new host.old host.new }
     ensures watch { page.new.watch ≡ page.old.watch }
 {
     if host.command_at(addr).is_none() {

@@ -2,7 +2,7 @@ use Rattle.std.proofs.Common.{◌≡◌, ◌+◌, ◌∙◌, ℕ, Ok, Err, arith
 use Rattle.cct_live_service.specs.declared.attempts.TheConstants.{MOST_ATTEMPTS}
 use Rattle.cct_live_service.specs.Doing.{EndsAs, GoesOn, IsAttemptWith, MakesAttempts, Times}
 use Rattle.cct_live_service.specs.Linked.{watched}
-use Rattle.cct_live_service.proofs.Doings.{OneMore, all_made, attempts_broken, broken_as, ended_as, goes_on_one, last_made, list_unanswered, one_more_made, times_unanswered}
+use Rattle.cct_live_service.proofs.Doings.{OneMore, all_made, attempts_broken, broken_as, ended_as, goes_on_one, last_made, list_such, one_more_made, times_such}
 use Rattle.cct_live_service.proofs.Linking.{link_none, link_then}
 use Rattle.cct_live_service.proofs.Parts.{acts_front, acts_weaker}
 use Rattle.cct_live_service.proofs.attempts.attempts.Goals as goal
@@ -18,7 +18,7 @@ loop-made-init g c =
       acts = link_none sink.written sink.puts sink.faults g.L.Link.gives link.sent link.failures
           (watched c.args.link.now c.args.page.now) c.args.desk.now c.args.out.now c.args.host.now
           (Times 0 (GoesOn c.args.addr)) c.requires.whole (refl, refl);
-      unanswered = λ some. absurd (some refl);
+      unended = λ some. absurd (some refl);
     }
 
 pub returns-in-Err : goal.returns-in-Err
@@ -55,7 +55,7 @@ loop-made-preserved g c =
           c.loop-made.host c.attempt.new.host (Times made (GoesOn addr)) (IsAttemptWith sent entries addr)
           (Times (made + 1) (GoesOn addr)) (goes_on_one addr made sent entries (c.is_over.ensures.goes_on c.if-is_over.false))
           c.loop-made.invariant.acts c.in-Ok.ensures.acts;
-      unanswered = λ some. list_unanswered entries (c.is_over.ensures.goes_on c.if-is_over.false);
+      unended = λ some. c.is_over.ensures.goes_on c.if-is_over.false;
     }
 
 pub returns-then-is_over : goal.returns-then-is_over
@@ -75,7 +75,7 @@ returns-then-is_over g c =
           (λ s1 s2 t1 t2 h k. (
             last_made until addr made sent entries (omega (arith, c.loop-made-test.true))
                 (λ ends. sym (c.is_over.ensures.ended ends) ∙ c.if-is_over.true) s1 s2 t1 t2 h k,
-            ended_as addr made sent entries s1 s2 t1 t2 h k,
+            λ is_such of_end. ended_as is_such of_end addr made sent entries s1 s2 t1 t2 h k,
           ))
           c.loop-made.invariant.acts c.in-Ok.ensures.acts;
     }
@@ -93,7 +93,8 @@ returns-after-loop-made g c =
           c.loop-made.host (Times made (GoesOn addr)) (EndsAs (Ok tt) entries (MakesAttempts until addr))
           (λ steps told h. (
             all_made until addr made all steps told h,
-            times_unanswered addr made steps told h ∙ sym (c.loop-made.invariant.unanswered (some_made made all)),
+            λ is_such of_end. times_such is_such of_end addr made steps told h
+                ∙ sym (list_such is_such of_end entries (c.loop-made.invariant.unended (some_made made all))),
           ))
           c.loop-made.invariant.acts;
     }

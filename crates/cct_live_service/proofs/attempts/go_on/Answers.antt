@@ -2,7 +2,6 @@ use Rattle.std.proofs.Common.{◌∙◌, Ok, ap, false, inl, inr, is_some, refl,
 use Rattle.std.specs.List.{list_any}
 use Rattle.cct_host.specs.Host.{setup_of}
 use Rattle.cct_live_service.specs.Doing.{EndsAs, GoesOnTo, MakesAttempts}
-use Rattle.cct_live_service.specs.Ends.{is_unanswered}
 use Rattle.cct_live_service.specs.Known.{HasJob, IsKnown}
 use Rattle.cct_live_service.specs.Linked.{watched}
 use Rattle.cct_live_service.proofs.Linking.{link_none}
@@ -39,6 +38,6 @@ returns-else-is_some g c =
               (refl, refl),
               λ past keeps. ap is_some (sym (c.command_at.ensures past keeps)) ∙ sym c.is_some.ensures ∙ c.if-is_some.false,
             ),
-            ap (list_any is_unanswered) (sym c.clear.ensures),
+            λ is_such of_end. ap (list_any is_such) (sym c.clear.ensures),
           );
     }

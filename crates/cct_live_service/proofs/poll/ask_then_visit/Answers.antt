@@ -1,17 +1,20 @@
 use Rattle.std.proofs.Common.{Ok, Err}
+use Rattle.std.specs.Option.{option_to_list}
 use Rattle.cct_host.specs.Host.{setup_of}
-use Rattle.cct_live_service.specs.Doing.{Finds, IsOfPoll, IsPoll, IsVisit}
+use Rattle.cct_live_service.specs.Doing.{AreVisits, Finds, IsAsking, VisitsLast}
 use Rattle.cct_live_service.specs.Linked.{watched}
-use Rattle.cct_live_service.proofs.Doings.{many_then}
-use Rattle.cct_live_service.proofs.Found.{finds_then, visit_finds_polled}
+use Rattle.cct_live_service.proofs.Found.{finds_then}
 use Rattle.cct_live_service.proofs.Linking.{roll_apart, roll_desk, roll_told}
 use Rattle.cct_live_service.proofs.Parts.{acts_weaker}
+use Rattle.cct_live_service.proofs.Polling.{asking_alone, asking_then, last_finds}
 use Rattle.cct_live_service.proofs.poll.ask_then_visit.Goals as goal
 
 pub returns-in-Ok : goal.returns-in-Ok
 returns-in-Ok g c =
     let sink = g.K.Sink in
     let link = g.L.CountedLink in
+    let turn = c.args.turn in
+    let visits = AreVisits (option_to_list turn) in
     let known = c.args.roll.now.findings in
     let roll = c.ask_if_unspent.new.roll in
     let now = roll.findings in
@@ -27,15 +30,15 @@ returns-in-Ok g c =
     record {
       acts = roll_desk sink.written sink.puts sink.faults g.L.Link.gives link.sent link.failures c.args.roll.now roll roll
           (watched c.args.link.now c.args.page.now) line last desk desk new result c.args.out.now between out c.args.host.now mid host
-          (Finds known now IsPoll) (Finds now now IsPoll) (Finds known now IsPoll)
-          (finds_then known now now IsPoll IsPoll IsPoll (many_then IsOfPoll))
+          (Finds known now IsAsking) (Finds now now visits) (Finds known now (VisitsLast turn))
+          (finds_then known now now IsAsking visits (VisitsLast turn) (asking_then turn))
           (roll_apart sink.written sink.puts sink.faults g.L.Link.gives link.sent link.failures (setup_of c.args.host.now).devices
           c.args.roll.now roll (watched c.args.link.now c.args.page.now) line desk (Ok tt) c.args.out.now between c.args.host.now mid
-          (Finds known now IsPoll) c.in-Ok.ensures.acts)
+          (Finds known now IsAsking) c.in-Ok.ensures.acts)
           (roll_told sink.written sink.puts sink.faults g.L.Link.gives link.sent link.failures (setup_of mid).devices roll line
-          last desk new result between out mid host (Finds now now IsPoll)
-          (acts_weaker sink.written sink.puts sink.faults result between out mid host IsVisit (Finds now now IsPoll)
-          (visit_finds_polled now) c.visit_doubtful.ensures.acts));
+          last desk new result between out mid host (Finds now now visits)
+          (acts_weaker sink.written sink.puts sink.faults result between out mid host visits (Finds now now visits)
+          (last_finds turn now) c.visit_doubtful.ensures.acts));
     }
 
 pub returns-in-Err : goal.returns-in-Err
@@ -48,5 +51,8 @@ returns-in-Err g c =
       acts = roll_apart sink.written sink.puts sink.faults g.L.Link.gives link.sent link.failures
           (setup_of c.args.host.now).devices c.args.roll.now c.ask_if_unspent.new.roll (watched c.args.link.now c.args.page.now)
           (watched c.ask_if_unspent.new.link c.ask_if_unspent.new.page) c.args.desk.now (Err c.in-Err.how) c.args.out.now c.ask_if_unspent.new.out c.args.host.now
-          c.ask_if_unspent.new.host (Finds known now IsPoll) c.in-Err.ensures.acts;
+          c.ask_if_unspent.new.host (Finds known now (VisitsLast c.args.turn))
+          (acts_weaker sink.written sink.puts sink.faults (Err c.in-Err.how) c.args.out.now c.ask_if_unspent.new.out c.args.host.now
+          c.ask_if_unspent.new.host (Finds known now IsAsking) (Finds known now (VisitsLast c.args.turn))
+          (asking_alone c.args.turn known now) c.in-Err.ensures.acts);
     }

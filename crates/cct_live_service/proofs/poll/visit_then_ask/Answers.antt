@@ -1,17 +1,20 @@
 use Rattle.std.proofs.Common.{Ok, Err}
+use Rattle.std.specs.Option.{option_to_list}
 use Rattle.cct_host.specs.Host.{setup_of}
-use Rattle.cct_live_service.specs.Doing.{Finds, IsOfPoll, IsPoll, IsVisit}
+use Rattle.cct_live_service.specs.Doing.{AreVisits, Finds, IsAsking, VisitsLast}
 use Rattle.cct_live_service.specs.Linked.{watched}
-use Rattle.cct_live_service.proofs.Doings.{many_then}
-use Rattle.cct_live_service.proofs.Found.{finds_then, visit_finds_polled}
+use Rattle.cct_live_service.proofs.Found.{finds_then}
 use Rattle.cct_live_service.proofs.Linking.{roll_apart, roll_desk, roll_told}
 use Rattle.cct_live_service.proofs.Parts.{acts_weaker}
+use Rattle.cct_live_service.proofs.Polling.{last_finds, visit_alone, visit_then_asking}
 use Rattle.cct_live_service.proofs.poll.visit_then_ask.Goals as goal
 
 pub returns-in-Ok : goal.returns-in-Ok
 returns-in-Ok g c =
     let sink = g.K.Sink in
     let link = g.L.CountedLink in
+    let turn = c.args.turn in
+    let visits = AreVisits (option_to_list turn) in
     let roll = c.args.roll.now in
     let known = roll.findings in
     let now = c.ask_if_unspent.new.roll.findings in
@@ -24,21 +27,23 @@ returns-in-Ok g c =
       acts = roll_desk sink.written sink.puts sink.faults g.L.Link.gives link.sent link.failures roll roll
           c.ask_if_unspent.new.roll (watched c.args.link.now c.args.page.now) line (watched c.ask_if_unspent.new.link c.ask_if_unspent.new.page) c.args.desk.now desk desk
           c.ask_if_unspent.result c.args.out.now between
-          c.ask_if_unspent.new.out host mid c.ask_if_unspent.new.host (Finds known known IsPoll) (Finds known now IsPoll)
-          (Finds known now IsPoll) (finds_then known known now IsPoll IsPoll IsPoll (many_then IsOfPoll))
+          c.ask_if_unspent.new.out host mid c.ask_if_unspent.new.host (Finds known known visits) (Finds known now IsAsking)
+          (Finds known now (VisitsLast turn)) (finds_then known known now visits IsAsking (VisitsLast turn) (visit_then_asking turn))
           (roll_told sink.written sink.puts sink.faults g.L.Link.gives link.sent link.failures (setup_of host).devices roll
-          (watched c.args.link.now c.args.page.now) line c.args.desk.now desk (Ok tt) c.args.out.now between host mid (Finds known known IsPoll)
-          (acts_weaker sink.written sink.puts sink.faults (Ok tt) c.args.out.now between host mid IsVisit
-          (Finds known known IsPoll) (visit_finds_polled known) c.in-Ok.ensures.acts))
+          (watched c.args.link.now c.args.page.now) line c.args.desk.now desk (Ok tt) c.args.out.now between host mid (Finds known known visits)
+          (acts_weaker sink.written sink.puts sink.faults (Ok tt) c.args.out.now between host mid visits
+          (Finds known known visits) (last_finds turn known) c.in-Ok.ensures.acts))
           (roll_apart sink.written sink.puts sink.faults g.L.Link.gives link.sent link.failures (setup_of mid).devices roll
           c.ask_if_unspent.new.roll line (watched c.ask_if_unspent.new.link c.ask_if_unspent.new.page) desk c.ask_if_unspent.result between c.ask_if_unspent.new.out mid
-          c.ask_if_unspent.new.host (Finds known now IsPoll) c.ask_if_unspent.ensures.acts);
+          c.ask_if_unspent.new.host (Finds known now IsAsking) c.ask_if_unspent.ensures.acts);
     }
 
 pub returns-in-Err : goal.returns-in-Err
 returns-in-Err g c =
     let sink = g.K.Sink in
     let link = g.L.CountedLink in
+    let turn = c.args.turn in
+    let visits = AreVisits (option_to_list turn) in
     let roll = c.args.roll.now in
     let known = roll.findings in
     let how = c.in-Err.how in
@@ -47,7 +52,7 @@ returns-in-Err g c =
     let mid = c.visit_doubtful.new.host in
     record {
       acts = roll_told sink.written sink.puts sink.faults g.L.Link.gives link.sent link.failures (setup_of host).devices roll
-          (watched c.args.link.now c.args.page.now) (watched c.visit_doubtful.new.link c.visit_doubtful.new.page) c.args.desk.now c.visit_doubtful.new.desk (Err how) c.args.out.now out host mid (Finds known known IsPoll)
-          (acts_weaker sink.written sink.puts sink.faults (Err how) c.args.out.now out host mid IsVisit
-          (Finds known known IsPoll) (visit_finds_polled known) c.in-Err.ensures.acts);
+          (watched c.args.link.now c.args.page.now) (watched c.visit_doubtful.new.link c.visit_doubtful.new.page) c.args.desk.now c.visit_doubtful.new.desk (Err how) c.args.out.now out host mid (Finds known known (VisitsLast turn))
+          (acts_weaker sink.written sink.puts sink.faults (Err how) c.args.out.now out host mid visits
+          (Finds known known (VisitsLast turn)) (visit_alone turn known) c.in-Err.ensures.acts);
     }

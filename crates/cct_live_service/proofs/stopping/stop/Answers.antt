@@ -7,6 +7,7 @@ use Rattle.cct_live_service.specs.Doing.{EndsAs, GivesStop, GoesOnTo, LivesPast,
 use Rattle.cct_live_service.specs.Ends.{is_unanswered}
 use Rattle.cct_live_service.specs.Known.{HasJob, IsKnown, KnownAfter}
 use Rattle.cct_live_service.specs.Linked.{Exchanges, watched}
+use Rattle.cct_live_service.proofs.Doings.{unanswered_ends}
 use Rattle.cct_live_service.proofs.KnownLater.{Knowing, acts_knowing, known_now}
 use Rattle.cct_live_service.proofs.Linking.{link_then}
 use Rattle.cct_live_service.proofs.Parts.{acts_front, acts_weaker}
@@ -53,7 +54,7 @@ returns-then-is_to_stop g c =
           c.args.out.now c.go_on.new.out c.stop_idle.new.out host mid c.stop_idle.new.host (Knowing goes went host mid)
           (GivesStop (KnownAfter mid between) (setup_of mid) addr) (StopsRunning (LivesPast c.stop_idle.result) (KnownAfter host desk) (setup_of host) addr)
           (λ s1 s2 t1 t2 h k. running_then host mid c.in-Ok.ensures.acts.setup desk between (LivesPast c.stop_idle.result) addr s1 s2 t1 t2 h.0.0 (h.2, h.1.1)
-          (h.0.1 ∙ c.is_to_stop.ensures.stops c.if-is_to_stop.true)
+          (h.0.1 is_unanswered unanswered_ends ∙ c.is_to_stop.ensures.stops c.if-is_to_stop.true)
           (λ past keeps. c.is_to_stop.ensures.runs c.if-is_to_stop.true past keeps) k)
           (acts_knowing sink.written sink.puts sink.faults went c.args.out.now c.go_on.new.out host mid goes
           c.in-Ok.ensures.acts)
@@ -80,7 +81,7 @@ returns-else-is_to_stop g c =
           (Knowing goes went host mid)
           (StopsRunning (LivesPast (Ok tt)) (KnownAfter host desk) (setup_of host) addr)
           (λ steps told h. running_none host mid c.in-Ok.ensures.acts.setup desk between (LivesPast (Ok tt)) addr (list_any is_unanswered entries)
-          steps told h.0.0 (h.2, h.1.1) h.0.1
+          steps told h.0.0 (h.2, h.1.1) (h.0.1 is_unanswered unanswered_ends)
           (λ none past keeps. c.is_to_stop.ensures.stays c.if-is_to_stop.false none past keeps))
           (acts_knowing sink.written sink.puts sink.faults went c.args.out.now c.go_on.new.out host mid goes
           c.in-Ok.ensures.acts);

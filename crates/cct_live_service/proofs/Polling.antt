@@ -1,0 +1,383 @@
+-- What a poll does, made of its visits.
+use Rattle.std.proofs.Common.{◌≡◌, ◌≢◌, ◌≤◌, ◌<◌, ◌+◌, ◌%◌, ◌∙◌, ◌⊎◌, ◌==◌, ℕ, zero, suc, List, [], ◌∷◌, ◌++◌, Bool, true, false, Option, Some, None, Result, Ok, Err, refl, sym, ap, subst, inl, inr, eqb-true, append_assoc, arith}
+use Rattle.std.specs.Prelude.{⊤}
+use Rattle.std.specs.List.{All, list_any}
+use Rattle.std.specs.Option.{option_to_list}
+use Rattle.std.proofs.lemmas.Bool.Decides.{nat_tests}
+use Rattle.std.proofs.lemmas.List.{append-nil}
+use Rattle.std.proofs.lemmas.List.Elements.{All-cons, All-nil, All-weaker}
+use Rattle.cct_model.specs.lines.command.Command.TheVariants as command
+use Rattle.cct_model.specs.lines.entry.Entry.{Entry}
+use Rattle.cct_laws_live.specs.LiveStep.{LiveStep}
+use Rattle.cct_laws_live.specs.LiveStep as live
+use Rattle.cct_live_survey.specs.declared.finding.Finding.{Finding}
+use Rattle.cct_live_service.specs.declared.attempts.Until.TheVariants as until_of
+use Rattle.cct_live_service.specs.declared.served.Served.{Served}
+use Rattle.cct_live_service.specs.declared.visit.TheConstants.{MOST_ROUNDS}
+use Rattle.cct_live_service.specs.Doing.{AreDistinct, AreVisits, BeginsRound, EndsAs, EndsRound, Finds, FrontOf, GoesOnTo, IsAsking, IsLastRound, IsMovedRound, IsNothing, IsPoll, IsRound, IsVisit, ReadsOut, TellsOne, Then, Times, VisitsLast, VisitsOthers, VisitsUnless}
+use Rattle.cct_live_service.specs.Ends.{is_moved, tells_moved}
+use Rattle.cct_live_service.specs.Told.{Told, findings_in}
+use Rattle.cct_live_service.proofs.Doings.{moved_ends, nothing_after, then_one, times_more}
+use Rattle.cct_live_service.proofs.Found.{attempt_finds, attempts_find, finds_none, finds_weaker, found_then, one_finds, times_find}
+use Rattle.cct_live_service.proofs.Parts.{front_whole}
+
+-- one thing, and nothing after it
+pub then_nothing : (P Q : List LiveStep → List Told → Type 0) → Q [] [] → (steps : List LiveStep) (told : List Told) →
+    P steps told → Then P Q steps told
+then_nothing P Q none steps told h = record {
+  before = steps;
+  after = [];
+  said = told;
+  added = [];
+  steps_are = sym (append-nil steps);
+  told_is = sym (append-nil told);
+  first = h;
+  next = none;
+}
+
+-- nothing, and one thing after it
+pub nothing_then : (P Q : List LiveStep → List Told → Type 0) → P [] [] → (steps : List LiveStep) (told : List Told) →
+    Q steps told → Then P Q steps told
+nothing_then P Q none steps told h = record {
+  before = [];
+  after = steps;
+  said = [];
+  added = told;
+  steps_are = refl;
+  told_is = refl;
+  first = none;
+  next = h;
+}
+
+-- what is two things is also two others
+pub then_weaker : (P Q M N : List LiveStep → List Told → Type 0) →
+    ((steps : List LiveStep) (told : List Told) → P steps told → M steps told) →
+    ((steps : List LiveStep) (told : List Told) → Q steps told → N steps told) → (steps : List LiveStep) (told : List Told) →
+    Then P Q steps told → Then M N steps told
+then_weaker P Q M N one other steps told h = record {
+  before = h.before;
+  after = h.after;
+  said = h.said;
+  added = h.added;
+  steps_are = h.steps_are;
+  told_is = h.told_is;
+  first = one h.before h.said h.first;
+  next = other h.after h.added h.next;
+}
+
+-- a round that ended, by the entries of its last attempt
+abbrev Goes : ℕ → List LiveStep → List Told → Type 0
+Goes addr = GoesOnTo ⊤ until_of.Failed addr
+
+pub round_ended : (addr : ℕ) (entries : List Entry) (Ends : List Told → Type 0) →
+    ((told : List Told) → tells_moved told ≡ list_any is_moved entries → Ends told) → (steps : List LiveStep) (told : List Told) →
+    EndsRound (Ok tt) entries addr steps told → IsRound Ends addr steps told
+round_ended addr entries Ends to =
+    then_weaker (BeginsRound addr) (EndsAs (Ok tt) entries (Goes addr)) (BeginsRound addr)
+    (λ steps told. Goes addr steps told × Ends told) (λ steps told h. h)
+    (λ steps told h. (h.0, to told (h.1 is_moved moved_ends)))
+
+-- so many rounds, and one more after which a further one comes
+pub moved_more : (addr before : ℕ) (entries : List Entry) → list_any is_moved entries ≡ true → (s1 s2 : List LiveStep)
+    (t1 t2 : List Told) → Times before (IsMovedRound addr) s1 t1 → EndsRound (Ok tt) entries addr s2 t2 →
+    Times (before + 1) (IsMovedRound addr) (s1 ++ s2) (t1 ++ t2)
+moved_more addr before entries moved s1 s2 t1 t2 h k =
+    subst (λ n. Times n (IsMovedRound addr) (s1 ++ s2) (t1 ++ t2)) (one_more before)
+    (times_more (IsMovedRound addr) before s1 s2 t1 t2 h
+    (round_ended addr entries (λ told. tells_moved told ≡ true) (λ told is. is ∙ moved) s2 t2 k))
+  where
+    one_more : (n : ℕ) → suc n ≡ n + 1
+    one_more n = omega arith
+
+-- or the last one
+pub last_round : (addr before : ℕ) → suc before ≤ MOST_ROUNDS → (entries : List Entry) → list_any is_moved entries ≡ false →
+    (s1 s2 : List LiveStep) (t1 t2 : List Told) → Times before (IsMovedRound addr) s1 t1 →
+    EndsRound (Ok tt) entries addr s2 t2 → ReadsOut addr (s1 ++ s2) (t1 ++ t2)
+last_round addr before few entries quiet s1 s2 t1 t2 h k = (
+  before,
+  few,
+  then_one (Times before (IsMovedRound addr)) (IsLastRound before addr) s1 s2 t1 t2 h
+      (round_ended addr entries (λ told. (tells_moved told ≡ false) ⊎ (suc before ≡ MOST_ROUNDS)) (λ told is. inl (is ∙ quiet))
+      s2 t2 k),
+)
+
+-- as many as are made
+pub all_rounds : (addr before : ℕ) → before ≡ MOST_ROUNDS → (steps : List LiveStep) (told : List Told) →
+    Times before (IsMovedRound addr) steps told → ReadsOut addr steps told
+all_rounds addr zero all steps told h = absurd (some all)
+  where
+    some : 0 ≡ MOST_ROUNDS → ⊥
+    some is = omega (arith, is)
+all_rounds addr (suc before) all steps told h = (
+  before,
+  few before all,
+  then_weaker (Times before (IsMovedRound addr)) (IsMovedRound addr) (Times before (IsMovedRound addr))
+      (IsLastRound before addr) (λ s t k. k)
+      (then_weaker (BeginsRound addr) (λ s t. Goes addr s t × (tells_moved t ≡ true)) (BeginsRound addr)
+      (λ s t. Goes addr s t × ((tells_moved t ≡ false) ⊎ (suc before ≡ MOST_ROUNDS))) (λ s t k. k)
+      (λ s t k. (k.0, inr all)))
+      steps told h,
+)
+  where
+    few : (n : ℕ) → suc n ≡ MOST_ROUNDS → suc n ≤ MOST_ROUNDS
+    few n is = omega (arith, is)
+
+-- a round that wasn't told to its end
+quiet_round : (addr before : ℕ) → IsLastRound before addr [] []
+quiet_round addr before =
+    nothing_then (BeginsRound addr)
+    (λ steps told. Goes addr steps told × ((tells_moved told ≡ false) ⊎ (suc before ≡ MOST_ROUNDS))) (inl (refl, refl)) [] []
+    (inl ((refl, refl), tt), inl refl)
+
+abbrev OneRound : ℕ → ℕ → List LiveStep → List Told → Type 0
+OneRound addr before = Then (Times before (IsMovedRound addr)) (Then (BeginsRound addr) (Goes addr))
+
+round_ends : (addr before : ℕ) → suc before ≤ MOST_ROUNDS → (steps : List LiveStep) (told : List Told) →
+    OneRound addr before steps told → ReadsOut addr steps told
+round_ends addr before few steps told h =
+    by_moved (tells_moved h.next.added) (suc before == MOST_ROUNDS) refl refl
+  where
+    as_last : (tells_moved h.next.added ≡ false) ⊎ (suc before ≡ MOST_ROUNDS) → ReadsOut addr steps told
+    as_last over = (
+      before,
+      few,
+      record {
+        before = h.before;
+        after = h.after;
+        said = h.said;
+        added = h.added;
+        steps_are = h.steps_are;
+        told_is = h.told_is;
+        first = h.first;
+        next = record {
+          before = h.next.before;
+          after = h.next.after;
+          said = h.next.said;
+          added = h.next.added;
+          steps_are = h.next.steps_are;
+          told_is = h.next.told_is;
+          first = h.next.first;
+          next = (h.next.next, over);
+        };
+      },
+    )
+
+    fewer : (n most : ℕ) → suc n ≤ most → (suc n == most) ≡ false → suc (suc n) ≤ most
+    fewer n most le other = grind (arith, nat_tests, le, other)
+
+    by_moved : (moved all : Bool) → tells_moved h.next.added ≡ moved → (suc before == MOST_ROUNDS) ≡ all →
+        ReadsOut addr steps told
+    by_moved false all quiet is = as_last (inl quiet)
+    by_moved true true moved is = as_last (inr (eqb-true (suc before) MOST_ROUNDS is))
+    by_moved true false moved is = (
+      suc before,
+      fewer before MOST_ROUNDS few is,
+      then_nothing (Times (suc before) (IsMovedRound addr)) (IsLastRound (suc before) addr)
+          (quiet_round addr (suc before)) steps told
+          (record {
+            before = h.before;
+            after = h.after;
+            said = h.said;
+            added = h.added;
+            steps_are = h.steps_are;
+            told_is = h.told_is;
+            first = h.first;
+            next = record {
+              before = h.next.before;
+              after = h.next.after;
+              said = h.next.said;
+              added = h.next.added;
+              steps_are = h.next.steps_are;
+              told_is = h.next.told_is;
+              first = h.next.first;
+              next = (h.next.next, moved);
+            };
+          }),
+    )
+
+pub round_broken : (how : Served) (addr before : ℕ) (entries : List Entry) → suc before ≤ MOST_ROUNDS →
+    (s1 s2 : List LiveStep) (t1 t2 : List Told) → Times before (IsMovedRound addr) s1 t1 →
+    EndsRound (Err how) entries addr s2 t2 → ReadsOut addr (s1 ++ s2) (t1 ++ t2)
+round_broken how addr before entries few s1 s2 t1 t2 h k =
+    round_ends addr before few (s1 ++ s2) (t1 ++ t2)
+    (then_one (Times before (IsMovedRound addr)) (Then (BeginsRound addr) (Goes addr)) s1 s2 t1 t2 h
+    (then_weaker (BeginsRound addr) (EndsAs (Err how) entries (Goes addr)) (BeginsRound addr) (Goes addr) (λ s t q. q)
+    (λ s t q. q.0) s2 t2 k))
+
+-- a round that is begun alone
+pub begins_alone : (how : Served) (entries : List Entry) (addr : ℕ) (steps : List LiveStep) (told : List Told) →
+    BeginsRound addr steps told → EndsRound (Err how) entries addr steps told
+begins_alone how entries addr =
+    then_nothing (BeginsRound addr) (EndsAs (Err how) entries (Goes addr)) (inl ((refl, refl), tt), tt)
+
+-- visits tell no findings
+goes_find : (addr : ℕ) (steps : List LiveStep) (told : List Told) → Goes addr steps told → findings_in told ≡ []
+goes_find addr steps told (inl none) = ap findings_in none.0.1
+goes_find addr steps told (inr made) = attempts_find until_of.Failed addr steps told made
+
+begins_find : (addr : ℕ) (steps : List LiveStep) (told : List Told) → BeginsRound addr steps told → findings_in told ≡ []
+begins_find addr steps told (inl none) = ap findings_in none.1
+begins_find addr steps told (inr begun) = one_finds (live.command (command.Round addr)) steps told begun
+
+then_find : (P Q : List LiveStep → List Told → Type 0) →
+    ((steps : List LiveStep) (told : List Told) → P steps told → findings_in told ≡ []) →
+    ((steps : List LiveStep) (told : List Told) → Q steps told → findings_in told ≡ []) → (steps : List LiveStep)
+    (told : List Told) → Then P Q steps told → findings_in told ≡ []
+then_find P Q one other steps told h =
+    ap findings_in h.told_is ∙ found_then h.said h.added
+    ∙ ap (λ fs. fs ++ findings_in h.added) (one h.before h.said h.first) ∙ other h.after h.added h.next
+
+round_finds : (addr : ℕ) (Ends : List Told → Type 0) (steps : List LiveStep) (told : List Told) →
+    IsRound Ends addr steps told → findings_in told ≡ []
+round_finds addr Ends =
+    then_find (BeginsRound addr) (λ s t. Goes addr s t × Ends t) (begins_find addr) (λ s t k. goes_find addr s t k.0)
+
+visit_finds : (addr : ℕ) (steps : List LiveStep) (told : List Told) → IsVisit addr steps told → findings_in told ≡ []
+visit_finds addr steps told (inl none) = ap findings_in none.1
+visit_finds addr steps told (inr (inl made)) = attempt_finds addr steps told made
+visit_finds addr steps told (inr (inr read)) =
+    then_find (Times read.0 (IsMovedRound addr)) (IsLastRound read.0 addr)
+    (times_find (IsMovedRound addr) (round_finds addr (λ told. tells_moved told ≡ true)) read.0)
+    (round_finds addr (λ told. (tells_moved told ≡ false) ⊎ (suc read.0 ≡ MOST_ROUNDS))) steps told read.2
+
+visits_find : (visited : List ℕ) (steps : List LiveStep) (told : List Told) → AreVisits visited steps told →
+    findings_in told ≡ []
+visits_find [] steps told h = ap findings_in h.1
+visits_find (addr ∷ visited) steps told h =
+    then_find (AreVisits visited) (IsVisit addr) (visits_find visited) (visit_finds addr) steps told h
+
+pub last_finds : (turn : Option ℕ) (findings : List Finding) (steps : List LiveStep) (told : List Told) →
+    AreVisits (option_to_list turn) steps told → Finds findings findings (AreVisits (option_to_list turn)) steps told
+last_finds turn findings =
+    finds_none findings (AreVisits (option_to_list turn)) (visits_find (option_to_list turn))
+
+pub others_find : (turn : Option ℕ) (findings : List Finding) (steps : List LiveStep) (told : List Told) →
+    VisitsOthers turn steps told → Finds findings findings (VisitsOthers turn) steps told
+others_find turn findings =
+    finds_none findings (VisitsOthers turn) (λ steps told h. visits_find h.0 steps told h.2)
+
+-- no visit
+pub none_at : (turn : Option ℕ) → AreVisits (option_to_list turn) [] []
+none_at None = (refl, refl)
+none_at (Some addr) = nothing_then IsNothing (IsVisit addr) (refl, refl) [] [] (inl (refl, refl))
+
+-- one visit at the device that has its turn
+pub visit_at : (turn : Option ℕ) (addr : ℕ) → turn ≡ Some addr → (steps : List LiveStep) (told : List Told) →
+    IsVisit addr steps told → AreVisits (option_to_list turn) steps told
+visit_at turn addr is steps told h =
+    subst (λ at. AreVisits (option_to_list at) steps told) (sym is)
+    (nothing_then IsNothing (IsVisit addr) (refl, refl) steps told h)
+
+no_asking : IsAsking [] []
+no_asking = ([], (refl, refl))
+
+pub last_none : (turn : Option ℕ) → VisitsLast turn [] []
+last_none turn =
+    inl (nothing_then IsAsking (AreVisits (option_to_list turn)) no_asking [] [] (none_at turn))
+
+pub asking_then : (turn : Option ℕ) (s1 s2 : List LiveStep) (t1 t2 : List Told) → IsAsking s1 t1 →
+    AreVisits (option_to_list turn) s2 t2 → VisitsLast turn (s1 ++ s2) (t1 ++ t2)
+asking_then turn s1 s2 t1 t2 h k = inl (then_one IsAsking (AreVisits (option_to_list turn)) s1 s2 t1 t2 h k)
+
+pub asking_alone : (turn : Option ℕ) (a b : List Finding) (steps : List LiveStep) (told : List Told) →
+    Finds a b IsAsking steps told → Finds a b (VisitsLast turn) steps told
+asking_alone turn a b =
+    finds_weaker a b IsAsking (VisitsLast turn)
+    (λ steps told h. inl (then_nothing IsAsking (AreVisits (option_to_list turn)) (none_at turn) steps told h))
+
+pub visit_then_asking : (turn : Option ℕ) (s1 s2 : List LiveStep) (t1 t2 : List Told) →
+    AreVisits (option_to_list turn) s1 t1 → IsAsking s2 t2 → VisitsLast turn (s1 ++ s2) (t1 ++ t2)
+visit_then_asking turn s1 s2 t1 t2 h k = inr (then_one (AreVisits (option_to_list turn)) IsAsking s1 s2 t1 t2 h k)
+
+pub visit_alone : (turn : Option ℕ) (findings : List Finding) (steps : List LiveStep) (told : List Told) →
+    AreVisits (option_to_list turn) steps told → Finds findings findings (VisitsLast turn) steps told
+visit_alone turn findings steps told h =
+    finds_weaker findings findings (AreVisits (option_to_list turn)) (VisitsLast turn)
+    (λ s t k. inr (then_nothing (AreVisits (option_to_list turn)) IsAsking no_asking s t k)) steps told
+    (last_finds turn findings steps told h)
+
+pub polls : (turn : Option ℕ) (s1 s2 : List LiveStep) (t1 t2 : List Told) → VisitsOthers turn s1 t1 →
+    VisitsLast turn s2 t2 → IsPoll (s1 ++ s2) (t1 ++ t2)
+polls turn s1 s2 t1 t2 h k = (turn, then_one (VisitsOthers turn) (VisitsLast turn) s1 s2 t1 t2 h k)
+
+pub polls_alone : (turn : Option ℕ) (findings : List Finding) (steps : List LiveStep) (told : List Told) →
+    VisitsOthers turn steps told → Finds findings findings IsPoll steps told
+polls_alone turn findings steps told h =
+    finds_weaker findings findings (VisitsOthers turn) IsPoll
+    (λ s t k. (turn, then_nothing (VisitsOthers turn) (VisitsLast turn) (last_none turn) s t k)) steps told
+    (others_find turn findings steps told h)
+
+pub poll_none : IsPoll [] []
+poll_none = (
+  None,
+  nothing_then (VisitsOthers None) (VisitsLast None) ([], tt, (refl, refl)) [] [] (last_none None),
+)
+
+-- An address comes before the next ones, in rising order from the first one.
+abbrev pub IsBehind : ℕ → ℕ → ℕ → Type 0
+IsBehind first step addr = (other : ℕ) → step ≤ other → other < 256 → (first + other) % 256 ≢ addr
+
+-- What is visited of the first so many addresses from the first one, without the one that has its turn later.
+pub record SoFar (first step : ℕ) (turn : Option ℕ) (steps : List LiveStep) (told : List Told) : Type 0 where
+  visited : List ℕ
+  distinct : AreDistinct visited
+  others : All (λ addr. turn ≢ Some addr) visited
+  behind : All (IsBehind first step) visited
+  visits : AreVisits visited steps told
+
+pub far_none : (first : ℕ) (turn : Option ℕ) → SoFar first 0 turn [] []
+far_none first turn = record {
+  visited = [];
+  distinct = tt;
+  others = All-nil (λ addr. turn ≢ Some addr);
+  behind = All-nil (IsBehind first 0);
+  visits = (refl, refl);
+}
+
+behind_next : (first step addr : ℕ) → IsBehind first step addr → IsBehind first (step + 1) addr
+behind_next first step addr h other le = h other (less step other le)
+  where
+    less : (n m : ℕ) → n + 1 ≤ m → n ≤ m
+    less n m is = omega (arith, is)
+
+behind_this : (first step : ℕ) → step < 256 → IsBehind first (step + 1) ((first + step) % 256)
+behind_this first step few other le less same = omega (arith, few, le, less, same)
+
+pub far_more : (first step addr : ℕ) → step < 256 → addr ≡ (first + step) % 256 → (turn : Option ℕ)
+    (s1 s2 : List LiveStep) (t1 t2 : List Told) → SoFar first step turn s1 t1 → VisitsUnless turn addr s2 t2 →
+    SoFar first (step + 1) turn (s1 ++ s2) (t1 ++ t2)
+far_more first step addr few is turn s1 s2 t1 t2 h (inl none) = record {
+  visited = h.visited;
+  distinct = h.distinct;
+  others = h.others;
+  behind = All-weaker (IsBehind first step) (IsBehind first (step + 1)) (behind_next first step) h.visited h.behind;
+  visits = nothing_after (AreVisits h.visited) s1 s2 t1 t2 none.0 none.1 h.visits;
+}
+far_more first step addr few is turn s1 s2 t1 t2 h (inr (visit, other)) = record {
+  visited = addr ∷ h.visited;
+  distinct = (
+    All-weaker (IsBehind first step) (λ before. addr ≢ before)
+        (λ before k same. k step (itself step) few (sym is ∙ same)) h.visited h.behind,
+    h.distinct,
+  );
+  others = All-cons (λ a. turn ≢ Some a) addr h.visited other h.others;
+  behind = All-cons (IsBehind first (step + 1)) addr h.visited
+      (subst (IsBehind first (step + 1)) (sym is) (behind_this first step few))
+      (All-weaker (IsBehind first step) (IsBehind first (step + 1)) (behind_next first step) h.visited h.behind);
+  visits = then_one (AreVisits h.visited) (IsVisit addr) s1 s2 t1 t2 h.visits visit;
+}
+  where
+    itself : (n : ℕ) → n ≤ n
+    itself n = omega arith
+
+pub far_all : (first step : ℕ) (turn : Option ℕ) (steps : List LiveStep) (told : List Told) →
+    SoFar first step turn steps told → VisitsOthers turn steps told
+far_all first step turn steps told h = (h.visited, distinct turn h.others, h.visits)
+  where
+    distinct : (at : Option ℕ) → All (λ addr. at ≢ Some addr) h.visited → AreDistinct (option_to_list at ++ h.visited)
+    distinct None others = h.distinct
+    distinct (Some addr) others = (
+      All-weaker (λ before. Some addr ≢ Some before) (λ before. addr ≢ before) (λ before k same. k (ap (λ n. Some n) same))
+          h.visited others,
+      h.distinct,
+    )
