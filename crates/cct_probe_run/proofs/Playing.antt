@@ -13,7 +13,9 @@ use Rattle.cct_live_port.specs.Port.{Gives, with_gap}
 use Rattle.cct_probe_run.specs.declared.bench.Bench.{Bench}
 use Rattle.cct_probe_run.specs.declared.bench.Broken.{Broken}
 use Rattle.cct_probe_run.specs.Broken.{broken_after, fails}
-use Rattle.cct_probe_run.specs.Plays.{Begun, Given, IsNoEmptyOrder, IsOfPlan, IsStep, Plays, TellsBroken, begins_broken, coins_of, exchanged, holds_text, told, wire_text}
+use Rattle.cct_probe_run.specs.Doing.{TellsThat}
+use Rattle.cct_probe_plan.specs.declared.premise.Premise.{Premise}
+use Rattle.cct_probe_run.specs.Plays.{Begun, Given, IsNoEmptyOrder, IsOfPlan, IsStep, Plays, Tells, TellsBroken, begins_broken, coins_of, exchanged, holds_text, told, wire_text}
 
 clash : false ≡ true → ⊥
 clash e = cc
@@ -99,7 +101,7 @@ module _ {L K : Type 0} {reads : L → Option (List ℕ) → L → Type 0} {writ
         out = given.out ∙ out;
       })
 
-  pub one_put : {first before after : Bench L K} (piece : List ℕ) (result : Result (Unit {0}) Failed)
+  pub one_tell : {before after : Bench L K} (piece : List ℕ) (result : Result (Unit {0}) Failed)
       → puts before.out piece result after.out
       → (shows : begins_broken piece ≡ true → TellsBroken setup trials piece before.sent.items before.heard.items)
       → after.port ≡ before.port → after.sent.items ≡ before.sent.items → after.heard.items ≡ before.heard.items
@@ -107,8 +109,8 @@ module _ {L K : Type 0} {reads : L → Option (List ℕ) → L → Type 0} {writ
       → ((is : begins_broken piece ≡ true) → after.broken ≡ broken_after (shows is).this before.broken)
       → (begins_broken piece ≡ false → after.broken ≡ before.broken)
       → ((promise : Promise) → piece ≡ holds_text promise → fails promise before.broken ≡ false)
-      → Plays reads writes puts setup trials first before → Plays reads writes puts setup trials first after
-  one_put {first} {before} {after} piece result put shows port sent heard asked leave breaks stays holds played = told before after played (record {
+      → Tells reads writes puts setup trials before after
+  one_tell piece result put shows port sent heard asked leave breaks stays holds = record {
     piece = piece;
     result = result;
     put = put;
@@ -121,4 +123,22 @@ module _ {L K : Type 0} {reads : L → Option (List ℕ) → L → Type 0} {writ
     breaks = breaks;
     stays = stays;
     holds = holds;
-  })
+  }
+
+  pub one_put : {first before after : Bench L K} → Plays reads writes puts setup trials first before
+      → Tells reads writes puts setup trials before after → Plays reads writes puts setup trials first after
+  one_put {first} {before} {after} played one = told before after played one
+
+  pub that_told : {before after : Bench L K} (this : Premise) (piece : List ℕ) (result : Result (Unit {0}) Failed)
+      → puts before.out piece result after.out → (is : begins_broken piece ≡ true)
+      → (tells : TellsBroken setup trials piece before.sent.items before.heard.items) → tells.this ≡ this
+      → after.port ≡ before.port → after.sent.items ≡ before.sent.items → after.heard.items ≡ before.heard.items
+      → after.asked ≡ before.asked → after.leave ≡ before.leave → after.broken ≡ broken_after tells.this before.broken
+      → TellsThat reads writes puts setup trials this before after
+  unfolding one_tell
+  that_told this piece result put is tells same port sent heard asked leave breaks = (
+    one_tell piece result put (λ _. tells) port sent heard asked leave (λ _. breaks)
+        (λ isnt. absurd (unclear piece is isnt)) (λ promise holds. absurd (not_both piece promise is holds)),
+    is,
+    same,
+  )

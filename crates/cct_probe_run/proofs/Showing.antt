@@ -1,5 +1,5 @@
 -- What an exchange shows.
-use Rattle.std.proofs.Common.{ℕ, List, true, inr, refl}
+use Rattle.std.proofs.Common.{◌≡◌, ℕ, List, true, inr, refl, subst}
 use Rattle.std.specs.List.{Contains}
 use Rattle.cct_model_wire.specs.declared.device.DeviceSetup.{DeviceSetup}
 use Rattle.cct_model_wire.specs.declared.device.Setup.{Setup}
@@ -26,6 +26,11 @@ listens setup trials device round tried this sent there bytes names = record {
   bytes = bytes;
   premise = names;
 }
+
+-- What came is that a premise is broken.
+pub shows_broken : (setup : Setup) (trials : List Trial) (tried this : Premise) (sent : List ℕ) (came : Done) →
+    ShowsIf setup trials tried sent came → came ≡ done.Broken this → Shows setup trials tried this sent
+shows_broken setup trials tried this sent came shows is = subst (λ c. ShowsIf setup trials tried sent c) is shows
 
 -- What came of a step names what is tried.
 pub shows_named : (setup : Setup) (trials : List Trial) (tried : Premise) (sent : List ℕ) (came : Done) → NamesIf tried came →

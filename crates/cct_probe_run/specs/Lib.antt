@@ -1,4 +1,5 @@
 pub mod Broken
 pub mod Plays
 pub mod Leaving
+pub mod Doing
 pub mod Showing

@@ -1,14 +1,19 @@
 //! One step of a trial.
-ghost use Rattle.std.specs.Prelude.{List, IfOk};
+ghost use Rattle.std.specs.Prelude.{◌≡◌, List, IfOk};
 ghost use Rattle.std.specs.List.{Contains};
 ghost use Rattle.cct_model_wire.specs.declared.device.Setup.{Setup};
 ghost use Rattle.cct_probe_plan.specs.declared.plan.Ask.TheVariants as ask;
 ghost use Rattle.cct_probe_plan.specs.Saying.{IsSaid};
 ghost use Rattle.cct_probe_plan.specs.declared.plan.Say.{Say};
 ghost use Rattle.cct_probe_plan.specs.declared.plan.Say.TheVariants as say;
+ghost use Rattle.cct_probe_plan.specs.declared.plan.Step.TheVariants as step_of;
 ghost use Rattle.cct_probe_plan.specs.declared.plan.Trial.{Trial};
+ghost use Rattle.cct_probe_plan.specs.declared.memory.Memory.{Memory};
+ghost use Rattle.cct_model_wire.specs.Exchange.{after_echo};
+ghost use Rattle.cct_probe_run.specs.Doing.{StepCame, has_paid, is_paid};
+ghost use Rattle.cct_probe_run.specs.Leaving.{Sent};
 ghost use Rattle.cct_probe_run.specs.Plays.{IsOfPlan, IsStep, Plays};
-ghost use Rattle.cct_probe_run.specs.Showing.{NamesIf, ShowsIf};
+ghost use Rattle.cct_probe_run.specs.Showing.{IsOrLate, NamesIf, ShowsIf};
 ghost use Rattle.cct_probe_run.specs.declared.bench.Bench.{Bench};
 
 use crate::bench::{Bench, Exchanged, Plan, Stop};
@@ -20,6 +25,7 @@ use cct_live_port::Line;
 use cct_probe_plan::{
     Act, Ask, Common, Memory, Premise, Say, Shown, Step, Turn, Want, judge, tried_place,
 };
+use cct_wire::bare_after_echo;
 
 /// How often a hopper's status is asked at most until it has no coin left to pay.
 const MOST_WAITS: u32 = 60;
@@ -54,6 +60,9 @@ pub(crate) fn act<L: Line, K: Sink, S: Source>(
         Plays L.reads L.writes K.puts plan.entry.setup.now plan.entry.trials.now first bench.new }
     ensures shows { (trials : List Trial) → IsStep trials step →
         IfOk result (ShowsIf plan.entry.setup.now trials turn.entry.premise bench.new.sent.items) }
+    ensures came { IfOk result (StepCame L.reads L.writes K.puts plan.entry.setup.now
+        plan.entry.trials.now turn.entry.device.now turn.entry.round turn.entry.premise step
+        memory.old memory.new bench.old bench.new) }
 {
     match step {
         Step::Asks { say, want } => ask(bench, plan, turn, memory, say, want),
@@ -78,6 +87,9 @@ fn ask<L: Line, K: Sink>(
         Plays L.reads L.writes K.puts plan.entry.setup.now plan.entry.trials.now first bench.new }
     ensures shows { (trials : List Trial) → IsOfPlan trials say →
         IfOk result (ShowsIf plan.entry.setup.now trials turn.entry.premise bench.new.sent.items) }
+    ensures came { IfOk result (StepCame L.reads L.writes K.puts plan.entry.setup.now
+        plan.entry.trials.now turn.entry.device.now turn.entry.round turn.entry.premise
+        (step_of.Asks say want) memory.old memory.new bench.old bench.new) }
 {
     match bench.exchange(plan, say, turn) {
         Exchanged::Heard => judged(bench, plan, turn, memory, want),
@@ -101,6 +113,11 @@ fn judged<L: Line, K: Sink>(
     ensures shows { (trials : List Trial) (say : Say) → IsOfPlan trials say →
         IsSaid say plan.entry.setup.now turn.entry.device.now turn.entry.round bench.old.sent.items →
         IfOk result (ShowsIf plan.entry.setup.now trials turn.entry.premise bench.new.sent.items) }
+    ensures came { (say : Say) (first : Bench L K) → Sent L.reads L.writes K.puts
+        plan.entry.setup.now turn.entry.device.now turn.entry.round say first bench.old →
+        IfOk result (StepCame L.reads L.writes K.puts plan.entry.setup.now plan.entry.trials.now
+        turn.entry.device.now turn.entry.round turn.entry.premise (step_of.Asks say want) memory.old
+        memory.new first bench.new) }
 {
     match judge(want, turn, memory, bench.sent(), bench.heard()) {
         Shown::Right => {
@@ -138,6 +155,7 @@ fn listen<L: Line, K: Sink>(
         Plays L.reads L.writes K.puts plan.entry.setup.now plan.entry.trials.now first bench.new }
     ensures shows { (trials : List Trial) →
         IfOk result (ShowsIf plan.entry.setup.now trials turn.entry.premise bench.new.sent.items) }
+    ensures came { IfOk result (IsOrLate silent) }
 {
     match bench.exchange(plan, Say::Nothing { at_once: true }, turn) {
         Exchanged::Heard if bench.heard().is_empty() => Ok(silent),
@@ -160,6 +178,9 @@ fn wait<L: Line, K: Sink>(
         Plays L.reads L.writes K.puts plan.entry.setup.now plan.entry.trials.now first bench.new }
     ensures shows { (trials : List Trial) →
         IfOk result (ShowsIf plan.entry.setup.now trials turn.entry.premise bench.new.sent.items) }
+    ensures came { (kept : Memory) → IfOk result (StepCame L.reads L.writes K.puts
+        plan.entry.setup.now plan.entry.trials.now turn.entry.device.now turn.entry.round
+        turn.entry.premise step_of.Waits kept kept bench.old bench.new) }
 {
     let say = Say::Ask(Ask::Plain { header: STATUS });
     let slow = turn.slow();
@@ -169,8 +190,10 @@ fn wait<L: Line, K: Sink>(
             Exchanged::NoCoins => return Ok(Done::Untried(Why::Coins)),
             Exchanged::Fault => return Err(Stop::PortFault),
         }
+        let is_silent = bench.heard().len() <= bench.sent().len();
+        let is_paid = has_paid(bench);
         bench.tell_wire(turn.told)?;
-        if bench.heard().len() <= bench.sent().len() {
+        if is_silent {
             return listen(
                 bench,
                 plan,
@@ -178,17 +201,29 @@ fn wait<L: Line, K: Sink>(
                 Done::Broken(Premise::Common(Common::Answers)),
             );
         }
-        if has_paid(bench.sent(), bench.heard()) {
+        if is_paid {
             return Ok(Done::On);
         }
     }
     Ok(Done::Untried(Why::Silent))
 }
 
-/// Whether a status that was heard shows no coin left to pay: its second data byte is 0.
-fn has_paid(sent: &[u8], heard: &[u8]) -> bool {
-    match heard.get(sent.len()..) {
-        Some([_, 4, _, 0, _, 0, ..]) => true,
+/// Whether the last exchange is a status with no coin left to pay.
+fn has_paid<L: Line, K: Sink>(bench: &Bench<L, K>) -> bool
+    ensures { result ≡ has_paid (after_echo bench.now.sent.items bench.now.heard.items) }
+{
+    match bare_after_echo(bench.sent(), bench.heard()) {
+        Ok(rest) => is_paid(rest),
+        Err(_) => false,
+    }
+}
+
+/// Whether bytes are a status with no coin left to pay: its second data byte is 0.
+fn is_paid(rest: &[u8]) -> bool
+    ensures { result ≡ is_paid rest.now }
+{
+    match rest {
+        [_, many, _, header, _, left, ..] => *many == 4 && *header == 0 && *left == 0,
         _ => false,
     }
 }
@@ -205,6 +240,9 @@ fn prompt<L: Line, K: Sink, S: Source>(
         Plays L.reads L.writes K.puts setup trials first bench.new }
     ensures shows { (setup : Setup) (trials : List Trial) →
         IfOk result (ShowsIf setup trials turn.entry.premise bench.new.sent.items) }
+    ensures came { (setup : Setup) (trials : List Trial) (kept : Memory) → IfOk result
+        (StepCame L.reads L.writes K.puts setup trials turn.entry.device.now turn.entry.round
+        turn.entry.premise (step_of.Person act) kept kept bench.old bench.new) }
 {
     let body = &turn.device.body;
     bench.tell(&prompt_of(act, turn.told, body.is_bill(), tried_place(body)))?;

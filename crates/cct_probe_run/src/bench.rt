@@ -1,7 +1,7 @@
 //! A line with the devices of a setup, on which nothing is sent but rows of a plan, and no coin is
 //! ordered without leave.
 
-ghost use Rattle.std.specs.Prelude.{◌≡◌, ◌≤◌};
+ghost use Rattle.std.specs.Prelude.{◌≡◌, ◌≤◌, ◌<◌, ◌+◌, false};
 ghost use Rattle.cct_probe_run.specs.Broken.{broken_after, fails, none_broken};
 
 use arrayvec::ArrayVec;
@@ -128,17 +128,23 @@ impl<L: Line, K: Sink> Bench<L, K> {
     }
 
     /// The bytes that were sent last.
-    pub(crate) fn sent(&self) -> &[u8] {
+    pub(crate) fn sent(&self) -> &[u8]
+        ensures { result.now ≡ self.now.sent.items }
+    {
         self.sent.as_slice()
     }
 
     /// The bytes that were heard then.
-    pub(crate) fn heard(&self) -> &[u8] {
+    pub(crate) fn heard(&self) -> &[u8]
+        ensures { result.now ≡ self.now.heard.items }
+    {
         self.heard.as_slice()
     }
 
     /// Whether so many coins may still be ordered.
-    pub(crate) fn may_order(&self, coins: u8) -> bool {
+    pub(crate) fn may_order(&self, coins: u8) -> bool
+        ensures not { result ≡ false → self.now.leave.coins < self.now.asked + coins }
+    {
         u16::from(coins) <= self.leave.coins - self.asked
     }
 }

@@ -4,7 +4,8 @@ ghost use Rattle.std.specs.List.{Contains};
 ghost use Rattle.cct_model_wire.specs.declared.device.Setup.{Setup};
 ghost use Rattle.cct_probe_plan.specs.declared.plan.Trial.{Trial};
 ghost use Rattle.cct_probe_plan.specs.Saying.{IsSaid};
-ghost use Rattle.cct_probe_run.specs.declared.bench.Exchanged.TheVariants.{Heard};
+ghost use Rattle.cct_probe_run.specs.declared.bench.Exchanged.TheVariants.{Heard, NoCoins};
+ghost use Rattle.cct_probe_run.specs.Doing.{IsTooMuch, TellsThat};
 ghost use Rattle.cct_probe_run.specs.Broken.{fails};
 ghost use Rattle.cct_probe_run.specs.Leaving.{Sent};
 ghost use Rattle.cct_probe_run.specs.Plays.{Begun, Given, IsNoEmptyOrder, IsNoOrder, IsOfPlan};
@@ -31,6 +32,10 @@ impl<L: Line, K: Sink> Bench<L, K> {
             turn.entry.round self.new.sent.items }
         ensures sent { IsNoOrder say → Sent L.reads L.writes K.puts plan.entry.setup.now
             turn.entry.device.now turn.entry.round say self.old self.new }
+        ensures heard { result ≡ Heard → Sent L.reads L.writes K.puts plan.entry.setup.now
+            turn.entry.device.now turn.entry.round say self.old self.new }
+        ensures no_coins { result ≡ NoCoins → IsTooMuch say self.old }
+        ensures no_order { result ≡ NoCoins → IsNoOrder say → ⊥ }
     {
         let coins = coins_of(say);
         if !is_order(say) {
@@ -47,6 +52,7 @@ impl<L: Line, K: Sink> Bench<L, K> {
     fn give(&mut self, plan: Plan<'_>, say: Say, turn: Turn<'_>) -> Exchanged
         ensures gives { Given L.reads L.writes plan.entry.setup.now turn.entry.device.now
             turn.entry.round say self.old self.new }
+        ensures given { result ≡ NoCoins → ⊥ }
     {
         write_say(say, plan.setup, turn, &mut self.sent);
         self.port.set_gap(gap_before(say, turn));
@@ -115,6 +121,9 @@ impl<L: Line, K: Sink> Bench<L, K> {
             Contains trials trial.now → Shows setup (trial.now ∷ []) trial.now.premise premise
             self.old.sent.items → Plays L.reads L.writes K.puts setup trials first self.old →
             Plays L.reads L.writes K.puts setup trials first self.new }
+        ensures tells { (setup : Setup) (trials : List Trial) → Contains trials trial.now →
+            Shows setup (trial.now ∷ []) trial.now.premise premise self.old.sent.items →
+            TellsThat L.reads L.writes K.puts setup trials premise self.old self.new }
     {
         let mut line = TextLine::new();
         begin_broken(&mut line, addr, premise, trial.name);
@@ -141,6 +150,7 @@ fn coins_of(say: Say) -> u16
 fn is_order(say: Say) -> bool
     ensures some { result ≡ true → IsNoEmptyOrder say }
     ensures other { IsNoOrder say → result ≡ true }
+    ensures none { result ≡ false → IsNoEmptyOrder say → ⊥ }
 {
     match say {
         Say::Ask(Ask::Dispense { coins, .. }) => coins > 0,

@@ -1,6 +1,12 @@
 //! All trials at all devices.
-ghost use Rattle.std.specs.Prelude.{◌≡◌, ◌↔◌, Ok, true, false};
+ghost use Rattle.std.specs.Prelude.{◌≡◌, ◌↔◌, ◌&&◌, IfOk, Ok, true, false};
 ghost use Rattle.std.specs.List.{Contains};
+ghost use Rattle.cct_model_wire.specs.declared.device.Setup.{Setup};
+ghost use Rattle.cct_probe_plan.specs.Closing.{is_for};
+ghost use Rattle.cct_probe_plan.specs.Tries.{is_at_device, is_of_line};
+ghost use Rattle.cct_probe_plan.specs.declared.plan.Trial.{Trial};
+ghost use Rattle.cct_probe_run.specs.Doing.{AllDone, AllTried, Came, EachTried, IsHere};
+ghost use Rattle.cct_probe_run.specs.Doing.{LineTried, NextTried, TryCame, has_heard};
 ghost use Rattle.cct_probe_run.specs.Leaving.{EndsLeft};
 ghost use Rattle.cct_probe_run.specs.Plays.{Plays};
 ghost use Rattle.cct_probe_run.specs.declared.bench.Bench.{Bench};
@@ -49,6 +55,10 @@ pub fn run<L: Line, K: Sink, S: Source, C: Clock>(
     // nothing else to anybody.
     ensures leaves { EndsLeft L.reads L.writes K.puts plan.entry.setup.now plan.entry.trials.now
         bench.old bench.new }
+    // Each trial of the plan was done at each device that it is for: all its rounds and steps were
+    // asked, and each answer is right; or a premise was told broken; or this is why it wasn't.
+    ensures tries { IfOk result (λ ended. AllDone L.reads L.writes K.puts plan.entry.setup.now
+        plan.entry.trials.now (has_heard ended) bench.old bench.new) }
     // Whether a premise was told broken.
     ensures kept { result ≡ Ok Ended.Kept → bench.new.broken.any ≡ false }
     ensures broken { result ≡ Ok Ended.Broken → bench.new.broken.any ≡ true }
@@ -64,6 +74,7 @@ pub fn run<L: Line, K: Sink, S: Source, C: Clock>(
 fn ending_of(is_heard: bool, is_broken: bool) -> Ended
     ensures broken { result ≡ Ended.Broken ↔ ((is_heard ≡ true) × (is_broken ≡ true)) }
     ensures kept { result ≡ Ended.Kept ↔ ((is_heard ≡ true) × (is_broken ≡ false)) }
+    ensures heard { has_heard result ≡ is_heard }
 {
     if !is_heard {
         Ended::NothingHeard
@@ -84,22 +95,53 @@ fn try_all<L: Line, K: Sink, S: Source, C: Clock>(
     ensures plays { (first : Bench L K) →
         Plays L.reads L.writes K.puts plan.entry.setup.now plan.entry.trials.now first bench.old →
         Plays L.reads L.writes K.puts plan.entry.setup.now plan.entry.trials.now first bench.new }
+    ensures tries { IfOk result (λ heard. AllDone L.reads L.writes K.puts plan.entry.setup.now
+        plan.entry.trials.now heard bench.old bench.new) }
 {
     let mut findings = Findings::new();
+    let is_heard = try_devices(bench, plan, person, clock, &mut findings)?;
+    match plan.setup.devices.as_slice().first() {
+        Some(device) if is_heard => {
+            run_line(bench, plan, person, clock, &mut findings, device)?;
+            tell_promises(bench, &findings)?;
+            Ok(true)
+        }
+        Some(_) => Ok(false),
+        None => Ok(false),
+    }
+}
+
+/// Does the trials of each device, one after the other. It answers whether some device answered.
+fn try_devices<L: Line, K: Sink, S: Source, C: Clock>(
+    bench: &mut Bench<L, K>,
+    plan: Plan<'_>,
+    person: &mut Person<S>,
+    clock: &mut C,
+    findings: &mut Findings,
+) -> Result<bool, Stop>
+    ensures plays { (first : Bench L K) →
+        Plays L.reads L.writes K.puts plan.entry.setup.now plan.entry.trials.now first bench.old →
+        Plays L.reads L.writes K.puts plan.entry.setup.now plan.entry.trials.now first bench.new }
+    ensures tried { IfOk result (λ _. EachTried L.reads L.writes K.puts plan.entry.setup.now
+        plan.entry.trials.now plan.entry.setup.now.devices bench.old bench.new) }
+{
     let mut is_heard = false;
     for device in plan.setup.devices.as_slice() {
-        if run_device(bench, plan, person, clock, &mut findings, device)? {
-            is_heard = true;
-        }
+        let answers = run_device(bench, plan, person, clock, findings, device)?;
+        is_heard = is_heard || answers;
     }
-    if !is_heard {
-        return Ok(false);
-    }
-    if let Some(device) = plan.setup.devices.as_slice().first() {
-        run_line(bench, plan, person, clock, &mut findings, device)?;
-    }
-    tell_promises(bench, &findings)?;
-    Ok(true)
+    Ok(is_heard)
+}
+
+/// What is known of whether a device answers.
+#[derive(Clone, Copy)]
+pub(crate) enum Presence {
+    /// No trial of it was begun.
+    Unknown,
+    /// It answered its first trial.
+    Here,
+    /// It didn't.
+    Absent,
 }
 
 /// Does the trials of a device. It answers whether the device answered.
@@ -115,18 +157,13 @@ fn run_device<L: Line, K: Sink, S: Source, C: Clock>(
     ensures plays { (first : Bench L K) →
         Plays L.reads L.writes K.puts plan.entry.setup.now plan.entry.trials.now first bench.old →
         Plays L.reads L.writes K.puts plan.entry.setup.now plan.entry.trials.now first bench.new }
+    ensures tried { IfOk result (λ _. AllTried L.reads L.writes K.puts plan.entry.setup.now
+        plan.entry.trials.now device.now plan.entry.trials.now bench.old bench.new) }
 {
     let mut memory = Memory::new();
-    let mut is_there = true;
-    for (at, trial) in plan.trials.iter().enumerate() {
-        if !is_of_device(trial, device) {
-            continue;
-        }
-        if !is_there {
-            findings.note(device.addr, trial.premise, Standing::Untried(Why::Absent))?;
-            continue;
-        }
-        let answered = try_out(
+    let mut presence = Presence::Unknown;
+    for trial in plan.trials {
+        presence = try_next(
             bench,
             plan,
             person,
@@ -134,19 +171,112 @@ fn run_device<L: Line, K: Sink, S: Source, C: Clock>(
             findings,
             &mut memory,
             device,
-            device.addr,
             trial,
+            presence,
         )?;
-        is_there = answered || at > 0;
-        if trial.premise == ALONE {
-            memory.gap = gap_after(findings, device.addr);
-        }
-        close(bench, plan, device, Ending::Trial, memory.gap)?;
     }
+    let is_there = is_here(presence);
     note_always(findings, device.addr, is_there)?;
     tell_device(bench, findings, device.addr)?;
     tell_coins(bench, device, &memory)?;
     Ok(is_there)
+}
+
+/// Does the next trial at a device, if it is for that and that answers.
+fn try_next<L: Line, K: Sink, S: Source, C: Clock>(
+    bench: &mut Bench<L, K>,
+    plan: Plan<'_>,
+    person: &mut Person<S>,
+    clock: &mut C,
+    findings: &mut Findings,
+    memory: &mut Memory,
+    device: &DeviceSetup,
+    trial: &Trial,
+    presence: Presence,
+) -> Result<Presence, Stop>
+    requires of_plan { Contains plan.trials.now trial.now }
+    requires there { Contains plan.setup.now.devices device.now }
+    ensures plays { (first : Bench L K) →
+        Plays L.reads L.writes K.puts plan.entry.setup.now plan.entry.trials.now first bench.old →
+        Plays L.reads L.writes K.puts plan.entry.setup.now plan.entry.trials.now first bench.new }
+    ensures tried { (first : Bench L K) →
+        Plays L.reads L.writes K.puts plan.entry.setup.now plan.entry.trials.now first bench.old →
+        IsHere L.reads L.writes K.puts plan.entry.setup.now plan.entry.trials.now device.now
+        presence first bench.old → IfOk result (NextTried L.reads L.writes K.puts
+        plan.entry.setup.now plan.entry.trials.now device.now trial.now first bench.new) }
+{
+    if !is_of_device(trial, device) {
+        return Ok(presence);
+    }
+    match presence {
+        Presence::Absent => {
+            findings.note(device.addr, trial.premise, Standing::Untried(Why::Absent))?;
+            Ok(Presence::Absent)
+        }
+        Presence::Here => {
+            try_and_close(bench, plan, person, clock, findings, memory, device, trial)?;
+            Ok(Presence::Here)
+        }
+        Presence::Unknown => {
+            if try_and_close(bench, plan, person, clock, findings, memory, device, trial)? {
+                Ok(Presence::Here)
+            } else {
+                Ok(Presence::Absent)
+            }
+        }
+    }
+}
+
+/// Whether a device answered, as far as is known.
+fn is_here(presence: Presence) -> bool {
+    match presence {
+        Presence::Unknown | Presence::Here => true,
+        Presence::Absent => false,
+    }
+}
+
+/// Does a trial at a device, and leaves that as it may stay for a while. It answers whether the
+/// device answered.
+fn try_and_close<L: Line, K: Sink, S: Source, C: Clock>(
+    bench: &mut Bench<L, K>,
+    plan: Plan<'_>,
+    person: &mut Person<S>,
+    clock: &mut C,
+    findings: &mut Findings,
+    memory: &mut Memory,
+    device: &DeviceSetup,
+    trial: &Trial,
+) -> Result<bool, Stop>
+    requires of_plan { Contains plan.trials.now trial.now }
+    requires there { Contains plan.setup.now.devices device.now }
+    ensures plays { (first : Bench L K) →
+        Plays L.reads L.writes K.puts plan.entry.setup.now plan.entry.trials.now first bench.old →
+        Plays L.reads L.writes K.puts plan.entry.setup.now plan.entry.trials.now first bench.new }
+    ensures came { IfOk result (TryCame L.reads L.writes K.puts plan.entry.setup.now
+        plan.entry.trials.now device.now trial.now bench.old bench.new) }
+{
+    let answered = try_out(
+        bench,
+        plan,
+        person,
+        clock,
+        findings,
+        memory,
+        device,
+        device.addr,
+        trial,
+    )?;
+    take_gap(memory, findings, device.addr, trial.premise);
+    close(bench, plan, device, Ending::Trial, memory.gap)?;
+    Ok(answered)
+}
+
+/// Takes the gap before messages over from what was found, once it was tried whether a second device
+/// answers.
+fn take_gap(memory: &mut Memory, findings: &Findings, addr: u8, tried: Premise) {
+    if tried == ALONE {
+        memory.gap = gap_after(findings, addr);
+    }
 }
 
 /// How many silent reads stand before each message to a device from now on: one where a reply may
@@ -174,8 +304,36 @@ fn note_always(findings: &mut Findings, addr: u8, is_there: bool) -> Result<(), 
 }
 
 /// Whether a trial is one of a device, and for this one.
-fn is_of_device(trial: &Trial, device: &DeviceSetup) -> bool {
-    matches!(trial.part, Part::Device | Part::Timed) && trial.who.has(&device.body)
+fn is_of_device(trial: &Trial, device: &DeviceSetup) -> bool
+    ensures { result ≡ (is_at_device trial.now.part && is_for trial.now.who device.now.body) }
+{
+    is_at_device(trial.part) && trial.who.has(&device.body)
+}
+
+/// Whether a trial is done at each device that it is for.
+fn is_at_device(part: Part) -> bool
+    ensures { result ≡ is_at_device part }
+{
+    match part {
+        Part::Device => true,
+        Part::Timed => true,
+        Part::Line => false,
+        Part::Closing => false,
+        Part::Leaving => false,
+    }
+}
+
+/// Whether it is done once, for the line.
+fn is_of_line(part: Part) -> bool
+    ensures { result ≡ is_of_line part }
+{
+    match part {
+        Part::Device => false,
+        Part::Timed => false,
+        Part::Line => true,
+        Part::Closing => false,
+        Part::Leaving => false,
+    }
 }
 
 /// Does the trials of the line.
@@ -191,22 +349,48 @@ fn run_line<L: Line, K: Sink, S: Source, C: Clock>(
     ensures plays { (first : Bench L K) →
         Plays L.reads L.writes K.puts plan.entry.setup.now plan.entry.trials.now first bench.old →
         Plays L.reads L.writes K.puts plan.entry.setup.now plan.entry.trials.now first bench.new }
+    ensures tried { IfOk result (λ _. LineTried L.reads L.writes K.puts plan.entry.setup.now
+        plan.entry.trials.now device.now plan.entry.trials.now bench.old bench.new) }
 {
     let mut memory = Memory::new();
     for trial in plan.trials {
-        if trial.part == Part::Line {
-            try_out(
-                bench,
-                plan,
-                person,
-                clock,
-                findings,
-                &mut memory,
-                device,
-                0,
-                trial,
-            )?;
-        }
+        try_on_line(
+            bench,
+            plan,
+            person,
+            clock,
+            findings,
+            &mut memory,
+            device,
+            trial,
+        )?;
     }
     tell_device(bench, findings, 0)
+}
+
+/// Does a trial, if it is of the line.
+fn try_on_line<L: Line, K: Sink, S: Source, C: Clock>(
+    bench: &mut Bench<L, K>,
+    plan: Plan<'_>,
+    person: &mut Person<S>,
+    clock: &mut C,
+    findings: &mut Findings,
+    memory: &mut Memory,
+    device: &DeviceSetup,
+    trial: &Trial,
+) -> Result<(), Stop>
+    requires of_plan { Contains plan.trials.now trial.now }
+    requires there { Contains plan.setup.now.devices device.now }
+    ensures plays { (first : Bench L K) →
+        Plays L.reads L.writes K.puts plan.entry.setup.now plan.entry.trials.now first bench.old →
+        Plays L.reads L.writes K.puts plan.entry.setup.now plan.entry.trials.now first bench.new }
+    ensures tried { IfOk result (λ _. is_of_line trial.now.part ≡ true → Came L.reads L.writes
+        K.puts plan.entry.setup.now plan.entry.trials.now device.now trial.now bench.old bench.new) }
+{
+    if is_of_line(trial.part) {
+        try_out(
+            bench, plan, person, clock, findings, memory, device, 0, trial,
+        )?;
+    }
+    Ok(())
 }

@@ -1,8 +1,11 @@
 //! One trial at one device.
-ghost use Rattle.std.specs.Prelude.{[], ◌∷◌, List, IfOk};
+ghost use Rattle.std.specs.Prelude.{◌≡◌, [], ◌∷◌, ⊤, List, MatchOption, IfOk, true};
 ghost use Rattle.std.specs.List.{Contains};
 ghost use Rattle.cct_model_wire.specs.declared.device.Setup.{Setup};
 ghost use Rattle.cct_probe_plan.specs.declared.plan.Trial.{Trial};
+ghost use Rattle.cct_probe_plan.specs.declared.premise.Common.TheVariants as common;
+ghost use Rattle.cct_probe_plan.specs.declared.premise.Premise.TheVariants as premise_of;
+ghost use Rattle.cct_probe_run.specs.Doing.{Concludes, IsLacking, RoundCame, RoundsCame, TryCame};
 ghost use Rattle.cct_probe_run.specs.Plays.{Plays};
 ghost use Rattle.cct_probe_run.specs.Showing.{ShowsIf};
 ghost use Rattle.cct_probe_run.specs.declared.bench.Bench.{Bench};
@@ -29,7 +32,9 @@ struct Spans {
 }
 
 /// Why a trial isn't begun, if it isn't.
-fn lacks<L: Line, K: Sink>(bench: &Bench<L, K>, need: Need) -> Option<Why> {
+fn lacks<L: Line, K: Sink>(bench: &Bench<L, K>, need: Need) -> Option<Why>
+    ensures { MatchOption result ⊤ (IsLacking bench.now.leave bench.now.asked need) }
+{
     match need {
         Need::Nothing => None,
         Need::Hands if bench.leave.hands => None,
@@ -60,6 +65,8 @@ pub(crate) fn try_out<L: Line, K: Sink, S: Source, C: Clock>(
     ensures plays { (first : Bench L K) →
         Plays L.reads L.writes K.puts plan.entry.setup.now plan.entry.trials.now first bench.old →
         Plays L.reads L.writes K.puts plan.entry.setup.now plan.entry.trials.now first bench.new }
+    ensures came { IfOk result (TryCame L.reads L.writes K.puts plan.entry.setup.now
+        plan.entry.trials.now device.now trial.now bench.old bench.new) }
 {
     if let Some(why) = lacks(bench, trial.need) {
         findings.note(told, trial.premise, Standing::Untried(why))?;
@@ -105,6 +112,8 @@ fn go<L: Line, K: Sink, S: Source, C: Clock>(
         Plays L.reads L.writes K.puts plan.entry.setup.now plan.entry.trials.now first bench.new }
     ensures shows { IfOk result (ShowsIf plan.entry.setup.now (trial.now ∷ []) trial.now.premise
         bench.new.sent.items) }
+    ensures came { IfOk result (RoundsCame L.reads L.writes K.puts plan.entry.setup.now
+        plan.entry.trials.now device.now trial.now memory.old memory.new bench.old bench.new) }
 {
     let mut spans = Spans {
         longest: 0,
@@ -120,9 +129,10 @@ fn go<L: Line, K: Sink, S: Source, C: Clock>(
             gap: memory.gap,
         };
         let begun = clock.millis();
-        let done = go_round(bench, plan, person, turn, memory, trial)?;
-        if done != Done::On {
-            return Ok(done);
+        match go_round(bench, plan, person, turn, memory, trial)? {
+            Done::On => {}
+            Done::Broken(premise) => return Ok(Done::Broken(premise)),
+            Done::Untried(why) => return Ok(Done::Untried(why)),
         }
         take_span(
             &mut spans,
@@ -175,11 +185,15 @@ fn go_round<L: Line, K: Sink, S: Source>(
         Plays L.reads L.writes K.puts plan.entry.setup.now plan.entry.trials.now first bench.new }
     ensures shows { IfOk result (ShowsIf plan.entry.setup.now (trial.now ∷ []) turn.entry.premise
         bench.new.sent.items) }
+    ensures came { IfOk result (RoundCame L.reads L.writes K.puts plan.entry.setup.now
+        plan.entry.trials.now turn.entry.device.now turn.entry.round turn.entry.premise
+        trial.now.steps.now memory.old memory.new bench.old bench.new) }
 {
     for step in trial.steps {
-        let done = act(bench, plan, person, turn, memory, *step)?;
-        if done != Done::On {
-            return Ok(done);
+        match act(bench, plan, person, turn, memory, *step)? {
+            Done::On => {}
+            Done::Broken(premise) => return Ok(Done::Broken(premise)),
+            Done::Untried(why) => return Ok(Done::Untried(why)),
         }
     }
     Ok(Done::On)
@@ -200,17 +214,49 @@ fn conclude<L: Line, K: Sink>(
     ensures plays { (first : Bench L K) →
         Plays L.reads L.writes K.puts plan.entry.setup.now plan.entry.trials.now first bench.old →
         Plays L.reads L.writes K.puts plan.entry.setup.now plan.entry.trials.now first bench.new }
+    ensures concludes { IfOk result (Concludes L.reads L.writes K.puts plan.entry.setup.now
+        plan.entry.trials.now done bench.old bench.new) }
 {
     match done {
-        Done::On => findings.note(told, trial.premise, Standing::Kept)?,
-        Done::Untried(why) => findings.note(told, trial.premise, Standing::Untried(why))?,
+        Done::On => {
+            findings.note(told, trial.premise, Standing::Kept)?;
+            Ok(true)
+        }
+        Done::Untried(why) => {
+            findings.note(told, trial.premise, Standing::Untried(why))?;
+            Ok(true)
+        }
         Done::Broken(premise) => {
             bench.tell_broken(told, premise, trial)?;
-            findings.note(told, premise, Standing::Broken)?;
-            if premise != trial.premise {
-                findings.note(told, trial.premise, Standing::Untried(Why::Silent))?;
-            }
+            note_broken(findings, told, premise, trial.premise)?;
+            Ok(!is_answers(premise))
         }
     }
-    Ok(done != Done::Broken(Premise::Common(Common::Answers)))
+}
+
+/// Notes that a premise is broken, and that the one that was tried is untried if it is another.
+fn note_broken(
+    findings: &mut Findings,
+    told: u8,
+    broken: Premise,
+    tried: Premise,
+) -> Result<(), Stop> {
+    findings.note(told, broken, Standing::Broken)?;
+    if broken != tried {
+        findings.note(told, tried, Standing::Untried(Why::Silent))?;
+    }
+    Ok(())
+}
+
+/// Whether a premise is that each question is answered.
+fn is_answers(premise: Premise) -> bool
+    ensures { result ≡ true → premise ≡ premise_of.Common common.Answers }
+{
+    match premise {
+        Premise::Common(Common::Answers) => true,
+        Premise::Common(_) => false,
+        Premise::Line(_) => false,
+        Premise::Taker(_) => false,
+        Premise::Hopper(_) => false,
+    }
 }

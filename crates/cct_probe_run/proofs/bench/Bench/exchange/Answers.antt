@@ -14,4 +14,12 @@ returns g c = record {
     gives = c.give.ensures.gives.gives;
     out = c.give.ensures.gives.out;
   };
+  heard = λ heard. record {
+    bytes = c.give.ensures.gives.bytes;
+    gap = c.give.ensures.gives.gap;
+    gives = c.give.ensures.gives.gives;
+    out = c.give.ensures.gives.out;
+  };
+  no_coins = λ is. absurd (c.give.ensures.given is);
+  no_order = λ is none. c.give.ensures.given is;
 }
