@@ -100,7 +100,7 @@ impl<K: Sink> Sink for KeptSink<K> {
 
     fn put(&mut self, bytes: &[u8]) -> Result<(), Failed> {
         self.last.note(bytes);
-        self.tells_record |= tells_record(bytes);
+        self.tells_record = self.tells_record || tells_record(bytes);
         self.sink.put(bytes)
     }
 }

@@ -14,6 +14,7 @@ mod given;
 mod help;
 mod kept;
 mod miss;
+mod other;
 mod refusal;
 mod rule;
 mod setup;

@@ -173,6 +173,12 @@ impl Refusal<'_> {
             );
         }
         match self.part {
+            Part::Setup | Part::Watches if self.number == 1 => {
+                write!(
+                    f,
+                    "the {text} is empty; its lines are to come on standard input or in its file"
+                )
+            }
             Part::Setup | Part::Watches => write!(f, "the {text} ends before its line begin"),
             Part::Steps | Part::Taps => write!(f, "the {text} ends before its line end"),
             Part::Live => write!(

@@ -3,9 +3,17 @@
 use crate::fields::first_field;
 use crate::forms::{FORMS, Form, Part, Text, WordsOf};
 use crate::gaps::is_remark;
+use crate::other::{is_of_log, is_of_transcript, meant_by};
 use crate::shown::Shown;
 use cct_advice_near::is_near;
 use std::fmt;
+
+/// What is said of a line of a bus log, and after the word of one of a transcript.
+const OF_LOG: &str =
+    "it looks like a line of a bus log; make a capture of the log, for cct_main audit: cct_show capture A CHECK KIND .. < LOG (docs/AUDIT.md)";
+
+const OF_TRANSCRIPT: &str =
+    "is a word of a transcript, which cct_show text shows; for cct_main audit make a capture of it: cct_show capture A CHECK KIND .. < TRANSCRIPT (docs/SHOW.md)";
 
 /// A line whose word its part of the script or of the capture doesn't have.
 #[derive(Drop)]
@@ -42,9 +50,17 @@ impl fmt::Display for BadWord<'_> {
             }
             _ => {}
         }
+        if self.part != Part::Live && is_of_transcript(word) {
+            let shown = Shown(word);
+            return write!(f, "{shown} {OF_TRANSCRIPT}");
+        }
         match meant_word(self.part, word) {
             Some(form) => write_meant(self.part, form, word, f),
-            None => write_unknown(self.part, word, f),
+            None if is_of_log(self.line) => f.write_str(OF_LOG),
+            None => match form_meant(self.part, word) {
+                Some(form) => write_meant(self.part, form, word, f),
+                None => write_unknown(self.part, word, f),
+            },
         }
     }
 }
@@ -65,6 +81,12 @@ fn meant_word(part: Part, word: &[u8]) -> Option<&'static Form> {
         }
     }
     None
+}
+
+/// The form of a part whose word says the same as another word.
+fn form_meant(part: Part, word: &[u8]) -> Option<&'static Form> {
+    let meant = meant_by(word)?;
+    FORMS.iter().find(|form| form.is_of(part, meant))
 }
 
 /// Writes which word was meant, and where it may stand, if not here.

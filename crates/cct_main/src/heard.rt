@@ -7,6 +7,11 @@ use cct_model_lines::CheckKind;
 /// Says of each watched device how many of the exchanges were for it, and what they showed.
 pub(crate) fn tell_heard(rt: &HostRuntime, monitor: &Monitor) {
     let taps = monitor.taps();
+    if monitor.watched() == 0 {
+        let _ = eprintln!(rt;
+            "no device is watched, so nothing is said of {taps} exchanges; write a line watch A CHECK KIND before the line begin (docs/AUDIT.md)"
+        );
+    }
     for place in 0..monitor.watched() {
         if let Some(heard) = monitor.heard(place) {
             tell_device(rt, taps, &heard);

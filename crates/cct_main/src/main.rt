@@ -30,6 +30,12 @@ const WORDS: &[&str] = &[
     "run", "check", "report", "state", "upgrade", "audit", "load",
 ];
 
+/// The forms of `cct_show`, and what a capture takes.
+const SHOWN: &[&str] = &["text", "csv", "json", "svg", "html", "capture"];
+
+/// The commands that read a script or a capture.
+const READERS: &[&str] = &["run", "check", "audit"];
+
 /// How the program ended.
 #[derive(Clone, Copy)]
 enum End {
@@ -108,13 +114,24 @@ fn play(rt: &HostRuntime, call: &Call<'_>) -> End {
     end
 }
 
-/// Says which word was meant, where the first one is nearly one that there is.
+/// Says what was meant, where the first word is nearly one that there is, or one of `cct_show`,
+/// or where a file is named that standard input is to give.
 fn tell_meant(rt: &impl Eprint, call: &Call<'_>) {
-    if let Some(word) = call.words.first()
-        && let Some(meant) = near_word(word.as_bytes(), WORDS)
-        && word.as_str() != meant
+    let Some(word) = call.words.first() else {
+        return;
+    };
+    let word = word.as_str();
+    if SHOWN.contains(&word) {
+        let _ = eprintln!(rt; "{word} is a form of cct_show (docs/SHOW.md)");
+    } else if let Some(meant) = near_word(word.as_bytes(), WORDS)
+        && word != meant
     {
         let _ = eprintln!(rt; "did you mean {meant}?");
+    } else if let [_, file] = call.words
+        && READERS.contains(&word)
+    {
+        let file = file.as_str();
+        let _ = eprintln!(rt; "{word} reads standard input: cct_main {word} < {file}");
     }
 }
 

@@ -19,6 +19,12 @@ pub(crate) const WORDS_REFUSED: u8 = 2;
 pub(crate) fn message_of(status: Status) -> Option<&'static str> {
     match status {
         Status::Done => None,
+        Status::Empty => Some("cct_show: standard input had no line; write cct_show FORM < FILE"),
+        Status::NoRows => {
+            Some(
+                "cct_show: no line is one of a transcript, a setup or a capture; of a bus log make a capture first: cct_show capture A CHECK KIND .. < LOG (docs/SHOW.md, \"A capture\")",
+            )
+        }
         Status::ReadFault => Some("cct_show: reading failed"),
         Status::WriteFault => Some("cct_show: writing failed"),
         Status::NotUnderstood => {

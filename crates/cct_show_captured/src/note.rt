@@ -72,6 +72,12 @@ impl fmt::Display for Guessed {
             Guess::Count => {
                 "its first number is read as that of the bytes, since so the checksum is right"
             }
+            Guess::Fields => {
+                "numbers beside the bytes are read as none of them, since so the checksum is right"
+            }
+            Guess::Ways => {
+                "a message for the host is logged as sent; from here on the messages show which way they went"
+            }
         })
     }
 }

@@ -7,6 +7,10 @@ use std::fmt::Write;
 /// How many of them are reported by their numbers.
 const MOST_TOLD: usize = 12;
 
+/// What is said of bytes that are no text.
+const NO_TEXT: &str =
+    "cct_show: some lines have bytes that no text has; if the file has the bytes of the wire themselves, write xxd -p FILE | cct_show ..\n";
+
 /// The words of a capture's lines without an exchange.
 const OTHER_WORDS: &[&[u8]] = &[b"watch", b"begin", b"end"];
 
@@ -20,6 +24,8 @@ pub struct Unread {
     /// How many weren't, and the numbers of the first of them.
     count: u64,
     first: ArrayVec<u64, MOST_TOLD>,
+    /// Whether one of these has a byte 0, which no text has.
+    has_zeros: bool,
 }
 
 impl Unread {
@@ -30,6 +36,7 @@ impl Unread {
             read: 0,
             count: 0,
             first: ArrayVec::new(),
+            has_zeros: false,
         }
     }
 
@@ -48,6 +55,7 @@ impl Unread {
     pub fn pass_over(&mut self, line: &[u8]) {
         if !is_other_line(line) {
             self.count = self.count.saturating_add(1);
+            self.has_zeros |= line.contains(&0);
             // The first ones are reported.
             let _ = self.first.try_push(self.line);
         }
@@ -64,7 +72,16 @@ impl Unread {
         if self.count == 0 {
             return Ok(());
         }
-        write!(notes, "cct_show: {self}\n")
+        write!(notes, "cct_show: {self}\n")?;
+        self.tell_zeros(notes)
+    }
+
+    /// Notes that a line that wasn't understood has a byte that no text has, if one has.
+    pub fn tell_zeros<W: Write>(&self, notes: &mut W) -> fmt::Result {
+        if self.has_zeros {
+            notes.write_str(NO_TEXT)?;
+        }
+        Ok(())
     }
 }
 

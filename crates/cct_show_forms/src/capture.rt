@@ -4,6 +4,7 @@ use crate::lines::{LineSink, read_lines};
 use crate::log::{Echoes, MOST_SAID, copy};
 use crate::notes::Notes;
 use crate::status::{Status, Stop};
+use crate::stream::{Stream, is_stream};
 use crate::taps::{Held, Taps};
 use cct_edge::{Sink, Source};
 use cct_model_lines::{Entry, HOST, MOST_HEARD, MOST_LINE, MOST_SENT};
@@ -51,14 +52,14 @@ struct Capture<'k, 'n, K, H, N> {
     notes: Notes<'n, N>,
     out: Taps<'k, K, H>,
     log: LogReader,
+    /// The bytes of a line that is longer than a message, its echo and its reply.
+    stream: Stream,
     /// The lines so far, and those that weren't understood.
     lines: Unread,
     /// How many exchanges there were, before the last one.
     exchanges: u64,
     last: Option<Exchange>,
     echoes: Echoes,
-    /// Whether it is said already that a message for the host is logged as sent.
-    has_told_way: bool,
     tally: Tally,
 }
 
@@ -76,16 +77,16 @@ pub fn write_capture<S: Source, K: Sink, H: Held, N: Sink>(
         notes: Notes::new(notes),
         out: Taps::new(watches, held, out),
         log: LogReader::new(),
+        stream: Stream::new(),
         lines: Unread::new(),
         exchanges: 0,
         last: None,
         echoes: Echoes::Unknown,
-        has_told_way: false,
         tally: Tally::new(),
     };
     match capture.write(source) {
         Ok(()) if capture.lines.is_much() => Status::NotUnderstood,
-        written => Status::of(written),
+        written => Status::of(written).or_empty(capture.lines.line),
     }
 }
 
@@ -138,6 +139,12 @@ impl<K: Sink, H: Held, N: Sink> Capture<'_, '_, K, H, N> {
         Ok(())
     }
 
+    /// Takes the bytes of a long line so far.
+    fn take_stream(&mut self) -> Result<(), Stop> {
+        self.log.read_bytes(self.stream.take());
+        self.take_said()
+    }
+
     /// Takes a thing that a line of a log says.
     fn logged(&mut self, said: &Said) -> Result<(), Stop> {
         match said {
@@ -146,10 +153,7 @@ impl<K: Sink, H: Held, N: Sink> Capture<'_, '_, K, H, N> {
                 self.hear(heard.as_slice());
             }
             Said::Tap { sent, heard } => self.whole(sent.as_slice(), heard.as_slice())?,
-            Said::Sent(bytes) => {
-                self.doubt_way(bytes.as_slice());
-                self.open(bytes.as_slice())?;
-            }
+            Said::Sent(bytes) => self.open(bytes.as_slice())?,
             Said::Heard(bytes) => self.hear(bytes.as_slice()),
             Said::Late(bytes) => {
                 self.hear(bytes.as_slice());
@@ -174,19 +178,6 @@ impl<K: Sink, H: Held, N: Sink> Capture<'_, '_, K, H, N> {
         self.open(sent)?;
         self.hear(heard);
         self.close()
-    }
-
-    /// Says once that a message for the host is logged as sent: the log's ways may be others than
-    /// they are taken for.
-    fn doubt_way(&mut self, sent: &[u8]) {
-        if !self.has_told_way && sent.first() == Some(&HOST) && is_message(sent) {
-            self.has_told_way = true;
-            let line = self.lines.line;
-            let _ = write!(
-                self.notes,
-                "cct_show: line {line}: a message for the host is logged as sent; look whether the ways are read right\n"
-            );
-        }
     }
 
     /// Begins an exchange.
@@ -308,6 +299,10 @@ impl<K: Sink, H: Held, N: Sink> Capture<'_, '_, K, H, N> {
 
 impl<K: Sink, H: Held, N: Sink> LineSink for Capture<'_, '_, K, H, N> {
     fn line(&mut self, line: &[u8]) -> Result<(), Stop> {
+        if is_stream(line) {
+            self.part(line)?;
+            return self.end();
+        }
         self.lines.next_line();
         let line = line.strip_suffix(b"\r").unwrap_or(line);
         match read_line(line) {
@@ -329,14 +324,25 @@ impl<K: Sink, H: Held, N: Sink> LineSink for Capture<'_, '_, K, H, N> {
         self.take_said()
     }
 
-    fn part(&mut self, _bytes: &[u8]) -> Result<(), Stop> {
+    fn part(&mut self, bytes: &[u8]) -> Result<(), Stop> {
+        for byte in bytes {
+            self.stream.add(*byte);
+            if self.stream.is_full() {
+                self.take_stream()?;
+            }
+        }
         Ok(())
     }
 
     fn end(&mut self) -> Result<(), Stop> {
         self.lines.next_line();
-        self.lines
-            .pass_over(b"a line that is longer than any of a log");
+        self.take_stream()?;
+        if self.stream.end() {
+            self.lines.take();
+        } else {
+            self.lines
+                .pass_over(b"a line that is longer than any of a log");
+        }
         Ok(())
     }
 }

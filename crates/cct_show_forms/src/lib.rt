@@ -3,6 +3,7 @@
 #![tactic(auto)]
 
 mod capture;
+mod encoding;
 mod lines;
 mod log;
 mod measure;
@@ -12,6 +13,7 @@ mod picture;
 mod put_buffer;
 mod rows;
 mod status;
+mod stream;
 mod taps;
 mod text;
 mod words;

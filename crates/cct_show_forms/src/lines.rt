@@ -1,5 +1,8 @@
 //! The lines of the input, of any length, in memory that doesn't grow.
 
+ghost use Rattle.std.specs.Prelude.{◌<◌, length};
+
+use crate::encoding::Encoding;
 use crate::status::Stop;
 use arrayvec::ArrayVec;
 use cct_edge::{Failed, Source};
@@ -29,25 +32,27 @@ struct Line {
     is_long: bool,
 }
 
-/// Gives all lines of a source to `sink`, whatever bytes they have. The last one may be without
-/// line feed.
+/// Gives all lines of a source to `sink`, whatever bytes they have; an input in UTF-16 in UTF-8. The
+/// last one may be without line feed.
 pub(crate) fn read_lines<S: Source, L: LineSink>(source: &mut S, sink: &mut L) -> Result<(), Stop> {
     let mut line = Line {
         bytes: ArrayVec::new(),
         is_long: false,
     };
     let mut room = [0; CHUNK];
+    let mut encoding = None;
     for _ in 0..u64::MAX {
-        let count = match source.take(&mut room) {
-            Ok(count) => count,
-            Err(Failed) => return Err(Stop::Read),
-        };
+        let mut count = taken(source, &mut room)?;
         if count == 0 {
             break;
         }
-        for part in room[..count].split_inclusive(|byte| *byte == b'\n') {
-            line.add(part, sink)?;
+        if encoding.is_none() && count == 1 && room[0] >= 0xfe {
+            count = taken(source, &mut room[1..])?.saturating_add(1);
         }
+        let bytes = room.get(..count).unwrap_or(b"");
+        let mut known = encoding.unwrap_or(Encoding::of(bytes));
+        line.add_all(bytes, &mut known, sink)?;
+        encoding = Some(known);
     }
     if line.is_long || !line.bytes.is_empty() {
         line.end(sink)?;
@@ -55,7 +60,38 @@ pub(crate) fn read_lines<S: Source, L: LineSink>(source: &mut S, sink: &mut L) -
     Ok(())
 }
 
+/// Takes bytes of a source, and says how many.
+fn taken<S: Source>(source: &mut S, room: &mut [u8]) -> Result<usize, Stop>
+    requires { 0 < length room.old }
+{
+    match source.take(room) {
+        Ok(count) => Ok(count),
+        Err(Failed) => Err(Stop::Read),
+    }
+}
+
 impl Line {
+    /// Adds bytes of the input.
+    fn add_all<L: LineSink>(
+        &mut self,
+        bytes: &[u8],
+        encoding: &mut Encoding,
+        sink: &mut L,
+    ) -> Result<(), Stop> {
+        if let Encoding::Bytes = *encoding {
+            for part in bytes.split_inclusive(|byte| *byte == b'\n') {
+                self.add(part, sink)?;
+            }
+            return Ok(());
+        }
+        for byte in bytes {
+            if let Some(character) = encoding.take(*byte) {
+                self.add(character.as_slice(), sink)?;
+            }
+        }
+        Ok(())
+    }
+
     /// Adds bytes, of which the last may be a line feed, which ends the line.
     fn add<L: LineSink>(&mut self, part: &[u8], sink: &mut L) -> Result<(), Stop> {
         match part {

@@ -28,10 +28,11 @@ pub fn show_page<S: Source, K: Sink>(alloc: Global, source: &mut S, out: &mut K)
     let mut marks = Marks::new(alloc, Part::WHOLE, PICTURE_ROWS, Some(Page::new(alloc)));
     let mut shown = Measure::new();
     let read = read_both(source, &mut shown, &mut marks);
-    Status::of(match read {
+    let status = Status::of(match read {
         Ok(()) => write_marks(&marks, &shown, out),
         Err(stop) => Err(stop),
-    })
+    });
+    status.or_empty(marks.count)
 }
 
 /// Reads all lines.

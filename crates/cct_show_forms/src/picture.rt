@@ -74,7 +74,7 @@ pub(crate) struct Marks {
     most: usize,
     pub(crate) is_full: bool,
     /// How many lines there were.
-    count: u64,
+    pub(crate) count: u64,
     /// The last line of the part, where a line equal to it has the same mark.
     last: Option<ArrayVec<u8, MOST_TEXT>>,
     log: Log,
@@ -95,7 +95,7 @@ pub fn show_picture<S: Source, K: Sink>(
     out: &mut K,
 ) -> Status {
     let mut marks = Marks::new(alloc, part, usize::MAX, None);
-    Status::of(marks.write_picture(source, out))
+    Status::of(marks.write_picture(source, out)).or_empty(marks.count)
 }
 
 impl Marks {

@@ -34,6 +34,8 @@ struct RowLines<'k, K> {
     rows: Rows,
     lines: u64,
     taps: u64,
+    /// Whether some line says anything.
+    is_told: bool,
 }
 
 /// Writes a row for each line of a source, by one put.
@@ -44,8 +46,12 @@ pub fn show_rows<S: Source, K: Sink>(form: RowForm, source: &mut S, out: &mut K)
         rows: Rows::new(),
         lines: 0,
         taps: 0,
+        is_told: false,
     };
-    Status::of(rows.show(source))
+    match Status::of(rows.show(source)).or_empty(rows.lines) {
+        Status::Done if !rows.is_told => Status::NoRows,
+        status => status,
+    }
 }
 
 impl<K: Sink> RowLines<'_, K> {
@@ -100,6 +106,7 @@ impl<K: Sink> LineSink for RowLines<'_, K> {
         let number = self.next_number();
         let tap = self.next_tap(&row);
         let said = said_of(&row, rest);
+        self.is_told |= !said.is_empty();
         self.write_row(&Line {
             number,
             time: line.strip_suffix(rest).unwrap_or("").trim_ascii(),

@@ -39,6 +39,10 @@ impl From<AllocError> for Stop {
 pub enum Status {
     /// 0: the input was shown to its end.
     Done,
+    /// 0: there was no line.
+    Empty,
+    /// 0: there was no line of those of which a row says something.
+    NoRows,
     /// 3: reading failed. What was read before is shown.
     ReadFault,
     /// 4: writing failed.
@@ -60,10 +64,18 @@ impl Status {
         }
     }
 
+    /// This status, or where the input was shown to its end, and had no line, that.
+    pub(crate) fn or_empty(self, lines: u64) -> Status {
+        match self {
+            Status::Done if lines == 0 => Status::Empty,
+            _ => self,
+        }
+    }
+
     /// The exit status.
     pub fn code(self) -> u8 {
         match self {
-            Status::Done => 0,
+            Status::Done | Status::Empty | Status::NoRows => 0,
             Status::ReadFault => 3,
             Status::WriteFault => 4,
             Status::NotUnderstood => 5,

@@ -35,10 +35,14 @@ pub fn show_text<S: Source, K: Sink, N: Sink>(
 ) -> Status {
     let mut text = Text::new(out);
     let shown = text.show(source);
-    if text.is_transcript || text.lines.read == 0 || shown.is_err() {
-        return Status::of(shown);
+    if text.is_transcript || shown.is_err() || text.lines.line == 0 {
+        return Status::of(shown).or_empty(text.lines.line);
     }
-    // Nothing more can be done where that can't be written.
+    // Nothing more can be done where a note can't be written.
+    if text.lines.read == 0 {
+        let _ = text.lines.tell_zeros(&mut Notes::new(notes));
+        return Status::Done;
+    }
     let _ = text.lines.tell(&mut Notes::new(notes));
     if text.lines.is_much() {
         Status::NotUnderstood

@@ -12,6 +12,9 @@ const ADDRESS_POLL: u8 = 253;
 
 const ADDRESS_CLASH: u8 = 252;
 
+/// How many replies without an echo show that a log has none.
+const LEAST_BARE: u32 = 2;
+
 /// What a line says.
 #[derive(Drop)]
 pub enum Said {
@@ -61,6 +64,9 @@ pub(crate) struct Joined {
     /// What was sent last, and whether anything was heard after it.
     asked: LogBytes,
     is_answered: bool,
+    /// Whether an echo was heard, and how many replies without one came before it.
+    has_echo: bool,
+    bare_replies: u32,
     /// Whether the last bytes of which no line shows the way were a good message.
     is_synced: bool,
     /// Whether such a message was in more than one line, so that the lines are no exchanges.
@@ -70,6 +76,11 @@ pub(crate) struct Joined {
     /// Whether a line said that bytes were sent. Before that its word for what was heard shows
     /// nothing: a logger that listens on the one wire of the bus has that word in each line.
     has_sent: bool,
+    /// Whether a line said that bytes were heard.
+    has_heard: bool,
+    /// Whether a message for the host was logged as sent, so that the log's words for the ways are
+    /// others than they are taken for.
+    has_other_ways: bool,
     todo: Option<Todo>,
 }
 
@@ -82,10 +93,14 @@ impl Joined {
             free: LogBytes::new(),
             asked: LogBytes::new(),
             is_answered: false,
+            has_echo: false,
+            bare_replies: 0,
             is_synced: false,
             is_stream: false,
             is_anew: false,
             has_sent: false,
+            has_heard: false,
+            has_other_ways: false,
             todo: None,
         }
     }
@@ -108,7 +123,17 @@ impl Joined {
     /// The way of the bytes of a line, as far as its word for it tells.
     fn known_way(&mut self, way: Option<Way>) -> Option<Way> {
         self.has_sent |= way == Some(Way::Sent);
-        if self.has_sent { way } else { None }
+        self.has_heard |= way == Some(Way::Heard);
+        if self.has_sent && !self.has_other_ways {
+            way
+        } else {
+            None
+        }
+    }
+
+    /// Whether a message is begun that isn't at its end.
+    pub(crate) fn is_open(&self) -> bool {
+        !self.sent.is_empty() || !self.heard.is_empty() || !self.free.is_empty()
     }
 
     /// Takes the end of the log.
@@ -218,6 +243,10 @@ impl Joined {
         }
         let is_joined = !self.sent.is_empty();
         self.sent.clear();
+        if has_reply(whole.as_slice()) {
+            self.has_other_ways = true;
+            return self.again(None, whole.as_slice(), Some(Said::Guessed(Guess::Ways)));
+        }
         match first_message(whole.as_slice()) {
             None if !whole.is_empty() => {
                 let part = part_of(whole.as_slice());
@@ -280,6 +309,16 @@ impl Joined {
     /// Takes bytes of which no line shows the way: messages are told apart by their lengths, and by
     /// their checksums.
     fn take_free(&mut self, bytes: LogBytes) -> Option<Said> {
+        if self.goes_on(bytes.as_slice()) {
+            return if self.heard.is_empty() {
+                self.take_sent(bytes)
+            } else {
+                self.take_heard(bytes)
+            };
+        }
+        if self.is_remark(bytes.as_slice()) {
+            return Some(Said::Stray(bytes.len()));
+        }
         let is_other = !self.sent.is_empty() || !self.heard.is_empty();
         let whole = put_behind(&self.free, bytes.as_slice());
         let is_own = are_whole(bytes.as_slice()) && !begins_good(whole.as_slice());
@@ -299,20 +338,59 @@ impl Joined {
         }
     }
 
+    /// Whether bytes of a line without a way go on with the message that a line with one began: they
+    /// are no more than it lacks, and where they end it, it is a good one.
+    fn goes_on(&self, bytes: &[u8]) -> bool {
+        let held = if self.heard.is_empty() {
+            &self.sent
+        } else {
+            &self.heard
+        };
+        if held.is_empty() || are_whole(bytes) {
+            return false;
+        }
+        let whole = put_behind(held, bytes);
+        let begun = unfinished(held.as_slice());
+        let is_within = match wanted_len(begun) {
+            Some(len) => begun.len().saturating_add(bytes.len()) < len,
+            None => true,
+        };
+        is_within || are_whole(whole.as_slice())
+    }
+
+    /// Whether bytes of a line without a way are none of the bus: no message, where each line says
+    /// its way, and none is unfinished.
+    fn is_remark(&self, bytes: &[u8]) -> bool {
+        let are_ways = self.has_sent && self.has_heard && !self.has_other_ways;
+        are_ways && !self.is_open() && !begins_good(bytes) && before_good(bytes).is_none()
+    }
+
     /// Takes a good message, and what is after it: where it begins an exchange, with all that is
     /// heard of that.
     fn good(&mut self, message: &[u8], rest: &[u8], is_joined: bool) -> Option<Said> {
         self.is_synced = true;
         self.is_stream |= is_joined;
-        let may_be_echo = !self.is_answered && message == self.asked.as_slice();
+        let may_be_echo = !self.is_answered
+            && !self.is_bare_log()
+            && message == self.asked.as_slice();
         if is_reply(message) || may_be_echo {
+            self.learn(may_be_echo);
             self.is_answered = true;
             let said = Said::Either(bytes_of(message));
             return self.again(None, rest, Some(said));
         }
         self.asked = bytes_of(message);
-        let (heard, tail) = heard_after(message, rest);
-        self.is_answered = !heard.is_empty();
+        let echo = if self.is_bare_log() {
+            b"".as_slice()
+        } else {
+            message
+        };
+        let (heard, tail) = heard_after(echo, rest);
+        self.is_answered = false;
+        if !heard.is_empty() {
+            self.learn(heard.starts_with(message));
+            self.is_answered = true;
+        }
         let is_damaged = !self.is_stream && first_message(tail).is_some() && !begins_good(tail);
         if is_damaged || is_bare(message) && !rest.is_empty() {
             self.is_answered = true;
@@ -324,6 +402,20 @@ impl Joined {
         }
         let said = exchange(message, heard);
         self.again(None, tail, Some(said))
+    }
+
+    /// Learns from what follows a request whether the log has echoes.
+    fn learn(&mut self, is_echo: bool) {
+        if is_echo {
+            self.has_echo = true;
+        } else if !self.has_echo && !self.is_answered {
+            self.bare_replies = self.bare_replies.saturating_add(1);
+        }
+    }
+
+    /// Whether the log has no echo, as replies show.
+    fn is_bare_log(&self) -> bool {
+        !self.has_echo && self.bare_replies >= LEAST_BARE
     }
 
     /// Takes a message of a line by itself that is damaged, and what is after it.
@@ -406,6 +498,19 @@ fn is_reply(bytes: &[u8]) -> bool {
     bytes.first() == Some(&HOST)
 }
 
+/// Whether bytes are good messages of which one is for the host, as far as they are good.
+fn has_reply(bytes: &[u8]) -> bool {
+    let mut rest = bytes;
+    for _ in bytes {
+        match first_message(rest) {
+            Some((message, _)) if is_good(message) && is_reply(message) => return true,
+            Some((message, after)) if is_good(message) => rest = after,
+            _ => return false,
+        }
+    }
+    false
+}
+
 /// Whether bare addresses answer a message.
 fn is_bare(message: &[u8]) -> bool {
     matches!(
@@ -414,10 +519,10 @@ fn is_bare(message: &[u8]) -> bool {
     )
 }
 
-/// The bytes of some that are heard after a message: its echo, and good messages to the host; and
+/// The bytes of some that are heard after a message: this echo, and good messages to the host; and
 /// the others.
-fn heard_after<'b>(message: &[u8], bytes: &'b [u8]) -> (&'b [u8], &'b [u8]) {
-    let mut rest = bytes.strip_prefix(message).unwrap_or(bytes);
+fn heard_after<'b>(echo: &[u8], bytes: &'b [u8]) -> (&'b [u8], &'b [u8]) {
+    let mut rest = bytes.strip_prefix(echo).unwrap_or(bytes);
     for _ in bytes {
         match first_message(rest) {
             Some((reply, after)) if is_good(reply) && is_reply(reply) => rest = after,

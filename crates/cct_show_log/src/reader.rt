@@ -1,7 +1,7 @@
 //! A bus log, line by line.
 
 use crate::joined::{Joined, Said};
-use cct_show_log_line::{Habit, Has, Time, read_has};
+use cct_show_log_line::{Habit, Has, LogBytes, Time, read_has};
 
 /// The bytes that some editors write before a text in UTF-8.
 const ORDER_MARK: &[u8] = b"\xef\xbb\xbf";
@@ -35,6 +35,7 @@ impl LogReader {
     /// what it says, piece by piece. `None` for a line that isn't understood, which says nothing.
     pub fn read<'l>(&mut self, line: &'l [u8]) -> Option<LogLine<'l>> {
         let line = line.strip_prefix(ORDER_MARK).unwrap_or(line);
+        self.habit.is_open = self.joined.is_open();
         let Some((has, time)) = read_has(line, &mut self.habit) else {
             self.habit.way = None;
             return None;
@@ -48,6 +49,12 @@ impl LogReader {
         };
         self.joined.take(has, self.habit.is_anew);
         Some(LogLine { time, has_bytes })
+    }
+
+    /// Takes bytes of a line by themselves, of which nothing says which way they went;
+    /// [`next_said`](LogReader::next_said) then says what they say, piece by piece.
+    pub fn read_bytes(&mut self, bytes: LogBytes) {
+        self.joined.take(Has::Bytes { way: None, bytes }, false);
     }
 
     /// The log is over: [`next_said`](LogReader::next_said) then says what stayed without an end.

@@ -8,6 +8,17 @@ pub const MOST_LOGGED: usize = 780;
 /// The bytes of one run.
 pub type LogBytes = ArrayVec<u8, MOST_LOGGED>;
 
+/// What stands before and after the two digits of each byte, where nothing is between the bytes.
+const MARKS: &[(&str, &str)] = &[
+    ("0x", ""),
+    ("x", ""),
+    ("#$", ""),
+    ("$", ""),
+    ("%", ""),
+    ("\\", ""),
+    ("<", ">"),
+];
+
 /// How the bytes of a log are written.
 #[derive(Clone, Copy, PartialEq, Eq)]
 pub(crate) enum Base {
@@ -44,11 +55,21 @@ pub(crate) fn add_word(bytes: &mut LogBytes, word: &[u8], base: Base) -> bool {
     if let (Base::Swapped, [high, low, first, second]) = (base, word) {
         return add_digits(bytes, &[*first, *second, *high, *low]);
     }
+    if let [b'0', b'b' | b'B', bits @ ..] = word
+        && let Some(byte) = bits_in(bits)
+    {
+        return bytes.try_push(byte).is_ok();
+    }
     if let Some(digits) = hex_in(word) {
         return add_digits(bytes, digits);
     }
     if let Some(mark) = joint_in(word) {
         return add_joined(bytes, word, mark);
+    }
+    for (front, back) in MARKS {
+        if are_marked(word, front.as_bytes(), back.as_bytes()) {
+            return add_marked(bytes, word, front.as_bytes(), back.as_bytes());
+        }
     }
     match (base, word) {
         (Base::ShortHex, [digit]) | (_, [b'0', b'x' | b'X', digit]) => match value_of(*digit) {
@@ -59,8 +80,37 @@ pub(crate) fn add_word(bytes: &mut LogBytes, word: &[u8], base: Base) -> bool {
     }
 }
 
-/// The number below 256 that a word of up to three digits spells.
+/// The byte that eight bits spell.
+fn bits_in(bits: &[u8]) -> Option<u8> {
+    if bits.len() != 8 {
+        return None;
+    }
+    let mut byte = 0u8;
+    for bit in bits {
+        let value = match *bit {
+            b'0' => 0,
+            b'1' => 1,
+            _ => return None,
+        };
+        byte = (byte & 127) << 1 | value;
+    }
+    Some(byte)
+}
+
+/// The byte that a word of up to three decimal digits spells: a number below 256, or one from -128
+/// to -1, as a signed byte is written.
 fn decimal_in(word: &[u8]) -> Option<u8> {
+    match word {
+        [b'-', digits @ ..] => match number_below_256(digits)? {
+            number @ 1..=128 => Some(0u8.wrapping_sub(number)),
+            _ => None,
+        },
+        _ => number_below_256(word),
+    }
+}
+
+/// The number below 256 that a word of up to three digits spells.
+fn number_below_256(word: &[u8]) -> Option<u8> {
     if word.is_empty() || word.len() > 3 {
         return None;
     }
@@ -79,9 +129,15 @@ fn decimal_in(word: &[u8]) -> Option<u8> {
 /// base.
 pub(crate) fn hex_in(word: &[u8]) -> Option<&[u8]> {
     let digits = match word {
+        [b'0', b'x' | b'X', high, low, b'u' | b'U'] if is_hex(&[*high, *low]) => {
+            return word.get(2..4);
+        }
         [b'0', b'x' | b'X', digits @ ..] | [b'&', b'H' | b'h', digits @ ..] | [b'$', digits @ ..] =>
             { digits }
+        [b'\\', b'x', digits @ ..] | [b'0', b'h', digits @ ..] => digits,
         [high, low, b'h' | b'H'] if is_hex(&[*high, *low]) => return word.get(..2),
+        [b'0', high, low, b'h' | b'H'] if is_hex(&[*high, *low]) => return word.get(1..3),
+        [b'B' | b'b', b'#', b'1', b'6', b'#', digits @ ..] => digits,
         [b'x' | b'X' | b'%', high, low] if is_hex(&[*high, *low]) => return word.get(1..),
         [b'1', b'6', b'#', digits @ ..] => digits.strip_suffix(b"#").unwrap_or(digits),
         _ => word,
@@ -125,6 +181,46 @@ fn add_digits(bytes: &mut LogBytes, digits: &[u8]) -> bool {
     true
 }
 
+/// Whether a word has bytes of two digits each, each between the same marks.
+fn are_marked(word: &[u8], front: &[u8], back: &[u8]) -> bool {
+    let mut rest = word;
+    for _ in word {
+        match marked_in(rest, front, back) {
+            Some((_, after)) => rest = after,
+            None => return false,
+        }
+        if rest.is_empty() {
+            return true;
+        }
+    }
+    false
+}
+
+/// Adds the bytes of a word in which each stands between the same marks.
+fn add_marked(bytes: &mut LogBytes, word: &[u8], front: &[u8], back: &[u8]) -> bool {
+    let mut rest = word;
+    for _ in word {
+        let Some((digits, after)) = marked_in(rest, front, back) else {
+            return rest.is_empty();
+        };
+        if !add_digits(bytes, digits) {
+            return false;
+        }
+        rest = after;
+    }
+    true
+}
+
+/// The two digits between marks with which a text begins, and what is after them.
+fn marked_in<'w>(text: &'w [u8], front: &[u8], back: &[u8]) -> Option<(&'w [u8], &'w [u8])> {
+    let (digits, rest) = text.strip_prefix(front)?.split_at_checked(2)?;
+    if is_hex(digits) {
+        Some((digits, rest.strip_prefix(back)?))
+    } else {
+        None
+    }
+}
+
 /// What joins the bytes of a word, each of two digits: hyphens, or colons where they are no time's.
 fn joint_in(word: &[u8]) -> Option<u8> {
     let mark = *word.get(2)?;
@@ -137,7 +233,7 @@ fn joint_in(word: &[u8]) -> Option<u8> {
     }
     match mark {
         b'-' | b'_' if count >= 2 => Some(mark),
-        b':' | b'.' if count >= 5 => Some(mark),
+        b':' | b'.' | b'/' | b'+' if count >= 5 => Some(mark),
         _ => None,
     }
 }

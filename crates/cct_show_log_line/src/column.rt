@@ -32,6 +32,7 @@ pub(crate) fn is_column(rest: &[u8], bytes: &[u8]) -> bool {
     let text = rest.trim_ascii();
     let text = match text {
         [b'|', inner @ .., b'|'] | [b'>', inner @ .., b'<'] => inner,
+        [b'\'', inner @ .., b'\''] | [b'"', inner @ .., b'"'] if !inner.is_empty() => inner,
         _ => text,
     };
     if text.is_empty() || text.len() > bytes.len() {

@@ -2,10 +2,13 @@
 
 use crate::byte::{LogBytes, value_of};
 
-/// The bytes of the first text of a line with an escape in it. `None` where there is none, or it
-/// isn't there whole. Outside quotes an escape is one of digits.
-pub(crate) fn escaped_in(line: &[u8]) -> Option<LogBytes> {
-    let escape = line.iter().position(|byte| *byte == b'\\')?;
+/// The bytes of the first text of a line with an escape in it; where the log has such texts, of its
+/// first text. `None` where there is none, or it isn't there whole. Outside quotes an escape is one
+/// of digits.
+pub(crate) fn escaped_in(line: &[u8], has_texts: bool) -> Option<LogBytes> {
+    let Some(escape) = line.iter().position(|byte| *byte == b'\\') else {
+        return if has_texts { text_in(line) } else { None };
+    };
     let (before, _) = line.split_at_checked(escape)?;
     let quote = before
         .iter()
@@ -19,6 +22,13 @@ pub(crate) fn escaped_in(line: &[u8]) -> Option<LogBytes> {
     } else {
         Some(bytes)
     }
+}
+
+/// The bytes of the first text of a line, in quotes.
+fn text_in(line: &[u8]) -> Option<LogBytes> {
+    let place = line.iter().position(|byte| matches!(*byte, b'\'' | b'"'))?;
+    let (bytes, _) = unescaped(line.get(place.saturating_add(1)..)?, *line.get(place)?)?;
+    Some(bytes)
 }
 
 /// A text that begins with an escape of digits.

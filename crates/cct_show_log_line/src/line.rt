@@ -3,17 +3,23 @@
 use crate::byte::{Base, LogBytes, bytes_of};
 use crate::column::column_at;
 use crate::escape::escaped_in;
-use crate::heading::{head_in, is_known, is_rule};
+use crate::heading::{head_in, is_head_of_ways, is_known, is_rule, is_ruler, is_table_head};
 use crate::message::{LEAST_MESSAGE, are_whole};
-use crate::name::Way;
+use crate::name::{Way, is_among};
 use crate::run::{Run, run_in};
-use crate::time::{Time, time_at};
+use crate::time::{Time, number_in, time_at, time_in};
 use crate::way::{WayAt, first_way};
 use crate::word::next_word;
 use cct_model_wire::HOST;
 
 /// The word of a line of a capture, and its space.
 const TAP: &[u8] = b"tap ";
+
+/// Words that say that there are no bytes.
+const NOTHING: &[u8] = b"b no none null nothing empty reply response answer timeout timed out";
+
+/// How many fields may stand before bytes that are messages.
+const MOST_FIELDS: usize = 3;
 
 /// What was taken for granted of bytes that can be read in another way. The checksum of a message
 /// decided.
@@ -24,6 +30,10 @@ pub enum Guess {
     ShortHex,
     /// That the first number counts the bytes after it.
     Count,
+    /// That numbers before the bytes or after them are none of them.
+    Fields,
+    /// That the log's words for the ways say something else, so that the messages show the ways.
+    Ways,
 }
 
 /// What a line has.
@@ -50,6 +60,12 @@ pub struct Habit {
     pub is_anew: bool,
     /// Whether the number of the bytes is before them.
     pub(crate) has_counts: bool,
+    /// Whether there are other numbers beside the bytes.
+    pub(crate) has_fields: bool,
+    /// Whether a message that lines before began isn't at its end.
+    pub is_open: bool,
+    /// Whether the bytes are texts with escapes, as those of a program's calls.
+    pub(crate) has_texts: bool,
     /// The way that a line without bytes told.
     pub way: Option<Way>,
     /// What was taken for granted in this line, and could be read in another way.
@@ -64,6 +80,9 @@ impl Habit {
             offset: None,
             is_anew: false,
             has_counts: false,
+            has_fields: false,
+            is_open: false,
+            has_texts: false,
             way: None,
             guess: None,
         }
@@ -77,13 +96,22 @@ pub fn read_has<'l>(line: &'l [u8], habit: &mut Habit) -> Option<(Has, Option<Ti
     if let Some(fields) = line.strip_prefix(TAP) {
         return Some((tap_in(fields)?, None));
     }
-    if is_rule(line) {
+    if is_rule(line) || habit.has_texts && line.trim_ascii().starts_with(b"|") {
         return if line.is_empty() {
             None
         } else {
             Some((Has::Heading(habit.way), None))
         };
     }
+    if is_head_of_ways(line) {
+        return Some((Has::Heading(None), None));
+    }
+    if is_table_head(line) && has_no_bytes(line) {
+        let base = head_in(line).unwrap_or(None);
+        habit.base = base.or(habit.base);
+        return Some((Has::Heading(None), None));
+    }
+    let line = without_number(line);
     let line = line.get(..column_at(line, habit.offset)).unwrap_or(line);
     match first_way(line, 0) {
         Some(way) => match way_line(line, way, habit) {
@@ -95,6 +123,11 @@ pub fn read_has<'l>(line: &'l [u8], habit: &mut Habit) -> Option<(Has, Option<Ti
         },
         None => free_line(line, habit),
     }
+}
+
+/// Whether no word of a line spells bytes, in hexadecimal or decimal.
+fn has_no_bytes(line: &[u8]) -> bool {
+    run_in(line, Base::Hex, None).words == 0 && run_in(line, Base::Decimal, None).words == 0
 }
 
 /// What the line `tap SENT HEARD` has, by what is after its word.
@@ -125,12 +158,8 @@ fn field_in(field: &[u8]) -> Option<LogBytes> {
 fn way_line(line: &[u8], way: WayAt, habit: &mut Habit) -> Option<Has> {
     let (front, _) = line.split_at_checked(way.from)?;
     let after = line.get(way.to..)?;
-    if let Some(bytes) = escaped_in(after) {
-        return if is_sure(front, &way) || are_whole(bytes.as_slice()) {
-            Some(ways_bytes(way.way, bytes, habit))
-        } else {
-            None
-        };
+    if let Some(has) = told_way(line, front, &way, after, habit) {
+        return has;
     }
     let Some(next) = first_way(after, 0) else {
         return one_way(front, way, after, habit);
@@ -158,6 +187,37 @@ fn way_line(line: &[u8], way: WayAt, habit: &mut Habit) -> Option<Has> {
     }
 }
 
+/// What a line has whose bytes stand after a way in a text with escapes, or whose way is none;
+/// `None` where it is another line.
+fn told_way(
+    line: &[u8],
+    front: &[u8],
+    way: &WayAt,
+    after: &[u8],
+    habit: &mut Habit,
+) -> Option<Option<Has>> {
+    let mut tried = *habit;
+    let plain = chosen(after, &mut tried);
+    if is_character(line, way, &plain) {
+        return Some(Some(free_bytes(plain.bytes, habit)));
+    }
+    if plain.is_marked || are_whole(plain.bytes.as_slice()) {
+        return None;
+    }
+    let bytes = escaped_in(after, habit.has_texts)?;
+    habit.has_texts |= after.contains(&b'\\');
+    if is_sure(front, way) || are_whole(bytes.as_slice()) {
+        Some(Some(ways_bytes(way.way, bytes, habit)))
+    } else {
+        Some(None)
+    }
+}
+
+/// Whether what may be a way is the character of the byte after it.
+fn is_character(line: &[u8], way: &WayAt, run: &Run) -> bool {
+    way.is_weak && run.len() == 1 && line.get(way.from..way.to) == Some(run.bytes.as_slice())
+}
+
 /// What a line has that says one way; the bytes stand after it, or before it.
 fn one_way(front: &[u8], way: WayAt, after: &[u8], habit: &mut Habit) -> Option<Has> {
     let run = chosen(after, habit);
@@ -170,7 +230,11 @@ fn one_way(front: &[u8], way: WayAt, after: &[u8], habit: &mut Habit) -> Option<
         return behind_way(front, &way, run, habit);
     }
     if is_none(after) {
-        return Some(ways_bytes(way.way, run.bytes, habit));
+        return if is_whole {
+            between(before, run)
+        } else {
+            Some(ways_bytes(way.way, run.bytes, habit))
+        };
     }
     if before.words != 0 && !way.is_weak && !has_remark(front) {
         return if is_whole || before.strange == 0 && before.is_last {
@@ -250,37 +314,59 @@ fn is_bare(text: &[u8]) -> bool {
     true
 }
 
-/// Whether a text has a hyphen in place of bytes, and nothing else.
+/// Whether a text says that there are no bytes: a hyphen, or words such as `no reply`.
 fn is_none(text: &[u8]) -> bool {
-    text.trim_ascii() == b"-".as_slice()
+    if text.trim_ascii() == b"-".as_slice() {
+        return true;
+    }
+    let mut words = 0u32;
+    for part in text.split(|byte| !byte.is_ascii_alphanumeric()) {
+        if !part.is_empty() && !is_among(NOTHING, part) {
+            return false;
+        }
+        words = words.saturating_add(u32::from(!part.is_empty()));
+    }
+    words != 0
+}
+
+/// A line without a number right before its time: it counts lines or bytes.
+fn without_number(line: &[u8]) -> &[u8] {
+    let Some(first) = next_word(line, 0) else {
+        return line;
+    };
+    let Some(second) = next_word(line, first.to) else {
+        return line;
+    };
+    let has_more = next_word(line, second.to).is_some();
+    if has_more && number_in(first.text).is_some() && time_in(second.text).is_some() {
+        line.get(first.to..).unwrap_or(line)
+    } else {
+        line
+    }
 }
 
 /// What a line has that says no way.
 fn free_line<'l>(line: &'l [u8], habit: &mut Habit) -> Option<(Has, Option<Time<'l>>)> {
-    if let Some(bytes) = escaped_in(line) {
+    let run = chosen(line, habit);
+    if let Some(bytes) = escaped_in(line, false)
+        && !run.is_marked
+    {
         return if are_whole(bytes.as_slice()) {
             Some((free_bytes(bytes, habit), time_at(line, line.len(), false)))
         } else {
             None
         };
     }
-    let run = chosen(line, habit);
-    let time = time_at(line, run.from, false);
+    let front = if run.words == 0 { line.len() } else { run.from };
+    let time = time_at(line, front, false);
     if is_transcript(line) {
         return None;
     }
     if let Some(has) = two_words(line, &run) {
         return Some((has, time));
     }
-    if run.words == 0 {
-        return match head_in(line) {
-            Some(base) => {
-                habit.base = base.or(habit.base);
-                Some((Has::Heading(None), None))
-            }
-            None if run.offset.is_some() => Some((Has::Heading(habit.way), None)),
-            None => None,
-        };
+    if run.words == 0 || is_ruler(run.bytes.as_slice()) {
+        return headed(line, &run, time, habit);
     }
     let is_long = run.len() >= LEAST_MESSAGE;
     let has_front = time.is_some() || run.offset.is_some() || run.is_marked || habit.way.is_some();
@@ -294,6 +380,24 @@ fn free_line<'l>(line: &'l [u8], habit: &mut Habit) -> Option<(Has, Option<Time<
         Some((free_bytes(run.bytes, habit), time))
     } else {
         None
+    }
+}
+
+/// What a line without bytes has: the head of columns, an offset, or a time alone.
+fn headed<'l>(
+    line: &[u8],
+    run: &Run,
+    time: Option<Time<'l>>,
+    habit: &mut Habit,
+) -> Option<(Has, Option<Time<'l>>)> {
+    match head_in(line) {
+        Some(base) => {
+            habit.base = base.or(habit.base);
+            Some((Has::Heading(None), None))
+        }
+        None if run.offset.is_some() || run.words != 0 => Some((Has::Heading(habit.way), None)),
+        None if time.is_some() && is_bare(line) => Some((Has::Heading(habit.way), time)),
+        None => None,
     }
 }
 
@@ -364,12 +468,58 @@ fn chosen(text: &[u8], habit: &mut Habit) -> Run {
             guessed(short, Base::ShortHex, Guess::ShortHex, habit)
         };
     }
-    match habit.base {
+    let run = match habit.base {
         Some(Base::Decimal) if decimal.words >= hex.words => decimal,
         Some(Base::ShortHex) => counted(short, habit),
         _ if decimal.words > hex.words && decimal.is_spelt => decimal,
         _ => counted(hex, habit),
+    };
+    without_fields(text, run, habit)
+}
+
+/// Bytes without the numbers beside them, where they are messages only so. In a message that lines
+/// before began nothing is left out.
+fn without_fields(text: &[u8], run: Run, habit: &mut Habit) -> Run {
+    if are_whole(run.bytes.as_slice()) || run.other > 1 || habit.is_open {
+        return run;
     }
+    match within(text, habit.base) {
+        Some(inner) => {
+            if !habit.has_fields {
+                habit.has_fields = true;
+                habit.guess = Some(Guess::Fields);
+            }
+            inner
+        }
+        None => run,
+    }
+}
+
+/// The bytes of a text that are messages where numbers before them are left out, and their number
+/// behind them; `None` where they are none.
+fn within(text: &[u8], base: Option<Base>) -> Option<Run> {
+    let base = base.unwrap_or(Base::Hex);
+    let mut cut = 0usize;
+    for _ in 0..=MOST_FIELDS {
+        let rest = text.get(cut..)?;
+        let mut run = run_in(rest, base, None);
+        let second = run.second;
+        let words = run.words;
+        if let Some((count, bytes)) = run.bytes.as_slice().split_last()
+            && counts(*count, bytes.len())
+        {
+            run = run_in(rest.get(..run.last)?, base, None);
+        }
+        if are_whole(run.bytes.as_slice()) {
+            run.from = run.from.saturating_add(cut);
+            return Some(run);
+        }
+        if words < 2 {
+            return None;
+        }
+        cut = cut.saturating_add(second);
+    }
+    None
 }
 
 /// Bytes that are messages in another base than the usual one, which the next lines have too.

@@ -14,10 +14,10 @@ const SENT: &[u8] = b"tx txd send sent sending transmit transmitted outgoing ges
 const HEARD: &[u8] = b"rx rxd recv receive received receiving incoming empfangen empfang";
 
 /// Names that may say that bytes were sent, beside those of the host.
-const OUTWARD: &[u8] = b"out w wr write written req request";
+const OUTWARD: &[u8] = b"out w wr write written req request cmd";
 
 /// Names that may say that bytes were heard.
-const INWARD: &[u8] = b"in r rd read resp response reply device slave";
+const INWARD: &[u8] = b"in r rd read resp rsp response reply answer device slave";
 
 /// Names of the host.
 const HOSTS: &[u8] = b"host pc master controller";

@@ -3,12 +3,19 @@
 use crate::byte::{Base, LogBytes, add_word, without_angles};
 use crate::column::is_column;
 use crate::heading::{is_known, is_remark, offset_in};
+use crate::message::LEAST_MESSAGE;
 use crate::name::is_among;
 use crate::time::number_in;
 use crate::word::{Word, next_word};
 
 /// Keys of bytes.
 const KEYS: &[u8] = b"data hex bytes raw msg message frame payload";
+
+/// What may stand before each byte as a word of its own.
+const TYPES: &[u8] = b"byte bytes char x";
+
+/// What is counted where a number is before it.
+const COUNTED: &[u8] = b"bytes byte octets chars ms us s sec";
 
 /// Bytes in words that stand one after the other.
 #[derive(Drop)]
@@ -18,8 +25,10 @@ pub(crate) struct Run {
     pub(crate) words: u32,
     /// How many bytes the first word has.
     pub(crate) first: usize,
-    /// Where they begin in the line.
+    /// Where they begin in the line, and where their second word and their last one do.
     pub(crate) from: usize,
+    pub(crate) second: usize,
+    pub(crate) last: usize,
     /// How many words of no known meaning stand before them.
     pub(crate) strange: u32,
     /// Whether they stand after a name with a colon.
@@ -37,6 +46,8 @@ pub(crate) struct Run {
     pub(crate) is_double: bool,
     /// Whether each word is one of eight bits.
     are_bits: bool,
+    /// Whether the first word is in brackets of its own.
+    is_framed: bool,
     /// Whether nothing but a column of characters or a remark is after them.
     pub(crate) is_last: bool,
 }
@@ -49,6 +60,8 @@ impl Run {
             words: 0,
             first: 0,
             from: 0,
+            second: 0,
+            last: 0,
             strange,
             is_labelled,
             is_marked: false,
@@ -57,12 +70,13 @@ impl Run {
             offset: None,
             is_double: false,
             are_bits: true,
+            is_framed: false,
             is_last: true,
         }
     }
 
     /// Adds the bytes of a word, if it spells any.
-    fn add(&mut self, word: &Word<'_>, base: Base) -> bool {
+    fn add(&mut self, line: &[u8], word: &Word<'_>, base: Base) -> bool {
         if !add_word(&mut self.bytes, word.text, base)
             && !add_word(&mut self.bytes, value_in(word.text), base)
             && !add_word(&mut self.bytes, without_angles(word.text), base)
@@ -70,17 +84,26 @@ impl Run {
         {
             return false;
         }
-        self.are_bits &= word.text.len() == 8
-            && word.text.iter().all(|digit| matches!(*digit, b'0' | b'1'));
+        self.are_bits &= is_bits(word.text);
         if self.words == 0 {
             self.first = self.len();
+            self.is_framed = word.is_framed(line);
             self.from = word.from;
-            self.is_marked = matches!(word.text, [b'0', b'x' | b'X', ..]);
+            self.is_marked = is_marked(word.text);
             self.is_double = word.text.len() == 4;
         }
+        if self.words == 1 {
+            self.second = word.from;
+        }
+        self.last = word.from;
         self.is_spelt |= word.text.len() >= 3 || base != Base::Decimal;
         self.words = self.words.saturating_add(1);
         true
+    }
+
+    /// Whether it says that it is hexadecimal, and the other one doesn't, and is no message.
+    fn is_clearer(&self, other: &Run) -> bool {
+        self.is_marked && !other.is_marked && other.len() < LEAST_MESSAGE
     }
 
     /// How many bytes there are.
@@ -109,8 +132,16 @@ pub(crate) fn run_in(line: &[u8], base: Base, expected: Option<u64>) -> Run {
         }
         let is_offset = at == 0 && offset.is_some();
         at = word.to;
-        let is_between = run.words != 0 && is_mark(word.text);
-        if is_offset || is_between || is_count(line, &word, &run) || run.add(&word, base) {
+        let is_again = best.len().max(run.len()) == 1 && is_bits(word.text);
+        if is_offset || is_again || is_passed(line, &word, &run) {
+            continue;
+        }
+        if let Some(other) = unlike(line, &word, base, &run) {
+            best = longer(best, run);
+            run = other;
+            continue;
+        }
+        if run.add(line, &word, base) || run.words != 0 && is_framed_apart(line, &word, &run) {
             continue;
         }
         let is_strange = !is_known(word.text);
@@ -118,10 +149,15 @@ pub(crate) fn run_in(line: &[u8], base: Base, expected: Option<u64>) -> Run {
             strange = strange.saturating_add(1);
         }
         best = longer(best, run);
-        best.is_last = false;
+        best.is_last &= best.is_marked && is_gloss(word.text);
         run = Run::new(strange, is_strange && word.text.ends_with(b":"));
     }
-    let mut found = longer(best, run);
+    ended(longer(best, run), strange, offset)
+}
+
+/// A run as the one of its line, in which so many words have no known meaning.
+fn ended(found: Run, strange: u32, offset: Option<u64>) -> Run {
+    let mut found = found;
     if found.words >= 2 && found.are_bits {
         // They are no hexadecimal digits.
         return Run::new(strange.saturating_add(1), false);
@@ -133,9 +169,17 @@ pub(crate) fn run_in(line: &[u8], base: Base, expected: Option<u64>) -> Run {
     found
 }
 
-/// The longer of two runs; the earlier one where both are as long.
+/// The longer of two runs, and the earlier one where both are as long; one that says that it is
+/// hexadecimal before one that doesn't, and that is shorter than a message.
 fn longer(earlier: Run, later: Run) -> Run {
-    let (mut best, less) = if later.len() > earlier.len() {
+    let is_later = if later.is_clearer(&earlier) {
+        true
+    } else if earlier.is_clearer(&later) {
+        false
+    } else {
+        later.len() > earlier.len()
+    };
+    let (mut best, less) = if is_later {
         (later, earlier)
     } else {
         (earlier, later)
@@ -147,7 +191,7 @@ fn longer(earlier: Run, later: Run) -> Run {
 /// What is after a key that says that it is bytes, or after a sign without one; nothing where there
 /// is none.
 fn value_in(word: &[u8]) -> &[u8] {
-    match word.iter().position(|byte| *byte == b'=') {
+    match word.iter().position(|byte| matches!(*byte, b'=' | b':')) {
         Some(place) if place == 0 || is_among(KEYS, word.get(..place).unwrap_or(b"")) => {
             word.get(place.saturating_add(1)..).unwrap_or(b"")
         }
@@ -166,16 +210,77 @@ fn is_mark(word: &[u8]) -> bool {
     !word.iter().any(|byte| byte.is_ascii_alphanumeric())
 }
 
-/// Whether a word before the bytes is a number in parentheses or brackets of its own, which counts
-/// them.
+/// Whether a word says that it is hexadecimal.
+fn is_marked(word: &[u8]) -> bool {
+    matches!(word, [b'0', b'x' | b'X', _, ..])
+}
+
+/// Whether a word is none of the bytes, and doesn't end them.
+fn is_passed(line: &[u8], word: &Word<'_>, run: &Run) -> bool {
+    run.words != 0 && is_between(line, word, run) || is_count(line, word, run)
+}
+
+/// The run that a word begins, where it says that it is hexadecimal and those before it don't, or
+/// the other way round: such numbers don't belong together.
+fn unlike(line: &[u8], word: &Word<'_>, base: Base, run: &Run) -> Option<Run> {
+    if run.words == 0 || run.is_marked == is_marked(word.text) {
+        return None;
+    }
+    let mut other = Run::new(run.strange, false);
+    if other.add(line, word, base) {
+        Some(other)
+    } else {
+        None
+    }
+}
+
+/// Whether a word among the bytes is none of them: marks alone, what may stand before each, their
+/// number in brackets, or one in brackets that doesn't say that it is hexadecimal as they do.
+fn is_between(line: &[u8], word: &Word<'_>, run: &Run) -> bool {
+    if is_mark(word.text) || is_among(TYPES, word.text) {
+        return true;
+    }
+    let is_unlike = run.is_marked && !is_marked(word.text);
+    is_framed_apart(line, word, run) && (is_unlike || is_number_of(word.text, run.len()))
+}
+
+/// Whether a word is in brackets of its own, and the first of the bytes isn't.
+fn is_framed_apart(line: &[u8], word: &Word<'_>, run: &Run) -> bool {
+    !run.is_framed && word.is_framed(line)
+}
+
+/// Whether a word is this number.
+fn is_number_of(word: &[u8], count: usize) -> bool {
+    number_in(word) == u64::try_from(count).ok()
+}
+
+/// Whether a word is eight bits.
+fn is_bits(word: &[u8]) -> bool {
+    word.len() == 8 && word.iter().all(|digit| matches!(*digit, b'0' | b'1'))
+}
+
+/// Whether a word may show a byte once more, which says by itself that it is hexadecimal: a number,
+/// or a character.
+fn is_gloss(word: &[u8]) -> bool {
+    word.len() == 1 || word.starts_with(b"^") || number_in(word).is_some()
+}
+
+/// Whether a word counts the bytes: a number before their name, or one in parentheses or brackets
+/// of its own before them.
 fn is_count(line: &[u8], word: &Word<'_>, run: &Run) -> bool {
     let is_number = word.text.len() <= 3 && number_in(word.text).is_some();
     match next_word(line, word.to) {
-        Some(next) => {
-            run.words == 0 && is_number && word.is_framed(line) && !next.is_framed(line)
+        Some(next) if is_number => {
+            let is_framed = word.is_framed(line) && !next.is_framed(line);
+            is_counted(next.text) || run.words == 0 && is_framed
         }
-        None => false,
+        _ => false,
     }
+}
+
+/// Whether a word names what is counted.
+fn is_counted(word: &[u8]) -> bool {
+    is_among(COUNTED, word.strip_suffix(b":").unwrap_or(word))
 }
 
 /// Whether a column of the characters of the bytes begins at a word, after a gap that ends at it.

@@ -2,6 +2,7 @@
 
 use crate::byte::{is_hex, without_angles};
 use crate::name::{Way, arrow_way, is_host, maybe_way, named_way};
+use crate::time::{number_in, time_in};
 use crate::word::{Word, next_word};
 
 /// A place in a line that says a way.
@@ -46,14 +47,19 @@ fn way_at(line: &[u8], before: &[u8], word: &Word<'_>) -> Option<WayAt> {
     if let Some(found) = arrow_at(line, before, word, arrow) {
         return Some(found);
     }
-    if let Some(way) = way_between(word.text) {
+    if let Some(found) = arrow_within(word)
+        && named_at(word).is_none()
+    {
+        return Some(found);
+    }
+    if let Some((way, len)) = way_between(word.text) {
         return Some(WayAt {
             way,
             is_weak: false,
             is_part: false,
             is_placed: false,
             from: word.from,
-            to: word.to,
+            to: word.from.saturating_add(len),
         });
     }
     named_at(word)
@@ -90,6 +96,43 @@ fn arrow_at(line: &[u8], before: &[u8], word: &Word<'_>, arrow: &[u8]) -> Option
     Some(found)
 }
 
+/// The way that an arrow says within a word: right after a time, or one of the arrows that are
+/// characters of their own, with others beside it.
+fn arrow_within(word: &Word<'_>) -> Option<WayAt> {
+    let place = word.text.iter().position(|byte| is_of_arrow(*byte))?;
+    let (front, rest) = word.text.split_at_checked(place)?;
+    let is_behind_time = time_in(front).is_some();
+    let (arrow, _) = cut_arrow(rest);
+    let way = match arrow_way(arrow) {
+        Some(way) if is_behind_time => way,
+        _ => character_way(arrow)?,
+    };
+    let to = place.saturating_add(arrow.len());
+    Some(WayAt {
+        way,
+        is_weak: false,
+        is_part: false,
+        is_placed: false,
+        from: word
+            .from
+            .saturating_add(if is_behind_time { place } else { 0 }),
+        to: word.from.saturating_add(to),
+    })
+}
+
+/// The way of an arrow that is a character of its own, among others that no text in ASCII has.
+fn character_way(marks: &[u8]) -> Option<Way> {
+    marks.windows(3).find_map(|three| match three {
+        b"\xe2\x86\x92" | b"\xe2\x86\x90" => arrow_way(three),
+        _ => None,
+    })
+}
+
+/// Whether a byte may be one of an arrow.
+fn is_of_arrow(byte: u8) -> bool {
+    matches!(byte, b'-' | b'=' | b'>' | b'<' | 0x80..=0xff)
+}
+
 /// Whether a word begins bytes in angle brackets: with the first one, where a later word, or this
 /// one, ends with the other.
 fn is_bracket(line: &[u8], word: &Word<'_>) -> bool {
@@ -115,12 +158,26 @@ fn is_bracket(line: &[u8], word: &Word<'_>) -> bool {
 /// Takes the other end of an arrow into account, where the host is named at one. A word in brackets
 /// of its own is no end.
 fn turn(found: &mut WayAt, line: &[u8], before: &[u8], next: &Word<'_>) {
-    if is_end_host(next.text) {
+    if is_end_host(next.text) || is_host_number(before, next.text) {
         found.way = against(found.way);
         found.to = next.to;
-    } else if is_end_host(before) && !next.is_framed(line) {
+    } else if is_end_host(before) && !next.is_framed(line) && !is_pair(next.text) {
         found.to = next.to;
     }
+}
+
+/// Whether an arrow between two addresses, of which the last has a colon after it, ends at the
+/// host's, 1.
+fn is_host_number(before: &[u8], next: &[u8]) -> bool {
+    match next.strip_suffix(b":") {
+        Some(end) => number_in(before).is_some() && number_in(end) == Some(1),
+        None => false,
+    }
+}
+
+/// Whether a word spells bytes, two digits for each.
+fn is_pair(word: &[u8]) -> bool {
+    word.len().is_multiple_of(2) && is_hex(word)
 }
 
 /// The other way.
@@ -131,20 +188,20 @@ fn against(way: Way) -> Way {
     }
 }
 
-/// The way that a word says in which an arrow is between two ends, of which one is the host.
-fn way_between(word: &[u8]) -> Option<Way> {
+/// The way that a word says in which an arrow is between two ends, of which one is the host, and
+/// how many bytes of the word say it: bytes of the wire right after the arrow don't.
+fn way_between(word: &[u8]) -> Option<(Way, usize)> {
     let place = word
         .iter()
         .position(|byte| matches!(*byte, b'-' | b'=' | b'>' | b'<'))?;
     let left = word.get(..place)?;
     let (arrow, right) = cut_arrow(word.get(place..)?);
     let way = arrow_way(arrow)?;
-    if right.is_empty() {
-        None
-    } else if is_end_host(left) {
-        Some(way)
-    } else if is_end_host(right) {
-        Some(against(way))
+    if is_end_host(left) {
+        let behind = if is_pair(right) { right.len() } else { 0 };
+        Some((way, word.len().saturating_sub(behind)))
+    } else if !right.is_empty() && is_end_host(right) {
+        Some((against(way), word.len()))
     } else {
         None
     }
@@ -159,7 +216,7 @@ fn is_end_host(end: &[u8]) -> bool {
 fn cut_arrow(word: &[u8]) -> (&[u8], &[u8]) {
     let len = word
         .iter()
-        .position(|byte| !matches!(*byte, b'-' | b'=' | b'>' | b'<' | 0x80..=0xff))
+        .position(|byte| !is_of_arrow(*byte))
         .unwrap_or(word.len());
     word.split_at_checked(len).unwrap_or((b"", word))
 }
@@ -176,10 +233,7 @@ fn named_at(word: &Word<'_>) -> Option<WayAt> {
                 // It is the name of a file or a program.
                 return None;
             }
-            let marks = rest
-                .iter()
-                .position(|byte| byte.is_ascii_alphanumeric())
-                .unwrap_or(rest.len());
+            let marks = marks_in(rest);
             return Some(WayAt {
                 way,
                 is_weak,
@@ -192,6 +246,18 @@ fn named_at(word: &Word<'_>) -> Option<WayAt> {
         from = to.saturating_add(1);
     }
     None
+}
+
+/// How many marks begin a text. An angle bracket before a byte is none of them.
+fn marks_in(text: &[u8]) -> usize {
+    let count = text
+        .iter()
+        .position(|byte| byte.is_ascii_alphanumeric())
+        .unwrap_or(text.len());
+    match text.get(..count) {
+        Some([.., b'<']) if count < text.len() => count.saturating_sub(1),
+        _ => count,
+    }
 }
 
 /// The way that a part of a word names, which begins at this place of it, and whether it may say
