@@ -10,32 +10,18 @@ use Rattle.cct_journal.specs.declared.place.Place.{Place}
 use Rattle.cct_journal_carry.specs.Tally as tallies
 use Rattle.cct_journal_carry.proofs.Resumed.{carry_first}
 use Rattle.cct_journal_carry.proofs.Small.{none_empty}
-use Rattle.cct_ledger.specs.declared.ledger.Ledger.{Ledger}
-use Rattle.cct_ledger.specs.Resumed.{IsResumed}
-use Rattle.cct_host.specs.declared.desks.Desks.{Desks}
 use Rattle.cct_host.specs.declared.host.Host.{Host}
-use Rattle.cct_host.specs.Desks as all_desks
 use Rattle.cct_host.specs.Host.{setup_of}
 use Rattle.cct_host.specs.OnDisk.{ReadsRecords, ReadsRest}
 use Rattle.cct_host.specs.Replayed.{Resumes}
-use Rattle.cct_host.specs.Starting.{BeginFrom, FirstFollow, HasReplayed, HasResumed, HasResumedSome, TalliesOver, TalliesSome}
+use Rattle.cct_host.specs.Starting.{FirstFollow, HasReplayed, HasResumed, HasResumedSome, TalliesOver, TalliesSome}
 use Rattle.cct_host.proofs.Starting.{begun_over, resumed_replayed}
 
--- desks and a ledger that were made of one carry begin with it
-pub begin_from : (desks : Desks) (ledger : Ledger) (setup : Setup) (told many : ℕ) (seated counted c : Carry)
-    → all_desks.setup_of desks ≡ setup → told ≡ many → seated ≡ c → counted ≡ c → Resumes desks seated
-    → IsResumed setup told counted ledger → BeginFrom desks ledger many c
-begin_from desks ledger setup told many seated counted c same is seated_is counted_is resumes money = record {
-  resumes = subst (Resumes desks) seated_is resumes;
-  money = subst (λ s. IsResumed s many c ledger) (sym same)
-      (subst (λ n. IsResumed setup n c ledger) is (subst (λ d. IsResumed setup told d ledger) counted_is money));
-}
-
 module _ {D : Type 0} {g : Ghosts D} where
-  -- a host whose tally went over a carry and the rest after it, and whose other parts begin with what the tally has
+  -- a host whose tally went over a carry and the rest after it, and whose desks begin with what the tally has
   pub resumed_by : (host : Host D g) (setup : Setup) (base : ℕ) (c : Carry) (rest : List Record)
       → setup_of host ≡ setup → TalliesOver setup c rest (tallies.carry_in host.tally)
-      → BeginFrom host.desks host.ledger (journals.used_of host.journal) (tallies.carry_in host.tally)
+      → Resumes host.desks (tallies.carry_in host.tally)
       → journals.used_of host.journal ≡ base + length rest → HasResumed host base c rest
   resumed_by host setup base c rest same over begins used =
       let went = subst (λ s. TalliesOver s c rest (tallies.carry_in host.tally)) (sym same) over in
@@ -43,14 +29,14 @@ module _ {D : Type 0} {g : Ghosts D} where
         fits = went.fits;
         follow = went.follow;
         carry_is = went.carry_is;
-        from_carry = subst (λ n. BeginFrom host.desks host.ledger n (tallies.carry_in host.tally)) used begins;
+        from_carry = record { resumes = begins };
         used = used;
       }
 
   -- the same of some records
   pub resumed_some : (host : Host D g) (setup : Setup) (base : ℕ) (c : Carry) (many : ℕ) → setup_of host ≡ setup
       → TalliesSome setup base c many (tallies.carry_in host.tally)
-      → BeginFrom host.desks host.ledger (journals.used_of host.journal) (tallies.carry_in host.tally)
+      → Resumes host.desks (tallies.carry_in host.tally)
       → journals.used_of host.journal ≡ many → IsRightly base c → HasResumedSome host base c
   resumed_some host setup base c many same some begins used rightly = record {
     rest = some.rest;
@@ -74,13 +60,12 @@ module _ {D : Type 0} {g : Ghosts D} where
 
   -- and one that begins with the empty carry is as one that went over no record
   pub begun_empty : (host : Host D g) → tallies.carry_in host.tally ≡ empty_carry
-      → BeginFrom host.desks host.ledger (journals.used_of host.journal) (tallies.carry_in host.tally)
+      → Resumes host.desks (tallies.carry_in host.tally)
       → journals.used_of host.journal ≡ 0 → HasReplayed host []
   begun_empty host empty begins none =
       let same = empty ∙ sym (carry_first (setup_of host)) in
       record {
-        over = begun_over host.desks host.ledger (journals.used_of host.journal) [] refl none
-            (subst (BeginFrom host.desks host.ledger (journals.used_of host.journal)) same begins);
+        over = begun_over host.desks [] refl (subst (Resumes host.desks) same begins);
         used = none;
         carry_is = same;
       }

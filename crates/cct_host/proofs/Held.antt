@@ -1,5 +1,5 @@
 -- How many records are held, what is about to be put, and what jobs reserve, by the lines of the places.
-use Rattle.std.proofs.Common.{◌≡◌, ℕ, ◌+◌, ◌*◌, ◌≤◌, ◌==◌, Bool, true, false, cond, List, [], ◌∷◌, length, refl, sym, ap, ap₂, subst, ◌∙◌, Option, Some, None, arith}
+use Rattle.std.proofs.Common.{◌≡◌, ℕ, suc, ◌+◌, ◌*◌, ◌≤◌, ◌==◌, Bool, true, false, cond, List, [], ◌∷◌, length, refl, sym, ap, ap₂, subst, ◌∙◌, Option, Some, None, arith}
 use Rattle.std.specs.Prelude.{is_some, not}
 use Rattle.std.specs.Option.{IfSome}
 use Rattle.cct_model.specs.terms.wire.TheConstants.{HOST}
@@ -12,7 +12,7 @@ use Rattle.cct_model.specs.declared.judging.EpochState.{EpochState}
 use Rattle.cct_model.specs.declared.judging.OpenOrder.{OpenOrder}
 use Rattle.cct_model.specs.Exchange.{device_at}
 use Rattle.cct_model.specs.Job as model
-use Rattle.cct_model.specs.Rows.{has_closes, puts_in, row, row_of_sale}
+use Rattle.cct_model.specs.Rows.{TableRow, has_closes, puts_in, row, row_of_sale}
 use Rattle.cct_model.specs.Legal.{due_of, due_of_sale, due_there, record_due}
 use Rattle.cct_model.specs.Line.{Line}
 use Rattle.cct_model.specs.Rows as table
@@ -48,6 +48,28 @@ few_puts job = omega arith
 
 pub few_left : (job : Job) (n : ℕ) → n ≡ puts_in (ahead job) → n ≤ 2
 few_left job n is = let few = few_puts job in omega arith
+
+-- where it reserves coins, it is still to put a record
+
+one_more : (n p : ℕ) → n ≤ 255 * p → n ≤ 255 * suc p
+one_more n p few = omega (arith, few)
+
+few_coins : (rows : List TableRow) → coins_in rows ≤ 255 → coins_in rows ≤ 255 * puts_in rows
+few_coins [] few = omega arith
+few_coins (table.asks_for request behind ∷ rows) few = few_coins rows few
+few_coins (table.asks_once request behind without ∷ rows) few = few_coins rows few
+few_coins (table.waits_for_coins ∷ rows) few = few_coins rows few
+few_coins (table.puts_due (table.new_epoch mask) behind ∷ rows) few = one_more _ _ (few_coins rows few)
+few_coins (table.puts_due table.reading behind ∷ rows) few = one_more _ _ (few_coins rows few)
+few_coins (table.puts_due table.epoch_end behind ∷ rows) few = one_more _ _ (few_coins rows few)
+few_coins (table.puts_due (table.new_order id count) behind ∷ rows) few = omega (arith, few)
+few_coins (table.puts_due table.order_end behind ∷ rows) few = one_more _ _ (few_coins rows few)
+few_coins (table.puts_due (table.sale id price) behind ∷ rows) few = one_more _ _ (few_coins rows few)
+
+pub coins_left : (job : Job) (n : ℕ) → n ≡ coins_in (ahead job) → n ≤ 255 → n ≤ 255 * puts_in (ahead job)
+coins_left job n is few =
+    let most = few_coins (ahead job) (omega (arith, is, few)) in
+    omega (arith, is, most)
 
 -- at most three records are held for a desk
 

@@ -1,13 +1,15 @@
 -- What a host represents after it went on.
-use Rattle.std.proofs.Common.{◌≡◌, ℕ, ◌+◌, ◌≤◌, Bool, List, ◌∷◌, ◌++◌, length, reverse, refl, sym, ap, ap₂, subst, ◌∙◌, Option, Some, None, arith}
+use Rattle.std.proofs.Common.{◌≡◌, ℕ, ◌+◌, ◌≤◌, Bool, true, List, ◌∷◌, ◌++◌, length, reverse, refl, sym, ap, ap₂, subst, ◌∙◌, Option, Some, None, arith}
 use Rattle.std.specs.Prelude.{Err, Ok, OnErr, OnOk, Result}
-use Rattle.std.specs.Option.{option_or}
+use Rattle.std.specs.Option.{IfSome, option_or}
 use Rattle.std.proofs.lemmas.List.{reverse-reverse}
 use Rattle.cct_edge.specs.declared.fault.Failed.{Failed}
 use Rattle.cct_model.specs.lines.command.Command.{Command}
 use Rattle.cct_model.specs.lines.command.CommandNo.{CommandNo}
 use Rattle.cct_model.specs.lines.record.Record.{Record}
+use Rattle.cct_model.specs.terms.device.Setup.{Setup}
 use Rattle.cct_model.specs.Carry.{carry}
+use Rattle.cct_model.specs.Following.{all_follow}
 use Rattle.cct_model.specs.lines.entry.Entry.{Entry}
 use Rattle.cct_model.specs.Legal.{EntriesOfNext, command_entry, due_at}
 use Rattle.cct_model.specs.Records.{records}
@@ -22,8 +24,6 @@ use Rattle.cct_journal_carry.specs.Tally as tallies
 use Rattle.cct_journal.specs.Journal as journals
 use Rattle.cct_journal.specs.declared.format.TheConstants.{MOST_RECORDS}
 use Rattle.cct_disk.specs.Disk.{GoesOn}
-use Rattle.cct_ledger.specs.declared.ledger.Ledger.{Ledger}
-use Rattle.cct_ledger.specs.Ledger as ledgers
 use Rattle.cct_host.specs.declared.desks.Desks.{Desks}
 use Rattle.cct_host.specs.declared.host.Host.{Host}
 use Rattle.cct_host.specs.Attempt.{news_of}
@@ -31,7 +31,7 @@ use Rattle.cct_host.specs.OnDisk.{KeepsRecords, StandsUpTo}
 use Rattle.cct_host.specs.Desk.{no_of, puts_at, sum_in}
 use Rattle.cct_host.specs.Desks as all_desks
 use Rattle.cct_host.specs.Host.{Advances, Answers, Fails, FailsToPut, Keeps, Nexts, PutSuits, PutsDue, StandsFor, capacity_in, disk_of, put_by, setup_of}
-use Rattle.cct_host.specs.Parts.{BelongTogether, GoOnTogether}
+use Rattle.cct_host.specs.Parts.{BelongTogether}
 use Rattle.cct_host.specs.Running.{needed, rows_begun}
 use Rattle.cct_host.proofs.Putting.{next_records, put_last}
 use Rattle.cct_host.proofs.Turning.{puts_held, room_kept}
@@ -52,6 +52,11 @@ counted_so : (used before : ℕ) (due : Option Record) (rs : List Record) → us
 counted_so used before None rs is was = omega (arith, is, was)
 counted_so used before (Some r) rs is was = omega (arith, is, was)
 
+follow_so : (setup : Setup) (due : Option Record) (rs : List Record) → all_follow setup rs ≡ true
+    → IfSome due (λ r. all_follow setup (r ∷ rs) ≡ true) → all_follow setup (put_by due ++ rs) ≡ true
+follow_so setup None rs all follow = all
+follow_so setup (Some r) rs all follow = follow
+
 nothing_further : (why : Option CommandNo) → why ≡ option_or why None
 nothing_further None = refl
 nothing_further (Some why) = refl
@@ -64,13 +69,13 @@ command_records c (Some why) past = refl
 module _ {D : Type 0} {g : Ghosts D} where
   next_keeps : (old new : Host D g) (addr : ℕ) (past news : List Entry) (rs : List Record)
       → records (news ++ past) ≡ rs → rs ≡ put_by (due_at (setup_of old) past addr) ++ records past
-      → PutsDue past addr old.desks new.desks old.ledger new.ledger old.tally new.tally old.journal new.journal
+      → PutsDue past addr old.desks old.tally new.tally old.journal new.journal
       → setup_of new ≡ setup_of old → Keeps old past → PutSuits (setup_of old) past addr
       → all_desks.StandsFor new.desks (news ++ past) → Keeps new (news ++ past)
   next_keeps old new addr past news rs named is puts same keeps suits desks = record {
     desks = desks;
-    ledger = subst (λ ls. ledgers.StandsFor new.ledger ls (all_desks.reserved_of new.desks)) (sym (named ∙ is))
-        (puts.posts suits.taken keeps.ledger);
+    follow = ap₂ all_follow same (named ∙ is)
+        ∙ follow_so (setup_of old) (due_at (setup_of old) past addr) (records past) keeps.follow suits.follow;
     carry_is = subst (λ ls. tallies.carry_in new.tally ≡ carry (setup_of new) ls) (sym (named ∙ is))
         (puts.adds suits.follow keeps.carry_is ∙ ap (λ s. carry s (put_by (due_at (setup_of old) past addr) ++ records past))
         (sym same));
@@ -80,7 +85,7 @@ module _ {D : Type 0} {g : Ghosts D} where
 
   pub next_stands : (hears : List ℕ → List ℕ) (old new : Host D g) (addr : ℕ) (past news : List Entry)
       → GoesOn g.size g.honest g.seen g.cuts (disk_of old) (disk_of new)
-      → PutsDue past addr old.desks new.desks old.ledger new.ledger old.tally new.tally old.journal new.journal
+      → PutsDue past addr old.desks old.tally new.tally old.journal new.journal
       → setup_of new ≡ setup_of old → StandsFor old past → PutSuits (setup_of old) past addr
       → EntriesOfNext hears (setup_of old) past addr news → all_desks.StandsFor new.desks (news ++ past)
       → StandsFor new (news ++ past)
@@ -101,8 +106,7 @@ module _ {D : Type 0} {g : Ghosts D} where
   pub next_goes : {L : Type 0} (gives : L → List ℕ → List ℕ → L → Type 0) (link left : L) (addr : ℕ)
       (old new : Host D g) (report reported : List Entry) → setup_of new ≡ setup_of old
       → GoesOn g.size g.honest g.seen g.cuts (disk_of old) (disk_of new)
-      → Advances gives link left addr old.desks new.desks old.ledger new.ledger old.tally new.tally old.journal new.journal
-      report reported
+      → Advances gives link left addr old.desks new.desks old.tally new.tally old.journal new.journal report reported
       → Nexts gives link left addr old new report reported
   next_goes gives link left addr old new report reported same goes advances =
       let nexts = advances.nexts in
@@ -127,17 +131,13 @@ module _ {D : Type 0} {g : Ghosts D} where
 
   -- a put that failed
   pub put_failed : (old new : Host D g) (addr : ℕ)
-      → FailsToPut addr old.desks new.desks old.ledger new.ledger old.tally new.tally old.journal new.journal
+      → FailsToPut addr old.desks new.desks old.tally new.tally old.journal new.journal
       → Fails old new addr
   put_failed old new addr fails past stands =
-      let failed = fails.fails past stands.keeps.desks in
-      let desks = subst (λ d. all_desks.StandsFor d past) (sym fails.desks_stay) stands.keeps.desks in
-      let ledger = subst (λ l. ledgers.StandsFor l (records past) (all_desks.reserved_of old.desks))
-      (sym fails.ledger_stays) stands.keeps.ledger in (
+      let failed = fails.fails past stands.keeps.desks in (
         record {
-          desks = desks;
-          ledger = subst (λ d. ledgers.StandsFor new.ledger (records past) (all_desks.reserved_of d))
-              (sym fails.desks_stay) ledger;
+          desks = subst (λ d. all_desks.StandsFor d past) (sym fails.desks_stay) stands.keeps.desks;
+          follow = ap (λ d. all_follow (all_desks.setup_of d) (records past)) fails.desks_stay ∙ stands.keeps.follow;
           carry_is = ap tallies.carry_in fails.tally_stays ∙ stands.keeps.carry_is
               ∙ ap (λ d. carry (all_desks.setup_of d) (records past)) (sym fails.desks_stay);
           used = ap (λ (p : Place). p.used) fails.place ∙ stands.keeps.used;
@@ -150,43 +150,36 @@ module _ {D : Type 0} {g : Ghosts D} where
         ),
       )
 
-  pub put_failed_between : (old : Host D g) (addr : ℕ) (turned : Desks) (posted : Ledger) (added : Tally)
-      (written : Journal D g)
-      → FailsToPut addr old.desks turned old.ledger posted old.tally added old.journal written
+  pub put_failed_between : (old : Host D g) (addr : ℕ) (turned : Desks) (added : Tally) (written : Journal D g)
+      → FailsToPut addr old.desks turned old.tally added old.journal written
       → (past : List Entry) → StandsFor old past → IsTrusted g.honest g.seen (disk_of old)
       → LeavesOnly g.moment g.left_since (disk_of old) (journals.disk_of written)
       (StandsUpTo (setup_of old) (due_at (setup_of old) past addr) (reverse (records past)))
-  put_failed_between old addr turned posted added written fails past stands trusted =
+  put_failed_between old addr turned added written fails past stands trusted =
       fails.moments past stands.keeps.desks (reverse (records past)) (stands.on_disk trusted)
       (stands.keeps.carry_is ∙ ap (carry (setup_of old)) (sym (reverse-reverse (records past))))
 
   -- after a command that had room the parts of a host still belong together
-  pub together_taken : (desks turned : Desks) (ledger posted : Ledger) (tally : Tally) (journal : Journal D g) (c : Command)
-      (result : Result Unit CommandNo) → BelongTogether desks ledger tally journal
-      → GoOnTogether desks turned ledger posted → OnOk result (all_desks.TakesIn c desks turned)
-      → OnErr result (all_desks.Stays desks turned × (posted ≡ ledger))
+  pub together_taken : (desks turned : Desks) (tally : Tally) (journal : Journal D g) (c : Command)
+      (result : Result Unit CommandNo) → BelongTogether desks tally journal
+      → all_desks.setup_of turned ≡ all_desks.setup_of desks → OnOk result (all_desks.TakesIn c desks turned)
+      → OnErr result (all_desks.Stays desks turned)
       → (1 ≤ puts_in (rows_begun (all_desks.setup_of desks) c)
       → journals.used_of journal + all_desks.held_of desks + needed (all_desks.setup_of desks) c
       ≤ MOST_RECORDS)
-      → BelongTogether turned posted tally journal
-  together_taken desks turned ledger posted tally journal c (Ok taken) together goes takes stays fits = record {
-    same = goes.same ∙ together.same ∙ sym goes.setup;
-    same_tally = together.same_tally ∙ sym goes.setup;
+      → BelongTogether turned tally journal
+  together_taken desks turned tally journal c (Ok taken) together setup takes stays fits = record {
+    same = together.same ∙ sym setup;
     tallied = together.tallied;
-    reserved = goes.reserved;
-    counted = omega (arith, goes.counted, together.counted);
     fits = room_kept (puts_in (rows_begun (all_desks.setup_of desks) c)) _ _ _ _ _ _ _ together.fits takes.puts
         (puts_held turned) takes.holds fits;
   }
-  together_taken desks turned ledger posted tally journal c (Err why) together goes takes stays fits =
+  together_taken desks turned tally journal c (Err why) together setup takes stays fits =
       let puts : all_desks.puts_of turned ≡ all_desks.puts_of desks =
-      ap₂ (λ ks k. sum_in puts_at ks + puts_at k) stays.0.1 stays.0.3 in
+      ap₂ (λ ks k. sum_in puts_at ks + puts_at k) stays.1 stays.3 in
       record {
-        same = goes.same ∙ together.same ∙ sym goes.setup;
-        same_tally = together.same_tally ∙ sym goes.setup;
+        same = together.same ∙ sym setup;
         tallied = together.tallied;
-        reserved = goes.reserved;
-        counted = omega (arith, goes.counted, together.counted);
         fits = omega (arith, puts, together.fits);
       }
 
@@ -195,18 +188,15 @@ module _ {D : Type 0} {g : Ghosts D} where
       → ((past : List Entry) → Keeps old past
       → option_or (state_refusal (setup_of old) past c) None ≡ refusal (capacity_in old) (setup_of old) past c)
       → all_desks.Answers old.desks new.desks c result
-      → ((before : List Record) → ledgers.StandsFor old.ledger before (all_desks.reserved_of old.desks)
-      → ledgers.StandsFor new.ledger before (all_desks.reserved_of new.desks))
       → setup_of new ≡ setup_of old → new.tally ≡ old.tally → new.journal ≡ old.journal → Answers old new c result
-  tried_answers old new c result room desks ledger setup tally same past stands =
+  tried_answers old new c result room desks setup tally same past stands =
       let told = desks past stands.keeps.desks in
       let quiet = command_records c (no_of result) past in (
         told.0 ∙ nothing_further _ ∙ room past stands.keeps,
         record {
           keeps = record {
             desks = told.1;
-            ledger = subst (λ rs. ledgers.StandsFor new.ledger rs (all_desks.reserved_of new.desks)) (sym quiet)
-                (ledger (records past) stands.keeps.ledger);
+            follow = ap₂ all_follow setup quiet ∙ stands.keeps.follow;
             carry_is = ap tallies.carry_in tally ∙ stands.keeps.carry_is
                 ∙ ap₂ carry (sym setup) (sym quiet);
             used = ap journals.used_of same ∙ stands.keeps.used ∙ sym (ap length quiet);

@@ -36,7 +36,8 @@ use Rattle.cct_host.specs.Desks as all_desks
 use Rattle.cct_host.specs.Host.{StandsFor, disk_of, journal_of, put_by, setup_of}
 use Rattle.cct_host.specs.Replaying.{GoesOver, ReplaysTo}
 use Rattle.cct_host.specs.Restarting.{TellsRestart, IsLost, JournalFails, JournalRestarts, KeptBy, Opens, RestartFails, Restarts, due_of, told_by}
-use Rattle.cct_host.specs.Starting.{BeginFrom, HasResumed, TalliesOver}
+use Rattle.cct_host.specs.Replayed.{Resumes}
+use Rattle.cct_host.specs.Starting.{HasResumed, TalliesOver}
 use Rattle.cct_host.proofs.Begun.{resumed_all, resumed_by}
 use Rattle.cct_host.proofs.Putting.{one_turned}
 use Rattle.cct_host.proofs.Records.{first_follow, stops_nowhere, went_over}
@@ -393,7 +394,7 @@ module _ {D : Type 0} {g : Ghosts D} where
       → crashed.records ≡ journals.used_of (journal_of new)
       → ((rest : List Record) → ReadsRest g.seen (disk_of new) (journals.place_of (journal_of new)) rest
       → TalliesOver (setup_of old) (journals.carry_before (journal_of new)) rest (tallies.carry_in new.tally))
-      → BeginFrom new.desks new.ledger (journals.used_of (journal_of new)) (tallies.carry_in new.tally)
+      → Resumes new.desks (tallies.carry_in new.tally)
       → Restarts old at choice new crashed
   restarts_by old new at choice crashed same due restarts records over begins =
       let counts = records ∙ restarts.counts in

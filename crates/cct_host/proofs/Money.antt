@@ -1,92 +1,78 @@
--- What the ledger of a host tells is what the operator has, with what the jobs of its desks reserve.
-use Rattle.std.proofs.Common.{◌≡◌, ℕ, ◌≤◌, ◌<◌, ◌+◌, ◌-◌, true, false, cond, nat_le, List, sym, ap, ◌∙◌, Option, Some, None, arith, le-leb, subst}
-use Rattle.std.specs.Option.{IfSome}
+-- What the carry of a host tells is what the operator has, with what the jobs of its desks reserve.
+use Rattle.std.proofs.Common.{◌≡◌, ℕ, ◌≤◌, ◌<◌, ◌+◌, ◌-◌, true, false, cond, nat_le, List, sym, ap, ap₂, ◌∙◌, Some, None, arith, le-leb}
 use Rattle.std.proofs.lemmas.Bool.Decides.{nat_tests}
 use Rattle.cct_model.specs.terms.device.Setup.{Setup}
+use Rattle.cct_model.specs.lines.carry.Carry.{Carry}
 use Rattle.cct_model.specs.lines.command.CommandNo.TheVariants.{Short}
 use Rattle.cct_model.specs.lines.entry.Entry.{Entry}
 use Rattle.cct_model.specs.lines.entry.Totals.{Totals}
-use Rattle.cct_model.specs.lines.record.Record.{Record}
-use Rattle.cct_model.specs.Following.{is_allowed}
-use Rattle.cct_model.specs.Money.{available, available_beside, freed_by, reserved_at_work, totals}
+use Rattle.cct_model.specs.Carry.{available_held, carry, owed_by, reserved_held}
+use Rattle.cct_model.specs.Following.{all_follow}
+use Rattle.cct_model.specs.Money.{available, available_beside, reserved, totals}
 use Rattle.cct_model.specs.Records.{records}
 use Rattle.cct_model.specs.Refusal as refusals
-use Rattle.cct_ledger.specs.Told.{totals_beside}
+use Rattle.cct_journal_carry.proofs.Carried.{available_carried, reserved_carried}
 use Rattle.cct_host.specs.declared.desks.Desks.{Desks}
-use Rattle.cct_host.specs.Desks.{FreesIn, StandsFor, amount_on, due_on, reserved_of, setup_of}
+use Rattle.cct_host.specs.Desks.{StandsFor, reserved_of, setup_of}
 use Rattle.cct_host.proofs.Held.{reserved_is}
 
--- what the operator has
-available_is : (desks : Desks) (posts : Setup) (past : List Entry) (have : ℕ) → posts ≡ setup_of desks
-    → StandsFor desks past → have ≡ available_beside posts (records past) (reserved_of desks)
-    → have ≡ available (setup_of desks) past
-available_is desks posts past have same stands is =
-    is ∙ ap (λ s. available_beside s (records past) (reserved_of desks)) same
-    ∙ ap (available_beside (setup_of desks) (records past)) (reserved_is desks past stands)
+-- what is available by a carry, beside what else is reserved
+less_beside : (value reserved paid sold beside : ℕ) →
+    value - (reserved + 0 + paid + sold) - beside ≡ value - (reserved + beside + paid + sold)
+less_beside value reserved paid sold beside = omega arith
 
-pub totals_is : (desks : Desks) (posts : Setup) (past : List Entry) (told : Totals) → posts ≡ setup_of desks
-    → StandsFor desks past → told ≡ totals_beside posts (records past) (reserved_of desks)
-    → told ≡ totals (setup_of desks) past
-totals_is desks posts past told same stands is =
-    is ∙ ap (λ s. totals_beside s (records past) (reserved_of desks)) same
-    ∙ ap (totals_beside (setup_of desks) (records past)) (reserved_is desks past stands)
+pub left_beside : (setup : Setup) (c : Carry) (beside : ℕ) →
+    available_held setup c 0 - beside ≡ available_held setup c beside
+left_beside setup c beside = less_beside c.value (reserved_held setup c) c.paid_value c.sold beside
+
+-- totals with the same parts
+abbrev of_parts : (a b c d : ℕ) → Totals
+of_parts a b c d = record { available = a; reserved = b; paid = c; sold = d }
+
+same_totals : (a b c d a' b' c' d' : ℕ) → a ≡ a' → b ≡ b' → c ≡ c' → d ≡ d' → of_parts a b c d ≡ of_parts a' b' c' d'
+same_totals a b c d a' b' c' d' p q r s = cc
+
+module _ (desks : Desks) (past : List Entry) (c : Carry) (stands : StandsFor desks past)
+    (follow : all_follow (setup_of desks) (records past) ≡ true) (is : c ≡ carry (setup_of desks) (records past)) where
+  -- what the operator has
+  available_is : available_held (setup_of desks) c (reserved_of desks) ≡ available (setup_of desks) past
+  available_is =
+      ap (λ (x : Carry). available_held (setup_of desks) x (reserved_of desks)) is
+      ∙ available_carried (setup_of desks) (records past) stands.sound follow (reserved_of desks)
+      ∙ ap (available_beside (setup_of desks) (records past)) (reserved_is desks past stands)
+
+  reserved_all : reserved_held (setup_of desks) c + reserved_of desks ≡ reserved (setup_of desks) past
+  reserved_all =
+      ap₂ (λ m n. m + n) (ap (reserved_held (setup_of desks)) is
+      ∙ reserved_carried (setup_of desks) (records past) stands.sound follow) (reserved_is desks past stands)
+
+  -- by what a host reads of its carry and its desks, over a setup that is theirs
+  module _ (setup : Setup) (same : setup ≡ setup_of desks) (beside : ℕ) (held : beside ≡ reserved_of desks) where
+    pub available_by : (have : ℕ) → have ≡ available_held setup c 0 → have - beside ≡ available (setup_of desks) past
+    available_by have told =
+        ap₂ (λ m n. m - n) (told ∙ ap (λ s. available_held s c 0) same) held
+        ∙ left_beside (setup_of desks) c (reserved_of desks) ∙ available_is
+
+    pub totals_by : (have owed : ℕ) → have ≡ available (setup_of desks) past → owed ≡ owed_by setup c.orders
+        → of_parts have (owed + c.odd_value + beside) c.paid_value c.sold ≡ totals (setup_of desks) past
+    totals_by have owed told owes =
+        same_totals have (owed + c.odd_value + beside) c.paid_value c.sold _ _ _ _ told
+        (ap₂ (λ m n. m + c.odd_value + n) (owes ∙ ap (λ s. owed_by s c.orders) same) held ∙ reserved_all)
+        (ap (λ (x : Carry). x.paid_value) is) (ap (λ (x : Carry). x.sold) is)
 
 -- whether so much is available
 less_no : (a b : ℕ) → b < a → nat_le a b ≡ false
 less_no a b less = grind (arith, nat_tests)
 
-pub enough_is : (desks : Desks) (posts : Setup) (past : List Entry) (have wanted : ℕ) → posts ≡ setup_of desks
-    → StandsFor desks past → have ≡ available_beside posts (records past) (reserved_of desks) → wanted ≤ have
-    → None ≡ refusals.short_refusal (setup_of desks) past wanted
-enough_is desks posts past have wanted same stands is enough =
-    let known = available_is desks posts past have same stands is in
-    sym (ap (λ b. cond b None (Some (Short (available (setup_of desks) past))))
-    (le-leb wanted (available (setup_of desks) past) (omega (arith, known, enough))))
+pub enough_is : (setup : Setup) (past : List Entry) (have wanted : ℕ) → have ≡ available setup past → wanted ≤ have
+    → None ≡ refusals.short_refusal setup past wanted
+enough_is setup past have wanted known enough =
+    sym (ap (λ b. cond b None (Some (Short (available setup past))))
+    (le-leb wanted (available setup past) (omega (arith, known, enough))))
 
-pub short_is : (desks : Desks) (posts : Setup) (past : List Entry) (have wanted : ℕ) → posts ≡ setup_of desks
-    → StandsFor desks past → have ≡ available_beside posts (records past) (reserved_of desks) → have < wanted
-    → Some (Short have) ≡ refusals.short_refusal (setup_of desks) past wanted
-short_is desks posts past have wanted same stands is short =
-    let known = available_is desks posts past have same stands is in
+pub short_is : (setup : Setup) (past : List Entry) (have wanted : ℕ) → have ≡ available setup past → have < wanted
+    → Some (Short have) ≡ refusals.short_refusal setup past wanted
+short_is setup past have wanted known short =
     ap (λ n. Some (Short n)) known
-    ∙ sym (ap (λ b. cond b None (Some (Short (available (setup_of desks) past))))
-    (less_no wanted (available (setup_of desks) past) (omega (arith, known, short))))
-
--- what is reserved after the record that was due
-left_of : (before after freed worked taken : ℕ) → after + freed ≡ before → before ≡ worked → freed ≡ taken
-    → after ≡ worked - taken
-left_of before after freed worked taken frees was is = omega arith
-
-freed_by_due : (desks : Desks) (past : List Entry) (old new after : ℕ) (due : Option Record) → StandsFor desks past
-    → after + (old - new) ≡ reserved_of desks → IfSome due (λ r. new ≡ 0)
-    → IfSome due (λ r. old ≡ freed_by (setup_of desks) r)
-    → IfSome due (λ r. after ≡ reserved_at_work (setup_of desks) past - freed_by (setup_of desks) r)
-freed_by_due desks past old new after None stands frees clears takes = tt
-freed_by_due desks past old new after (Some r) stands frees clears takes =
-    left_of (reserved_of desks) after (old - new) _ _ frees (reserved_is desks past stands)
-    (omega (arith, clears, takes))
-
-pub freed_is : (desks turned : Desks) (past : List Entry) (addr reserved : ℕ) → FreesIn addr desks turned
-    → reserved ≡ amount_on desks addr → StandsFor desks past
-    → IfSome (due_on desks addr) (λ r. reserved ≡ freed_by (setup_of desks) r)
-    → IfSome (due_on desks addr)
-    (λ r. reserved_of turned ≡ reserved_at_work (setup_of desks) past - freed_by (setup_of desks) r)
-freed_is desks turned past addr reserved frees is stands takes =
-    freed_by_due desks past (amount_on desks addr) (amount_on turned addr) (reserved_of turned) (due_on desks addr) stands
-    frees.frees frees.clears
-    (subst (λ n. IfSome (due_on desks addr) (λ r. n ≡ freed_by (setup_of desks) r)) is takes)
-
--- so the ledger takes that record
-allowed_beside : (posts setup : Setup) (before : List Record) (r : Record) (left beside : ℕ) → posts ≡ setup
-    → left ≡ beside → is_allowed setup before beside r ≡ true → is_allowed posts before left r ≡ true
-allowed_beside posts setup before r left beside same is allowed =
-    ap (λ s. is_allowed s before left r) same ∙ ap (λ n. is_allowed setup before n r) is ∙ allowed
-
-pub allowed_is : (due : Option Record) (posts setup : Setup) (before : List Record) (reserved left : ℕ) → posts ≡ setup
-    → IfSome due (λ r. left ≡ reserved - freed_by setup r)
-    → IfSome due (λ r. (freed_by setup r ≤ reserved)
-    × (is_allowed setup before (reserved - freed_by setup r) r ≡ true))
-    → IfSome due (λ r. is_allowed posts before left r ≡ true)
-allowed_is None posts setup before reserved left same frees takes = tt
-allowed_is (Some r) posts setup before reserved left same frees takes =
-    allowed_beside posts setup before r left (reserved - freed_by setup r) same frees takes.1
+    ∙ sym (ap (λ b. cond b None (Some (Short (available setup past))))
+    (less_no wanted (available setup past) (omega (arith, known, short))))

@@ -1,11 +1,11 @@
 -- A tally goes over the bodies of a journal of an older version, one by one.
-use Rattle.std.proofs.Common.{◌≡◌, ℕ, ◌+◌, ◌-◌, ◌<◌, ◌≤◌, false, true, List, [], ◌∷◌, ◌++◌, length, take, slice_get, inl, inr, refl, sym, ap, subst, ◌∙◌, arith, Option, Some}
+use Rattle.std.proofs.Common.{◌≡◌, ℕ, ◌+◌, ◌<◌, ◌≤◌, false, true, List, [], ◌∷◌, ◌++◌, length, take, slice_get, inl, inr, refl, sym, ap, subst, ◌∙◌, arith, Option}
 use Rattle.std.specs.Prelude.{Err, IfErr, IsErr, IsErrAnd, Ok, Result}
 use Rattle.std.proofs.lemmas.List.{take_all}
 use Rattle.cct_model.specs.terms.device.Setup.{Setup}
 use Rattle.cct_model.specs.lines.carry.Carry.{Carry}
 use Rattle.cct_model.specs.lines.record.Record.{Record}
-use Rattle.cct_model.specs.Carry.{Fits, all_follow_carry, carry_over, carry_with, follows_carry}
+use Rattle.cct_model.specs.Carry.{Fits, carry_with, follows_carry}
 use Rattle.cct_disk.specs.declared.disk.Disk.{Ghosts}
 use Rattle.cct_journal.specs.OldImage.{AreSpelt, bodies_at, old_body_in}
 use Rattle.cct_journal.specs.OldJournal as olds
@@ -18,7 +18,7 @@ use Rattle.cct_journal.specs.declared.refusal.ReadNo.TheVariants.{Disk, BadRecor
 use Rattle.cct_journal.proofs.Moments.{reads_then}
 use Rattle.cct_host.specs.OldTally.{OnlyReadOld, RefusesBodies, TalliesUpTo}
 use Rattle.cct_host.specs.Starting.{RefusesResume, TalliesFirst, TalliesOver}
-use Rattle.cct_host.specs.Upgrading.{IsBadAfter, IsBadFrom, IsFirstBadBody}
+use Rattle.cct_host.specs.Upgrading.{IsBadAfter, IsBadFrom}
 use Rattle.cct_host.proofs.Tallying.{tallied_more}
 use Rattle.cct_host.proofs.Upgrades.{same_image}
 

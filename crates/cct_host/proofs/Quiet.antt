@@ -4,14 +4,13 @@ use Rattle.cct_model.specs.lines.entry.Entry.{Entry}
 use Rattle.cct_model.specs.lines.entry.Entry.TheVariants as entry
 use Rattle.cct_model.specs.lines.entry.Totals.{Totals}
 use Rattle.cct_model.specs.Carry.{carry}
+use Rattle.cct_model.specs.Following.{all_follow}
 use Rattle.cct_model.specs.Job.{epoch, job}
 use Rattle.cct_model.specs.Order.{order}
 use Rattle.cct_disk.specs.declared.disk.Disk.{Ghosts}
 use Rattle.cct_journal.specs.Journal as journals
-use Rattle.cct_ledger.specs.Ledger as ledgers
 use Rattle.cct_host.specs.declared.host.Host.{Host}
 use Rattle.cct_host.specs.OnDisk.{KeepsRecords}
-use Rattle.cct_host.specs.Desks as all_desks
 use Rattle.cct_host.specs.Host as hosts
 use Rattle.cct_host.specs.Place.{Place, device, lines_at, sales, scans}
 use Rattle.cct_host.proofs.Lines.{IsQuiet}
@@ -23,8 +22,7 @@ host_quiet {D} {g} host past e quiet stands =
     let same = sym quiet.records_are in record {
       keeps = record {
         desks = desks_stand host.desks past e quiet stands.keeps.desks;
-        ledger =
-            subst (λ rs. ledgers.StandsFor host.ledger rs (all_desks.reserved_of host.desks)) same stands.keeps.ledger;
+        follow = ap (all_follow (hosts.setup_of host)) quiet.records_are ∙ stands.keeps.follow;
         carry_is = stands.keeps.carry_is ∙ ap (carry (hosts.setup_of host)) same;
         used = stands.keeps.used ∙ ap length same;
       };

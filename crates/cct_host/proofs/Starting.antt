@@ -1,6 +1,6 @@
 -- A host that starts over a carry of records that follow one another is one that starts over these, and has all of a past
 -- without a job that has these records.
-use Rattle.std.proofs.Common.{◌≡◌, ◌+◌, ◌-◌, ◌<◌, ◌≤◌, ℕ, min, true, List, [], ◌∷◌, length, refl, reverse, sym, ap, ap₂, subst, ◌∙◌, arith}
+use Rattle.std.proofs.Common.{◌≡◌, ◌+◌, ◌-◌, ◌≤◌, ℕ, min, true, List, [], ◌∷◌, length, refl, reverse, sym, ap, ap₂, subst, ◌∙◌, arith}
 use Rattle.std.specs.List.{All}
 use Rattle.std.proofs.Math.Nat.{min-le_right}
 use Rattle.std.proofs.lemmas.List.{length-reverse}
@@ -11,10 +11,8 @@ use Rattle.cct_model.specs.lines.entry.Entry.{Entry}
 use Rattle.cct_model.specs.lines.record.Record.{Record}
 use Rattle.cct_model.specs.lines.carry.Carry.{Carry}
 use Rattle.cct_model.specs.Carry.{carry, carry_of, known_by}
-use Rattle.cct_model.specs.Exchange.{device_at}
 use Rattle.cct_model.specs.Following.{all_follow, known_in}
 use Rattle.cct_model.specs.Job as model
-use Rattle.cct_model.specs.Money.{coins_of, hopper_value}
 use Rattle.cct_model.specs.Order.{order}
 use Rattle.cct_model.specs.Records.{epoch_in, greatest_id, order_in, records}
 use Rattle.cct_model.specs.Refusal.{running_id, sale_id}
@@ -28,9 +26,6 @@ use Rattle.cct_journal.specs.declared.format.TheConstants.{MOST_RECORDS}
 use Rattle.cct_journal_carry.specs.declared.tally.Tally.{Tally}
 use Rattle.cct_journal_carry.specs.Tally as tallies
 use Rattle.cct_journal_carry.proofs.Carried.{epoch_carried, order_carried}
-use Rattle.cct_ledger.specs.declared.ledger.Ledger.{Ledger}
-use Rattle.cct_ledger.specs.Ledger as ledgers
-use Rattle.cct_ledger.proofs.OverCarry.{resumed_stands}
 use Rattle.cct_laws.specs.Recorded.{HasNoJob}
 use Rattle.cct_laws.proofs.money.FromRecordsAlone.{epoch_recorded, order_recorded}
 use Rattle.cct_host.specs.declared.desk.JobDesk.{JobDesk}
@@ -38,18 +33,17 @@ use Rattle.cct_host.specs.declared.desks.Desks.{Desks}
 use Rattle.cct_host.specs.declared.orders.OrderState.{OrderState}
 use Rattle.cct_host.specs.declared.host.Host.{Host}
 use Rattle.cct_host.specs.OnDisk.{KeepsRecords}
-use Rattle.cct_host.specs.Desk.{AllSit, IsFree, Sits, Works, puts_at, reserved_over, sum_in}
+use Rattle.cct_host.specs.Desk.{AllSit, IsFree, Sits, Works, puts_at, sum_in}
 use Rattle.cct_host.specs.Desks as all_desks
-use Rattle.cct_host.specs.Held.{coins_by, price_by, puts_left}
+use Rattle.cct_host.specs.Held.{puts_left}
 use Rattle.cct_host.specs.Host.{Keeps, StandsFor, disk_of, setup_of}
 use Rattle.cct_host.specs.Parts.{BelongTogether}
 use Rattle.cct_host.specs.Place.{device, sales, scans}
-use Rattle.cct_host.specs.Replayed.{AllReplay, AreUnused, IsUnused, Replays, ReplaysAt}
+use Rattle.cct_host.specs.Replayed.{AllReplay, AreUnused, IsUnused, Replays, ReplaysAt, Resumes}
 use Rattle.cct_host.specs.Running.{command_of}
-use Rattle.cct_host.specs.Starting.{BeginFrom, HasReplayed, HasResumed, WentOver}
+use Rattle.cct_host.specs.Starting.{HasReplayed, HasResumed, WentOver}
 use Rattle.cct_host.proofs.Records.{rest_carry, rest_follow, rest_many}
 use Rattle.cct_host.proofs.Replaying.{replays_same}
-use Rattle.cct_host.proofs.Turning.{no_coins}
 
 -- the desk of a device
 replayed_sits : (d : DeviceSetup) (k : JobDesk) (past : List Entry) (setup : Setup) (before : List Record)
@@ -108,13 +102,11 @@ replayed_stand desks past before none same replays = record {
   last = replays.last_is ∙ ap greatest_id (sym same);
 }
 
--- desks and a ledger that begin with the carry of records that follow one another are as after these
-pub begun_over : (desks : Desks) (ledger : Ledger) (many : ℕ) (before : List Record)
-    → all_follow (all_desks.setup_of desks) before ≡ true → many ≡ length before
-    → BeginFrom desks ledger many (carry (all_desks.setup_of desks) before) → WentOver desks ledger before
-begun_over desks ledger many before follow count begin =
+-- desks that begin with the carry of records that follow one another are as after these
+pub begun_over : (desks : Desks) (before : List Record) → all_follow (all_desks.setup_of desks) before ≡ true
+    → Resumes desks (carry (all_desks.setup_of desks) before) → WentOver desks before
+begun_over desks before follow resumes =
     let setup = all_desks.setup_of desks in
-    let resumes = begin.resumes in
     record {
       replays = record {
         sound = resumes.sound;
@@ -124,11 +116,10 @@ begun_over desks ledger many before follow count begin =
             resumes.devices;
         last_is = resumes.last_is;
       };
-      money = resumed_stands setup many (carry setup before) ledger before resumes.sound begin.money (sym count) follow refl;
       follow = follow;
     }
 
--- no job may put anything, and none reserves anything
+-- no job may put anything
 unused_put : (ks : List JobDesk) → All IsUnused ks → sum_in puts_at ks ≡ 0
 unused_put [] unused = refl
 unused_put (k ∷ ks) unused =
@@ -138,23 +129,6 @@ unused_put (k ∷ ks) unused =
 pub nothing_put : (desks : Desks) → AreUnused desks → all_desks.puts_of desks ≡ 0
 nothing_put desks unused =
     ap₂ (λ m n. m + n) (unused_put desks.devices.items unused.devices) (ap puts_left unused.sale.0)
-
-none_reserved : (setup : Setup) (d : DeviceSetup) (k : JobDesk) → IsUnused k
-    → coins_of setup d.addr (coins_by k.job) ≡ 0
-none_reserved setup d k unused =
-    ap (λ j. coins_of setup d.addr (coins_by j)) unused ∙ no_coins (hopper_value (device_at setup.devices d.addr))
-
-unused_reserve : (setup : Setup) (ds : List DeviceSetup) (ks : List JobDesk) → All IsUnused ks
-    → reserved_over setup ds ks ≡ 0
-unused_reserve setup [] ks unused = refl
-unused_reserve setup (d ∷ ds) [] unused = refl
-unused_reserve setup (d ∷ ds) (k ∷ ks) unused =
-    ap₂ (λ m n. m + n) (none_reserved setup d k (All-head IsUnused k ks unused))
-    (unused_reserve setup ds ks (All-tail IsUnused k ks unused))
-
-pub nothing_reserved : (desks : Desks) → AreUnused desks → all_desks.reserved_of desks ≡ 0
-nothing_reserved desks unused =
-    ap₂ (λ m n. m + n) (unused_reserve (all_desks.setup_of desks) _ _ unused.devices) (ap price_by unused.sale.0)
 
 -- at first
 pub nothing_yet : HasNoJob []
@@ -171,20 +145,12 @@ module _ {D : Type 0} {g : Ghosts D} where
       within (journals.used_of journal) (journals.base_of journal) _ journal.placed.begins.base_fits journal.placed.fits
 
   -- parts without a job belong together
-  pub free_together : (desks : Desks) (ledger : Ledger) (tally : Tally) (journal : Journal D g) → AreUnused desks
-      → ledgers.setup_of ledger ≡ all_desks.setup_of desks → ledgers.reserved_of ledger ≡ 0
-      → ledgers.applied ledger ≤ journals.used_of journal → tallies.setup_of tally ≡ all_desks.setup_of desks
-      → tallies.many_of tally ≡ journals.used_of journal → BelongTogether desks ledger tally journal
-  free_together desks ledger tally journal unused same none counted same_tally tallied =
+  pub free_together : (desks : Desks) (tally : Tally) (journal : Journal D g) → AreUnused desks
+      → tallies.setup_of tally ≡ all_desks.setup_of desks → tallies.many_of tally ≡ journals.used_of journal
+      → BelongTogether desks tally journal
+  free_together desks tally journal unused same tallied =
       let puts = nothing_put desks unused in
-      record {
-        same = same;
-        same_tally = same_tally;
-        reserved = none ∙ sym (nothing_reserved desks unused);
-        counted = counted;
-        tallied = tallied;
-        fits = omega (arith, puts, room_within journal);
-      }
+      record { same = same; tallied = tallied; fits = omega (arith, puts, room_within journal) }
 
   -- a host that starts over a carry and the rest of records is one that starts over all of them, where the first ones
   -- follow one another
@@ -199,8 +165,7 @@ module _ {D : Type 0} {g : Ghosts D} where
       let same = resumed.carry_is ∙ rest_carry setup base c rest records sound continues first resumed.follow in
       let many = rest_many setup base c rest records sound continues ∙ sym (length-reverse records) in
       record {
-        over = begun_over host.desks host.ledger (base + length rest) (reverse records) follow many
-            (subst (BeginFrom host.desks host.ledger (base + length rest)) same resumed.from_carry);
+        over = begun_over host.desks (reverse records) follow (subst (Resumes host.desks) same resumed.from_carry.resumes);
         used = resumed.used ∙ many;
         carry_is = same;
       }
@@ -209,9 +174,7 @@ module _ {D : Type 0} {g : Ghosts D} where
       → records past ≡ before → HasReplayed host before → Keeps host past
   started_keeps host past before none same starts = record {
     desks = replayed_stand host.desks past before none same starts.over.replays;
-    ledger = subst (ledgers.StandsFor host.ledger (records past))
-        (sym (nothing_reserved host.desks starts.over.replays.unused))
-        (subst (λ rs. ledgers.StandsFor host.ledger rs 0) (sym same) starts.over.money);
+    follow = ap (all_follow (setup_of host)) same ∙ starts.over.follow;
     carry_is = starts.carry_is ∙ ap (carry (setup_of host)) (sym same);
     used = starts.used ∙ ap length (sym same);
   }

@@ -8,7 +8,7 @@ use Rattle.cct_model.specs.terms.device.DeviceSetup.{DeviceSetup}
 use Rattle.cct_model.specs.terms.device.Setup.{Setup}
 use Rattle.cct_model.specs.declared.tests.Test.{Test}
 use Rattle.cct_model.specs.declared.tests.Test.TheVariants.{WithCoins, WithPrice, WithRoom}
-use Rattle.cct_model.specs.Refusal.{asks_room, first_of, listed, money_in, of_room, room_fails, room_tests, tests_of}
+use Rattle.cct_model.specs.Refusal.{asks_room, first_of, listed, of_room, room_fails, room_tests, tests_of}
 use Rattle.cct_model.specs.Rows.{puts_in, rows_for}
 use Rattle.cct_laws.proofs.money.Room.{unasked}
 
@@ -39,13 +39,6 @@ first_of_room capacity setup past need (WithPrice price ∷ ts) = refl
 first_of_room capacity setup past need (WithRoom ∷ ts) = refl
 first_of_room capacity setup past need (t ∷ ts) =
     first_of_room capacity setup past need ts ∙ sym (first_more (room_fails capacity setup past need) t ts)
-
-pub money_of_room : (setup : Setup) (ts : List Test) → money_in setup (of_room ts) ≡ money_in setup ts
-money_of_room setup [] = refl
-money_of_room setup (WithCoins addr count ∷ ts) = refl
-money_of_room setup (WithPrice price ∷ ts) = refl
-money_of_room setup (WithRoom ∷ ts) = refl
-money_of_room setup (t ∷ ts) = money_of_room setup ts
 
 asks_of_room : (ts : List Test) → asks_room (of_room ts) ≡ asks_room ts
 asks_of_room [] = refl

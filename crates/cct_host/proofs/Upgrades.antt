@@ -1,17 +1,17 @@
 -- A journal of an older version is brought forward: what is on its disk, and why it isn't.
-use Rattle.std.proofs.Common.{◌≡◌, ℕ, ◌+◌, ◌&&◌, true, List, [], ◌∷◌, ◌++◌, length, reverse, inl, inr, refl, sym, ap, subst, ◌∙◌, arith, append-nil, true≢false, Bool, Option, Some}
+use Rattle.std.proofs.Common.{◌≡◌, ℕ, ◌+◌, true, List, [], ◌∷◌, length, reverse, inl, inr, refl, sym, ap, subst, ◌∙◌, append-nil, true≢false, Bool, Option, Some}
 use Rattle.std.specs.Prelude.{Err, IfOk, Ok, Result}
 use Rattle.std.proofs.lemmas.Bool.{and_parts}
 use Rattle.cct_model.specs.terms.device.Setup.{Setup}
 use Rattle.cct_model.specs.lines.carry.Carry.{Carry}
 use Rattle.cct_model.specs.lines.record.Record.{Record}
-use Rattle.cct_model.specs.Carry.{Fits, all_follow_carry, carry_of, carry_over, follows_carry}
+use Rattle.cct_model.specs.Carry.{Fits, all_follow_carry, carry_of, carry_over}
 use Rattle.cct_model.specs.Following.{all_follow}
 use Rattle.cct_model.specs.Setup.{IsSoundSetup}
 use Rattle.cct_disk.specs.declared.disk.Disk.{Ghosts}
 use Rattle.cct_disk.specs.Disk.{Holds, LeavesOnly, OnlyReads}
-use Rattle.cct_journal.specs.Image.{Continues, HasFrom, StandsFor}
-use Rattle.cct_journal.specs.OldImage.{AreSpelt, HasOldFrom, HasOldPlace, IsTurning, OldStandsFor, bodies_at}
+use Rattle.cct_journal.specs.Image.{Continues, HasFrom}
+use Rattle.cct_journal.specs.OldImage.{AreSpelt, HasOldFrom, HasOldPlace, IsTurning, bodies_at}
 use Rattle.cct_journal.specs.OldStands.{HasFreeHalf, OldCounts, OldReadsFrom, OldStands, RefusesOld}
 use Rattle.cct_journal.specs.declared.old_place.OldPlace.{OldPlace}
 use Rattle.cct_journal.specs.declared.refusal.OldNo.{OldNo}
@@ -26,7 +26,7 @@ use Rattle.cct_host.specs.OnDisk.{StopsAt}
 use Rattle.cct_host.specs.OldTally.{RefusesOpened, TurnsBy}
 use Rattle.cct_host.specs.Starting.{RefusesResume}
 use Rattle.cct_host.specs.Upgrading.{AreCarried, CanTurn, CanUpgrade, HasOldBodies, HasOldRecords, IsBrought, RefusesUpgrade, StandsBrought, opened_no}
-use Rattle.cct_host.proofs.Records.{rest_carry, rest_follow, rest_many}
+use Rattle.cct_host.proofs.Records.{rest_carry, rest_many}
 
 -- records that follow a carry that fits are refused only where the disk failed
 stops_nowhere : (setup : Setup) (base : ℕ) (c : Carry) (rest : List Record) (index : ℕ) → Fits setup c

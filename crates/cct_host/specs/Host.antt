@@ -22,8 +22,6 @@ use Rattle.cct_journal.specs.Image.{half_room, kept_after}
 use Rattle.cct_journal.specs.declared.format.TheConstants.{MOST_RECORDS}
 use Rattle.cct_journal_carry.specs.declared.tally.Tally.{Tally}
 use Rattle.cct_journal_carry.specs.Tally as tallies
-use Rattle.cct_ledger.specs.declared.ledger.Ledger.{Ledger}
-use Rattle.cct_ledger.specs.Ledger as ledgers
 use Rattle.cct_host.specs.declared.desks.Desks.{Desks}
 use Rattle.cct_host.specs.declared.host.Host.{Host}
 use Rattle.cct_host.specs.Attempt.{Attempt, HeardBy, Links, news_of, put_of, sent_of}
@@ -33,8 +31,8 @@ use Rattle.cct_host.specs.Desk.{no_of}
 use Rattle.cct_host.specs.Desks as all_desks
 use Rattle.cct_host.specs.Place.{OwnsItsPut}
 
--- The ledger takes the record that the job at an address is about to put, if it is about to put
--- one, beside what the other jobs reserve.
+-- The record that the job at an address is about to put, if it is about to put one, is allowed
+-- beside what the other jobs reserve.
 abbrev pub TakesItsPut : Setup → List Entry → ℕ → Type 0
 TakesItsPut setup past addr =
     IfSome (due_at setup past addr)
@@ -47,8 +45,8 @@ put_by None = []
 put_by (Some r) = r ∷ []
 
 -- What a `next` at an address takes for granted of the past: the record that it puts, if it puts
--- one, closes no order of another address, the ledger takes it, and it follows the records of the
--- past, which follow one another. Every past that is legal is so.
+-- one, closes no order of another address, is allowed, and follows the records of the past, which
+-- follow one another. Every past that is legal is so.
 pub record PutSuits (setup : Setup) (past : List Entry) (addr : ℕ) : Type 0 where
   pub owned : OwnsItsPut setup past addr
   pub taken : TakesItsPut setup past addr
@@ -76,11 +74,11 @@ module _ {D : Type 0} {g : Ghosts D} where
   capacity_in host = MOST_RECORDS
 
   -- A host has all of a transcript, newest entry first, whatever its disk keeps: its desks
-  -- represent it, its ledger for the records and what the running jobs reserve beside them, its
-  -- carry is that of the records, and its journal counts so many of them.
+  -- represent it, its carry is that of the records, which follow one another, and its journal counts
+  -- so many of them.
   pub record Keeps (host : Host D g) (past : List Entry) : Type 0 where
     pub desks : all_desks.StandsFor host.desks past
-    pub ledger : ledgers.StandsFor host.ledger (records past) (all_desks.reserved_of host.desks)
+    pub follow : all_follow (setup_of host) (records past) ≡ true
     pub carry_is : tallies.carry_in host.tally ≡ carry (setup_of host) (records past)
     pub used : journals.used_of host.journal ≡ length (records past)
 
@@ -96,8 +94,7 @@ module _ {D : Type 0} {g : Ghosts D} where
   -- Nothing changed.
   abbrev pub Stays : Host D g → Host D g → Type 0
   Stays old new =
-      all_desks.Stays old.desks new.desks × (new.ledger ≡ old.ledger) × (new.tally ≡ old.tally)
-      × (new.journal ≡ old.journal)
+      all_desks.Stays old.desks new.desks × (new.tally ≡ old.tally) × (new.journal ≡ old.journal)
 
   -- A command is taken or refused as it has to be after whatever happened, and the host goes on by
   -- its entry.
@@ -202,9 +199,8 @@ module _ {D : Type 0} {g : Ghosts D} where
         (StandsUpTo setup due records)
 
   -- After all that happened the record that was due at an address, if one was due, was put: the
-  -- journal has it, and the ledger, beside what is reserved after it, and the tally.
-  pub record PutsDue (past : List Entry) (addr : ℕ) (desks turned : Desks) (ledger posted : Ledger)
-      (tally added : Tally)
+  -- journal has it, and the tally.
+  pub record PutsDue (past : List Entry) (addr : ℕ) (desks : Desks) (tally added : Tally)
       (journal written : Journal D g) : Type 0 where
     pub used : journals.used_of written
         ≡ journals.used_of journal + length (put_by (due_at (all_desks.setup_of desks) past addr))
@@ -223,11 +219,6 @@ module _ {D : Type 0} {g : Ghosts D} where
         → LeavesOnly g.moment g.left_since (journals.disk_of journal) (journals.disk_of written)
         (StandsUpTo (all_desks.setup_of desks) (all_desks.due_on desks addr)
         (reverse (records past)))
-    pub posts : TakesItsPut (all_desks.setup_of desks) past addr
-        → ledgers.StandsFor ledger (records past) (all_desks.reserved_of desks)
-        → ledgers.StandsFor posted (put_by (due_at (all_desks.setup_of desks) past addr)
-        ++ records past)
-        (all_desks.reserved_of turned)
     pub adds : IfSome (due_at (all_desks.setup_of desks) past addr)
         (λ r. all_follow (all_desks.setup_of desks) (r ∷ records past) ≡ true)
         → tallies.carry_in tally ≡ carry (all_desks.setup_of desks) (records past)
@@ -238,24 +229,21 @@ module _ {D : Type 0} {g : Ghosts D} where
   -- there, if one was, is put.
   pub record Advances {L : Type 0} (gives : L → List ℕ → List ℕ → L → Type 0) (old new : L)
       (addr : ℕ)
-      (desks turned : Desks) (ledger posted : Ledger) (tally added : Tally)
-      (journal written : Journal D g)
+      (desks turned : Desks) (tally added : Tally) (journal written : Journal D g)
       (report reported : List Entry) : Type 0 where
     pub whole : journals.has_failed written ≡ false
     pub nexts : all_desks.Nexts gives old new addr desks turned report reported
     pub counts : journals.used_of written ≡ journals.used_of journal
         + length (put_by (all_desks.due_on desks addr))
     pub puts : (past : List Entry) → all_desks.StandsFor desks past
-        → PutsDue past addr desks turned ledger posted tally added journal written
+        → PutsDue past addr desks tally added journal written
     pub quiet : all_desks.due_on desks addr ≡ None → written ≡ journal
 
   -- The put of the record that is due at an address fails, and nothing but the disk changes.
-  pub record FailsToPut (addr : ℕ) (desks turned : Desks) (ledger posted : Ledger)
-      (tally added : Tally)
+  pub record FailsToPut (addr : ℕ) (desks turned : Desks) (tally added : Tally)
       (journal written : Journal D g) : Type 0 where
     pub due : is_some (all_desks.due_on desks addr) ≡ true
     pub desks_stay : turned ≡ desks
-    pub ledger_stays : posted ≡ ledger
     pub tally_stays : added ≡ tally
     pub place : journals.place_of written ≡ journals.place_of journal
     pub fails : (past : List Entry) → all_desks.StandsFor desks past

@@ -10,7 +10,7 @@ use Rattle.cct_disk.specs.Disk.{OnlyReads}
 use Rattle.cct_journal.specs.Image.{HasFrom}
 use Rattle.cct_journal.specs.OldImage.{AreSpelt, HasOldPlace}
 use Rattle.cct_journal.specs.OldJournal as olds
-use Rattle.cct_journal.specs.OldStands.{OldCounts, OldReadsFrom, OldReadsUpTo}
+use Rattle.cct_journal.specs.OldStands.{OldReadsFrom, OldReadsUpTo}
 use Rattle.cct_journal.specs.declared.old_journal.OldJournal.{OldJournal}
 use Rattle.cct_journal.specs.declared.old_place.OldPlace.{OldPlace}
 use Rattle.cct_journal.specs.declared.refusal.ReadNo.{ReadNo}

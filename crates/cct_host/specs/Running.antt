@@ -13,13 +13,12 @@ use Rattle.cct_model.specs.lines.entry.Entry.{Entry}
 use Rattle.cct_model.specs.lines.entry.Entry.TheVariants as entry
 use Rattle.cct_model.specs.declared.judging.EpochState.{EpochState}
 use Rattle.cct_model.specs.declared.tests.Test.{Test}
-use Rattle.cct_model.specs.declared.tests.Test.TheVariants.{WithCoins, WithPrice, WithRoom}
+use Rattle.cct_model.specs.declared.tests.Test.TheVariants.{WithRoom}
 use Rattle.cct_model.specs.Device.{is_hopper}
 use Rattle.cct_model.specs.Exchange.{device_at}
 use Rattle.cct_model.specs.Job.{address_of}
 use Rattle.cct_model.specs.Job as model
 use Rattle.cct_model.specs.Rows.{TableRow, has_waits, need_in, rows_for}
-use Rattle.cct_model.specs.Money.{coins_of}
 use Rattle.cct_model.specs.Refusal.{View, first_of, id_refusal, money_in, state_fails, state_tests}
 use Rattle.cct_model.specs.Refusal.{tests_of, unless}
 use Rattle.cct_jobs.specs.declared.job.Job.{Job}
@@ -85,12 +84,6 @@ needed setup c = need_in (rows_begun setup c)
 -- What a command reserves until its order is opened or its sale is put.
 abbrev pub amount_of : Setup → Command → ℕ
 amount_of setup c = money_in setup (tests_of c)
-
--- What a test wants available.
-abbrev pub amount_in : Setup → Test → ℕ
-amount_in setup (WithCoins addr count) = coins_of setup addr count
-amount_in setup (WithPrice price) = price
-amount_in setup test = 0
 
 -- It is the test of the room.
 abbrev pub is_room : Test → Bool

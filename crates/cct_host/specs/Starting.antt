@@ -13,9 +13,6 @@ use Rattle.cct_disk.specs.Disk.{IsReady, OnlyReads}
 use Rattle.cct_journal.specs.declared.journal.Journal.{Journal}
 use Rattle.cct_journal.specs.Journal as journals
 use Rattle.cct_journal_carry.specs.Tally as tallies
-use Rattle.cct_ledger.specs.declared.ledger.Ledger.{Ledger}
-use Rattle.cct_ledger.specs.Ledger as ledgers
-use Rattle.cct_ledger.specs.Resumed.{IsResumed}
 use Rattle.cct_host.specs.declared.desks.Desks.{Desks}
 use Rattle.cct_host.specs.declared.host.Host.{Host}
 use Rattle.cct_journal.specs.declared.refusal.ReadNo.{ReadNo}
@@ -50,17 +47,15 @@ pub record TalliesSome (setup : Setup) (base : ℕ) (c : Carry) (many : ℕ) (no
     pub count : many ≡ base + length rest
     pub over : TalliesOver setup c rest now
 
--- Desks and a ledger went over records, newest first: they have what these tell, and each record
--- follows those before it.
-pub record WentOver (desks : Desks) (ledger : Ledger) (before : List Record) : Type 0 where
+-- Desks went over records, newest first: they have what these tell, and each record follows those
+-- before it.
+pub record WentOver (desks : Desks) (before : List Record) : Type 0 where
   pub replays : Replays desks before
-  pub money : ledgers.StandsFor ledger before 0
   pub follow : all_follow (all_desks.setup_of desks) before ≡ true
 
--- Desks and a ledger begin with a carry of so many records.
-pub record BeginFrom (desks : Desks) (ledger : Ledger) (many : ℕ) (c : Carry) : Type 0 where
+-- Desks begin with a carry.
+pub record BeginFrom (desks : Desks) (c : Carry) : Type 0 where
   pub resumes : Resumes desks c
-  pub money : IsResumed (all_desks.setup_of desks) many c ledger
 
 -- The record of this index is the first of records, oldest first, that doesn't follow those before
 -- it.
@@ -100,26 +95,24 @@ pub record OnlyReadIn {D : Type 0} {g : Ghosts D} (old new : Journal D g) (Fails
     pub ready : IsReady g.spent (journals.disk_of old) → IsReady g.spent (journals.disk_of new)
     pub cause : Caused (g.faults (journals.disk_of old)) (g.faults (journals.disk_of new)) Fails
 
--- A host is over records, newest first, as one that has just started: its desks and its ledger have
--- what they tell, each follows those before it, its carry is theirs, and so many does its journal
--- count.
+-- A host is over records, newest first, as one that has just started: its desks have what they
+-- tell, each follows those before it, its carry is theirs, and so many does its journal count.
 pub record HasReplayed {D : Type 0} {g : Ghosts D} (host : Host D g) (before : List Record) : Type 0
   where
-    pub over : WentOver host.desks host.ledger before
+    pub over : WentOver host.desks before
     pub used : journals.used_of host.journal ≡ length before
     pub carry_is : tallies.carry_in host.tally ≡ carry (all_desks.setup_of host.desks) before
 
 -- A host is over a carry of so many records and the rest after them, oldest first, as one that has
--- just started: the carry fits its setup, each of the rest follows, and its desks, its ledger and
--- its own carry begin with what these tell; so many does its journal count.
+-- just started: the carry fits its setup, each of the rest follows, and its desks and its own carry
+-- begin with what these tell; so many does its journal count.
 pub record HasResumed {D : Type 0} {g : Ghosts D} (host : Host D g) (base : ℕ) (c : Carry)
     (rest : List Record) : Type 0
   where
     pub fits : Fits (all_desks.setup_of host.desks) c
     pub follow : all_follow_carry (all_desks.setup_of host.desks) c rest ≡ true
     pub carry_is : tallies.carry_in host.tally ≡ carry_over (all_desks.setup_of host.desks) c rest
-    pub from_carry : BeginFrom host.desks host.ledger (base + length rest)
-        (tallies.carry_in host.tally)
+    pub from_carry : BeginFrom host.desks (tallies.carry_in host.tally)
     pub used : journals.used_of host.journal ≡ base + length rest
 
 -- A host is over a carry of so many records and some records after them, as one that has just

@@ -1,6 +1,6 @@
 -- A journal of an older version is brought forward, with the carry of all its records.
-use Rattle.std.specs.Prelude.{◌≡◌, ◌⊎◌, ℕ, ◌+◌, ◌≤◌, Bool, true, false, List, [], ◌∷◌, length, take}
-use Rattle.std.specs.Prelude.{reverse, Option, Some, Result, Ok, Err, ⊤}
+use Rattle.std.specs.Prelude.{◌≡◌, ◌⊎◌, ℕ, ◌+◌, ◌≤◌, Bool, true, false, List, [], length, take}
+use Rattle.std.specs.Prelude.{reverse, Some, Result, Ok, Err, ⊤}
 use Rattle.std.specs.Prelude.{slice_get}
 use Rattle.cct_model.specs.terms.device.Setup.{Setup}
 use Rattle.cct_model.specs.lines.carry.Carry.{Carry}
@@ -10,7 +10,7 @@ use Rattle.cct_model.specs.Carry.{follows_carry}
 use Rattle.cct_model.specs.Following.{all_follow}
 use Rattle.cct_record.specs.OldBody.{IsRefusedOld, OldSpells}
 use Rattle.cct_disk.specs.declared.disk.Disk.{Ghosts}
-use Rattle.cct_journal.specs.Image.{Continues, HasFrom, StandsFor}
+use Rattle.cct_journal.specs.Image.{HasFrom, StandsFor}
 use Rattle.cct_journal.specs.Journal as journals
 use Rattle.cct_journal.specs.OldImage.{AreSpelt, HasOldFrom, IsOldHeaded, OldStandsFor, old_bodies}
 use Rattle.cct_journal.specs.OldStands.{HasFreeHalf, RefusesOld}

@@ -7,16 +7,14 @@ ghost use Rattle.cct_model.specs.lines.entry.Entry.{Entry};
 ghost use Rattle.cct_model.specs.lines.record.Record.{Record};
 ghost use Rattle.cct_model.specs.Carry.{carry};
 ghost use Rattle.cct_model.specs.Carried.{IsRightly};
-ghost use Rattle.cct_model.specs.Following.{all_follow, is_allowed};
-ghost use Rattle.cct_model.specs.Money.{freed_by, reserved_at_work};
+ghost use Rattle.cct_model.specs.Following.{all_follow};
 ghost use Rattle.cct_record.specs.Body.{Encodable};
 ghost use Rattle.cct_journal_carry.specs.Tally as tallies;
 ghost use Rattle.cct_journal.specs.Journal as journals;
 ghost use Rattle.cct_disk.specs.Disk.{GoesOn};
-ghost use Rattle.cct_ledger.specs.Ledger as ledgers;
 ghost use Rattle.cct_host.specs.Desks as all_desks;
 ghost use Rattle.cct_host.specs.Host.{Advances, FailsToPut, FillsOn, PutFails, Puts, put_by};
-ghost use Rattle.cct_host.specs.Parts.{BelongTogether, GoOnTogether};
+ghost use Rattle.cct_host.specs.Parts.{BelongTogether};
 ghost use Rattle.cct_host.specs.Report.{kept};
 
 use crate::Desks;
@@ -25,7 +23,6 @@ use cct_disk::Disk;
 use cct_edge::Failed;
 use cct_journal::{Journal, JournalNo, MOST_RECORDS};
 use cct_journal_carry::Tally;
-use cct_ledger::{Ledger, NotAllowed};
 use cct_model::{Carry, Entry, Record};
 use cct_wire::Link;
 
@@ -33,7 +30,6 @@ use cct_wire::Link;
 /// goes on. What it tells begins in the place of the last entry.
 pub(crate) fn advance<D: Disk, L: Link>(
     desks: &mut Desks<'_>,
-    ledger: &mut Ledger<'_>,
     tally: &mut Tally<'_>,
     journal: &mut Journal<D>,
     addr: u8,
@@ -43,20 +39,20 @@ pub(crate) fn advance<D: Disk, L: Link>(
     requires last { 1 ≤ array_vec_len report.old }
     requires room { array_vec_len report.old ≤ 7 }
     requires whole { journals.has_failed journal.old ≡ false }
-    requires together { BelongTogether desks.old ledger.old tally.old journal.old }
+    requires together { BelongTogether desks.old tally.old journal.old }
 
     // what holds of the parts of a host
     ensures setup { all_desks.setup_of desks.new ≡ all_desks.setup_of desks.old }
-    ensures together { BelongTogether desks.new ledger.new tally.new journal.new }
+    ensures together { BelongTogether desks.new tally.new journal.new }
 
     // the attempt
-    ensures advances { OnOk result (Advances L.gives link.old link.new addr desks.old desks.new ledger.old ledger.new
-        tally.old tally.new journal.old journal.new (kept report.old.items) report.new.items) }
+    ensures advances { OnOk result (Advances L.gives link.old link.new addr desks.old desks.new tally.old tally.new
+        journal.old journal.new (kept report.old.items) report.new.items) }
     ensures fills { OnOk result (FillsOn journal.old journal.new) }
 
     // a put that failed
-    ensures fails { OnErr result (FailsToPut addr desks.old desks.new ledger.old ledger.new tally.old tally.new
-        journal.old journal.new) }
+    ensures fails { OnErr result (FailsToPut addr desks.old desks.new tally.old tally.new journal.old
+        journal.new) }
     ensures report { OnErr result (report.new ≡ report.old) }
     ensures link { OnErr result (link.new ≡ link.old) }
 
@@ -68,9 +64,9 @@ pub(crate) fn advance<D: Disk, L: Link>(
 {
     let found = desks.find(addr);
     if desks.puts_there(addr, found) {
-        put_and_go_on(desks, ledger, tally, journal, addr, found, link, report)
+        put_and_go_on(desks, tally, journal, addr, found, link, report)
     } else {
-        ask(desks, ledger, addr, found, link, report);
+        desks.ask_there(addr, found, link, report);
         Ok(())
     }
 }
@@ -80,7 +76,6 @@ pub(crate) fn advance<D: Disk, L: Link>(
 #[inline(never)]
 fn put_and_go_on<D: Disk, L: Link>(
     desks: &mut Desks<'_>,
-    ledger: &mut Ledger<'_>,
     tally: &mut Tally<'_>,
     journal: &mut Journal<D>,
     addr: u8,
@@ -91,21 +86,21 @@ fn put_and_go_on<D: Disk, L: Link>(
     requires last { 1 ≤ array_vec_len report.old }
     requires room { array_vec_len report.old ≤ 7 }
     requires whole { journals.has_failed journal.old ≡ false }
-    requires together { BelongTogether desks.old ledger.old tally.old journal.old }
+    requires together { BelongTogether desks.old tally.old journal.old }
     requires found { all_desks.FindsDesk desks.old addr found }
 
     // what holds of the parts of a host
     ensures setup { all_desks.setup_of desks.new ≡ all_desks.setup_of desks.old }
-    ensures together { BelongTogether desks.new ledger.new tally.new journal.new }
+    ensures together { BelongTogether desks.new tally.new journal.new }
 
     // the attempt
-    ensures advances { OnOk result (Advances L.gives link.old link.new addr desks.old desks.new ledger.old ledger.new
-        tally.old tally.new journal.old journal.new (kept report.old.items) report.new.items) }
+    ensures advances { OnOk result (Advances L.gives link.old link.new addr desks.old desks.new tally.old tally.new
+        journal.old journal.new (kept report.old.items) report.new.items) }
     ensures fills { OnOk result (FillsOn journal.old journal.new) }
 
     // a put that failed
-    ensures fails { OnErr result (FailsToPut addr desks.old desks.new ledger.old ledger.new tally.old tally.new
-        journal.old journal.new) }
+    ensures fails { OnErr result (FailsToPut addr desks.old desks.new tally.old tally.new journal.old
+        journal.new) }
     ensures report { OnErr result (report.new ≡ report.old) }
     ensures link { OnErr result (link.new ≡ link.old) }
 
@@ -117,37 +112,9 @@ fn put_and_go_on<D: Disk, L: Link>(
 {
     let due = desks.due_there(addr, found);
     put(journal, &due, tally.carry())?;
-    go_on(desks, ledger, addr, found, &due, link, report);
-    enter(ledger, &due);
+    desks.next_there(addr, found, &due, link, report);
     count(tally, &due);
     Ok(())
-}
-
-/// The job at an address, which has no record to put, makes its attempt, and the ledger frees what
-/// it reserves no more.
-fn ask<L: Link>(
-    desks: &mut Desks<'_>,
-    ledger: &mut Ledger<'_>,
-    addr: u8,
-    found: Option<usize>,
-    link: &mut L,
-    report: &mut ArrayVec<Entry, 8>,
-)
-    requires last { 1 ≤ array_vec_len report.old }
-    requires room { array_vec_len report.old ≤ 7 }
-    requires found { all_desks.FindsDesk desks.old addr found }
-    requires due { all_desks.due_on desks.old addr ≡ None }
-    requires reserved { ledgers.reserved_of ledger.old ≡ all_desks.reserved_of desks.old }
-    ensures together { GoOnTogether desks.old desks.new ledger.old ledger.new }
-    ensures left { all_desks.puts_of desks.new ≤ all_desks.puts_of desks.old }
-    ensures nexts { all_desks.Nexts L.gives link.old link.new addr desks.old desks.new
-        (kept report.old.items) report.new.items }
-{
-    let reserved = desks.reserved_there(addr, found);
-    desks.ask_there(addr, found, link, report);
-    if reserved > 0 {
-        ledger.release(reserved - desks.reserved_there(addr, found));
-    }
 }
 
 /// Puts the record that is due, if one is, into a journal that takes it, with the carry of those
@@ -176,58 +143,6 @@ fn put<D: Disk>(
             Err(JournalNo::Disk) => Err(Failed),
             Err(JournalNo::Full { .. }) => unreachable!(),
         },
-    }
-}
-
-/// The job at an address makes its attempt, and the ledger frees what it reserves no more.
-fn go_on<L: Link>(
-    desks: &mut Desks<'_>,
-    ledger: &mut Ledger<'_>,
-    addr: u8,
-    found: Option<usize>,
-    due: &Option<Record>,
-    link: &mut L,
-    report: &mut ArrayVec<Entry, 8>,
-)
-    requires last { 1 ≤ array_vec_len report.old }
-    requires room { array_vec_len report.old ≤ 7 }
-    requires found { all_desks.FindsDesk desks.old addr found }
-    requires due { due.now ≡ all_desks.due_on desks.old addr }
-    requires reserved { ledgers.reserved_of ledger.old ≡ all_desks.reserved_of desks.old }
-    ensures together { GoOnTogether desks.old desks.new ledger.old ledger.new }
-    ensures left { all_desks.puts_of desks.new + length (put_by (all_desks.due_on desks.old addr))
-        ≤ all_desks.puts_of desks.old }
-    ensures nexts { all_desks.Nexts L.gives link.old link.new addr desks.old desks.new
-        (kept report.old.items) report.new.items }
-    ensures frees { (past : List Entry) → all_desks.StandsFor desks.old past
-        → IfSome (all_desks.due_on desks.old addr) (λ r. all_desks.reserved_of desks.new
-        ≡ reserved_at_work (all_desks.setup_of desks.old) past - freed_by (all_desks.setup_of desks.old) r) }
-{
-    let reserved = desks.reserved_there(addr, found);
-    desks.next_there(addr, found, due, link, report);
-    if reserved > 0 {
-        ledger.release(reserved - desks.reserved_there(addr, found));
-    }
-}
-
-/// The ledger takes the record that was put, if one was. One that doesn't follow those before it
-/// would leave the ledger as it is; a host puts none.
-fn enter(ledger: &mut Ledger<'_>, due: &Option<Record>)
-    requires few { IfSome due.now (λ r. ledgers.applied ledger.old < 2 ^ 32 - 1) }
-    ensures setup { ledgers.setup_of ledger.new ≡ ledgers.setup_of ledger.old }
-    ensures reserved { ledgers.reserved_of ledger.new ≡ ledgers.reserved_of ledger.old }
-    ensures counted { ledgers.applied ledger.new ≤ ledgers.applied ledger.old
-        + length (put_by due.now) }
-    ensures posts { (before : List Record) (beside : ℕ)
-        → IfSome due.now (λ r. is_allowed (ledgers.setup_of ledger.old) before beside r ≡ true)
-        → ledgers.StandsFor ledger.old before beside
-        → ledgers.StandsFor ledger.new (put_by due.now ++ before) beside }
-{
-    if let Some(entry) = due {
-        match ledger.apply(entry) {
-            Ok(()) => {}
-            Err(NotAllowed) => {}
-        }
     }
 }
 

@@ -1,6 +1,6 @@
 //! The host's desks: a job at each address, the epochs of its acceptors, and the open orders of its
 //! hoppers.
-ghost use Rattle.std.specs.Prelude.{◌≡◌, ◌<◌, ◌≤◌, ℕ, List, [], ◌∷◌, ◌+◌, ◌-◌, ◌*◌, IfSome};
+ghost use Rattle.std.specs.Prelude.{◌≡◌, ◌<◌, ◌≤◌, ℕ, List, [], ◌∷◌, ◌+◌, ◌-◌, ◌*◌, ◌^◌, IfSome};
 ghost use Rattle.std.specs.Prelude.{OnErr, OnOk, Option, Some, None, false, is_some, length, max};
 ghost use Rattle.std.specs.Prelude.{true};
 ghost use Rattle.std.specs.List.{All};
@@ -16,7 +16,7 @@ ghost use Rattle.cct_model.specs.Refusal.{held, last_id};
 ghost use Rattle.cct_model.specs.Setup.{IsSoundSetup};
 ghost use Rattle.cct_record.specs.Body.{Encodable};
 ghost use Rattle.cct_jobs.specs.Jobs.{is_of_device};
-ghost use Rattle.cct_host.specs.Desk.{IsFree, puts_at};
+ghost use Rattle.cct_host.specs.Desk.{IsFree, puts_at, reserved_over, sum_in};
 ghost use Rattle.cct_host.specs.Held.{sells_only};
 ghost use Rattle.cct_host.specs.Report.{kept};
 ghost use Rattle.cct_host.specs.Running.{begins_id};
@@ -56,8 +56,8 @@ pub struct Desks<'s> {
 impl<'s> Desks<'s> {
     ghost use Rattle.cct_host.specs.Desks.{Answers, FindsDesk, FreesIn, Nexts, Refuses, StandsFor};
     ghost use Rattle.cct_host.specs.Desks.{Stays, TakesIn, amount_at_desk, amount_on, desk_there};
-    ghost use Rattle.cct_host.specs.Desks.{due_at_desk, due_on, held_of, puts_of, sending_on};
-    ghost use Rattle.cct_host.specs.Desks.{setup_of, working_id};
+    ghost use Rattle.cct_host.specs.Desks.{due_at_desk, due_on, held_of, puts_of, reserved_of};
+    ghost use Rattle.cct_host.specs.Desks.{sending_on, setup_of, working_id};
     ghost use Rattle.cct_host.specs.Replayed.{Replays, Resumes};
 
     /// The desks of a host to which nothing has happened: there is no job, and no epoch runs.
@@ -332,7 +332,8 @@ impl<'s> Desks<'s> {
     /// What so many coins of the hopper at an address are worth. Without a coin it isn't looked
     /// for.
     fn worth_of(&self, addr: u8, coins: u8) -> u64
-        ensures { result ≡ money.coins_of (setup_of self.now) addr coins }
+        ensures value { result ≡ money.coins_of (setup_of self.now) addr coins }
+        ensures most { result ≤ 1000000 * coins }
     {
         if coins == 0 {
             0
@@ -349,6 +350,35 @@ impl<'s> Desks<'s> {
             u64::from(self.sale.price_reserved())
         } else {
             0
+        }
+    }
+
+    /// What all jobs reserve, in units of value: the sum of what [`Desks::reserved_at`] tells.
+    pub(crate) fn reserved(&self) -> u64
+        ensures value { result ≡ reserved_of self.now }
+        ensures few { result < 2 ^ 32 * (puts_of self.now + 1) }
+    {
+        let devices = self.setup.devices.as_slice();
+        self.reserved_over(devices, self.devices.as_slice()) + u64::from(self.sale.price_reserved())
+    }
+
+    /// What the jobs at the desks of these devices reserve. A job that reserves coins is still to
+    /// put a record.
+    fn reserved_over(&self, devices: &[DeviceSetup], desks: &[JobDesk]) -> u64
+        requires { length desks.now ≤ DEVICES }
+        ensures value { result ≡ reserved_over (setup_of self.now) devices.now desks.now }
+        ensures few { result ≤ 2 ^ 32 * sum_in puts_at desks.now }
+        ensures fits { result ≤ 2 ^ 32 * length desks.now }
+    {
+        match devices {
+            [] => 0,
+            [device, devices @ ..] => match desks {
+                [] => 0,
+                [desk, desks @ ..] => {
+                    let here = self.worth_of(device.addr, desk.coins_reserved());
+                    here + self.reserved_over(devices, desks)
+                }
+            },
         }
     }
 

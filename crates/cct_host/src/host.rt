@@ -9,7 +9,7 @@ ghost use Rattle.cct_edge.specs.Faults.{Caused, HasCause};
 ghost use Rattle.cct_model.specs.lines.entry.Entry.{Entry};
 ghost use Rattle.cct_model.specs.lines.record.Record.{Record};
 ghost use Rattle.cct_model.specs.Legal.{due_at};
-ghost use Rattle.cct_model.specs.Money.{totals};
+ghost use Rattle.cct_model.specs.Money.{available, totals};
 ghost use Rattle.cct_model.specs.Records.{records};
 ghost use Rattle.cct_model.specs.Refusal as refusals;
 ghost use Rattle.cct_model.specs.Script.{IsCrash};
@@ -18,15 +18,14 @@ ghost use Rattle.cct_disk.specs.Disk.{IsReady, OnlyReads};
 ghost use Rattle.cct_journal.specs.Journal as journals;
 ghost use Rattle.cct_disk.specs.Disk.{GoesOn};
 ghost use Rattle.cct_disk.specs.Settle.{Settles};
-ghost use Rattle.cct_ledger.specs.Ledger as ledgers;
 ghost use Rattle.cct_host.specs.Desks as all_desks;
-ghost use Rattle.cct_host.specs.Parts.{BelongTogether, BelongTogether-prop, GoOnTogether};
+ghost use Rattle.cct_host.specs.Parts.{BelongTogether, BelongTogether-prop};
 ghost use Rattle.cct_model.specs.Rows.{puts_in};
 ghost use Rattle.cct_host.specs.Report.{kept};
-ghost use Rattle.cct_host.specs.Running.{amount_of, needed, rows_begun};
+ghost use Rattle.cct_host.specs.Running.{needed, rows_begun};
 ghost use Rattle.std.specs.Prelude.{true};
-ghost use Rattle.cct_model.specs.Refusal.{asks_room, listed, money_in};
-ghost use Rattle.cct_host.specs.Running.{amount_in, is_room};
+ghost use Rattle.cct_model.specs.Refusal.{asks_room, listed};
+ghost use Rattle.cct_host.specs.Running.{is_room};
 
 use crate::Desks;
 use crate::advance::advance;
@@ -38,25 +37,23 @@ use cct_disk::{Disk, Settle};
 use cct_edge::Failed;
 use cct_jobs::Sending;
 use cct_journal::Journal;
-use cct_journal_carry::{Tally, coins_of};
-use cct_ledger::Ledger;
+use cct_journal_carry::{Tally, available, coins_of, owed};
 use cct_model::{
     Command, CommandNo, CrashAt, Entry, Record, Setup, Test, Totals, need_of, room_tests,
 };
 use cct_wire::Link;
 
-/// The host: the desks of its jobs, over a journal of its records, with the ledger of what they are
-/// worth and the tally of what it needs of them.
+/// The host: the desks of its jobs, over a journal of its records, with the tally of what it needs
+/// of them.
 ///
 /// Each record is on the disk before the host goes on. Its contracts tell it by the transcript of
 /// all that happened, newest entry first. It takes no memory.
 #[derive(Drop)]
 pub struct Host<'s, D: Disk> {
     pub(crate) desks: Desks<'s>,
-    ledger: Ledger<'s>,
     tally: Tally<'s>,
     pub(crate) journal: Journal<D>,
-    ghost together: { BelongTogether desks ledger tally journal } by { BelongTogether-prop desks ledger tally journal },
+    ghost together: { BelongTogether desks tally journal } by { BelongTogether-prop desks tally journal },
 }
 
 impl<'s, D: Disk> Host<'s, D> {
@@ -135,7 +132,6 @@ impl<'s, D: Disk> Host<'s, D> {
         match replay_all(setup, &mut journal) {
             Ok(tally) => Ok(Host {
                 desks: Desks::resume(setup, tally.carry()),
-                ledger: Ledger::resume(setup, journal.used(), tally.carry()),
                 tally,
                 journal,
             }),
@@ -154,7 +150,7 @@ impl<'s, D: Disk> Host<'s, D> {
         ensures answers { Answers self.old self.new command.now result }
     {
         match self.room_refusal(command) {
-            None => take(&mut self.desks, &mut self.ledger, command),
+            None => self.desks.command(command),
             Some(why) => Err(self.desks.refusal(command).unwrap_or(why)),
         }
     }
@@ -162,8 +158,6 @@ impl<'s, D: Disk> Host<'s, D> {
     /// Why a command is refused beside the tests of its device, if it is: what it spends isn't
     /// available, or the journal has no room for the records that it may put.
     fn room_refusal(&self, command: &Command) -> Option<CommandNo>
-        ensures affords { result ≡ None → amount_of (setup_of self.now) command.now
-            ≤ ledgers.available_of self.now.ledger }
         ensures fits { result ≡ None → 1 ≤ puts_in (rows_begun (setup_of self.now) command.now)
             → journals.used_of self.now.journal
             + all_desks.held_of self.now.desks + needed (setup_of self.now) command.now ≤ capacity_in self.now }
@@ -179,8 +173,6 @@ impl<'s, D: Disk> Host<'s, D> {
     /// room is wanted. Most commands want room alone, which is then the one test that is there.
     #[tactic(auto, using(crate::proofs::Testing::first_more))]
     fn room_failing(&self, tests: &[Option<Test>], need: u32) -> Option<CommandNo>
-        ensures affords { result ≡ None → money_in (setup_of self.now) (listed tests.now)
-            ≤ ledgers.available_of self.now.ledger }
         ensures fits { result ≡ None → asks_room (listed tests.now) ≡ true
             → journals.used_of self.now.journal + all_desks.held_of self.now.desks + need ≤ capacity_in self.now }
         ensures stands { (past : List Entry) → Keeps self.now past
@@ -200,8 +192,6 @@ impl<'s, D: Disk> Host<'s, D> {
 
     /// Why a test of the money or of the room fails, if it does.
     fn room_fails(&self, test: &Test, need: u32) -> Option<CommandNo>
-        ensures affords { result ≡ None → amount_in (setup_of self.now) test.now
-            ≤ ledgers.available_of self.now.ledger }
         ensures fits { result ≡ None → is_room test.now ≡ true
             → journals.used_of self.now.journal + all_desks.held_of self.now.desks + need ≤ capacity_in self.now }
         ensures stands { (past : List Entry) → Keeps self.now past
@@ -219,11 +209,10 @@ impl<'s, D: Disk> Host<'s, D> {
 
     /// Why a command is refused that spends so much, if it is: so much isn't available.
     fn short_refusal(&self, wanted: u64) -> Option<CommandNo>
-        ensures affords { result ≡ None → wanted ≤ ledgers.available_of self.now.ledger }
-        ensures stands { (past : List Entry) → Keeps self.now past
+        ensures { (past : List Entry) → Keeps self.now past
             → result ≡ refusals.short_refusal (setup_of self.now) past wanted }
     {
-        let have = self.ledger.available();
+        let have = self.available();
         if wanted <= have {
             None
         } else {
@@ -391,7 +380,6 @@ impl<'s, D: Disk> Host<'s, D> {
     {
         advance(
             &mut self.desks,
-            &mut self.ledger,
             &mut self.tally,
             &mut self.journal,
             addr,
@@ -417,7 +405,6 @@ impl<'s, D: Disk> Host<'s, D> {
     {
         restart(
             &mut self.desks,
-            &mut self.ledger,
             &mut self.tally,
             &mut self.journal,
             at,
@@ -473,7 +460,22 @@ impl<'s, D: Disk> Host<'s, D> {
         ensures { (past : List Entry) → Keeps self.now past → result
             ≡ totals (setup_of self.now) past }
     {
-        self.ledger.totals()
+        let carry = self.tally.carry();
+        let owed = owed(self.tally.setup(), carry.orders.as_slice());
+        Totals {
+            available: self.available(),
+            reserved: owed + carry.odd_value + self.desks.reserved(),
+            paid: carry.paid_value,
+            sold: carry.sold,
+        }
+    }
+
+    /// What is available: what the records leave, less what the running jobs reserve.
+    fn available(&self) -> u64
+        ensures { (past : List Entry) → Keeps self.now past → result
+            ≡ available (setup_of self.now) past }
+    {
+        available(self.tally.setup(), self.tally.carry()).saturating_sub(self.desks.reserved())
     }
 
     /// The disk.
@@ -482,7 +484,6 @@ impl<'s, D: Disk> Host<'s, D> {
     {
         let Host {
             desks: _,
-            ledger: _,
             tally: _,
             journal,
         } = self;
@@ -505,33 +506,5 @@ impl<'s, D: Settle> Host<'s, D> {
             (disk_of self.new) }
     {
         self.journal.settle();
-    }
-}
-
-/// A command is taken, which spends no more than is available, or refused for the first reason that
-/// holds whatever room there is; a taken one reserves what it spends.
-fn take(desks: &mut Desks<'_>, ledger: &mut Ledger<'_>, command: &Command) -> Result<(), CommandNo>
-    requires available { amount_of (all_desks.setup_of desks.old) command.now
-        ≤ ledgers.available_of ledger.old }
-    requires reserved { ledgers.reserved_of ledger.old ≡ all_desks.reserved_of desks.old }
-    ensures together { GoOnTogether desks.old desks.new ledger.old ledger.new }
-    ensures takes { OnOk result (all_desks.TakesIn command.now desks.old desks.new) }
-    ensures stays { OnErr result (all_desks.Stays desks.old desks.new × (ledger.new ≡ ledger.old)) }
-    ensures answers { all_desks.Answers desks.old desks.new command.now result }
-{
-    let amount = amount_of(desks.setup(), command);
-    desks.command(command)?;
-    ledger.reserve(amount);
-    Ok(())
-}
-
-/// What a command reserves until its order is opened.
-fn amount_of(setup: &Setup, command: &Command) -> u64
-    ensures { result ≡ amount_of setup.now command.now }
-{
-    match *command {
-        Command::Pay { addr, count, .. } => coins_of(setup, addr, count),
-        Command::Vend { price, .. } => u64::from(price),
-        _ => 0,
     }
 }

@@ -7,7 +7,7 @@ ghost use Rattle.cct_laws.specs.Scope.{EachTranscript};
 ghost use Rattle.cct_host.specs.Host.{PutSuits};
 
 /// Every legal past suits a host, whatever the wire does. What the job at an address is about to
-/// put closes no order of another address, the ledger takes it beside what the other jobs reserve,
+/// put closes no order of another address, it is allowed beside what the other jobs reserve,
 /// and it follows the records. So [`Host::next`](crate::Host::next) goes on by it. And the records
 /// follow one another, with the one whose put a power cut interrupts, so
 /// [`Host::restart`](crate::Host::restart) starts again over them. It doesn't say that a job ever

@@ -65,9 +65,11 @@ impl JobDesk {
         }
     }
 
-    /// How many coins the job reserves.
+    /// How many coins the job reserves: none where it has no record to put.
+    #[tactic(auto, using(crate::proofs::Held::coins_left))]
     pub(crate) fn coins_reserved(&self) -> u8
-        ensures { result ≡ coins_by self.now.job }
+        ensures value { result ≡ coins_by self.now.job }
+        ensures few { result ≤ 255 * puts_left self.now.job }
     {
         match &self.job {
             Some(job) => job.coins_reserved(),

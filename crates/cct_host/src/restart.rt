@@ -13,15 +13,14 @@ ghost use Rattle.cct_record.specs.Body.{Encodable};
 ghost use Rattle.cct_journal.specs.Journal as journals;
 ghost use Rattle.cct_journal.specs.Opening.{ReplaysAll};
 ghost use Rattle.cct_journal_carry.specs.Tally as tallies;
-ghost use Rattle.cct_ledger.specs.Ledger as ledgers;
 ghost use Rattle.cct_laws.specs.Restart.{calls_in, due_in};
 ghost use Rattle.cct_host.specs.OnDisk.{KeepsRecords, ReadsRest};
 ghost use Rattle.cct_host.specs.Desks as all_desks;
 ghost use Rattle.cct_host.specs.Host.{put_by};
 ghost use Rattle.cct_host.specs.Parts.{BelongTogether};
-ghost use Rattle.cct_host.specs.Replayed.{AreUnused};
+ghost use Rattle.cct_host.specs.Replayed.{AreUnused, Resumes};
 ghost use Rattle.cct_host.specs.Restarting.{IsLost, JournalFails, JournalRestarts, due_for};
-ghost use Rattle.cct_host.specs.Starting.{BeginFrom, TalliesOver};
+ghost use Rattle.cct_host.specs.Starting.{TalliesOver};
 
 use crate::Desks;
 use crate::refusal::CrashNo;
@@ -29,7 +28,6 @@ use crate::replay::ReplayState;
 use cct_disk::Disk;
 use cct_journal::{Journal, MOST_RECORDS, OpenNo, Replay};
 use cct_journal_carry::Tally;
-use cct_ledger::Ledger;
 use cct_model::{Carry, CrashAt, Record, Setup};
 
 /// What a power cut left.
@@ -46,7 +44,6 @@ pub struct Crashed {
 /// address, if one is.
 pub(crate) fn restart<'s, D: Disk>(
     desks: &mut Desks<'s>,
-    ledger: &mut Ledger<'s>,
     tally: &mut Tally<'s>,
     journal: &mut Journal<D>,
     at: Option<CrashAt>,
@@ -54,11 +51,11 @@ pub(crate) fn restart<'s, D: Disk>(
 ) -> Result<Crashed, CrashNo>
     requires whole { journals.has_failed journal.old ≡ false }
     requires few { IsCrash at }
-    requires together { BelongTogether desks.old ledger.old tally.old journal.old }
+    requires together { BelongTogether desks.old tally.old journal.old }
 
     // what holds of the parts of a host
     ensures setup { all_desks.setup_of desks.new ≡ all_desks.setup_of desks.old }
-    ensures together { BelongTogether desks.new ledger.new tally.new journal.new }
+    ensures together { BelongTogether desks.new tally.new journal.new }
 
     // what is restarted, and what it tells
     ensures due { (past : List Entry) → all_desks.StandsFor desks.old past
@@ -70,8 +67,7 @@ pub(crate) fn restart<'s, D: Disk>(
         → ReadsRest D.seen (journals.disk_of journal.new) (journals.place_of journal.new) rest
         → TalliesOver (all_desks.setup_of desks.old) (journals.carry_before journal.new) rest
         (tallies.carry_in tally.new)) }
-    ensures begins { OnOk result (BeginFrom desks.new ledger.new (journals.used_of journal.new)
-        (tallies.carry_in tally.new)) }
+    ensures begins { OnOk result (Resumes desks.new (tallies.carry_in tally.new)) }
 
     // why it isn't
     ensures fails { IfErr result (JournalFails (all_desks.setup_of desks.old) (due_for desks.old at)
@@ -97,7 +93,7 @@ pub(crate) fn restart<'s, D: Disk>(
     ) {
         Ok(kept) => kept,
         Err(why) => {
-            clear(desks, ledger, tally, journal.used());
+            clear(desks, tally, journal.used());
             return Err(why);
         }
     };
@@ -105,30 +101,25 @@ pub(crate) fn restart<'s, D: Disk>(
         None => {
             let records = journal.used();
             *desks = Desks::resume(setup, replayed.tally.carry());
-            *ledger = Ledger::resume(setup, records, replayed.tally.carry());
             *tally = replayed.tally;
             Ok(Crashed { records, kept })
         }
         Some(index) => {
-            clear(desks, ledger, tally, journal.used());
+            clear(desks, tally, journal.used());
             Err(CrashNo::BadRecord { index })
         }
     }
 }
 
 /// Parts of a host that isn't started again: they have no job, and no records but their number.
-fn clear<'s>(desks: &mut Desks<'s>, ledger: &mut Ledger<'s>, tally: &mut Tally<'s>, many: u32)
+fn clear<'s>(desks: &mut Desks<'s>, tally: &mut Tally<'s>, many: u32)
     ensures setup { all_desks.setup_of desks.new ≡ all_desks.setup_of desks.old }
     ensures unused { AreUnused desks.new }
-    ensures same { ledgers.setup_of ledger.new ≡ all_desks.setup_of desks.old }
-    ensures reserved { ledgers.reserved_of ledger.new ≡ 0 }
-    ensures none { ledgers.applied ledger.new ≡ 0 }
-    ensures same_tally { tallies.setup_of tally.new ≡ all_desks.setup_of desks.old }
+    ensures same { tallies.setup_of tally.new ≡ all_desks.setup_of desks.old }
     ensures tallied { tallies.many_of tally.new ≡ many }
 {
     let setup = desks.setup();
     *desks = Desks::new(setup);
-    *ledger = Ledger::new(setup);
     *tally = Tally::counted(setup, many);
 }
 

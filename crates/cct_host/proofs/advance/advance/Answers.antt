@@ -7,9 +7,8 @@ use Rattle.cct_model.specs.Records.{records}
 use Rattle.cct_disk.specs.Disk.{LeavesOnly}
 use Rattle.cct_journal_carry.specs.Tally as tallies
 use Rattle.cct_journal.specs.Journal as journals
-use Rattle.cct_ledger.specs.Ledger as ledgers
 use Rattle.cct_host.specs.OnDisk.{KeepsRecords, StandsUpTo}
-use Rattle.cct_host.specs.Desks.{due_on, reserved_of, setup_of}
+use Rattle.cct_host.specs.Desks.{due_on, setup_of}
 use Rattle.cct_host.specs.Host.{put_by}
 use Rattle.cct_host.proofs.Fills.{fills_none}
 use Rattle.cct_host.proofs.Putting.{same_moments}
@@ -28,7 +27,7 @@ returns-else-puts_there-clause-advances g c =
     (sym c.if-puts_there.false ∙ c.puts_there.ensures.value) in
     record {
       whole = c.requires.whole;
-      nexts = c.ask.ensures.nexts;
+      nexts = c.ask_there.ensures.nexts;
       counts = subst (λ d. journals.used_of journal ≡ journals.used_of journal + length (put_by d)) (sym none) (omega arith);
       quiet = λ due. refl;
       puts = λ past stands.
@@ -46,9 +45,6 @@ returns-else-puts_there-clause-advances g c =
                 (λ d. LeavesOnly disk.moment disk.left_since (journals.disk_of journal) (journals.disk_of journal)
                 (StandsUpTo setup d (reverse (records past)))) (sym none)
                 (same_moments setup g.met.D.Disk.only_now stood);
-            posts = λ takes stood. subst
-                (λ d. ledgers.StandsFor c.ask.new.ledger (put_by d ++ records past) (reserved_of c.ask.new.desks))
-                (sym no_put) (c.ask.ensures.together.stands (records past) stood);
             adds = λ follow so_far. subst
                 (λ d. tallies.carry_in c.args.tally.now ≡ carry setup (put_by d ++ records past)) (sym no_put) so_far;
           };

@@ -1,38 +1,33 @@
-use Rattle.std.proofs.Common.{◌≡◌, ◌+◌, ◌-◌, ◌≤◌, ◌∷◌, ◌++◌, ◌∙◌, Option, ap, length, refl, reverse, subst, sym, true}
+use Rattle.std.proofs.Common.{◌≡◌, ◌+◌, ◌∷◌, ◌++◌, ◌∙◌, Option, ap, length, refl, reverse, subst, sym, true}
 use Rattle.std.specs.Prelude.{is_some}
 use Rattle.std.specs.Option.{IfSome}
 use Rattle.std.proofs.lemmas.List.{reverse-reverse}
 use Rattle.cct_model.specs.lines.record.Record.{Record}
 use Rattle.cct_model.specs.Carry.{carry}
-use Rattle.cct_model.specs.Following.{all_follow, is_allowed}
+use Rattle.cct_model.specs.Following.{all_follow}
 use Rattle.cct_model.specs.Legal.{due_at}
-use Rattle.cct_model.specs.Money.{freed_by, reserved_at_work}
 use Rattle.cct_model.specs.Records.{records}
 use Rattle.cct_disk.specs.Disk.{LeavesOnly}
 use Rattle.cct_journal_carry.specs.Tally as tallies
 use Rattle.cct_journal.specs.Journal as journals
-use Rattle.cct_ledger.specs.Ledger as ledgers
 use Rattle.cct_host.specs.OnDisk.{KeepsRecords, StandsUpTo}
-use Rattle.cct_host.specs.Desks.{reserved_of, setup_of}
+use Rattle.cct_host.specs.Desks.{setup_of}
 use Rattle.cct_host.specs.Host.{put_by}
 use Rattle.cct_host.proofs.Hosts.{if_failed}
-use Rattle.cct_host.proofs.Money.{allowed_is}
 use Rattle.cct_host.proofs.advance.put_and_go_on.Goals as goal
 
 pub returns-clause-advances : goal.returns-clause-advances
 returns-clause-advances g c =
     let disk = g.D.Disk in
-    let turned = c.go_on.new.desks in
     let written = c.put.new.journal in
     let setup = setup_of c.args.desks.now in
     let put = c.in_ok-put.ensures.puts in
-    let goes = c.go_on.ensures.together in
     let tallied = tallies.setup_of c.args.tally.now in
-    let same = c.requires.together.same_tally in
+    let same = c.requires.together.same in
     let counted = λ (d : Option Record). journals.used_of c.args.journal.now + length (put_by d) in
     record {
       whole = put.whole;
-      nexts = c.go_on.ensures.nexts;
+      nexts = c.next_there.ensures.nexts;
       counts = put.counted ∙ ap counted c.due_there-due.ensures.value;
       quiet = λ none. put.quiet (c.due_there-due.ensures.value ∙ none);
       puts = λ past stands.
@@ -49,16 +44,6 @@ returns-clause-advances g c =
                 (StandsUpTo setup d (reverse (records past)))) c.due_there-due.ensures.value
                 (put.moments setup (reverse (records past)) stood
                 (c.carry.ensures.value ∙ so_far ∙ ap (carry setup) (sym (reverse-reverse (records past)))));
-            posts = λ takes stood.
-                let allowed = allowed_is c.due_there-due.result _ setup (records past) (reserved_at_work setup past)
-                (reserved_of turned) (goes.same ∙ c.requires.together.same)
-                (subst (λ d. IfSome d (λ r. reserved_of turned ≡ reserved_at_work setup past - freed_by setup r))
-                (sym c.due_there-due.ensures.value) (c.go_on.ensures.frees past stands))
-                (subst (λ d. IfSome d (λ r. (freed_by setup r ≤ reserved_at_work setup past)
-                × (is_allowed setup (records past) (reserved_at_work setup past - freed_by setup r) r ≡ true))) (sym due_is)
-                takes) in
-                subst (λ d. ledgers.StandsFor c.enter.new.ledger (put_by d ++ records past) (reserved_of turned)) due_is
-                (c.enter.ensures.posts (records past) (reserved_of turned) allowed (goes.stands (records past) stood));
             adds = λ follow so_far. subst
                 (λ s. tallies.carry_in c.count.new.tally ≡ carry s (put_by (due_at setup past c.args.addr) ++ records past))
                 same
@@ -77,7 +62,6 @@ returns-in_err-put-clause-fails g c =
     (record {
       due = ap is_some (sym c.due_there-due.ensures.value ∙ failed.left.1);
       desks_stay = refl;
-      ledger_stays = refl;
       tally_stays = refl;
       place = failed.place;
       fails = λ past stands. (

@@ -1,4 +1,4 @@
-use Rattle.std.proofs.Common.{◌∙◌, ◌++◌, ◌≡◌, Some, arith, subst, sym}
+use Rattle.std.proofs.Common.{◌∙◌, ◌++◌, ◌≡◌, Some, subst, sym}
 use Rattle.std.specs.Option.{IfSome}
 use Rattle.cct_host.specs.Desks.{setup_of}
 use Rattle.cct_host.specs.Host.{put_by}
@@ -11,9 +11,7 @@ pub returns-in-None-clause-together : goal.returns-in-None-clause-together
 returns-in-None-clause-together g c =
     let over = c.in-Ok.ensures.replayed.each in
     let desks = c.resume.ensures in
-    let ledger = c.resume-in-None.ensures.resumed in
-    free_together c.resume.result c.resume-in-None.result c.lose.new.replay.tally c.lose.new.journal desks.resumes.unused
-    (ledger.setup_is ∙ sym desks.setup) ledger.reserved (omega (arith, ledger.counted, c.used-records.ensures.value))
+    free_together c.resume.result c.lose.new.replay.tally c.lose.new.journal desks.resumes.unused
     (over.2.setup ∙ c.new-replayed.ensures.setup ∙ sym desks.setup) (over.2.counted c.in-None.is ∙ sym over.1)
 
 pub returns-in-None-clause-over : goal.returns-in-None-clause-over
@@ -24,9 +22,8 @@ returns-in-None-clause-over g c rest reads =
 pub returns-in-Some-clause-together : goal.returns-in-Some-clause-together
 returns-in-Some-clause-together g c =
     let parts = c.clear-in-Some.ensures in
-    free_together c.clear-in-Some.new.desks c.clear-in-Some.new.ledger c.clear-in-Some.new.tally c.lose.new.journal
-    parts.unused (parts.same ∙ sym parts.setup) parts.reserved (omega (arith, parts.none))
-    (parts.same_tally ∙ sym parts.setup) (parts.tallied ∙ c.used-in-Some.ensures.value)
+    free_together c.clear-in-Some.new.desks c.clear-in-Some.new.tally c.lose.new.journal parts.unused
+    (parts.same ∙ sym parts.setup) (parts.tallied ∙ c.used-in-Some.ensures.value)
 
 pub returns-in-Some-clause-fails : goal.returns-in-Some-clause-fails
 returns-in-Some-clause-fails g c =
@@ -54,9 +51,8 @@ returns-in-Some-clause-never g c records stands so_far follow fits =
 pub returns-in-Err-clause-together : goal.returns-in-Err-clause-together
 returns-in-Err-clause-together g c =
     let parts = c.clear.ensures in
-    free_together c.clear.new.desks c.clear.new.ledger c.clear.new.tally c.lose.new.journal
-    parts.unused (parts.same ∙ sym parts.setup) parts.reserved (omega (arith, parts.none))
-    (parts.same_tally ∙ sym parts.setup) (parts.tallied ∙ c.used.ensures.value)
+    free_together c.clear.new.desks c.clear.new.tally c.lose.new.journal parts.unused
+    (parts.same ∙ sym parts.setup) (parts.tallied ∙ c.used.ensures.value)
 
 pub returns-in-Err-clause-fails : goal.returns-in-Err-clause-fails
 returns-in-Err-clause-fails g c =

@@ -10,7 +10,7 @@ returns-in-Some-clause-value c =
     let desks = c.args.self.now in
     let setup = desks.setup.now in
     let at = found_at desks c.args.addr c.in-Some.index _ c.requires.found c.in-Some.is in
-    c.worth_of.ensures ∙ ap (coins_of setup c.args.addr) c.coins_reserved.ensures
+    c.worth_of.ensures.value ∙ ap (coins_of setup c.args.addr) c.coins_reserved.ensures.value
     ∙ sym (ap (amount_at_desk setup desks.sale c.args.addr)
     (desk_found setup.devices desks.devices.items _ c.args.addr c.in-Some.index c.index-deref-index.result
     c.deref.ensures.0 c.index-deref-index.is desks.many at.within at.index))
@@ -26,7 +26,7 @@ returns-in-Some-clause-frees c past stands =
     let y : k ≡ get_or ks i k = c.index-deref-index.is ∙ ap (λ ls. get_or ls i k) c.deref.ensures.0 in
     frees_is setup at.device k desks.sale past c.args.addr c.worth_of.result _
     (desk_found setup.devices ks _ c.args.addr i k c.deref.ensures.0 c.index-deref-index.is desks.many at.within at.index)
-    at.addr_is (c.worth_of.ensures ∙ ap (coins_of setup c.args.addr) c.coins_reserved.ensures)
+    at.addr_is (c.worth_of.ensures.value ∙ ap (coins_of setup c.args.addr) c.coins_reserved.ensures.value)
     (desk_sits setup.devices ks i at.device k past at.within at.is y stands.devices)
 
 pub returns-in-None-clause-value : goal.returns-in-None-clause-value

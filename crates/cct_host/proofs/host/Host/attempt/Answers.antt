@@ -20,6 +20,6 @@ returns-clause-fails g c =
 pub returns-clause-between : goal.returns-clause-between
 returns-clause-between g c =
     on_err_weaker c.advance.result
-    (λ fails. put_failed_between c.args.self.now c.args.addr c.advance.new.desks c.advance.new.ledger c.advance.new.tally
+    (λ fails. put_failed_between c.args.self.now c.args.addr c.advance.new.desks c.advance.new.tally
     c.advance.new.journal fails)
     c.advance.ensures.fails

@@ -2,20 +2,12 @@ use Rattle.std.proofs.Common.{◌+◌, ◌≤◌, ◌∙◌, ap, subst, sym}
 use Rattle.std.specs.Option.{option_or}
 use Rattle.cct_model.specs.Exchange.{device_at}
 use Rattle.cct_model.specs.Job.{address_of}
-use Rattle.cct_model.specs.Refusal.{asks_room, first_of, money_in, room_fails, state_refusal, tests_of}
+use Rattle.cct_model.specs.Refusal.{asks_room, first_of, room_fails, state_refusal, tests_of}
 use Rattle.cct_host.specs.Host.{setup_of, capacity_in}
 use Rattle.cct_host.specs.Desks as all_desks
 use Rattle.cct_journal.specs.Journal as journals
-use Rattle.cct_ledger.specs.Ledger as ledgers
-use Rattle.cct_host.proofs.Testing.{first_of_room, money_of_room, room_asked}
+use Rattle.cct_host.proofs.Testing.{first_of_room, room_asked}
 use Rattle.cct_host.proofs.host.Host.room_refusal.Goals as goal
-
-pub returns-clause-affords : goal.returns-clause-affords
-returns-clause-affords g c none =
-    let host = c.args.self.now in
-    subst (λ n. n ≤ ledgers.available_of host.ledger)
-    (ap (money_in (setup_of host)) c.room_tests.ensures ∙ money_of_room (setup_of host) (tests_of c.args.command.now))
-    (c.room_failing.ensures.affords none)
 
 pub returns-clause-fits : goal.returns-clause-fits
 returns-clause-fits g c none puts =

@@ -1,7 +1,8 @@
-use Rattle.std.proofs.Common.{◌∙◌, ap, arith, rules, sym}
+use Rattle.std.proofs.Common.{◌∙◌, ap, rules, subst, sym}
 use Rattle.cct_disk.specs.Laws.{sure}
 use Rattle.cct_journal.specs.declared.place.Place.{Place}
-use Rattle.cct_host.proofs.Begun.{begin_from, begun_empty, resumed_all, resumed_by, resumed_some}
+use Rattle.cct_host.specs.Replayed.{Resumes}
+use Rattle.cct_host.proofs.Begun.{begun_empty, resumed_all, resumed_by, resumed_some}
 use Rattle.cct_host.proofs.Records.{refuses_start}
 use Rattle.cct_host.proofs.Starting.{free_together}
 use Rattle.cct_host.proofs.host.Host.start.Goals as goal
@@ -9,30 +10,23 @@ use Rattle.cct_host.proofs.host.Host.start.Goals as goal
 pub invariant_of-result : goal.invariant_of-result
 invariant_of-result g c =
     let desks = c.resume.ensures in
-    let ledger = c.resume-in-Ok.ensures.resumed in
     let used = ap (λ (p : Place). p.used) c.replay_all.ensures.reads.place in
     record {
-      together = free_together c.resume.result c.resume-in-Ok.result c.in-Ok.tally c.replay_all.new.journal
-          desks.resumes.unused (ledger.setup_is ∙ sym desks.setup) ledger.reserved
-          (omega (arith, ledger.counted, c.used.ensures.value)) (c.in-Ok.ensures.setup ∙ sym desks.setup)
-          (c.in-Ok.ensures.counted ∙ sym used);
+      together = free_together c.resume.result c.in-Ok.tally c.replay_all.new.journal desks.resumes.unused
+          (c.in-Ok.ensures.setup ∙ sym desks.setup) (c.in-Ok.ensures.counted ∙ sym used);
     }
 
 pub returns-in-Ok-clause-begins : goal.returns-in-Ok-clause-begins
 returns-in-Ok-clause-begins g c =
     let used = ap (λ (p : Place). p.used) c.replay_all.ensures.reads.place in
     resumed_some _ c.args.setup.now _ _ _ c.resume.ensures.setup c.in-Ok.ensures.some
-    (begin_from c.resume.result c.resume-in-Ok.result c.args.setup.now c.used.result _ _ _ _ c.resume.ensures.setup
-    c.used.ensures.value c.carry.ensures.value c.carry-in-Ok.ensures.value c.resume.ensures.resumes
-    c.resume-in-Ok.ensures.resumed) used c.args.journal.placed.begins.rightly
+    (subst (Resumes c.resume.result) c.carry.ensures.value c.resume.ensures.resumes) used c.args.journal.placed.begins.rightly
 
 pub returns-in-Ok-clause-resumes : goal.returns-in-Ok-clause-resumes
 returns-in-Ok-clause-resumes g c rest reads =
     let used = ap (λ (p : Place). p.used) c.replay_all.ensures.reads.place in
     resumed_by _ c.args.setup.now _ _ rest c.resume.ensures.setup (c.in-Ok.ensures.over rest reads)
-    (begin_from c.resume.result c.resume-in-Ok.result c.args.setup.now c.used.result _ _ _ _ c.resume.ensures.setup
-    c.used.ensures.value c.carry.ensures.value c.carry-in-Ok.ensures.value c.resume.ensures.resumes
-    c.resume-in-Ok.ensures.resumed) (used ∙ reads.count)
+    (subst (Resumes c.resume.result) c.carry.ensures.value c.resume.ensures.resumes) (used ∙ reads.count)
 
 pub returns-in-Ok-clause-knows : goal.returns-in-Ok-clause-knows
 returns-in-Ok-clause-knows g c records reads first =
@@ -43,9 +37,7 @@ pub returns-in-Ok-clause-fresh : goal.returns-in-Ok-clause-fresh
 returns-in-Ok-clause-fresh g c none =
     let used = ap (λ (p : Place). p.used) c.replay_all.ensures.reads.place in
     begun_empty _ (c.in-Ok.ensures.fresh none)
-    (begin_from c.resume.result c.resume-in-Ok.result c.args.setup.now c.used.result _ _ _ _ c.resume.ensures.setup
-    c.used.ensures.value c.carry.ensures.value c.carry-in-Ok.ensures.value c.resume.ensures.resumes
-    c.resume-in-Ok.ensures.resumed) (used ∙ none)
+    (subst (Resumes c.resume.result) c.carry.ensures.value c.resume.ensures.resumes) (used ∙ none)
 
 pub returns-in-Err-clause-refused : goal.returns-in-Err-clause-refused
 returns-in-Err-clause-refused g c records reads first =
