@@ -5,7 +5,7 @@
    SETUP has setup lines (docs/SCRIPT.md). JOURNAL is a file of at least 2,368 bytes, all 0 or with a journal; its length is kept.
    `echo` where the line gives back what is sent. Standard input has commands of docs/SCRIPT.md, each followed by `do A` with the
    address at which its job runs, and `balance`. Standard output has the lines of docs/TRANSCRIPT.md. It ends with status 0 at the
-   end of its input, with 1 where the journal or the port fails, and with 2 where it can't begin. */
+   end of its input, with 1 where the journal, the port or the output fails, and with 2 where it can't begin. */
 #define _DEFAULT_SOURCE
 #define _POSIX_C_SOURCE 200809L
 #include "litchihull.h"
@@ -18,7 +18,8 @@
 #include <termios.h>
 #include <unistd.h>
 
-enum { MOST_LINE = 256, MOST_STEPS = 4096 };
+/* A job that asks more often than this is left for the next line. */
+enum { MOST_STEPS = 4096 };
 
 typedef struct {
     LhHost host;
@@ -66,16 +67,16 @@ static int put_all(int file, const uint8_t *bytes, size_t count, uint64_t at) {
     return 1;
 }
 
-/* Sends a message, once, and hears what comes up to a silence: the echo, and then a reply. */
-static uint32_t exchange(Machine *machine, const uint8_t *sent, size_t count) {
+/* Sends a message, once, and hears what comes up to a silence: the echo, and then a reply. 0 where the port fails. */
+static int exchange(Machine *machine, const uint8_t *sent, size_t count) {
     uint8_t heard[LH_MOST_HEARD];
     size_t got = machine->echoes ? 0 : count, done = 0;
-    ssize_t came;
+    ssize_t came = 0;
     tcflush(machine->port, TCIFLUSH);
     if (!machine->echoes) memcpy(heard, sent, count);
     while (done < count && (came = write(machine->port, sent + done, count - done)) > 0) done += (size_t)came;
     while (got < sizeof heard && (came = read(machine->port, heard + got, sizeof heard - got)) > 0) got += (size_t)came;
-    return lh_host_heard(&machine->host, heard, got);
+    return lh_host_heard(&machine->host, heard, got) == LH_OK && done == count && came >= 0;
 }
 
 /* Makes a call on the journal. What isn't sure to be kept is lost. */
@@ -102,7 +103,7 @@ static int serve(Machine *machine, uint8_t address) {
             if (fflush(stdout) != 0 || lh_host_taken(&machine->host) != LH_OK) return 0;
             break;
         case LH_SEND:
-            if (exchange(machine, out, ask.count) != LH_OK) return 0;
+            if (!exchange(machine, out, ask.count)) return 0;
             break;
         case LH_IDLE:
             return 1;
@@ -135,36 +136,47 @@ static int take_line(Machine *machine, const char *line, size_t count) {
 /* Opens all, and starts the host over what the journal has. */
 static int begin(Machine *machine, char **words) {
     size_t text_count = 0, part_count = 0;
-    uint32_t where = 0, code = LH_NO_MEMORY;
+    uint32_t where = 0, code = LH_BAD_POINTER;
     int setup = open(words[1], O_RDONLY);
     uint8_t *text = whole(setup, &text_count), *part;
     machine->port = open_port(words[2]);
     machine->journal = open(words[3], O_RDWR);
     part = whole(machine->journal, &part_count);
-    if (text != NULL && part != NULL && machine->port >= 0)
-        code = lh_host_new(text, text_count, part, part_count, &machine->host, &where);
-    if (code != LH_OK) fprintf(stderr, "no host: code %lu, at %lu\n", (unsigned long)code, (unsigned long)where);
+    if (text == NULL || part == NULL || machine->port < 0) {
+        fprintf(stderr, "no host: SETUP, PORT or JOURNAL can't be opened\n");
+    } else if ((code = lh_host_new(text, text_count, part, part_count, &machine->host, &where)) != LH_OK) {
+        fprintf(stderr, "no host: code %lu, at %lu\n", (unsigned long)code, (unsigned long)where);
+    }
     free(text);
     free(part);
     close(setup);
     return code == LH_OK;
 }
 
+/* Does what all lines of standard input say. */
+static int work(Machine *machine) {
+    char *line = NULL;
+    size_t room = 0;
+    ssize_t count;
+    int goes_on = serve(machine, 1);
+    while (goes_on && (count = getline(&line, &room, stdin)) > 0) {
+        if (line[count - 1] == '\n') line[--count] = 0;
+        goes_on = take_line(machine, line, (size_t)count);
+    }
+    free(line);
+    return goes_on;
+}
+
 int main(int count, char **words) {
     Machine machine;
-    char line[MOST_LINE];
-    int goes_on;
+    int is_done;
     if (count < 4) {
         fprintf(stderr, "controller SETUP PORT JOURNAL [echo]\n");
         return 2;
     }
     machine.echoes = count > 4 && strcmp(words[4], "echo") == 0;
     if (!begin(&machine, words)) return 2;
-    goes_on = serve(&machine, 1);
-    while (goes_on && fgets(line, sizeof line, stdin) != NULL) {
-        line[strcspn(line, "\n")] = 0;
-        goes_on = take_line(&machine, line, strlen(line));
-    }
+    is_done = work(&machine);
     lh_host_free(&machine.host);
-    return goes_on ? 0 : 1;
+    return is_done ? 0 : 1;
 }

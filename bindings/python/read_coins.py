@@ -15,17 +15,23 @@ import litchihull as lh
 TRIES, PAUSE = 3, 0.15
 
 
+def open_port(path: str) -> int:
+    """A raw line at 9600 baud, 8 bits, no parity, whose read gives up after a fifth of a second."""
+    port = os.open(path, os.O_RDWR | os.O_NOCTTY)
+    tty.setraw(port)
+    mode = termios.tcgetattr(port)
+    mode[2] |= termios.CLOCAL | termios.CREAD
+    mode[4] = mode[5] = termios.B9600
+    mode[6][termios.VMIN], mode[6][termios.VTIME] = 0, 2
+    termios.tcsetattr(port, termios.TCSANOW, mode)
+    return port
+
+
 class Acceptor:
     """An acceptor on a line."""
 
     def __init__(self, library: lh.Library, path: str, address: int, echoes: bool):
-        self.library, self.address, self.echoes = library, address, echoes
-        self.port = os.open(path, os.O_RDWR | os.O_NOCTTY)
-        tty.setraw(self.port)
-        mode = termios.tcgetattr(self.port)
-        mode[4] = mode[5] = termios.B9600
-        mode[6][termios.VMIN], mode[6][termios.VTIME] = 0, 2
-        termios.tcsetattr(self.port, termios.TCSANOW, mode)
+        self.library, self.address, self.echoes, self.port = library, address, echoes, open_port(path)
 
     def hear(self, echo: int) -> bytes:
         """An echo of so many bytes and what follows it, up to a whole message or a silence."""

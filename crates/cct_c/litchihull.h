@@ -1,13 +1,17 @@
 /* litchihull.h: ccTalk in a program of your own (ccTalk Generic Specification 4, parts 1 to 3). Link libcct_c.a.
 
-   Every call answers LH_OK, or why it did nothing: then what it would have written is as it was. Each looks at null, at
-   counts, at room and at every code, address and number. What no call can see is the caller's:
-   - a pointer that isn't null points to as many bytes as the count says, or to one whole struct, which nothing else reads or
-     writes meanwhile, and what is written to overlaps nothing else that is passed;
-   - a core or a host is used on one thread at a time, and no copy of an LhCore or LhHost after it was freed;
+   Every call answers LH_OK, or why it did nothing: then what it would have written is as it was. Where something happens under
+   another code (LH_MORE, LH_DAMAGED of a framer, LH_SILENCE and LH_NOTHING of a core), the call says so. Each looks at null,
+   at counts, at room and at every code, address and number. What no call can see is the caller's:
+   - a pointer that isn't null points to as many bytes as the count says, or to one whole struct, aligned for its type, which
+     nothing else reads or writes meanwhile, and what is written to overlaps nothing else that is passed;
+   - a call of a core or a host ends before the next one of the same begins, on whatever thread or in whatever signal handler;
+     no copy of an LhCore or LhHost is used after it was freed, and none that wasn't made;
    - for these alone, `rattle_alloc` and `rattle_dealloc` (end of this file).
-   A null pointer with a count of 0 is no bytes. The names with `raw` look at no pointer: other languages call them with
-   pointers that their own layer knows.
+   A null pointer with a count of 0 is no bytes. The library keeps no pointer that it was passed, and has no other state than
+   its cores and hosts: calls of two of them may go side by side where `rattle_alloc` may. No call waits, and none reads a
+   clock, a file or a port. The names with `raw` look at no pointer: other languages call them with pointers that their own
+   layer knows.
 
    Numbers of several bytes go low byte first on the wire; the structs have them as numbers. */
 #ifndef LITCHIHULL_H
@@ -317,8 +321,8 @@ static inline uint32_t lh_framer_feed(LhFramer *framer, uint8_t byte) {
     return framer == NULL ? (uint32_t)LH_BAD_POINTER : lh_raw_framer_feed(framer, byte);
 }
 
-/* Makes a device core as after power-up; it copies the settings. LH_BAD_POINTER, LH_BAD_ADDRESS, LH_BAD_CHECK, LH_BAD_SERIAL,
-   LH_BAD_TEXT, LH_BAD_COUNT, LH_BAD_ID, LH_BAD_FAMILY, LH_NO_MEMORY. */
+/* Makes a device core as after power-up; it copies the settings. What `core` was before is lost, and not freed. LH_BAD_POINTER,
+   LH_BAD_ADDRESS, LH_BAD_CHECK, LH_BAD_SERIAL, LH_BAD_TEXT, LH_BAD_COUNT, LH_BAD_ID, LH_BAD_FAMILY, LH_NO_MEMORY. */
 static inline uint32_t lh_core_new(const LhSettings *settings, LhCore *core) {
     LhHandle kept, made;
     uint32_t code;
@@ -337,7 +341,8 @@ static inline uint32_t lh_core_new(const LhSettings *settings, LhCore *core) {
     return LH_OK;
 }
 
-/* Frees a core, and then its settings, which it borrowed. Nothing happens to one that was freed. LH_BAD_POINTER. */
+/* Frees a core, and then its settings, which it borrowed. Nothing happens to one that was freed: LH_BAD_POINTER, as each call
+   of it then answers. */
 static inline uint32_t lh_core_free(LhCore *core) {
     if (core == NULL || core->core.at == NULL) return LH_BAD_POINTER;
     lh_raw_free(core->core);
@@ -354,14 +359,15 @@ static inline uint32_t lh_core_byte(LhCore *core, uint8_t byte) {
 }
 
 /* A gap: the device acts on the message that the bytes since the last one are, and writes its answer to the front of `out`,
-   with room for LH_MOST bytes, and its length to `written`. LH_SILENCE where it doesn't answer. LH_NO_ROOM: no gap then.
-   LH_BAD_POINTER. */
+   with room for LH_MOST bytes, and its length to `written`. LH_SILENCE where it doesn't answer, as to a message for another
+   address or a damaged one: the bytes are gone then too. LH_NO_ROOM: no gap then. LH_BAD_POINTER. */
 static inline uint32_t lh_core_gap(LhCore *core, uint8_t *out, size_t room, size_t *written) {
     if (core == NULL || core->core.at == NULL || !lh_may_write(out, room, written)) return LH_BAD_POINTER;
     return lh_raw_core_gap(core->core, out, room, written, &core->core.at);
 }
 
-/* The device hears bytes and then a gap, as lh_core_byte and lh_core_gap tell; nothing happens without room. */
+/* The device hears bytes and then a gap, as lh_core_byte and lh_core_gap tell; nothing happens without room. LH_SILENCE,
+   LH_NO_ROOM, LH_BAD_POINTER. */
 static inline uint32_t lh_core_hear(LhCore *core, const uint8_t *bytes, size_t count, uint8_t *out, size_t room,
                                     size_t *written) {
     size_t i;
@@ -406,8 +412,9 @@ static inline uint32_t lh_core_reset(LhCore *core) {
 
 /* Makes a host of the machine that `text_count` bytes of setup lines say (docs/SCRIPT.md), over the `part_count` bytes that its
    part holds now: a journal, with which it goes on, or zeros. It copies both. The part keeps its length from then on; where it
-   was all 0, the first calls that are asked for make the journal. `where` is told the number of a refused line, from 1, or the
-   index of a bad record, from 0. LH_BAD_POINTER, LH_BAD_SETUP, LH_SMALL_PART, LH_BAD_PART, LH_BAD_RECORD, LH_NO_MEMORY. */
+   was all 0, the first calls that are asked for make the journal. `where` is told the number of a refused line, from 1, under
+   LH_BAD_SETUP, or the index of a bad record, from 0, under LH_BAD_RECORD. What `host` was before is lost, and not freed.
+   LH_BAD_POINTER, LH_SMALL_PART, LH_BAD_PART, LH_NO_MEMORY. */
 static inline uint32_t lh_host_new(const uint8_t *text, size_t text_count, const uint8_t *part, size_t part_count,
                                    LhHost *host, uint32_t *where) {
     LhHandle kept, made;
@@ -427,7 +434,8 @@ static inline uint32_t lh_host_new(const uint8_t *text, size_t text_count, const
     return LH_OK;
 }
 
-/* Frees a host, and then its machine, which it borrowed. Nothing happens to one that was freed. LH_BAD_POINTER. */
+/* Frees a host, and then its machine, which it borrowed, at any moment: what it had asked for is then not to be done. Nothing
+   happens to one that was freed: LH_BAD_POINTER, as each call of it then answers. */
 static inline uint32_t lh_host_free(LhHost *host) {
     if (host == NULL || host->host.at == NULL) return LH_BAD_POINTER;
     lh_raw_free(host->host);
@@ -437,27 +445,29 @@ static inline uint32_t lh_host_free(LhHost *host) {
     return LH_OK;
 }
 
-/* Tells what is to be done next, at an address if nothing else is due: calls on the part come first, in their order, then lines
-   to be taken. `out` has room for LH_MOST_ASKED bytes; with less nothing is asked: LH_NO_ROOM. A message is told once.
-   LH_BAD_POINTER. */
+/* Tells what is to be done next. At any address calls on the part come first, in their order, then lines to be taken, then
+   LH_HEAR for a message that was told; else it is what the job at `address` needs: a device's, 0 for a scan, 1 for a sale,
+   which sends nothing. A call and a line are told until they are answered, a message once. `out` has room for LH_MOST_ASKED
+   bytes; with less nothing is asked: LH_NO_ROOM. LH_BAD_POINTER. */
 static inline uint32_t lh_host_ask(LhHost *host, uint8_t address, LhAsk *ask, uint8_t *out, size_t room) {
     if (host == NULL || host->host.at == NULL || ask == NULL || out == NULL || !lh_may_be(out, room)) return LH_BAD_POINTER;
     return lh_raw_host_ask(host->host, address, ask, out, room, &host->host.at);
 }
 
-/* The write or the sync that was asked for was made. LH_NOT_NOW, LH_BAD_POINTER. */
+/* The write or the sync that was asked for was made. LH_NOT_NOW where none is due, LH_BAD_POINTER. */
 static inline uint32_t lh_host_done(LhHost *host) {
     if (host == NULL || host->host.at == NULL) return LH_BAD_POINTER;
     return lh_raw_host_done(host->host, &host->host.at);
 }
 
-/* It failed, or it isn't known whether it was made: the host is over. LH_BAD_POINTER. */
+/* It failed, or it isn't known whether it was made: the host is over, at any moment. Then lh_host_ask tells LH_ENDED, and
+   lh_host_totals and lh_host_free do as before; the others answer LH_NOT_NOW. LH_BAD_POINTER. */
 static inline uint32_t lh_host_lost(LhHost *host) {
     if (host == NULL || host->host.at == NULL) return LH_BAD_POINTER;
     return lh_raw_host_lost(host->host, &host->host.at);
 }
 
-/* The line that was asked to be taken was taken. LH_NOT_NOW, LH_BAD_POINTER. */
+/* The line that was asked to be taken was taken. LH_NOT_NOW where none is due, LH_BAD_POINTER. */
 static inline uint32_t lh_host_taken(LhHost *host) {
     if (host == NULL || host->host.at == NULL) return LH_BAD_POINTER;
     return lh_raw_host_taken(host->host, &host->host.at);
@@ -471,22 +481,23 @@ static inline uint32_t lh_host_heard(LhHost *host, const uint8_t *bytes, size_t 
     return lh_raw_host_heard(host->host, lh_bytes(bytes), count, &host->host.at);
 }
 
-/* The operator gives a command (docs/SCRIPT.md), a line without its line feed. Whether it is taken, a line says that is then to
-   be taken. LH_BAD_COMMAND, LH_NOT_NOW, LH_BAD_POINTER. */
+/* The operator gives a command (docs/SCRIPT.md), a line without its line feed. A line that is then to be taken says whether it
+   is accepted, or why not. LH_BAD_COMMAND where it is no command, as other words of docs/LIVE.md; LH_NOT_NOW while a call, a
+   line or a reply is due, at whatever address; LH_BAD_POINTER. */
 static inline uint32_t lh_host_command(LhHost *host, const uint8_t *line, size_t count) {
     if (host == NULL || host->host.at == NULL || !lh_may_be(line, count)) return LH_BAD_POINTER;
     return lh_raw_host_command(host->host, lh_bytes(line), count, &host->host.at);
 }
 
-/* What the operator has by now. LH_BAD_POINTER. */
+/* What the operator has by now: by the records that were put, and those of which the calls are still due. LH_BAD_POINTER. */
 static inline uint32_t lh_host_totals(LhHost *host, LhTotals *totals) {
     if (host == NULL || host->host.at == NULL || totals == NULL) return LH_BAD_POINTER;
     return lh_raw_host_totals(host->host, totals, &host->host.at);
 }
 
-/* What the library asks of the program, where it makes cores or hosts; the parts alone ask nothing. bindings/c/memory.c has both over
-   malloc. A block of `size` bytes, which may be 0, aligned to `align`, 1 to 16; where there is none `ok` is 0, and `at` points
-   to any byte. */
+/* What the library asks of the program, where it makes cores or hosts; the parts alone ask nothing. bindings/c/memory.c has
+   both over malloc. A block of `size` bytes, which may be 0, aligned to `align`, 1 to 16; where there is none `ok` is 0, and
+   `at` points to any byte. */
 typedef struct {
     uint8_t ok;
     void *at;

@@ -1,12 +1,16 @@
-//! The proved parts of Litchihull for Rust: checks, messages, a framer and device cores. litchihull.h says more of each call.
+//! The proved parts of Litchihull for Rust: the host, checks, messages, a framer and device cores. litchihull.h says more of
+//! each call.
 
+mod host;
+mod owned;
 mod raw;
 
-pub use raw::{Event, Reply, Settings};
+pub use host::{Ask, Host, NoHost, MOST_ASKED, MOST_HEARD};
+pub use raw::{Event, Reply, Settings, Totals};
 
-use raw::{Frame, Framer as RawFramer, Handle, Opaque};
+use owned::Owned;
+use raw::{Frame, Framer as RawFramer};
 use std::fmt;
-use std::ptr::null_mut;
 
 /// The most bytes of a message.
 pub const MOST: usize = 260;
@@ -150,74 +154,55 @@ impl Framer {
 }
 
 /// A device core. It stays on its thread.
-pub struct Core {
-    core: Handle,
-    settings: Handle,
-}
+pub struct Core(Owned);
 
 impl Core {
     /// A device as after power-up.
     pub fn new(settings: &Settings) -> Result<Core, Refused> {
-        let (mut kept, mut made) = (Handle { at: null_mut() }, Handle { at: null_mut() });
-        checked(unsafe { raw::lh_raw_settings_new(settings, &mut kept.at) })?;
-        let code = unsafe { raw::lh_raw_core_new(kept, &mut made.at) };
-        if code != 0 {
-            unsafe { raw::lh_raw_free(kept) };
-            return Err(Refused(code));
-        }
-        Ok(Core { core: made, settings: kept })
+        let owned = Owned::new(
+            |out| unsafe { raw::lh_raw_settings_new(settings, out) },
+            |kept, out| unsafe { raw::lh_raw_core_new(kept, out) },
+        );
+        owned.map(Core)
     }
 
     /// It hears one byte more.
     pub fn byte(&mut self, byte: u8) {
-        let _ = self.call(|core, back| unsafe { raw::lh_raw_core_byte(core, byte, back) });
+        let _ = self.0.call(|core, back| unsafe { raw::lh_raw_core_byte(core, byte, back) });
     }
 
     /// A gap: its answer, at the front of `out`, or none. `out` has room for 260 bytes.
     pub fn gap<'o>(&mut self, out: &'o mut [u8; MOST]) -> Option<&'o [u8]> {
         let mut written = 0;
         let (at, room) = (out.as_mut_ptr(), out.len());
-        self.call(|core, back| unsafe { raw::lh_raw_core_gap(core, at, room, &mut written, back) }).ok()?;
+        self.0.call(|core, back| unsafe { raw::lh_raw_core_gap(core, at, room, &mut written, back) }).ok()?;
         Some(&out[..written])
     }
 
     /// A coin or a bill is put in: the sorter path of a coin that is accepted, 0 of a bill that is held.
     pub fn put(&mut self, place: u8) -> Result<u8, Refused> {
         let mut path = 0;
-        self.call(|core, back| unsafe { raw::lh_raw_core_put(core, place, &mut path, back) })?;
+        self.0.call(|core, back| unsafe { raw::lh_raw_core_put(core, place, &mut path, back) })?;
         Ok(path)
     }
 
     /// An object that is no coin is put in.
     pub fn alien(&mut self) -> Result<(), Refused> {
-        self.call(|core, back| unsafe { raw::lh_raw_core_alien(core, back) })
+        self.0.call(|core, back| unsafe { raw::lh_raw_core_alien(core, back) })
     }
 
     /// A coin falls out of a hopper.
     pub fn fall(&mut self) -> Result<(), Refused> {
-        self.call(|core, back| unsafe { raw::lh_raw_core_fall(core, back) })
+        self.0.call(|core, back| unsafe { raw::lh_raw_core_fall(core, back) })
     }
 
     /// A coin is stuck in a hopper.
     pub fn jam(&mut self) -> Result<(), Refused> {
-        self.call(|core, back| unsafe { raw::lh_raw_core_jam(core, back) })
+        self.0.call(|core, back| unsafe { raw::lh_raw_core_jam(core, back) })
     }
 
     /// It starts again as after power-up.
     pub fn reset(&mut self) {
-        let _ = self.call(|core, back| unsafe { raw::lh_raw_core_reset(core, back) });
-    }
-
-    fn call(&mut self, call: impl FnOnce(Handle, *mut *mut Opaque) -> u32) -> Result<(), Refused> {
-        checked(call(self.core, &mut self.core.at))
-    }
-}
-
-impl Drop for Core {
-    fn drop(&mut self) {
-        unsafe {
-            raw::lh_raw_free(self.core);
-            raw::lh_raw_free(self.settings);
-        }
+        let _ = self.0.call(|core, back| unsafe { raw::lh_raw_core_reset(core, back) });
     }
 }

@@ -1,4 +1,4 @@
-//! The calls of litchihull.h as they are, and the memory that cores ask for.
+//! The calls of litchihull.h as they are, and the memory that cores and hosts ask for.
 
 use std::ffi::c_void;
 
@@ -66,6 +66,25 @@ pub struct Settings {
     pub ids: [[u8; 6]; 16],
 }
 
+/// What a host asks for.
+#[repr(C)]
+#[derive(Default)]
+pub struct RawAsk {
+    pub(crate) at: u64,
+    pub(crate) count: usize,
+    pub(crate) what: u8,
+}
+
+/// What the operator has, in units of value.
+#[repr(C)]
+#[derive(Clone, Copy, Debug, Default, PartialEq, Eq)]
+pub struct Totals {
+    pub available: u64,
+    pub reserved: u64,
+    pub paid: u64,
+    pub sold: u64,
+}
+
 #[repr(C)]
 pub struct Opaque {
     none: u8,
@@ -104,6 +123,19 @@ extern "C" {
     pub fn lh_raw_core_fall(core: Handle, back: *mut *mut Opaque) -> u32;
     pub fn lh_raw_core_jam(core: Handle, back: *mut *mut Opaque) -> u32;
     pub fn lh_raw_core_reset(core: Handle, back: *mut *mut Opaque) -> u32;
+    pub fn lh_raw_machine_new(text: *const u8, count: usize, line: *mut u32, out: *mut *mut Opaque) -> u32;
+    #[rustfmt::skip]
+    pub fn lh_raw_host_new(machine: Handle, part: *const u8, count: usize, index: *mut u32,
+        out: *mut *mut Opaque) -> u32;
+    #[rustfmt::skip]
+    pub fn lh_raw_host_ask(host: Handle, address: u8, ask: *mut RawAsk, out: *mut u8, room: usize,
+        back: *mut *mut Opaque) -> u32;
+    pub fn lh_raw_host_done(host: Handle, back: *mut *mut Opaque) -> u32;
+    pub fn lh_raw_host_lost(host: Handle, back: *mut *mut Opaque) -> u32;
+    pub fn lh_raw_host_taken(host: Handle, back: *mut *mut Opaque) -> u32;
+    pub fn lh_raw_host_heard(host: Handle, bytes: *const u8, count: usize, back: *mut *mut Opaque) -> u32;
+    pub fn lh_raw_host_command(host: Handle, line: *const u8, count: usize, back: *mut *mut Opaque) -> u32;
+    pub fn lh_raw_host_totals(host: Handle, totals: *mut Totals, back: *mut *mut Opaque) -> u32;
     pub fn lh_raw_free(handle: Handle);
 
     fn malloc(size: usize) -> *mut c_void;
@@ -119,7 +151,7 @@ pub struct Tried {
 
 static mut NOTHING: u8 = 0;
 
-/// Memory for cores. malloc aligns to 16.
+/// Memory for cores and hosts. malloc aligns to 16.
 #[no_mangle]
 pub extern "C" fn rattle_alloc(size: usize, align: usize) -> Tried {
     let at = unsafe { malloc(if size > 0 { size } else { align }) };
