@@ -109,7 +109,7 @@ impl Machine {
             return Ok(());
         }
         match self.host.command(line.as_bytes()) {
-            Err(Refused(31)) => {
+            Err(Refused::BAD_COMMAND) => {
                 eprintln!("refused: {line}");
                 Ok(())
             }

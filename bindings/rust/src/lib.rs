@@ -45,6 +45,13 @@ pub enum Form {
 #[derive(Clone, Copy, Debug, PartialEq, Eq)]
 pub struct Refused(pub u32);
 
+impl Refused {
+    /// The line is no command.
+    pub const BAD_COMMAND: Refused = Refused(31);
+    /// Something else is due first: `Host::ask` says what.
+    pub const NOT_NOW: Refused = Refused(32);
+}
+
 impl fmt::Display for Refused {
     fn fmt(&self, f: &mut fmt::Formatter<'_>) -> fmt::Result {
         write!(f, "code {} of litchihull.h", self.0)
