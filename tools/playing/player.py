@@ -56,10 +56,15 @@ class Writes:
 
     def __init__(self, notes):
         self.writes = []
-        while notes:
-            place, size, call = struct.unpack('3q', notes[:24])
-            self.writes.append((place, notes[24:24 + size], call))
-            notes = notes[24 + size:]
+        at = 0
+        while at < len(notes):
+            place, size, call = struct.unpack_from('3q', notes, at)
+            at += 24 + size
+            self.writes.append((place, notes[at - size:at], call))
+
+    def leave_out(self, calls):
+        """Takes away what the first so many calls wrote."""
+        self.writes = [each for each in self.writes if each[2] > calls]
 
     def made(self, call):
         """Whether a call wrote bytes, whole or torn."""
