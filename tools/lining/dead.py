@@ -140,3 +140,41 @@ def absent(programs: dict[str, Path], short: bool) -> None:
          (acceptors[0].accepts, 0))
     want("two of 32 are absent: the exit status", host.end(), 0)
     line.close()
+
+
+def polled(host: Host, count: int) -> list[list[str]]:
+    """What is written at each of so many polls."""
+    return [host.ask("poll") for _ in range(count)]
+
+
+def asked(polls: list[list[str]], *addresses: int) -> list[int]:
+    """How many exchanges with one of these addresses each poll makes."""
+    fronts = tuple(f"wire {address} " for address in addresses)
+    return [sum(line.startswith(fronts) for line in lines) for lines in polls]
+
+
+def left_alone(programs: dict[str, Path], short: bool) -> None:
+    """Two acceptors whose epochs run fall silent. No poll makes more than one try there, and the healthy one is read in each but
+    those that begin with a silent try. After a job ended for want of an answer its device is left alone for sixteen polls, unless
+    a command asks at once."""
+    acceptors = [Acceptor(address) for address in (HEALTHY, 4, 5)]
+    line = Line(programs["cct_live"], [*acceptors, Hopper(3)])
+    host = line.start("--answer", "2")
+    want("left alone: a new journal", host.first(), "made 0 0 0")
+    for acceptor in acceptors:
+        want("left alone: start", start(host, acceptor.address)[-1], f"started {acceptor.address}")
+    acceptors[1].is_dead = True
+    polls = polled(host, 40)
+    ended = next(number for number, lines in enumerate(polls) if "noanswer 4" in lines)
+    tries = asked(polls, 4)
+    want("one is silent: sixteen polls without it", tries[ended + 1:ended + 18], 16 * [0] + [1])
+    host.ask("ident 4")
+    want("one is silent: a command asks at once", asked(polled(host, 1), 4), [1])
+    acceptors[2].is_dead = True
+    polls = polled(host, 60)
+    want("two are silent: the tries of a poll", max(asked(polls, 4, 5)), 1)
+    want("two are silent: how many jobs end", [sum(text in lines for lines in polls) >= 2 for text in ("noanswer 4", "noanswer 5")],
+         [True, True])
+    want("two are silent: the third is read", sum(f"clean {HEALTHY}" in lines for lines in polls) >= 59, True)
+    want("left alone: the exit status", host.end(), 0)
+    line.close()

@@ -203,3 +203,44 @@ def made_anew(line: Line, what: str, setup: str) -> None:
     line.write_setup(SETUP.replace("1003", "1004"))
     refused(f"{what}: the journal has a setup", line, line.words(), ["protocol 1", "othersetup 2 value"]
             if setup != SETUP else ["protocol 1", "othersetup 3 serial"], 13)
+
+
+# Setups of each kind of device, check and line, with the least and the greatest numbers; and one of 32 devices.
+KEPT = (
+    "begin\n",
+    "acceptor 2 simple 0 0\nbegin\n",
+    "acceptor 255 crc 16777215 16777215\nvalue 255 1 1 !!!!!!\nvalue 255 16 1000000 ~~~~~~\nbegin\n",
+    "bills 40 simple 123456 7\nvalue 40 3 500 EU0005\nvalue 40 4 1000 EU0010\nbegin\n",
+    "hopper 3 simple 197121 0 10\nhopper 4 crc 1 16777215 1000000\nbegin\n",
+    "hopper 8 crc 9 0 1\ntexts 8 M PRODUCT SOFTWARE 123456789012345678901234\nbegin\n",
+    "acceptor 7 simple 1 0\nvalue 7 9 20 EU020A\ntexts 7 A B C D\nhopper 3 crc 2 0 10\n"
+    "bills 5 crc 3 0\nvalue 5 2 500 EU0005\ntexts 5 E F G H\nbegin\n",
+    "".join(f"bills {address} crc 1 0\n" for address in range(2, 34)) + "begin\n")
+
+
+def copies(programs: dict[str, Path], short: bool) -> None:
+    """A setup is kept as its lines, and read back by the next life."""
+    line = Line(programs["cct_live"], [])
+    for number, text in enumerate(KEPT):
+        line.write_setup(text)
+        for first in ("made 0 0 0", "found 0 0 0"):
+            words = [line.program, "./setup", "./port", "--journal", f"journal{number}", "--echo", "no", "--answer", "2"]
+            done = subprocess.run(words, cwd=line.folder, input="end\n", capture_output=True, text=True)
+            want(f"{text}: {first}", (done.stdout.splitlines()[-1], done.returncode), (first, 0))
+            want(f"{text}: it is kept", Path(line.folder, f"journal{number}.setup").read_text(), text)
+    line.close()
+
+
+def cut_copies(programs: dict[str, Path], short: bool) -> None:
+    """A setup that was cut off, or goes on after its end, isn't taken for one."""
+    line = a_line(programs)
+    with_a_coin(line)
+    beside = Path(line.folder, "journal.setup")
+    whole = beside.read_text()
+    cuts = {whole[:count]: whole[:count].count("\n") + 1 for count in range(1, len(whole))}
+    lines = whole.count("\n")
+    wrong = {whole + "\n": lines, whole + "end\n": lines, whole.replace(" 10\n", " 0\n"): 3, whole.removesuffix("begin\n"): lines}
+    for text, number in (cuts | wrong).items():
+        beside.write_text(text)
+        refused(f"a copy {text!r}", line, line.words(), ["protocol 1", f"setupbad {number}"], 13)
+    line.close()

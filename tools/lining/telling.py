@@ -145,6 +145,7 @@ def states(programs: dict[str, Path], short: bool) -> None:
     want("a state: the order is settled", [text for text in agree("a settled order") if text.startswith("order")], [])
     Path(line.folder, "journal").rename(Path(line.folder, "away"))
     want("a state without the file", host.state(), ["state unread"])
+    want("an order without the file", host.told("order 7"), ["order 7 unread"])
     Path(line.folder, "away").rename(Path(line.folder, "journal"))
     agree("a state of the file that came back")
     want("states: the exit status", host.end(), 0)
