@@ -1,6 +1,5 @@
 //! What a host does over such a line, and what came of it.
-ghost use Rattle.std.specs.Prelude.{◌≡◌, ◌≤◌, false, IfOk, OnOk};
-ghost use Rattle.cct_model.specs.Device.{IsSound, IsSoundBody, IsWord};
+ghost use Rattle.std.specs.Prelude.{◌≡◌, false, IfOk, OnOk};
 ghost use Rattle.cct_model.specs.Setup.{IsSoundSetup};
 ghost use Rattle.cct_host.specs.Host.{has_failed};
 
@@ -8,12 +7,12 @@ use crate::account::{Account, raise};
 use crate::wire::{HostEnd, Late, Wire};
 use arrayvec::ArrayVec;
 use cct_disk::MemDisk;
+use cct_edge::MemSource;
 use cct_host::Host;
 use cct_journal::Journal;
 use cct_live_port::{Options, Port};
-use cct_model::{
-    COIN_PLACES, CheckKind, Command, DeviceBody, DeviceSetup, Devices, Name, Setup, Texts,
-};
+use cct_model::{Command, Setup};
+use cct_script::read_setup;
 use std::alloc::Global;
 use std::cell::RefCell;
 use std::test::Fail;
@@ -34,69 +33,30 @@ pub(crate) enum Step {
     Restart,
 }
 
-/// A text of one character.
-fn name(character: u8) -> Name
-    requires low { 0x21 ≤ character }
-    requires high { character ≤ 0x7e }
-    ensures { IsWord result }
-{
-    let mut name = Name::new();
-    name.push(character);
-    name
-}
+/// Acceptors at 2 and 5, and hoppers at 3 and 4, all under the CRC, each with other texts.
+const SETUP: &[u8] = b"\
+acceptor 2 crc 1 0
+value 2 1 100 EU100A
+texts 2 A A A A
+hopper 3 crc 1 0 10
+texts 3 B B B B
+hopper 4 crc 1 0 10
+texts 4 C C C C
+acceptor 5 crc 1 0
+value 5 1 100 EU100A
+texts 5 D D D D
+begin
+";
 
-/// A device under the CRC at an address, whose texts are this character.
-fn device(addr: u8, character: u8, body: DeviceBody) -> DeviceSetup
-    requires low { 2 ≤ addr }
-    requires first { 0x21 ≤ character }
-    requires last { character ≤ 0x7e }
-    requires body { IsSoundBody body }
-    ensures sound { IsSound result }
-    ensures addr { result.addr ≡ addr }
+/// The devices of a day.
+pub(crate) fn setup(alloc: Global) -> Result<Setup, Fail>
+    ensures { IfOk result IsSoundSetup }
 {
-    DeviceSetup {
-        addr,
-        kind: CheckKind::Crc,
-        serial: 1,
-        texts: Texts {
-            maker: name(character),
-            product: name(character),
-            software: name(character),
-            build: name(character),
-        },
-        named: true,
-        body,
+    let mut lines = MemSource::new(SETUP.to_vec(alloc)?, 100, Vec::new(alloc));
+    match read_setup(&mut lines) {
+        Ok(setup) => Ok(setup),
+        Err(_) => Err(Fail::from("the setup is refused")),
     }
-}
-
-/// What an acceptor is whose coins are worth 100.
-fn acceptor() -> DeviceBody
-    ensures { IsSoundBody result }
-{
-    DeviceBody::Acceptor {
-        accepts: 0,
-        values: [100; COIN_PLACES],
-        ids: [[b'5'; 6]; COIN_PLACES],
-    }
-}
-
-/// What a hopper is whose coins are worth 10, of which none was paid yet.
-fn hopper() -> DeviceBody
-    ensures { IsSoundBody result }
-{
-    DeviceBody::Hopper { life: 0, value: 10 }
-}
-
-/// Acceptors at 2 and 5, and hoppers at 3 and 4, all under the CRC, each with another text.
-pub(crate) fn setup() -> Setup
-    ensures { IsSoundSetup result }
-{
-    let mut devices = Devices::new();
-    devices.push(device(2, b'A', acceptor()));
-    devices.push(device(3, b'B', hopper()));
-    devices.push(device(4, b'C', hopper()));
-    devices.push(device(5, b'D', acceptor()));
-    Setup { devices }
 }
 
 /// What came of a day over a line of which one reply is late.

@@ -2,50 +2,10 @@
 
 use crate::account::{Account, AtAcceptors, Ends, OfOrders};
 use crate::day::{Step, run, setup};
-use crate::late::PATIENT;
-use crate::steps::{EXCHANGES, day};
 use crate::wire::Late;
 use cct_live_port::Options;
 use cct_model::Command;
-use std::alloc::Global;
-use std::process::Abort;
 use std::test::Fail;
-
-/// The days of which one reply is late, of each exchange in turn, by 1 to 20 reads, over the same
-/// port without the wait: in some an acceptor's coins are posted as another's, and in some an order
-/// is closed with a wrong number.
-fn loses_money(rt: &impl Abort, alloc: Global, gap: u16) -> Result<(), Fail> {
-    let setup = setup();
-    let steps = day(alloc)?;
-    let options = Options {
-        gap,
-        longest: 0,
-        ..PATIENT
-    };
-    let mut posted_wrong = false;
-    let mut closed_wrong = false;
-    for exchange in 0..EXCHANGES {
-        for by in 1..=20 {
-            let late = Some(Late { exchange, by });
-            let account = run(alloc, &setup, steps.as_slice(), options, late)?.account;
-            posted_wrong = posted_wrong || account.posted_wrong > 0;
-            closed_wrong = closed_wrong || account.closed_wrong > 0;
-        }
-    }
-    assert!(rt; posted_wrong);
-    assert!(rt; closed_wrong);
-    Ok(())
-}
-
-#[test]
-fn a_port_that_does_not_wait_loses_money(rt: HostRuntime) -> Result<(), Fail> {
-    loses_money(&rt, rt.alloc(), 1)
-}
-
-#[test]
-fn a_port_that_sends_at_once_loses_money(rt: HostRuntime) -> Result<(), Fail> {
-    loses_money(&rt, rt.alloc(), 0)
-}
 
 /// A port that listens for two silent reads, and waits for so many, those two counted.
 fn hasty(echoes: bool, longest: u16) -> Options {
@@ -110,7 +70,7 @@ const TWO_POSTS: Account = Account {
 /// They name no source.
 #[test]
 fn a_port_that_waits_too_short_posts_a_coin_twice(rt: HostRuntime) -> Result<(), Fail> {
-    let setup = setup();
+    let setup = setup(rt.alloc())?;
     for by in 2..=20 {
         for echoes in [true, false] {
             for (longest, wanted) in [(by, TWO_POSTS), (by + 2, ONE_POST)] {
@@ -188,7 +148,7 @@ const TWO_PAID: Account = Account {
 fn a_port_that_waits_too_short_closes_an_order_with_a_wrong_number(
     rt: HostRuntime,
 ) -> Result<(), Fail> {
-    let setup = setup();
+    let setup = setup(rt.alloc())?;
     for by in 2..=20 {
         for echoes in [true, false] {
             for (longest, wanted) in [(by, TWO_PAID), (by + 2, THREE_PAID)] {

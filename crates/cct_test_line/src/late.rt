@@ -20,7 +20,7 @@ const STANDARD: Options = Options {
 };
 
 /// A device may answer 21 silent reads late, so 22 are waited for.
-pub(crate) const PATIENT: Options = Options {
+const PATIENT: Options = Options {
     longest: 22,
     ..STANDARD
 };
@@ -111,7 +111,7 @@ fn are_right_days(
     options: Options,
     late_by: &[u16],
 ) -> Result<(), Fail> {
-    let setup = setup();
+    let setup = setup(alloc)?;
     let steps = day(alloc)?;
     for exchange in 0..EXCHANGES {
         for by in late_by {
@@ -129,7 +129,7 @@ const BY_UP_TO_20: &[u16] = &[
 
 #[test]
 fn a_day_without_a_late_reply(rt: HostRuntime) -> Result<(), Fail> {
-    let setup = setup();
+    let setup = setup(rt.alloc())?;
     let steps = day(rt.alloc())?;
     for (echoes, gap) in [(true, 0), (true, 1), (false, 0), (false, 1)] {
         let options = Options {
