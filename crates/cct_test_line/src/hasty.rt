@@ -2,9 +2,12 @@
 
 use crate::account::{Account, AtAcceptors, Ends, OfOrders};
 use crate::day::{Step, run, setup};
+use crate::steps::{START, joined};
 use crate::wire::Late;
 use cct_live_port::Options;
 use cct_model::Command;
+use std::alloc::Global;
+use std::process::Abort;
 use std::test::Fail;
 
 /// A port that listens for two silent reads, and waits for so many, those two counted.
@@ -17,12 +20,8 @@ fn hasty(echoes: bool, longest: u16) -> Options {
     }
 }
 
-/// A coin falls into acceptor 2, and both acceptors are read by turns, after the 8 exchanges of
-/// their start.
+/// A coin falls into acceptor 2, and both acceptors are read by turns.
 const ONE_COIN: &[Step] = &[
-    Step::Give(Command::Start { addr: 2, mask: 1 }),
-    Step::Give(Command::Start { addr: 5, mask: 1 }),
-    Step::Turns(2, 5, 6),
     Step::Coin(2),
     Step::Give(Command::Round { addr: 2 }),
     Step::Give(Command::Round { addr: 5 }),
@@ -66,17 +65,22 @@ const TWO_POSTS: Account = Account {
     ..ONE_POST
 };
 
-/// The credits of acceptor 2 come late, in the exchange with number 10: after both accept counters.
-/// They name no source.
-#[test]
-fn a_port_that_waits_too_short_posts_a_coin_twice(rt: HostRuntime) -> Result<(), Fail> {
-    let setup = setup(rt.alloc())?;
+/// What comes of these steps where the reply of an exchange comes late by 2 to 20 reads, and the
+/// port waits for as many, or for two more.
+fn comes_to(
+    rt: &impl Abort,
+    alloc: Global,
+    steps: &[Step],
+    exchange: u64,
+    too_short: Account,
+    long_enough: Account,
+) -> Result<(), Fail> {
+    let setup = setup(alloc)?;
     for by in 2..=20 {
         for echoes in [true, false] {
-            for (longest, wanted) in [(by, TWO_POSTS), (by + 2, ONE_POST)] {
-                let options = hasty(echoes, longest);
-                let late = Some(Late { exchange: 10, by });
-                let played = run(rt.alloc(), &setup, ONE_COIN, options, late)?;
+            for (longest, wanted) in [(by, too_short), (by + 2, long_enough)] {
+                let late = Some(Late { exchange, by });
+                let played = run(alloc, &setup, steps, hasty(echoes, longest), late)?;
                 assert!(rt; played.account == wanted);
             }
         }
@@ -84,16 +88,16 @@ fn a_port_that_waits_too_short_posts_a_coin_twice(rt: HostRuntime) -> Result<(),
     Ok(())
 }
 
-/// After the 8 exchanges of their start, and 8 of a round that posts a coin, both hoppers pay: 3
-/// two coins, and 4 one. They are asked by turns, and all coins fall at once.
+/// The credits of acceptor 2 come late, in the exchange with number 10: after the 8 of both starts
+/// and both accept counters. They name no source.
+#[test]
+fn a_port_that_waits_too_short_posts_a_coin_twice(rt: HostRuntime) -> Result<(), Fail> {
+    let steps = joined(rt.alloc(), &[START, ONE_COIN])?;
+    comes_to(&rt, rt.alloc(), steps.as_slice(), 10, TWO_POSTS, ONE_POST)
+}
+
+/// Both hoppers pay: 3 two coins, and 4 one. They are asked by turns, and all coins fall at once.
 const TWO_ORDERS: &[Step] = &[
-    Step::Give(Command::Start { addr: 2, mask: 1 }),
-    Step::Give(Command::Start { addr: 5, mask: 1 }),
-    Step::Turns(2, 5, 6),
-    Step::Coin(2),
-    Step::Give(Command::Round { addr: 2 }),
-    Step::Give(Command::Round { addr: 5 }),
-    Step::Turns(2, 5, 6),
     Step::Give(Command::Pay {
         addr: 3,
         id: 1,
@@ -142,22 +146,12 @@ const TWO_PAID: Account = Account {
     ..THREE_PAID
 };
 
-/// The life count of hopper 4 comes late, in the exchange with number 24: after 6 exchanges up to
-/// the dispenses and 2 for the states.
+/// The life count of hopper 4 comes late, in the exchange with number 24: after 16 up to the end of
+/// the rounds, 6 up to the dispenses and 2 for the states.
 #[test]
 fn a_port_that_waits_too_short_closes_an_order_with_a_wrong_number(
     rt: HostRuntime,
 ) -> Result<(), Fail> {
-    let setup = setup(rt.alloc())?;
-    for by in 2..=20 {
-        for echoes in [true, false] {
-            for (longest, wanted) in [(by, TWO_PAID), (by + 2, THREE_PAID)] {
-                let options = hasty(echoes, longest);
-                let late = Some(Late { exchange: 24, by });
-                let played = run(rt.alloc(), &setup, TWO_ORDERS, options, late)?;
-                assert!(rt; played.account == wanted);
-            }
-        }
-    }
-    Ok(())
+    let steps = joined(rt.alloc(), &[START, ONE_COIN, TWO_ORDERS])?;
+    comes_to(&rt, rt.alloc(), steps.as_slice(), 24, TWO_PAID, THREE_PAID)
 }

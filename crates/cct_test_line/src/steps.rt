@@ -8,7 +8,7 @@ use std::test::Fail;
 
 /// Both acceptors are started, in 8 exchanges. Each job here is left one attempt more than it has
 /// rows, for a try that fails.
-const START: &[Step] = &[
+pub(crate) const START: &[Step] = &[
     Step::Give(Command::Start { addr: 2, mask: 1 }),
     Step::Give(Command::Start { addr: 5, mask: 1 }),
     Step::Turns(2, 5, 6),
@@ -122,13 +122,18 @@ const STOP: &[Step] = &[
     Step::Turns(2, 5, 8),
 ];
 
-/// All steps of a day.
-pub(crate) fn day(alloc: Global) -> Result<Vec<Step>, Fail> {
+/// These steps, one part after the other.
+pub(crate) fn joined(alloc: Global, parts: &[&[Step]]) -> Result<Vec<Step>, Fail> {
     let mut steps = Vec::new(alloc);
-    for part in [START, ROUND, PAY, HALT, SETTLE, IDENT, STOP] {
+    for part in parts {
         steps.extend_from_slice(part)?;
     }
     Ok(steps)
+}
+
+/// All steps of a day.
+pub(crate) fn day(alloc: Global) -> Result<Vec<Step>, Fail> {
+    joined(alloc, &[START, ROUND, PAY, HALT, SETTLE, IDENT, STOP])
 }
 
 /// The exchanges of a day.
