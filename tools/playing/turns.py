@@ -2,7 +2,7 @@
 of the put after it, and a day's use is played within which the journal turns at one put after another."""
 import re
 
-from day import PAYOUTS, SETUP, STARTS, STOPS, TAIL
+from day import PAYOUTS, ROUNDS, SETUP, STARTS, STOPS, TAIL
 from faults import BEGUN
 from player import DISK_FAULT, DONE, blank, lines, same
 
@@ -62,7 +62,8 @@ def fails(play, calls, choices):
                      f'call {call}, torn by {torn}, choice {choice}')
             if not writes.made(before + call):
                 break
-    play.wants(['run'], script, DONE, written + lines(f'put sold {sold + 1} 1; sold'), blank(), failing_call=before + TURN + PUT + 1)
+    text = written + lines(f'put sold {sold + 1} 1; sold')
+    play.wants(['run'], script, DONE, text, blank(), failing_call=before + TURN + PUT + 1)
 
 
 def each_call_of_a_turn_fails_once(play):
@@ -92,8 +93,6 @@ def with_ids(step):
     return re.sub(r'^(pay \d+|vend) (\d+)', lambda found: f'{found[1]} {FIRST_ID + int(found[2])}', step)
 
 
-ROUNDS = [step for acceptor in (2, 4) for step in
-          [*(f'coin {acceptor} {place}' for place in range(1, 6)), f'round {acceptor}', *5 * [f'next {acceptor}']]]
 DAY = [with_ids(step) for step in STARTS + ROUNDS + PAYOUTS + STOPS]
 
 
