@@ -101,11 +101,10 @@ def script_of(before, steps):
     return lines('; '.join([SETUP.replace('begin', f'{ACCEPTOR}; begin'), 'RICH', *sales(before), *steps]), globals())
 
 
-def day_after(play, before, place=0, cut=''):
-    """The lines of the day after so many sales, with a power cut in the place of the step of this place, or none."""
-    steps = [*DAY[:place], cut, *DAY[place + 1:], *TAIL] if cut else [*DAY, *TAIL]
-    status, transcript, _ = play.call(['run'], script_of(before, steps))
-    same(status, DONE, f'{cut} after {before}')
+def day_after(play, before, steps):
+    """The lines of these steps of a day after so many sales."""
+    status, transcript, _ = play.call(['run'], script_of(before, [*steps, *TAIL]))
+    same(status, DONE, f'the day after {before}')
     front, _, rest = transcript.partition(f'\nok {DAY[0]}\n')
     same(front.count('\nput '), RICH_PUTS + before, 'what is put before')
     return [counted(line, before) for line in rest.splitlines()]
@@ -130,14 +129,22 @@ def places_of_puts(player):
 
 def a_day_goes_on_over_a_turn(play):
     """The journal turns at one put of the day after another."""
-    wanted = day_after(play, 0)
+    wanted = day_after(play, 0, DAY)
     for number, place in enumerate(places_of_puts(play)):
-        same(day_after(play, RECORDS - RICH_PUTS - number), wanted, f'a turn at step {place}')
+        same(day_after(play, RECORDS - RICH_PUTS - number, DAY), wanted, f'a turn at step {place}')
 
 
-def a_day_goes_on_over_a_turn_and_a_power_cut(play):
-    """The power is cut in the put for which the journal turned, after none to four of its calls."""
+def a_day_goes_on_over_a_power_cut_at_a_turn(play):
+    """The power is cut in the put for which the journal turned, after each of its calls."""
     for number, place in enumerate(places_of_puts(play)):
-        cut = f'crash {DAY[place].split()[1]} {number % (PUT + 1)} 1'
-        found = day_after(play, RECORDS - RICH_PUTS - number, place, cut)
-        same(found, day_after(play, 0, place, cut), f'{cut} at step {place}')
+        for calls in range(PUT + 1):
+            steps = [*DAY[:place], f'crash {DAY[place].split()[1]} {calls} 1', *DAY[place + 1:]]
+            found = day_after(play, RECORDS - RICH_PUTS - number, steps)
+            same(found, day_after(play, 0, steps), f'{calls} calls at step {place}')
+
+
+def a_day_goes_on_over_a_power_cut_after_a_turn(play):
+    """The journal turns at the first put of the day, and the power is cut before one step of it after another."""
+    for place in range(1, len(DAY)):
+        steps = [*DAY[:place], 'crash 0', *DAY[place:]]
+        same(day_after(play, RECORDS - RICH_PUTS, steps), day_after(play, 0, steps), f'before step {place}')
