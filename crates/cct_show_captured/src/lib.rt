@@ -3,11 +3,14 @@
 //! (`docs/SHOW.md`).
 #![tactic(auto)]
 
+mod doubts;
 mod note;
+mod numbers;
 mod tally;
 mod unread;
 mod watch;
 
+pub use doubts::Doubts;
 pub use note::{Guessed, Note, note_of};
 pub use tally::Tally;
 pub use unread::{Unread, is_other_line};

@@ -75,6 +75,9 @@ impl fmt::Display for Guessed {
             Guess::Fields => {
                 "numbers beside the bytes are read as none of them, since so the checksum is right"
             }
+            Guess::Characters => {
+                "the characters of its text are read as bytes of their numbers, since so the checksum is right"
+            }
             Guess::Ways => {
                 "a message for the host is logged as sent; from here on the messages show which way they went"
             }

@@ -1,11 +1,8 @@
 //! The lines of a log that weren't understood.
 
-use arrayvec::ArrayVec;
+use crate::numbers::LineNumbers;
 use std::fmt;
 use std::fmt::Write;
-
-/// How many of them are reported by their numbers.
-const MOST_TOLD: usize = 12;
 
 /// What is said of bytes that are no text.
 const NO_TEXT: &str =
@@ -21,9 +18,8 @@ pub struct Unread {
     pub line: u64,
     /// How many lines were understood as a log's.
     pub read: u64,
-    /// How many weren't, and the numbers of the first of them.
-    count: u64,
-    first: ArrayVec<u64, MOST_TOLD>,
+    /// Those that weren't.
+    others: LineNumbers,
     /// Whether one of these has a byte 0, which no text has.
     has_zeros: bool,
 }
@@ -34,8 +30,7 @@ impl Unread {
         Unread {
             line: 0,
             read: 0,
-            count: 0,
-            first: ArrayVec::new(),
+            others: LineNumbers::new(),
             has_zeros: false,
         }
     }
@@ -54,22 +49,20 @@ impl Unread {
     /// capture has.
     pub fn pass_over(&mut self, line: &[u8]) {
         if !is_other_line(line) {
-            self.count = self.count.saturating_add(1);
             self.has_zeros |= line.contains(&0);
-            // The first ones are reported.
-            let _ = self.first.try_push(self.line);
+            self.others.add(self.line);
         }
     }
 
     /// Whether a tenth of the lines, or more, wasn't understood.
     pub fn is_much(&self) -> bool {
-        let lines = self.read.saturating_add(self.count);
-        self.count != 0 && self.count.saturating_mul(10) >= lines
+        let count = self.others.count;
+        count != 0 && count.saturating_mul(10) >= self.read.saturating_add(count)
     }
 
     /// Notes which lines weren't understood, if there are any.
     pub fn tell<W: Write>(&self, notes: &mut W) -> fmt::Result {
-        if self.count == 0 {
+        if self.others.count == 0 {
             return Ok(());
         }
         write!(notes, "cct_show: {self}\n")?;
@@ -88,23 +81,14 @@ impl Unread {
 impl fmt::Display for Unread {
     fn fmt<W: fmt::Write>(&self, f: &mut fmt::Formatter<W>) -> fmt::Result {
         let line = self.line;
-        match self.count {
-            1 => f.write_str("1 line is no line of a log, and is left out:")?,
+        let others = &self.others;
+        match others.count {
+            1 => write!(f, "1 line is no line of a log, and is left out: {others}"),
             count => write!(
                 f,
-                "{count} of {line} lines are no lines of a log, and are left out:"
-            )?,
+                "{count} of {line} lines are no lines of a log, and are left out: {others}"
+            ),
         }
-        let mut before = " line ";
-        for number in self.first.as_slice() {
-            write!(f, "{before}{number}")?;
-            before = ", ";
-        }
-        f.write_str(if self.count > MOST_TOLD as u64 {
-            ", .."
-        } else {
-            ""
-        })
     }
 }
 

@@ -1,16 +1,17 @@
 //! The form `capture`: the exchanges of a log or a transcript, as an audit takes them.
 
+use crate::echoes::Echoes;
 use crate::lines::{LineSink, read_lines};
-use crate::log::{Echoes, MOST_SAID, copy};
+use crate::log::{MOST_SAID, copy};
 use crate::notes::Notes;
 use crate::status::{Status, Stop};
 use crate::stream::{Stream, is_stream};
 use crate::taps::{Held, Taps};
 use cct_edge::{Sink, Source};
 use cct_model_lines::{Entry, HOST, MOST_HEARD, MOST_LINE, MOST_SENT};
-use cct_show_captured::{Guessed, Tally, Unread, Watches};
+use cct_show_captured::{Doubts, Guessed, Tally, Unread, Watches};
 use cct_show_log::{LogReader, Said};
-use cct_show_log_line::{Guess, LogBytes, is_message};
+use cct_show_log_line::{Guess, LogBytes};
 use cct_show_words::read_line;
 use std::fmt::{self, Write};
 
@@ -61,6 +62,7 @@ struct Capture<'k, 'n, K, H, N> {
     last: Option<Exchange>,
     echoes: Echoes,
     tally: Tally,
+    doubts: Doubts,
 }
 
 /// Writes the capture of all exchanges of a source, with these devices to be watched; `held`, in
@@ -81,11 +83,12 @@ pub fn write_capture<S: Source, K: Sink, H: Held, N: Sink>(
         lines: Unread::new(),
         exchanges: 0,
         last: None,
-        echoes: Echoes::Unknown,
+        echoes: Echoes::new(),
         tally: Tally::new(),
+        doubts: Doubts::new(),
     };
     match capture.write(source) {
-        Ok(()) if capture.lines.is_much() => Status::NotUnderstood,
+        Ok(()) if capture.lines.is_much() || capture.doubts.is_much() => Status::NotUnderstood,
         written => Status::of(written).or_empty(capture.lines.line),
     }
 }
@@ -114,17 +117,18 @@ impl<K: Sink, H: Held, N: Sink> Capture<'_, '_, K, H, N> {
         self.close()
     }
 
-    /// Says which lines weren't understood, which acceptors are watched as `quiet`, and how many
-    /// taps there are.
+    /// Says which lines weren't understood, which taps may be wrong, which acceptors are watched as
+    /// `quiet`, and how many taps there are.
     fn tell_end(&mut self) {
         // Nothing more can be done where a note can't be written, here and below.
         let _ = self.lines.tell(&mut self.notes);
+        let _ = self.doubts.tell(&mut self.notes);
         for watch in self.out.watches() {
             if let Some(quiet) = watch.quiet() {
                 let _ = write!(self.notes, "cct_show: {quiet}\n");
             }
         }
-        let tally = self.tally;
+        let tally = &self.tally;
         let _ = write!(self.notes, "cct_show: {tally}\n");
     }
 
@@ -161,11 +165,11 @@ impl<K: Sink, H: Held, N: Sink> Capture<'_, '_, K, H, N> {
             }
             Said::Either(bytes) => self.either(bytes.as_slice())?,
             Said::Part { .. } => {}
-            Said::Stray(count) => self.tell_bytes(*count, LEFT_OUT),
+            Said::Stray(count) => self.leave_out(*count),
             Said::Cut(count) => {
                 // What is heard next is no reply to what was sent before.
                 self.close()?;
-                self.tell_bytes(*count, LEFT_OUT);
+                self.leave_out(*count);
             }
             Said::Guessed(guess) => self.tell_guess(*guess),
         }
@@ -174,7 +178,7 @@ impl<K: Sink, H: Held, N: Sink> Capture<'_, '_, K, H, N> {
 
     /// Takes an exchange that one line has whole, with its echo.
     fn whole(&mut self, sent: &[u8], heard: &[u8]) -> Result<(), Stop> {
-        self.echoes = Echoes::There;
+        self.echoes = Echoes::expected();
         self.open(sent)?;
         self.hear(heard);
         self.close()
@@ -224,9 +228,7 @@ impl<K: Sink, H: Held, N: Sink> Capture<'_, '_, K, H, N> {
     fn is_echo(&self, bytes: &[u8]) -> bool {
         match &self.last {
             Some(last) => {
-                self.echoes != Echoes::None
-                    && last.heard.is_empty()
-                    && last.sent.as_slice() == bytes
+                !self.echoes.are_none() && last.heard.is_empty() && last.sent.as_slice() == bytes
             }
             None => false,
         }
@@ -238,25 +240,18 @@ impl<K: Sink, H: Held, N: Sink> Capture<'_, '_, K, H, N> {
             return Ok(());
         };
         self.exchanges = self.exchanges.saturating_add(1);
-        self.learn(&exchange);
-        let has_echo = self.echoes != Echoes::None;
+        let sent = exchange.sent.as_slice();
+        let heard = exchange.heard.as_slice();
+        self.echoes.learn(sent, heard);
+        let has_echo = heard.starts_with(sent) || !self.echoes.are_missing();
         match left_out(&exchange, has_echo) {
             Some(why) => {
+                self.doubts
+                    .leave_out(sent.len().saturating_add(heard.len()));
                 self.tell_left_out(exchange.line, why);
                 Ok(())
             }
             None => self.write_tap(&exchange, has_echo),
-        }
-    }
-
-    /// Learns from an exchange whether the log has the echo: none where the first reply that is a
-    /// message by itself doesn't begin with it.
-    fn learn(&mut self, exchange: &Exchange) {
-        let heard = exchange.heard.as_slice();
-        if heard.starts_with(exchange.sent.as_slice()) {
-            self.echoes = Echoes::There;
-        } else if self.echoes == Echoes::Unknown && is_message(heard) {
-            self.echoes = Echoes::None;
         }
     }
 
@@ -266,7 +261,8 @@ impl<K: Sink, H: Held, N: Sink> Capture<'_, '_, K, H, N> {
         let sent = exchange.sent.as_slice();
         let heard = exchange.heard.as_slice();
         let echo = if has_echo { b"".as_slice() } else { sent };
-        self.tally.count(sent);
+        self.tally.count(exchange.line, sent);
+        self.doubts.exchange(exchange.line, sent, heard);
         self.out.tap(sent, echo, heard)
     }
 
@@ -277,6 +273,12 @@ impl<K: Sink, H: Held, N: Sink> Capture<'_, '_, K, H, N> {
             self.notes,
             "cct_show: exchange {number}, from line {line}, is left out: {why}\n"
         );
+    }
+
+    /// Says that bytes up to the last line are in no exchange.
+    fn leave_out(&mut self, count: usize) {
+        self.doubts.leave_out(count);
+        self.tell_bytes(count, LEFT_OUT);
     }
 
     /// Says what becomes of bytes up to the last line that are no message.
@@ -318,8 +320,14 @@ impl<K: Sink, H: Held, N: Sink> LineSink for Capture<'_, '_, K, H, N> {
         }
         match self.log.read(line) {
             None => self.lines.pass_over(line),
-            Some(logged) if logged.has_bytes => self.lines.take(),
-            Some(_) => {}
+            Some(logged) => {
+                if logged.has_bytes {
+                    self.lines.take();
+                }
+                if let Some(time) = &logged.time {
+                    self.doubts.time(self.lines.line, time.micros);
+                }
+            }
         }
         self.take_said()
     }

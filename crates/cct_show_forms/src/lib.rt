@@ -3,6 +3,7 @@
 #![tactic(auto)]
 
 mod capture;
+mod echoes;
 mod encoding;
 mod lines;
 mod log;

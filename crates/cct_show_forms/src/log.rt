@@ -1,9 +1,10 @@
 //! The exchanges of a bus log, from line to line.
 
+use crate::echoes::Echoes;
 use cct_model_lines::HOST;
 use cct_show_captured::{Note, note_of};
 use cct_show_log::{LogLine, LogReader, Said};
-use cct_show_log_line::{LogBytes, Time, is_message};
+use cct_show_log_line::{LogBytes, Time};
 
 /// More things than the lines of a log that are held can say.
 pub(crate) const MOST_SAID: usize = 2000;
@@ -21,16 +22,6 @@ pub(crate) enum Half {
     Heard,
 }
 
-/// Whether the replies of a log begin with the echo of what was sent.
-#[derive(Clone, Copy, PartialEq, Eq)]
-pub(crate) enum Echoes {
-    Unknown,
-    /// Some reply did, or an echo stood by itself.
-    There,
-    /// A whole message stood where the first reply was, and no echo so far.
-    None,
-}
-
 /// What a log said last.
 #[derive(Drop)]
 pub(crate) struct Log {
@@ -42,8 +33,10 @@ pub(crate) struct Log {
     is_waiting: bool,
     /// Whether the last thing said is a request, and the one before it had no reply.
     pub(crate) tells_no_reply: bool,
-    /// Whether the last line is the first one that says that the log has no echo.
+    /// Whether the last line is the first one that says that the log has no echo, and whether one
+    /// did.
     pub(crate) tells_no_echo: bool,
+    has_told_no_echo: bool,
     /// The number of the last line among the taps of a capture, from 1, where it is one.
     pub(crate) tap: Option<u64>,
     taps: u64,
@@ -66,9 +59,10 @@ impl Log {
             is_waiting: false,
             tells_no_reply: false,
             tells_no_echo: false,
+            has_told_no_echo: false,
             tap: None,
             taps: 0,
-            echoes: Echoes::Unknown,
+            echoes: Echoes::new(),
             micros: None,
         }
     }
@@ -124,7 +118,7 @@ impl Log {
 
     /// An exchange of a capture, which has the echo.
     fn tap(&mut self, sent: &[u8], heard: &[u8]) {
-        self.echoes = Echoes::There;
+        self.echoes = Echoes::expected();
         self.taps = self.taps.saturating_add(1);
         self.tap = Some(self.taps);
         self.exchange(sent, heard);
@@ -164,13 +158,13 @@ impl Log {
     fn heard(&mut self, bytes: &[u8]) {
         if self.is_echo(bytes) {
             copy(&mut self.heard, bytes);
-            self.echoes = Echoes::There;
+            self.echoes.hear();
             self.half = Half::Echo;
             return;
         }
         match self.half {
             Half::Echo | Half::Echoed => self.hear_after_echo(bytes),
-            Half::Heard if self.echoes != Echoes::Unknown => self.hear_after_echo(bytes),
+            Half::Heard if self.echoes.are_known() => self.hear_after_echo(bytes),
             _ => self.hear(bytes),
         }
         self.is_waiting = self.is_waiting && self.is_echo_alone();
@@ -197,23 +191,16 @@ impl Log {
 
     /// Whether bytes are the echo of what was sent right before, and echoes there may be.
     fn is_echo(&self, bytes: &[u8]) -> bool {
-        self.half == Half::Sent && self.echoes != Echoes::None && self.sent.as_slice() == bytes
+        self.half == Half::Sent && !self.echoes.are_none() && self.sent.as_slice() == bytes
     }
 
-    /// Keeps what was heard after what was sent, with its echo first. A log in which no reply
-    /// begins with its echo has none: that is reported by the first reply that is a message by
-    /// itself.
+    /// Keeps what was heard after what was sent, with its echo first. A log may have no echoes: that
+    /// is reported once, by the reply that shows it.
     fn hear(&mut self, bytes: &[u8]) {
-        if bytes.starts_with(self.sent.as_slice()) {
-            self.echoes = Echoes::There;
-            copy(&mut self.heard, bytes);
-            return;
-        }
-        if self.echoes == Echoes::Unknown && is_message(bytes) {
-            self.echoes = Echoes::None;
-            self.tells_no_echo = true;
-        }
-        if self.echoes == Echoes::None {
+        self.echoes.learn(self.sent.as_slice(), bytes);
+        self.tells_no_echo = self.echoes.are_none() && !self.has_told_no_echo;
+        self.has_told_no_echo |= self.tells_no_echo;
+        if self.echoes.are_missing() && !bytes.starts_with(self.sent.as_slice()) {
             self.hear_after_echo(bytes);
         } else {
             copy(&mut self.heard, bytes);

@@ -67,6 +67,10 @@ pub(crate) struct Joined {
     /// Whether an echo was heard, and how many replies without one came before it.
     has_echo: bool,
     bare_replies: u32,
+    /// Whether what comes next is behind a whole message that was sent in the same line, and whether
+    /// what is held of a sent message is.
+    is_behind: bool,
+    is_tail: bool,
     /// Whether the last bytes of which no line shows the way were a good message.
     is_synced: bool,
     /// Whether such a message was in more than one line, so that the lines are no exchanges.
@@ -95,6 +99,8 @@ impl Joined {
             is_answered: false,
             has_echo: false,
             bare_replies: 0,
+            is_behind: false,
+            is_tail: false,
             is_synced: false,
             is_stream: false,
             is_anew: false,
@@ -108,6 +114,7 @@ impl Joined {
     /// Takes what the next line has, whose bytes follow those before it or don't.
     pub(crate) fn take(&mut self, has: Has, is_anew: bool) {
         self.is_anew = is_anew;
+        self.is_behind = false;
         self.has_sent |= matches!(has, Has::Tap { .. } | Has::Exchange { .. });
         self.todo = match has {
             Has::Tap { sent, heard } => Some(Todo::Whole(Said::Tap { sent, heard })),
@@ -251,11 +258,13 @@ impl Joined {
             None if !whole.is_empty() => {
                 let part = part_of(whole.as_slice());
                 self.sent = whole;
+                self.is_tail = self.is_behind;
                 Some(part)
             }
             Some((message, _)) if is_joined && !is_good(message) => self.unsure(whole),
             Some((message, rest)) if !rest.is_empty() && is_good(message) => {
                 self.asked = bytes_of(message);
+                self.is_behind = true;
                 let said = Said::Sent(bytes_of(message));
                 self.again(Some(Way::Sent), rest, Some(said))
             }
@@ -289,6 +298,11 @@ impl Joined {
         let sent = self.sent.as_slice();
         let is_echo = sent.starts_with(whole.as_slice()) || whole.as_slice().starts_with(sent);
         let is_own = are_whole(bytes.as_slice()) && !are_whole(whole.as_slice());
+        if self.is_tail && !self.sent.is_empty() && !is_echo {
+            // The message before it is answered.
+            let stray = Said::Stray(self.sent.take().len());
+            return self.again(Some(Way::Heard), bytes.as_slice(), Some(stray));
+        }
         let is_other = !self.free.is_empty() || !self.sent.is_empty() && !is_echo;
         if is_other || is_own && !self.heard.is_empty() && self.sent.is_empty() {
             let before = self.break_off();

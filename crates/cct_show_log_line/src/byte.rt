@@ -11,6 +11,7 @@ pub type LogBytes = ArrayVec<u8, MOST_LOGGED>;
 /// What stands before and after the two digits of each byte, where nothing is between the bytes.
 const MARKS: &[(&str, &str)] = &[
     ("0x", ""),
+    ("\\0x", ""),
     ("x", ""),
     ("#$", ""),
     ("$", ""),

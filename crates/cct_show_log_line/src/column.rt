@@ -3,16 +3,20 @@
 use crate::byte::Base;
 use crate::run::run_in;
 
-/// The place at which the column of characters begins in a line: between strokes or angle brackets,
-/// after two spaces. Where there is none, the end of the line. Its characters may look like the
-/// words of a log. `offset` is where the last line of a dump ended.
+/// The place at which the column of characters begins in a line: after two spaces, between strokes,
+/// angle brackets or nothing. Where there is none, the end of the line. Its characters may look like
+/// the words of a log. `offset` is where the last line of a dump ended.
 pub(crate) fn column_at(line: &[u8], offset: Option<u64>) -> usize {
-    let opens = match line.trim_ascii_end().last() {
-        Some(b'|') => b"  |".as_slice(),
-        Some(b'<') => b"  >",
-        _ => return line.len(),
+    let place = match line.trim_ascii_end().last() {
+        Some(b'|') => line.windows(3).position(|three| three == b"  |".as_slice()),
+        Some(b'<') => line.windows(3).position(|three| three == b"  >".as_slice()),
+        _ => None,
     };
-    let Some(place) = line.windows(3).position(|three| three == opens) else {
+    let gap = line
+        .trim_ascii_end()
+        .windows(2)
+        .rposition(|pair| pair == b"  ".as_slice());
+    let Some(place) = place.or(gap) else {
         return line.len();
     };
     let Some((front, column)) = line.split_at_checked(place) else {

@@ -2,20 +2,38 @@
 
 use crate::byte::{LogBytes, value_of};
 
+/// How a text writes bytes that its language has no letter for.
+#[derive(Clone, Copy, PartialEq, Eq)]
+pub(crate) enum Spelling {
+    /// By octal digits after a backslash, as in C.
+    Octal,
+    /// By decimal ones, as in Lua.
+    Decimal,
+    /// By the characters of these numbers, in UTF-8, as in JavaScript.
+    Characters,
+}
+
 /// The bytes of the first text of a line with an escape in it; where the log has such texts, of its
 /// first text. `None` where there is none, or it isn't there whole. Outside quotes an escape is one
 /// of digits.
-pub(crate) fn escaped_in(line: &[u8], has_texts: bool) -> Option<LogBytes> {
+pub(crate) fn escaped_in(line: &[u8], has_texts: bool, spelling: Spelling) -> Option<LogBytes> {
     let Some(escape) = line.iter().position(|byte| *byte == b'\\') else {
-        return if has_texts { text_in(line) } else { None };
+        return if has_texts {
+            text_in(line, spelling)
+        } else {
+            None
+        };
     };
     let (before, _) = line.split_at_checked(escape)?;
     let quote = before
         .iter()
         .rposition(|byte| matches!(*byte, b'\'' | b'"'));
     let (bytes, after) = match quote {
-        Some(place) => unescaped(line.get(place.saturating_add(1)..)?, *line.get(place)?)?,
-        None => unescaped(digit_escapes(line.get(escape..)?)?, b' ')?,
+        Some(place) => {
+            let text = line.get(place.saturating_add(1)..)?;
+            unescaped(text, *line.get(place)?, spelling)?
+        }
+        None => unescaped(digit_escapes(line.get(escape..)?)?, b' ', spelling)?,
     };
     if after.starts_with(b"..") {
         None
@@ -25,9 +43,10 @@ pub(crate) fn escaped_in(line: &[u8], has_texts: bool) -> Option<LogBytes> {
 }
 
 /// The bytes of the first text of a line, in quotes.
-fn text_in(line: &[u8]) -> Option<LogBytes> {
+fn text_in(line: &[u8], spelling: Spelling) -> Option<LogBytes> {
     let place = line.iter().position(|byte| matches!(*byte, b'\'' | b'"'))?;
-    let (bytes, _) = unescaped(line.get(place.saturating_add(1)..)?, *line.get(place)?)?;
+    let text = line.get(place.saturating_add(1)..)?;
+    let (bytes, _) = unescaped(text, *line.get(place)?, spelling)?;
     Some(bytes)
 }
 
@@ -41,22 +60,18 @@ fn digit_escapes(text: &[u8]) -> Option<&[u8]> {
 
 /// The bytes of a text up to its end mark, and what is after that. Only a space may be left out at
 /// the end of a line.
-fn unescaped(text: &[u8], end: u8) -> Option<(LogBytes, &[u8])> {
+fn unescaped(text: &[u8], end: u8, spelling: Spelling) -> Option<(LogBytes, &[u8])> {
     let mut bytes = LogBytes::new();
     let mut rest = text;
     for _ in text {
         match rest {
-            [b'\\', after @ ..] => {
-                let (byte, after) = escape_in(after)?;
+            [byte, after @ ..] if *byte == end => return Some((bytes, after)),
+            [] => break,
+            _ => {
+                let (byte, after) = next_byte(rest, spelling)?;
                 bytes.try_push(byte).ok()?;
                 rest = after;
             }
-            [byte, after @ ..] if *byte == end => return Some((bytes, after)),
-            [byte, after @ ..] => {
-                bytes.try_push(*byte).ok()?;
-                rest = after;
-            }
-            [] => break,
         }
     }
     if end == b' ' && rest.is_empty() {
@@ -66,28 +81,41 @@ fn unescaped(text: &[u8], end: u8) -> Option<(LogBytes, &[u8])> {
     }
 }
 
+/// The byte with which a text begins, and what is after it.
+fn next_byte(text: &[u8], spelling: Spelling) -> Option<(u8, &[u8])> {
+    match (spelling, text) {
+        (_, [b'\\', after @ ..]) => escape_in(after, spelling),
+        (Spelling::Characters, [high @ (0xc2 | 0xc3), low @ 0x80..=0xbf, after @ ..]) => {
+            Some(((*high & 3) << 6 | *low & 63, after))
+        }
+        (_, [byte, after @ ..]) => Some((*byte, after)),
+        (_, []) => None,
+    }
+}
+
 /// The byte of an escape, without its backslash, and what is after it.
-fn escape_in(text: &[u8]) -> Option<(u8, &[u8])> {
+fn escape_in(text: &[u8], spelling: Spelling) -> Option<(u8, &[u8])> {
     match text {
         [b'x', b'{', high, low, b'}', rest @ ..]
         | [b'x', high, low, rest @ ..]
         | [b'u', b'0', b'0', high, low, rest @ ..] => {
             Some(((value_of(*high)? & 15) << 4 | value_of(*low)?, rest))
         }
-        [b'0'..=b'7', ..] => octal_in(text),
+        [b'0'..=b'9', ..] if spelling == Spelling::Decimal => digits_in(text, 10),
+        [b'0'..=b'7', ..] => digits_in(text, 8),
         [letter, rest @ ..] => Some((letter_byte(*letter)?, rest)),
         [] => None,
     }
 }
 
-/// The byte of up to three octal digits, and what is after them.
-fn octal_in(text: &[u8]) -> Option<(u8, &[u8])> {
+/// The byte of up to three digits of a base, and what is after them.
+fn digits_in(text: &[u8], base: u8) -> Option<(u8, &[u8])> {
     let mut number = 0u8;
     let mut rest = text;
     for _ in 0..3 {
         match rest {
-            [digit @ b'0'..=b'7', after @ ..] => {
-                number = number.checked_mul(8)?.checked_add(*digit - b'0')?;
+            [digit @ b'0'..=b'9', after @ ..] if *digit - b'0' < base => {
+                number = number.checked_mul(base)?.checked_add(*digit - b'0')?;
                 rest = after;
             }
             _ => break,

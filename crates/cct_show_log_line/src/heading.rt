@@ -74,7 +74,8 @@ pub(crate) fn is_remark(word: &[u8]) -> bool {
 /// The offset that the first word of a line of a dump is, where it is one; `expected` is where the
 /// last line ended.
 pub(crate) fn offset_in(line: &[u8], word: &Word<'_>, expected: Option<u64>) -> Option<u64> {
-    let digits = word.text.strip_suffix(b":").unwrap_or(word.text);
+    let word_text = word.text.strip_suffix(b":").unwrap_or(word.text);
+    let digits = word_text.strip_prefix(b"0x").unwrap_or(word_text);
     if digits.len() < 4 || digits.len() > 16 || !is_hex(digits) {
         return None;
     }
@@ -88,7 +89,7 @@ pub(crate) fn offset_in(line: &[u8], word: &Word<'_>, expected: Option<u64>) -> 
             None
         };
     };
-    let has_colon = digits.len() != word.text.len();
+    let has_colon = word_text.len() != word.text.len();
     let is_wide = digits.len() >= 6 && next.from > word.to.saturating_add(1);
     let is_narrow = next.text.len() == 2 && (value == 0 || is_expected || is_wide);
     let is_long = digits.len() >= 7 && (value == 0 || is_expected);

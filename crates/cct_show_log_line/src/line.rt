@@ -2,7 +2,7 @@
 
 use crate::byte::{Base, LogBytes, bytes_of};
 use crate::column::column_at;
-use crate::escape::escaped_in;
+use crate::escape::{Spelling, escaped_in};
 use crate::heading::{head_in, is_head_of_ways, is_known, is_rule, is_ruler, is_table_head};
 use crate::message::{LEAST_MESSAGE, are_whole};
 use crate::name::{Way, is_among};
@@ -34,7 +34,15 @@ pub enum Guess {
     Fields,
     /// That the log's words for the ways say something else, so that the messages show the ways.
     Ways,
+    /// That characters of a text are bytes of the same numbers.
+    Characters,
 }
+
+/// The spellings of texts that aren't that of most languages, and what is taken for granted by them.
+const SPELLINGS: &[(Spelling, Guess)] = &[
+    (Spelling::Decimal, Guess::Decimal),
+    (Spelling::Characters, Guess::Characters),
+];
 
 /// What a line has.
 #[derive(Drop)]
@@ -66,6 +74,8 @@ pub struct Habit {
     pub is_open: bool,
     /// Whether the bytes are texts with escapes, as those of a program's calls.
     pub(crate) has_texts: bool,
+    /// How such texts write them.
+    pub(crate) spelling: Spelling,
     /// The way that a line without bytes told.
     pub way: Option<Way>,
     /// What was taken for granted in this line, and could be read in another way.
@@ -83,6 +93,7 @@ impl Habit {
             has_fields: false,
             is_open: false,
             has_texts: false,
+            spelling: Spelling::Octal,
             way: None,
             guess: None,
         }
@@ -111,6 +122,9 @@ pub fn read_has<'l>(line: &'l [u8], habit: &mut Habit) -> Option<(Has, Option<Ti
         habit.base = base.or(habit.base);
         return Some((Has::Heading(None), None));
     }
+    if is_comment(line) {
+        return None;
+    }
     let line = without_number(line);
     let line = line.get(..column_at(line, habit.offset)).unwrap_or(line);
     match first_way(line, 0) {
@@ -123,6 +137,12 @@ pub fn read_has<'l>(line: &'l [u8], habit: &mut Habit) -> Option<(Has, Option<Ti
         },
         None => free_line(line, habit),
     }
+}
+
+/// Whether a line is a comment: nobody sent or heard what stands in it.
+fn is_comment(line: &[u8]) -> bool {
+    let text = line.trim_ascii_start();
+    text.starts_with(b"# ") || text.starts_with(b"//")
 }
 
 /// Whether no word of a line spells bytes, in hexadecimal or decimal.
@@ -158,8 +178,10 @@ fn field_in(field: &[u8]) -> Option<LogBytes> {
 fn way_line(line: &[u8], way: WayAt, habit: &mut Habit) -> Option<Has> {
     let (front, _) = line.split_at_checked(way.from)?;
     let after = line.get(way.to..)?;
-    if let Some(has) = told_way(line, front, &way, after, habit) {
-        return has;
+    match told_way(line, front, &way, after, habit) {
+        Told::Has(has) => return Some(has),
+        Told::Nothing => return None,
+        Told::Other => {}
     }
     let Some(next) = first_way(after, 0) else {
         return one_way(front, way, after, habit);
@@ -183,37 +205,78 @@ fn way_line(line: &[u8], way: WayAt, habit: &mut Habit) -> Option<Has> {
             sent: earlier.bytes,
             heard: later.bytes,
         }),
+        (Way::Heard, Way::Heard) if are_both && first_way(second, 0).is_none() => {
+            let mut bytes = earlier.bytes;
+            // Both are parts of a line, so there is room but in a line of noise.
+            let _ = bytes.try_extend_from_slice(later.bytes.as_slice());
+            Some(ways_bytes(Way::Heard, bytes, habit))
+        }
         _ => None,
     }
 }
 
-/// What a line has whose bytes stand after a way in a text with escapes, or whose way is none;
-/// `None` where it is another line.
-fn told_way(
-    line: &[u8],
-    front: &[u8],
-    way: &WayAt,
-    after: &[u8],
-    habit: &mut Habit,
-) -> Option<Option<Has>> {
+/// What a line is in which a word may say a way.
+#[derive(Drop)]
+enum Told {
+    /// One with bytes in a text with escapes, or whose word is none of a way.
+    Has(Has),
+    /// One with such a text that is no message.
+    Nothing,
+    /// Another one.
+    Other,
+}
+
+/// What a line has whose bytes stand after a way in a text with escapes, or whose way is none.
+fn told_way(line: &[u8], front: &[u8], way: &WayAt, after: &[u8], habit: &mut Habit) -> Told {
     let mut tried = *habit;
     let plain = chosen(after, &mut tried);
     if is_character(line, way, &plain) {
-        return Some(Some(free_bytes(plain.bytes, habit)));
+        return Told::Has(free_bytes(plain.bytes, habit));
+    }
+    if way.is_weak {
+        let before = chosen(front, &mut tried);
+        if is_character(line, way, &before) {
+            return Told::Has(free_bytes(before.bytes, habit));
+        }
     }
     if plain.is_marked || are_whole(plain.bytes.as_slice()) {
-        return None;
+        return Told::Other;
     }
-    let bytes = escaped_in(after, habit.has_texts)?;
+    let Some(bytes) = text_bytes(after, habit.has_texts, habit) else {
+        return Told::Other;
+    };
     habit.has_texts |= after.contains(&b'\\');
     if is_sure(front, way) || are_whole(bytes.as_slice()) {
-        Some(Some(ways_bytes(way.way, bytes, habit)))
+        Told::Has(ways_bytes(way.way, bytes, habit))
     } else {
-        Some(None)
+        Told::Nothing
     }
 }
 
-/// Whether what may be a way is the character of the byte after it.
+/// The bytes of a text with escapes, in the spelling in which they are messages, or else in that of
+/// the lines before.
+fn text_bytes(text: &[u8], has_texts: bool, habit: &mut Habit) -> Option<LogBytes> {
+    let plain = escaped_in(text, has_texts, habit.spelling);
+    if let Some(bytes) = &plain
+        && are_whole(bytes.as_slice())
+    {
+        return plain;
+    }
+    for (spelling, guess) in SPELLINGS {
+        if let Some(bytes) = escaped_in(text, has_texts, *spelling)
+            && are_whole(bytes.as_slice())
+        {
+            if habit.spelling != *spelling {
+                habit.spelling = *spelling;
+                habit.guess = Some(*guess);
+            }
+            return Some(bytes);
+        }
+    }
+    plain
+}
+
+/// Whether what may be a way is the character of the byte beside it.
 fn is_character(line: &[u8], way: &WayAt, run: &Run) -> bool {
     way.is_weak && run.len() == 1 && line.get(way.from..way.to) == Some(run.bytes.as_slice())
 }
@@ -348,8 +411,9 @@ fn without_number(line: &[u8]) -> &[u8] {
 /// What a line has that says no way.
 fn free_line<'l>(line: &'l [u8], habit: &mut Habit) -> Option<(Has, Option<Time<'l>>)> {
     let run = chosen(line, habit);
-    if let Some(bytes) = escaped_in(line, false)
-        && !run.is_marked
+    if !run.is_marked
+        && !are_whole(run.bytes.as_slice())
+        && let Some(bytes) = text_bytes(line, false, habit)
     {
         return if are_whole(bytes.as_slice()) {
             Some((free_bytes(bytes, habit), time_at(line, line.len(), false)))
@@ -413,7 +477,7 @@ fn is_transcript(line: &[u8]) -> bool {
 /// The exchange of a line that has two words alone, of a message each: what was sent and what was
 /// then heard, or a hyphen where nothing was.
 fn two_words(line: &[u8], run: &Run) -> Option<Has> {
-    if run.strange != 0 || run.offset.is_some() || run.first < LEAST_MESSAGE {
+    if run.strange != 0 || run.offset.is_some() || run.first < LEAST_MESSAGE || !run.is_last {
         return None;
     }
     if line.starts_with(b"- ") && run.words == 1 {

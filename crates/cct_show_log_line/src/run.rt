@@ -17,6 +17,9 @@ const TYPES: &[u8] = b"byte bytes char x";
 /// What is counted where a number is before it.
 const COUNTED: &[u8] = b"bytes byte octets chars ms us s sec";
 
+/// The signs of a line's end, from the last one on.
+const LINE_ENDS: &[&str] = &["\\n", "<LF>", "\\r", "<CR>"];
+
 /// Bytes in words that stand one after the other.
 #[derive(Drop)]
 pub(crate) struct Run {
@@ -199,10 +202,14 @@ fn value_in(word: &[u8]) -> &[u8] {
     }
 }
 
-/// A word without the escapes of a line's end after it, as they stand in a text of JSON.
+/// A word without the signs of a line's end after it, as they stand in a text of JSON, or in that of
+/// a terminal.
 fn without_line_end(word: &[u8]) -> &[u8] {
-    let word = word.strip_suffix(b"\\n").unwrap_or(word);
-    word.strip_suffix(b"\\r").unwrap_or(word)
+    let mut word = word;
+    for end in LINE_ENDS {
+        word = word.strip_suffix(end.as_bytes()).unwrap_or(word);
+    }
+    word
 }
 
 /// Whether a word has marks alone, as an arrow or a stroke between a request and its reply.
@@ -265,8 +272,8 @@ fn is_gloss(word: &[u8]) -> bool {
     word.len() == 1 || word.starts_with(b"^") || number_in(word).is_some()
 }
 
-/// Whether a word counts the bytes: a number before their name, or one in parentheses or brackets
-/// of its own before them.
+/// Whether a word counts the bytes: a number before their name, one in parentheses or brackets of
+/// its own before them, or one in parentheses where they are in later lines.
 fn is_count(line: &[u8], word: &Word<'_>, run: &Run) -> bool {
     let is_number = word.text.len() <= 3 && number_in(word.text).is_some();
     match next_word(line, word.to) {
@@ -274,6 +281,7 @@ fn is_count(line: &[u8], word: &Word<'_>, run: &Run) -> bool {
             let is_framed = word.is_framed(line) && !next.is_framed(line);
             is_counted(next.text) || run.words == 0 && is_framed
         }
+        None if is_number => run.words == 0 && word.is_in_parentheses(line),
         _ => false,
     }
 }

@@ -62,7 +62,28 @@ fn way_at(line: &[u8], before: &[u8], word: &Word<'_>) -> Option<WayAt> {
             to: word.from.saturating_add(len),
         });
     }
-    named_at(word)
+    transfer_at(line, word).or(named_at(word))
+}
+
+/// The way of a bulk transfer in a line of `usbmon`, where its bytes are there: behind a sign of
+/// equality.
+fn transfer_at(line: &[u8], word: &Word<'_>) -> Option<WayAt> {
+    let way = match word.text {
+        [b'B', b'o', b':', ..] => Way::Sent,
+        [b'B', b'i', b':', ..] => Way::Heard,
+        _ => return None,
+    };
+    let sign = line
+        .windows(3)
+        .position(|three| three == b" = ".as_slice())?;
+    Some(WayAt {
+        way,
+        is_weak: false,
+        is_part: false,
+        is_placed: false,
+        from: word.from,
+        to: sign.saturating_add(2),
+    })
 }
 
 /// The way that an arrow says at the beginning of a word: from the host, if not the other end is

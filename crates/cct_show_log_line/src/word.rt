@@ -48,4 +48,9 @@ impl Word<'_> {
             (Some(b'('), Some(b')')) | (Some(b'['), Some(b']'))
         )
     }
+
+    /// Whether it is in parentheses of its own.
+    pub(crate) fn is_in_parentheses(&self, line: &[u8]) -> bool {
+        self.is_framed(line) && line.get(self.to) == Some(&b')')
+    }
 }
