@@ -7,7 +7,7 @@ ghost use Rattle.cct_journal_carry.specs.Tally.{many_of};
 ghost use Rattle.cct_journal.specs.Journal.{has_failed, used_of};
 
 use crate::acceptor;
-use cct_disk::{Disk, MemDisk};
+use cct_disk::{Disk, MemDisk, TornDisk};
 use cct_journal::{Journal, JournalNo, OpenNo, ReadNo};
 use cct_journal_carry::Tally;
 use cct_model_lines::{CarryEpoch, Devices, Record, Setup};
@@ -51,7 +51,7 @@ fn put<D: Disk>(
 }
 
 /// The journal on a disk.
-fn opened(disk: MemDisk) -> Result<Journal<MemDisk>, OpenNo>
+fn opened<D: Disk + Drop>(disk: D) -> Result<Journal<D>, OpenNo>
     ensures { IfOk result (λ journal. has_failed journal ≡ false) }
 {
     match Journal::reopen(disk) {
@@ -123,5 +123,25 @@ fn a_record_outlives_a_power_cut(rt: HostRuntime) -> Result<(), Fail> {
         accepts: 0,
     };
     assert_eq!(rt; journal.carry().epochs.as_slice(), [epoch].as_slice());
+    Ok(())
+}
+
+#[test]
+fn a_torn_body_is_no_record(rt: HostRuntime) -> Result<(), Fail> {
+    let alloc = rt.alloc();
+    let setup = setup();
+    // A new journal takes five calls of its disk. The sixth writes the body of the first record: it
+    // fails, and writes every other byte.
+    let disk = TornDisk::new(alloc, 2368, vec![in alloc; 6]?, 2)?;
+    let journal = Journal::create(disk).map_err(|(_, why)| why)?;
+    let tally = Tally::new(&setup);
+    assert!(rt; journal.used() < journal.capacity());
+    let Err((mut disk, _)) = journal.put_calls(&BEGUN, tally.carry(), 4) else {
+        panic!(rt; "a put whose write fails");
+    };
+    disk.power_cut(1)?;
+
+    // The gate of that slot is still shut.
+    assert_eq!(rt; opened(disk)?.used(), 0);
     Ok(())
 }
