@@ -1,5 +1,6 @@
 """How a run ends: on a dead line, at a port that is none, and where the port, the person or the reader of its lines goes."""
 
+import signal
 import subprocess
 import time
 from pathlib import Path
@@ -61,6 +62,69 @@ def one_absent(programs: dict[str, Path], short: bool) -> None:
     want("one is absent: no promise of coins holds", run.fields("holds"), [["disk"]])
     want("one is absent: none fails by it", run.fields("fails"), [])
     left_well("one is absent", devices[1:])
+    bench.close()
+
+
+def dead_wire(programs: dict[str, Path], short: bool) -> None:
+    """Nothing comes at all, not even the echo that the line should give: that isn't told trial after trial."""
+    devices = [Coins(2), Payer(3, "crc")]
+    bench = Bench(programs["cct_probe"], devices, echoes=True)
+    bench.bus.echoes = False
+    for device in devices:
+        device.is_dead = True
+    begun = time.monotonic()
+    run = bench.run("--hands", "--coins", "10", hands=bench.hands)
+    want_at_most("a dead wire: it ends soon", time.monotonic() - begun, 30)
+    want("a dead wire: the exit status", run.status, 14)
+    want("a dead wire: what is broken", run.fields("broken"), [["2", "answers", "here"], ["3", "answers", "here"]])
+    want("a dead wire: why nothing is tried", {fields[2] for fields in run.fields("untried")}, {"absent"})
+    bench.close()
+
+
+def fell_silent(at: str):
+    """A device falls silent in the middle: that is told once, and it isn't tried any more. The other one is."""
+    def part(programs: dict[str, Path], short: bool) -> None:
+        devices = [Coins(2), Payer(3)]
+        bench = Bench(programs["cct_probe"], devices)
+        moments = {}
+
+        def watch(run: Run) -> bool:
+            moments.setdefault(run.last(), time.monotonic())
+            devices[0].is_dead = at in moments
+            return False
+
+        run = bench.run("--coins", "10", "--hands", hands=bench.hands, watch=watch)
+        what = f"silent from {at}"
+        want(f"{what}: what is broken", [fields[:2] for fields in run.fields("broken")], [["2", "answers"]])
+        want(f"{what}: the exit status", run.status, 15)
+        untried = {fields[1] for fields in run.fields("untried") if fields[0] == "2" and fields[2] == "absent"}
+        want(f"{what}: what isn't tried then", {"prompt", "form", "accepts", "power"} - untried, set())
+        want(f"{what}: nothing that isn't tried is told as kept",
+             [fields for fields in run.fields("kept") if fields[0] == "2" and fields[1] in untried], [])
+        want(f"{what}: nobody is asked at it", [fields for fields in run.fields("do") if fields[0] == "2"], [])
+        want(f"{what}: the other is tried", len([fields for fields in run.fields("kept") if fields[0] == "3"]), 17)
+        want_at_most(f"{what}: that is told soon", moments["trial 3 here"] - moments[at], 12)
+        left_well(what, devices[1:])
+        bench.close()
+    return part
+
+
+def killed(programs: dict[str, Path], short: bool) -> None:
+    """A run that is killed leaves the devices as they are; the next one leaves them well."""
+    devices = [Coins(2), Payer(3)]
+    open_all(devices)
+    bench = Bench(programs["cct_probe"], devices)
+
+    def watch(run: Run) -> bool:
+        if run.last() == "trial 2 bits":
+            run.run.send_signal(signal.SIGTERM)
+        return False
+
+    want("killed: it ends by the signal", bench.run(watch=watch).status, -signal.SIGTERM)
+    want("killed: a hopper that it didn't reach is on", devices[1].is_on, True)
+    run = bench.run()
+    want("killed: the next run breaks nothing", (run.status, run.broken()), (0, set()))
+    left_well("killed", devices)
     bench.close()
 
 
@@ -169,6 +233,8 @@ def left_from_the_start(programs: dict[str, Path], short: bool) -> None:
 
 
 PARTS = {"left_from_the_start": left_from_the_start, "left_early": left_at("trial 2 serial"), "left_in_masks": left_at("trial 2 bits"),
-         "left_at_a_prompt": left_at("do 2 coin"), "one_absent": one_absent, "dead_line": dead_line, "no_terminal": no_terminal,
+         "left_at_a_prompt": left_at("do 2 coin"), "one_absent": one_absent, "dead_line": dead_line,
+         "dead_wire": dead_wire, "silent_in_masks": fell_silent("trial 2 bits"), "silent_at_first": fell_silent("trial 2 serial"),
+         "killed": killed, "no_terminal": no_terminal,
          "unset": unset, "words": words, "in_use": in_use, "unplugged": unplugged}
-SHORT = ("left_in_masks", "dead_line", "one_absent", "no_terminal", "unset", "words", "in_use", "unplugged")
+SHORT = ("left_in_masks", "dead_line", "dead_wire", "silent_in_masks", "one_absent", "no_terminal", "unset", "words", "in_use", "unplugged")

@@ -191,6 +191,42 @@ def good_part(make, what: str, echoes: bool, at_pace: bool):
     return part
 
 
+# How long after a person who says at once that it is done an object falls in, and how long after it the next one.
+LATE, EVERY = 0.4, 0.02
+
+
+def said_at_once(device):
+    """A person who says that it is done while what was put in is on its way."""
+    def hands(address: int, act: str, place: int) -> bool:
+        now = time.monotonic()
+        device.due.extend((now + LATE + EVERY * many, place) for many in range(OBJECTS[act]))
+        if act == "power":
+            device.power()
+        return True
+    return hands
+
+
+def quick_part(make, what: str):
+    def part(programs: dict[str, Path], short: bool) -> None:
+        device = make()
+        bench = Bench(programs["cct_probe"], [device])
+        run = bench.run(*ALL, hands=said_at_once(device))
+        want_all_kept(what, run, [device], set())
+        want(f"{what}: what was taken is told", run.fields("took"), [[str(device.address), str(device.come())]])
+        left_well(what, [device])
+        bench.close()
+    return part
+
+
+def quick_proved(programs: dict[str, Path], short: bool) -> None:
+    """So too with an acceptor of cct_devices, which takes one object at each silence."""
+    line = ProvedLine(programs, LINES["acceptor"] + "begin\n", False)
+    line.befall = lambda text, times=1: line.waiting.extend([text] * times)
+    run = line.run("--hands")
+    want_all_kept("a quick person at cct_devices", run, named_in(LINES["acceptor"]), {("2", "wrap", "long")})
+    line.close()
+
+
 class SilentOnBills(Notes):
     """It doesn't answer when it is asked for its bills."""
 
@@ -227,11 +263,13 @@ def bills_told(programs: dict[str, Path], short: bool) -> None:
 
 PARTS = {
     "machine": machine, "machine_with_echo": machine_with_echo,
-    "bills_told": bills_told, "long_acceptor": proved_part("acceptor", False, True), "long_bills": proved_part("bills", True, True),
+    "bills_told": bills_told, "quick_coins": quick_part(lambda: Coins(2), "a quick person"),
+    "quick_notes": quick_part(lambda: Notes(6, "crc"), "a quick person at a bill acceptor"), "quick_proved": quick_proved,
+    "long_acceptor": proved_part("acceptor", False, True), "long_bills": proved_part("bills", True, True),
     **{name: proved_part(name, "crc" in name, False) for name in LINES},
     **{f"good_{what}": good_part(make, f"a good {what}", echoes, at_pace) for what, make, echoes, at_pace in (
         ("coins", lambda: Coins(2), False, True), ("crc_coins", lambda: Coins(2, "crc"), True, False),
         ("notes", lambda: Notes(6, "crc"), True, True), ("simple_notes", lambda: Notes(6, "simple"), False, False),
         ("payer", lambda: Payer(3), True, True), ("crc_payer", lambda: Payer(3, "crc"), False, False))},
 }
-SHORT = ("acceptor", "bills", "bills_told", "crc_hopper", "good_crc_coins", "good_simple_notes", "good_payer")
+SHORT = ("acceptor", "bills", "bills_told", "quick_coins", "quick_notes", "crc_hopper", "good_crc_coins", "good_simple_notes", "good_payer")

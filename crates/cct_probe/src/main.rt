@@ -110,7 +110,7 @@ fn setup_of<R: Files + Eprint>(rt: &R, path: &str) -> Result<Setup, Cause> {
 fn open_port<'r>(rt: &'r HostRuntime, words: Words<'r>) -> Result<Port<Terminal<'r>>, Cause> {
     let setting = Setting(words.port);
     let _ = eprintln!(rt;
-        "cct_probe: looks at the port; if nothing more is said, it isn't set up: {setting}"
+        "cct_probe: looks at the port; if no line trial follows, set it up: {setting}"
     );
     match Terminal::open(rt, words.port) {
         Ok(terminal) => Ok(Port::new(terminal, options_of(words))),

@@ -32,6 +32,7 @@ abbrev pub said_in : Step → List Say
 said_in (step.Asks this want) = this ∷ []
 said_in step.Waits = []
 said_in (step.Person act) = []
+said_in (step.Settles more) = []
 
 -- What steps say, one after the other.
 abbrev pub all_said : List Step → List Say

@@ -21,7 +21,7 @@ use Rattle.cct_probe_plan.specs.declared.premise.Premise.TheVariants as premise
 use Rattle.cct_probe_plan.specs.declared.values.Fits.{Fits}
 use Rattle.cct_probe_plan.specs.declared.values.Fits.TheVariants as fits
 use Rattle.cct_probe_plan.specs.Saying.{place_of}
-use Rattle.cct_probe_plan.specs.Values.{fit_of, id_at, kept_by}
+use Rattle.cct_probe_plan.specs.Values.{counter_after, counter_in, fit_of, id_at, kept_by}
 
 -- An exchange shows no premise broken.
 abbrev pub BreaksNone : Shown → Type 0
@@ -155,6 +155,28 @@ reply_keeps d tried memory this bytes =
     if is_none_heard bytes then memory
     else kept_of this (data_in (answer_in d (single tried bytes))) memory
 
+-- Bytes don't begin with the echo: where none came at all nobody answered, else the form is broken.
+abbrev pub unechoed : List ℕ → Shown
+unechoed bytes =
+    if is_none_heard bytes then shown.Silence (premise.Common common.Answers)
+    else shown.Broken (premise.Common common.Form)
+
+-- A counter, if there is one, unless it is this one.
+abbrev pub counter_unless : ℕ → Option ℕ → Option ℕ
+counter_unless awaited None = None
+counter_unless awaited (Some counter) = if counter == awaited then None else Some counter
+
+-- The event counter that data tell.
+abbrev pub counter_of : Option (List ℕ) → Option ℕ
+counter_of None = None
+counter_of (Some bytes) = counter_in bytes
+
+-- The event counter that a reply tells, if so many events more than those kept didn't come yet.
+abbrev pub counter_before : ℕ → DeviceSetup → Premise → Memory → Option (List ℕ) → Option ℕ
+counter_before more d tried memory None = None
+counter_before more d tried memory (Some bytes) =
+    counter_unless (counter_after memory.counter more) (counter_of (data_in (answer_in d (single tried bytes))))
+
 -- at a device, in a round of a trial of this premise, by what is kept of the device
 module _ (d : DeviceSetup) (round : ℕ) (tried : Premise) (memory : Memory) where
   -- What a message shows where a reply has to come.
@@ -201,10 +223,10 @@ module _ (d : DeviceSetup) (round : ℕ) (tried : Premise) (memory : Memory) whe
   kept_after (want.Reply this) bytes = reply_keeps d tried memory this bytes
   kept_after this bytes = memory
 
-  -- What an exchange shows by the bytes after its echo: if that isn't whole, the form is broken.
-  abbrev pub judged : Want → Option (List ℕ) → Shown
-  judged this None = shown.Broken (premise.Common common.Form)
-  judged this (Some bytes) = shown_by this bytes
+  -- What an exchange shows by all bytes that were heard and by those after its echo.
+  abbrev pub judged : Want → List ℕ → Option (List ℕ) → Shown
+  judged this heard None = unechoed heard
+  judged this heard (Some bytes) = shown_by this bytes
 
   -- What is then kept, but for the bytes.
   abbrev pub kept_judged : Want → Option (List ℕ) → Memory

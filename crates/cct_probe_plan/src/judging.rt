@@ -3,7 +3,8 @@ ghost use Rattle.std.specs.Prelude.{◌≡◌, [], MatchOption, Some, None, fals
 ghost use Rattle.cct_frame.specs.Frame.{message_of};
 ghost use Rattle.cct_model_wire.specs.Exchange.{after_echo, is_from};
 ghost use Rattle.cct_probe_plan.specs.Judging.{BreaksNone, IsOfEach, IsTried, NamesTried};
-ghost use Rattle.cct_probe_plan.specs.Judging.{answer_in, first_part, has_none, is_again, is_once};
+ghost use Rattle.cct_probe_plan.specs.Judging.{answer_in, counter_before, counter_unless};
+ghost use Rattle.cct_probe_plan.specs.Judging.{first_part, has_none, is_again, is_once, unechoed};
 ghost use Rattle.cct_probe_plan.specs.Judging.{is_refused, judged, kept_after};
 ghost use Rattle.cct_probe_plan.specs.Judging.{kept_judged, malformed, numbers_of, other_part};
 ghost use Rattle.cct_probe_plan.specs.Judging.{refusal_shows, reply_after, reply_keeps};
@@ -15,7 +16,7 @@ use crate::memory::{Memory, cut};
 use crate::plan::{Expected, Told, Want};
 use crate::premise::{Common, Premise};
 use crate::round::{Turn, place_of};
-use crate::values::{Fits, fit_of, id_at};
+use crate::values::{Fits, counter_in, fit_of, id_at};
 use cct_frame::{FrameView, read};
 use cct_model_lines::{DeviceSetup, HOST};
 use cct_wire::bare_after_echo;
@@ -42,7 +43,7 @@ const MALFORMED: Shown = Shown::Broken(Premise::Common(Common::Form));
 pub fn judge(want: Want, turn: Turn<'_>, memory: &mut Memory, sent: &[u8], heard: &[u8]) -> Shown
     // What is right, what is refused and what shows a premise broken.
     ensures shown { result ≡ judged turn.entry.device.now turn.entry.round turn.entry.premise
-        memory.old want (after_echo sent.now heard.now) }
+        memory.old want heard.now (after_echo sent.now heard.now) }
     // What is kept of the device.
     ensures numbers { numbers_of memory.new ≡ numbers_of (kept_judged turn.entry.device.now
         turn.entry.round turn.entry.premise memory.old want (after_echo sent.now heard.now)) }
@@ -55,13 +56,60 @@ pub fn judge(want: Want, turn: Turn<'_>, memory: &mut Memory, sent: &[u8], heard
 {
     let rest = match bare_after_echo(sent, heard) {
         Ok(rest) => rest,
-        Err(_) => return MALFORMED,
+        Err(_) => return unechoed(heard),
     };
     let shown = shown_by(want, turn, memory, rest);
     if !sent.is_empty() {
         memory.keep_reply(rest);
     }
     shown
+}
+
+/// What it shows that bytes don't begin with what was sent. Where none came at all nobody answered,
+/// and the line is dead too, since not even the echo came.
+fn unechoed(heard: &[u8]) -> Shown
+    ensures shown { result ≡ unechoed heard.now }
+    ensures names { (tried : Premise) → NamesTried tried result }
+{
+    if heard.is_empty() {
+        Shown::Silence(Premise::Common(Common::Answers))
+    } else {
+        MALFORMED
+    }
+}
+
+/// The event counter that an exchange told, if so many events more than those kept didn't come yet.
+pub fn counter_before(
+    more: u16,
+    turn: Turn<'_>,
+    memory: &Memory,
+    sent: &[u8],
+    heard: &[u8],
+) -> Option<u8>
+    ensures { result ≡ counter_before more turn.entry.device.now turn.entry.premise memory.now
+        (after_echo sent.now heard.now) }
+{
+    let rest = match bare_after_echo(sent, heard) {
+        Ok(rest) => rest,
+        Err(_) => return None,
+    };
+    match message_in(turn.device, single(turn.premise, rest)) {
+        Some(message) if message.header == 0 => {
+            counter_unless(memory.awaited(more), counter_in(message.body))
+        }
+        Some(_) => None,
+        None => None,
+    }
+}
+
+/// A counter, if there is one, unless it is this one.
+fn counter_unless(awaited: u8, told: Option<u8>) -> Option<u8>
+    ensures { result ≡ counter_unless awaited told }
+{
+    match told {
+        Some(counter) if counter == awaited => None,
+        told => told,
+    }
 }
 
 /// What the bytes after the echo show.

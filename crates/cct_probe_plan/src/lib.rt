@@ -13,7 +13,7 @@ mod table;
 mod trials;
 mod values;
 
-pub use judging::{Shown, judge};
+pub use judging::{Shown, counter_before, judge};
 pub use memory::Memory;
 pub use plan::{
     Act, Ask, Counted, Ending, Expected, Need, Newest, Odd, Part, Say, Step, Told, Trial, Want, Who,

@@ -1,7 +1,9 @@
 //! What is kept of the replies of a device.
 ghost use Rattle.std.specs.Prelude.{◌≡◌, ◌≤◌, [], None, drop, length, take};
 ghost use Rattle.cct_model_wire.specs.declared.wire.TheConstants.{MOST_HEARD};
+ghost use Rattle.cct_probe_plan.specs.Values.{counter_after};
 
+use crate::values::counter_after;
 use arrayvec::ArrayVec;
 use cct_model_lines::MOST_HEARD;
 
@@ -38,6 +40,13 @@ impl Memory {
             counter: 0,
             reply: ArrayVec::new(),
         }
+    }
+
+    /// The event counter once so many events more came than were kept.
+    pub(crate) fn awaited(&self, more: u16) -> u8
+        ensures { result ≡ counter_after self.now.counter more }
+    {
+        counter_after(self.counter, more)
     }
 
     /// Keeps what followed the echo.

@@ -130,6 +130,9 @@ pub enum Step {
     Waits,
     /// A person does something.
     Person(Act),
+    /// What reads the events of an acceptor is asked until so many more came than were kept, or none
+    /// comes for a while. Nothing is shown by it: what a person put in may still be on its way.
+    Settles { more: u16 },
 }
 
 /// What is sent in an exchange.

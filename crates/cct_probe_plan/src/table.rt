@@ -128,6 +128,10 @@ const DISABLE: Step = asks!(one!(164, 0), Expected::Ack);
 
 const PUTS: Step = Step::Person(Act::Puts);
 
+const ONE_MORE: Step = Step::Settles { more: 1 };
+
+const TWO_MORE: Step = Step::Settles { more: 2 };
+
 const LISTEN: Step = step!(Say::Nothing { at_once: false }, Want::Silence);
 
 const SERIAL: Step = asks!(plain!(242), Expected::Said(Told::Serial));
@@ -271,6 +275,7 @@ pub(crate) static TRIALS: [Trial; 48] = [
             PLACE_MASK,
             KEEP_EVENTS,
             PUTS,
+            ONE_MORE,
             events!(1, Newest::Taken),
         ]
     ),
@@ -284,6 +289,9 @@ pub(crate) static TRIALS: [Trial; 48] = [
             PLACE_MASK,
             KEEP_EVENTS,
             Step::Person(Act::PutsSix),
+            LISTEN,
+            LISTEN,
+            LISTEN,
             events!(6, Newest::FiveTaken),
         ]
     ),
@@ -295,8 +303,10 @@ pub(crate) static TRIALS: [Trial; 48] = [
         &[
             MASTER_ON,
             PLACE_MASK,
+            KEEP_EVENTS,
             KEEP_ACCEPTS,
             PUTS,
+            ONE_MORE,
             count!(225, Counted::More(1)),
             RESET,
             count!(225, Counted::More(1)),
@@ -308,7 +318,15 @@ pub(crate) static TRIALS: [Trial; 48] = [
         Who::Takers,
         OfTaker::Empty,
         Need::Hands,
-        &[MASTER_ON, CLOSE_MASK, PUTS, RESET, NO_EVENTS,]
+        &[
+            MASTER_ON,
+            CLOSE_MASK,
+            KEEP_EVENTS,
+            PUTS,
+            ONE_MORE,
+            RESET,
+            NO_EVENTS,
+        ]
     ),
     by_hand!(
         b"refused",
@@ -320,6 +338,7 @@ pub(crate) static TRIALS: [Trial; 48] = [
             CLOSE_MASK,
             KEEP_EVENTS,
             PUTS,
+            ONE_MORE,
             events!(1, Newest::Error),
         ]
     ),
@@ -333,6 +352,7 @@ pub(crate) static TRIALS: [Trial; 48] = [
             MASTER_OFF,
             KEEP_EVENTS,
             PUTS,
+            ONE_MORE,
             events!(1, Newest::Error),
             MASTER_ON,
         ]
@@ -346,6 +366,7 @@ pub(crate) static TRIALS: [Trial; 48] = [
             ALL_MASK,
             KEEP_ACCEPTS,
             Step::Person(Act::Power),
+            LISTEN,
             NO_EVENTS,
             asks!(plain!(230), Expected::Two(0, 0)),
             count!(225, Counted::More(0)),
@@ -361,6 +382,7 @@ pub(crate) static TRIALS: [Trial; 48] = [
             CLOSE_MASK,
             KEEP_EVENTS,
             Step::Person(Act::PutsMany),
+            Step::Settles { more: 256 },
             events!(256, Newest::Any),
         ]
     ),
@@ -375,8 +397,10 @@ pub(crate) static TRIALS: [Trial; 48] = [
             PLACE_MASK,
             KEEP_EVENTS,
             PUTS,
+            ONE_MORE,
             events!(1, Newest::Bill(1)),
             asks!(one!(154, 1), Expected::Ack),
+            TWO_MORE,
             events!(2, Newest::Bill(0)),
             step!(one!(154, 1), Want::Refusal),
         ]
@@ -391,8 +415,10 @@ pub(crate) static TRIALS: [Trial; 48] = [
             PLACE_MASK,
             KEEP_EVENTS,
             PUTS,
+            ONE_MORE,
             events!(1, Newest::Bill(1)),
             asks!(one!(154, 0), Expected::Ack),
+            TWO_MORE,
             events!(2, Newest::Error),
             step!(one!(154, 0), Want::Refusal),
         ]
@@ -405,9 +431,12 @@ pub(crate) static TRIALS: [Trial; 48] = [
         &[
             MASTER_ON,
             PLACE_MASK,
+            KEEP_EVENTS,
             KEEP_ACCEPTS,
             PUTS,
+            ONE_MORE,
             asks!(one!(154, 1), Expected::Ack),
+            TWO_MORE,
             count!(225, Counted::More(1)),
             RESET,
             count!(225, Counted::More(1)),
@@ -505,7 +534,7 @@ pub(crate) static TRIALS: [Trial; 48] = [
         b"again",
         OfHopper::Lasts,
         Need::Hands,
-        &[KEEP_LIFE, Step::Person(Act::Power), SAME_LIFE]
+        &[KEEP_LIFE, Step::Person(Act::Power), LISTEN, SAME_LIFE]
     ),
     hopper!(
         b"end",

@@ -219,7 +219,7 @@ fn further(number: u32, more: u8) -> u32
 }
 
 /// The event counter, where the newest events come after it.
-fn counter_in(bytes: &[u8]) -> Option<u8>
+pub(crate) fn counter_in(bytes: &[u8]) -> Option<u8>
     ensures { result ≡ counter_in bytes.now }
 {
     match bytes {
@@ -266,7 +266,7 @@ fn fits_events(more: u16, newest: Newest, place: u8, kept: u8, bytes: &[u8]) -> 
 }
 
 /// The event counter after so many more events.
-fn counter_after(counter: u8, more: u16) -> u8
+pub(crate) fn counter_after(counter: u8, more: u16) -> u8
     ensures { result ≡ counter_after counter more }
 {
     let mut after = counter;

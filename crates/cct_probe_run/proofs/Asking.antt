@@ -29,10 +29,18 @@ same_pieces told_sent told_heard sent heard s h = ap (λ x. after_echo x told_he
 
 module _ {L K : Type 0} (reads : L → Option (List ℕ) → L → Type 0) (writes : L → List ℕ → Result (Unit {0}) Failed → L → Type 0)
     (puts : K → List ℕ → Result (Unit {0}) Failed → K → Type 0) (setup : Setup) (trials : List Trial) where
+  shows_again : (device : DeviceSetup) (round : ℕ) (tried : Premise) (wanted : Want) (kept : Memory) (mid : Bench L K)
+      (told_sent told_heard : List ℕ) (came other : Shown) → told_sent ≡ mid.sent.items → told_heard ≡ mid.heard.items
+      → came ≡ judged device round tried kept wanted told_heard (after_echo told_sent told_heard) → came ≡ other
+      → judged device round tried kept wanted mid.heard.items (after_echo mid.sent.items mid.heard.items) ≡ other
+  shows_again device round tried wanted kept mid told_sent told_heard came other s h shows is =
+      ap (λ x. judged device round tried kept wanted x (after_echo mid.sent.items mid.heard.items)) (sym h)
+      ∙ ap (λ x. judged device round tried kept wanted told_heard x) (sym (same_pieces told_sent told_heard mid.sent.items mid.heard.items s h)) ∙ sym shows ∙ is
+
   pub asked : (device : DeviceSetup) (round : ℕ) (tried : Premise) (said : Say) (wanted : Want) (kept later : Memory)
       (before mid after : Bench L K) (told_sent told_heard : List ℕ) (came : Shown)
       → told_sent ≡ mid.sent.items → told_heard ≡ mid.heard.items → Sent reads writes puts setup device round said before mid
-      → came ≡ judged device round tried kept wanted (after_echo told_sent told_heard) → came ≡ shown.Right
+      → came ≡ judged device round tried kept wanted told_heard (after_echo told_sent told_heard) → came ≡ shown.Right
       → numbers_of later ≡ numbers_of (kept_judged device round tried kept wanted (after_echo told_sent told_heard))
       → later.reply.items ≡ reply_after told_sent (after_echo told_sent told_heard) kept.reply.items
       → Rests reads writes puts setup mid after
@@ -42,24 +50,17 @@ module _ {L K : Type 0} (reads : L → Option (List ℕ) → L → Type 0) (writ
       record {
         mid = mid;
         sent = sent;
-        right = ap (λ x. judged device round tried kept wanted x) (sym pieces) ∙ sym shows ∙ is;
+        right = shows_again device round tried wanted kept mid told_sent told_heard came shown.Right s h shows is;
         numbers = numbers ∙ ap (λ x. numbers_of (kept_judged device round tried kept wanted x)) pieces;
         reply = reply ∙ ap (λ x. reply_after told_sent x kept.reply.items) pieces
             ∙ ap (λ x. reply_after x (after_echo mid.sent.items mid.heard.items) kept.reply.items) s;
         rests = rests;
       }
 
-  shows_again : (device : DeviceSetup) (round : ℕ) (tried : Premise) (wanted : Want) (kept : Memory) (mid : Bench L K)
-      (told_sent told_heard : List ℕ) (came other : Shown) → told_sent ≡ mid.sent.items → told_heard ≡ mid.heard.items
-      → came ≡ judged device round tried kept wanted (after_echo told_sent told_heard) → came ≡ other
-      → judged device round tried kept wanted (after_echo mid.sent.items mid.heard.items) ≡ other
-  shows_again device round tried wanted kept mid told_sent told_heard came other s h shows is =
-      ap (λ x. judged device round tried kept wanted x) (sym (same_pieces told_sent told_heard mid.sent.items mid.heard.items s h)) ∙ sym shows ∙ is
-
   pub refused : (device : DeviceSetup) (round : ℕ) (tried : Premise) (said : Say) (wanted : Want) (kept : Memory)
       (before mid after : Bench L K) (told_sent told_heard : List ℕ) (came : Shown)
       → told_sent ≡ mid.sent.items → told_heard ≡ mid.heard.items → Sent reads writes puts setup device round said before mid
-      → came ≡ judged device round tried kept wanted (after_echo told_sent told_heard) → came ≡ shown.Refused
+      → came ≡ judged device round tried kept wanted told_heard (after_echo told_sent told_heard) → came ≡ shown.Refused
       → Plays reads writes puts setup trials mid after
       → Unanswered reads writes puts setup trials device round tried said wanted kept before after
   refused device round tried said wanted kept before mid after told_sent told_heard came s h sent shows is plays = record {
@@ -72,7 +73,7 @@ module _ {L K : Type 0} (reads : L → Option (List ℕ) → L → Type 0) (writ
   untold : (device : DeviceSetup) (round : ℕ) (tried : Premise) (said : Say) (wanted : Want) (kept : Memory)
       (before mid after : Bench L K) (told_sent told_heard : List ℕ) (came : Shown)
       → told_sent ≡ mid.sent.items → told_heard ≡ mid.heard.items → Sent reads writes puts setup device round said before mid
-      → came ≡ judged device round tried kept wanted (after_echo told_sent told_heard) → came ≡ shown.Untold
+      → came ≡ judged device round tried kept wanted told_heard (after_echo told_sent told_heard) → came ≡ shown.Untold
       → Plays reads writes puts setup trials mid after
       → Unanswered reads writes puts setup trials device round tried said wanted kept before after
   untold device round tried said wanted kept before mid after told_sent told_heard came s h sent shows is plays = record {
@@ -95,7 +96,7 @@ module _ {L K : Type 0} (reads : L → Option (List ℕ) → L → Type 0) (writ
   pub untold_came : (device : DeviceSetup) (round : ℕ) (tried : Premise) (said : Say) (wanted : Want) (kept later : Memory)
       (before mid after : Bench L K) (told_sent told_heard : List ℕ) (came : Shown) (listened : Done)
       → told_sent ≡ mid.sent.items → told_heard ≡ mid.heard.items → Sent reads writes puts setup device round said before mid
-      → came ≡ judged device round tried kept wanted (after_echo told_sent told_heard) → came ≡ shown.Untold
+      → came ≡ judged device round tried kept wanted told_heard (after_echo told_sent told_heard) → came ≡ shown.Untold
       → Plays reads writes puts setup trials mid after → IsOrLate (done.Untried why.Silent) listened
       → StepCame reads writes puts setup trials device round tried (step.Asks said wanted) kept later before after listened
   untold_came device round tried said wanted kept later before mid after told_sent told_heard came listened s h sent shows is plays late =

@@ -5,7 +5,10 @@ use Rattle.std.specs.List.{Contains}
 use Rattle.cct_edge.specs.declared.fault.Failed.{Failed}
 use Rattle.cct_model_wire.specs.declared.device.DeviceSetup.{DeviceSetup}
 use Rattle.cct_model_wire.specs.declared.device.Setup.{Setup}
+use Rattle.cct_model_wire.specs.Exchange.{after_echo}
 use Rattle.cct_probe_plan.specs.declared.memory.Memory.{Memory}
+use Rattle.cct_probe_plan.specs.declared.plan.Ask.TheVariants as ask
+use Rattle.cct_probe_plan.specs.declared.plan.Say.TheVariants as say
 use Rattle.cct_probe_plan.specs.declared.plan.Step.{Step}
 use Rattle.cct_probe_plan.specs.declared.plan.Trial.{Trial}
 use Rattle.cct_probe_plan.specs.declared.premise.Common.TheVariants as common
@@ -18,9 +21,9 @@ use Rattle.cct_probe_run.specs.declared.acting.Done.TheVariants as done
 use Rattle.cct_probe_run.specs.declared.bench.Bench.{Bench}
 use Rattle.cct_probe_run.specs.declared.findings.Why.{Why}
 use Rattle.cct_probe_run.specs.declared.runner.Presence.TheVariants as presence
-use Rattle.cct_probe_run.specs.Leaving.{Rests}
+use Rattle.cct_probe_run.specs.Leaving.{Rests, Sent}
 use Rattle.cct_probe_run.specs.Plays.{Plays, exchanged, not_begun, told}
-use Rattle.cct_probe_run.specs.Doing.{AllDone, AllTried, Came, CameIn, Concludes, EachTried, IsAbsent, IsLacking, LineTried, NextTried, RoundCame, RoundLeft, RoundsCame, RoundsDone, StepCame, StepDone, StepsDone, TryCame, WasTried}
+use Rattle.cct_probe_run.specs.Doing.{AllDone, AllTried, Came, CameIn, Concludes, EachTried, IsAbsent, IsLacking, LineTried, NextTried, RoundCame, RoundLeft, RoundsCame, RoundsDone, StepCame, StepDone, StepsDone, TryCame, Unpaid, WasTried, has_paid}
 
 pub clash : false ≡ true → ⊥
 clash e = cc
@@ -127,6 +130,22 @@ module _ {L K : Type 0} (reads : L → Option (List ℕ) → L → Type 0) (writ
       omega (arith, all, steps_few device round tried steps many kept later before after sofar) in
       subst (λ n. StepsDone reads writes puts setup trials device round tried steps n kept later before after) same sofar
 
+  -- one more status with coins left to pay, and all
+  pub unpaid_more : (device : DeviceSetup) (round many : ℕ) (before mid next after : Bench L K)
+      → Unpaid reads writes puts setup trials device round many before mid
+      → Sent reads writes puts setup device round (say.Ask (ask.Plain 166)) mid next
+      → has_paid (after_echo next.sent.items next.heard.items) ≡ false → Rests reads writes puts setup next after
+      → Unpaid reads writes puts setup trials device round (many + 1) before after
+  unpaid_more device round many before mid next after sofar sent left rests =
+      let next_one : suc many ≡ many + 1 = omega arith in
+      subst (λ n. Unpaid reads writes puts setup trials device round n before after) next_one (mid, next, sofar, sent, left, rests)
+
+  pub unpaid_whole : (device : DeviceSetup) (round many all : ℕ) (before after : Bench L K) → many ≡ all
+      → Unpaid reads writes puts setup trials device round many before after
+      → Unpaid reads writes puts setup trials device round all before after
+  unpaid_whole device round many all before after is sofar =
+      subst (λ n. Unpaid reads writes puts setup trials device round n before after) is sofar
+
   -- one round more of a trial
   pub rounds_more : (device : DeviceSetup) (trial : Trial) (many : ℕ) (kept between later : Memory) (before mid after : Bench L K)
       → RoundsDone reads writes puts setup trials device trial many kept between before mid
@@ -213,10 +232,11 @@ module _ {L K : Type 0} (reads : L → Option (List ℕ) → L → Type 0) (writ
     λ isnt. absurd (clash (sym isnt ∙ here)),
   )
 
-  pub try_on : (device : DeviceSetup) (trial : Trial) (first mid last : Bench L K) (answered : Bool)
+  pub try_also : (device : DeviceSetup) (trial : Trial) (first mid last : Bench L K) (answered other : Bool)
       → TryCame reads writes puts setup trials device trial first mid answered → Plays reads writes puts setup trials mid last
-      → TryCame reads writes puts setup trials device trial first last answered
-  try_on device trial first mid last answered (came, this, is) more = (came, came_on device trial came first mid last this more, is)
+      → (other ≡ false → answered ≡ false) → TryCame reads writes puts setup trials device trial first last other
+  try_also device trial first mid last answered other (came, this, is) more so =
+      (came, came_on device trial came first mid last this more, λ isnt. is (so isnt))
 
   -- the next trial of a device
   pub next_here : (device : DeviceSetup) (trial : Trial) (first mid last : Bench L K) (answered : Bool)
@@ -244,6 +264,12 @@ module _ {L K : Type 0} (reads : L → Option (List ℕ) → L → Type 0) (writ
       → Plays reads writes puts setup trials first mid → TryCame reads writes puts setup trials device trial mid last answered
       → answered ≡ false → NextTried reads writes puts setup trials device trial first last presence.Absent
   next_silent device trial first mid last answered there plays came isnt =
+      let absent = next_absent device trial first mid last answered there plays came isnt in (λ of. inr absent, absent)
+
+  pub next_gone : (device : DeviceSetup) (trial : Trial) (first mid last : Bench L K) (answered : Bool) → Contains trials trial
+      → Plays reads writes puts setup trials first mid → TryCame reads writes puts setup trials device trial mid last answered
+      → answered ≡ false → NextTried reads writes puts setup trials device trial first last presence.Gone
+  next_gone device trial first mid last answered there plays came isnt =
       let absent = next_absent device trial first mid last answered there plays came isnt in (λ of. inr absent, absent)
 
   -- one more of these trials

@@ -24,6 +24,7 @@ use Rattle.cct_probe_plan.specs.declared.premise.Premise.TheVariants as premise
 use Rattle.cct_probe_plan.specs.Closing.{is_for}
 use Rattle.cct_probe_plan.specs.Judging.{judged, kept_judged, numbers_of, reply_after}
 use Rattle.cct_probe_plan.specs.Tries.{is_at_device, is_of_line}
+use Rattle.cct_probe_run.specs.declared.acting.TheConstants.{MOST_WAITS}
 use Rattle.cct_probe_run.specs.declared.acting.Done.{Done}
 use Rattle.cct_probe_run.specs.declared.acting.Done.TheVariants as done
 use Rattle.cct_probe_run.specs.declared.bench.Bench.{Bench}
@@ -79,7 +80,7 @@ module _ {L K : Type 0} (reads : L → Option (List ℕ) → L → Type 0)
     pub mid : Bench L K
     pub sent : Sent reads writes puts setup device round said before mid
     pub right : judged device round tried kept wanted
-        (after_echo mid.sent.items mid.heard.items) ≡ shown.Right
+        mid.heard.items (after_echo mid.sent.items mid.heard.items) ≡ shown.Right
     pub numbers : numbers_of later ≡ numbers_of (kept_judged device round tried kept wanted
         (after_echo mid.sent.items mid.heard.items))
     pub reply : later.reply.items ≡ reply_after mid.sent.items
@@ -95,7 +96,16 @@ module _ {L K : Type 0} (reads : L → Option (List ℕ) → L → Type 0)
     pub paid : has_paid (after_echo next.sent.items next.heard.items) ≡ true
     pub rests : Rests reads writes puts setup next after
 
-  -- A step was done, and what came is right.
+  -- A hopper was asked for its status so often, and each time it had coins left to pay.
+  abbrev pub Unpaid : DeviceSetup → ℕ → ℕ → Bench L K → Bench L K → Type 0
+  Unpaid device round zero before after = after ≡ before
+  Unpaid device round (suc many) before after = (mid : Bench L K) × (next : Bench L K)
+      × Unpaid device round many before mid
+      × Sent reads writes puts setup device round (say.Ask (ask.Plain 166)) mid next
+      × (has_paid (after_echo next.sent.items next.heard.items) ≡ false)
+      × Rests reads writes puts setup next after
+
+  -- A step was done, and what came is right; where events are waited for nothing need come.
   abbrev pub StepDone : DeviceSetup → ℕ → Premise → Step → Memory → Memory → Bench L K → Bench L K
       → Type 0
   StepDone device round tried (step.Asks said wanted) kept later before after =
@@ -104,6 +114,8 @@ module _ {L K : Type 0} (reads : L → Option (List ℕ) → L → Type 0)
       (later ≡ kept) × Waited device round before after
   StepDone device round tried (step.Person act) kept later before after =
       (later ≡ kept) × Rests reads writes puts setup before after
+  StepDone device round tried (step.Settles more) kept later before after =
+      (later ≡ kept) × Plays reads writes puts setup trials before after
 
   -- So many of these steps were, one after the other.
   abbrev pub StepsDone : DeviceSetup → ℕ → Premise → List Step → ℕ → Memory → Memory → Bench L K
@@ -129,9 +141,9 @@ module _ {L K : Type 0} (reads : L → Option (List ℕ) → L → Type 0)
     pub mid : Bench L K
     pub sent : Sent reads writes puts setup device round said before mid
     pub shows : (judged device round tried kept wanted
-        (after_echo mid.sent.items mid.heard.items) ≡ shown.Untold)
+        mid.heard.items (after_echo mid.sent.items mid.heard.items) ≡ shown.Untold)
         ⊎ (judged device round tried kept wanted
-        (after_echo mid.sent.items mid.heard.items) ≡ shown.Refused)
+        mid.heard.items (after_echo mid.sent.items mid.heard.items) ≡ shown.Refused)
     pub plays : Plays reads writes puts setup trials mid after
 
   -- A trial can't go on after a step, and this is why.
@@ -141,7 +153,8 @@ module _ {L K : Type 0} (reads : L → Option (List ℕ) → L → Type 0)
       IsTooMuch said before
   IsLeft device round tried (step.Asks said wanted) kept before after why.Silent =
       Unanswered device round tried said wanted kept before after
-  IsLeft device round tried step.Waits kept before after why.Silent = ⊤
+  IsLeft device round tried step.Waits kept before after why.Silent =
+      Unpaid device round MOST_WAITS before after
   IsLeft device round tried (step.Person act) kept before after why.Skipped = ⊤
   IsLeft device round tried this kept before after reason = ⊥
 
@@ -239,6 +252,7 @@ module _ {L K : Type 0} (reads : L → Option (List ℕ) → L → Type 0)
   -- A device answers as far as is known, or it doesn't, as was told.
   abbrev pub IsHere : DeviceSetup → Presence → Bench L K → Bench L K → Type 0
   IsHere device presence.Absent first last = IsAbsent device first last
+  IsHere device presence.Gone first last = IsAbsent device first last
   IsHere device this first last = ⊤
 
   -- A trial was tried at a device if it is for that, and this is known of the device now.

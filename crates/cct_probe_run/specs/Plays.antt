@@ -31,6 +31,7 @@ abbrev pub Says : Step → Say → Type 0
 Says (step.Asks this want) said = this ≡ said
 Says step.Waits said = say.Ask (ask.Plain 166) ≡ said
 Says (step.Person act) said = ⊥
+Says (step.Settles more) said = say.Ask ask.Credits ≡ said
 
 -- A step is one of a trial of a plan.
 pub record IsStep (trials : List Trial) (this : Step) : Type 0 where

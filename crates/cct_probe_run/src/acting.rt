@@ -23,12 +23,19 @@ use crate::telling::prompt_of;
 use cct_edge::{Sink, Source};
 use cct_live_port::Line;
 use cct_probe_plan::{
-    Act, Ask, Common, Memory, Premise, Say, Shown, Step, Turn, Want, judge, tried_place,
+    Act, Ask, Common, Memory, Premise, Say, Shown, Step, Turn, Want, counter_before, judge,
+    tried_place,
 };
 use cct_wire::bare_after_echo;
 
 /// How often a hopper's status is asked at most until it has no coin left to pay.
 const MOST_WAITS: u32 = 60;
+
+/// How often an acceptor's events are asked at most until so many more came.
+const MOST_SETTLES: u32 = 1000;
+
+/// How often in a row they may be the same until then.
+const MOST_SAME: u32 = 50;
 
 /// The header of a hopper's status.
 const STATUS: u8 = 166;
@@ -68,6 +75,7 @@ pub(crate) fn act<L: Line, K: Sink, S: Source>(
         Step::Asks { say, want } => ask(bench, plan, turn, memory, say, want),
         Step::Waits => wait(bench, plan, turn),
         Step::Person(act) => prompt(bench, person, turn, act),
+        Step::Settles { more } => settle(bench, plan, turn, memory, more),
     }
 }
 
@@ -184,13 +192,13 @@ fn wait<L: Line, K: Sink>(
 {
     let say = Say::Ask(Ask::Plain { header: STATUS });
     let slow = turn.slow();
-    for _ in 0..MOST_WAITS {
+    for _asked in 0..MOST_WAITS {
         match bench.exchange(plan, say, slow) {
             Exchanged::Heard => {}
             Exchanged::NoCoins => return Ok(Done::Untried(Why::Coins)),
             Exchanged::Fault => return Err(Stop::PortFault),
         }
-        let is_silent = bench.heard().len() <= bench.sent().len();
+        let is_silent = !bench.is_answered();
         let is_paid = has_paid(bench);
         bench.tell_wire(turn.told)?;
         if is_silent {
@@ -226,6 +234,50 @@ fn is_paid(rest: &[u8]) -> bool
         [_, many, _, header, _, left, ..] => *many == 4 && *header == 0 && *left == 0,
         _ => false,
     }
+}
+
+/// Asks an acceptor for its events until so many more came than were kept, or none comes for a while:
+/// what a person put in may still be on its way.
+fn settle<L: Line, K: Sink>(
+    bench: &mut Bench<L, K>,
+    plan: Plan<'_>,
+    turn: Turn<'_>,
+    memory: &Memory,
+    more: u16,
+) -> Result<Done, Stop>
+    requires of_plan { IsOfPlan plan.trials.now (say.Ask ask.Credits) }
+    requires there { Contains plan.setup.now.devices turn.device.now }
+    ensures plays { (first : Bench L K) →
+        Plays L.reads L.writes K.puts plan.entry.setup.now plan.entry.trials.now first bench.old →
+        Plays L.reads L.writes K.puts plan.entry.setup.now plan.entry.trials.now first bench.new }
+    ensures shows { (trials : List Trial) →
+        IfOk result (ShowsIf plan.entry.setup.now trials turn.entry.premise bench.new.sent.items) }
+    ensures came { (kept : Memory) → IfOk result (StepCame L.reads L.writes K.puts
+        plan.entry.setup.now plan.entry.trials.now turn.entry.device.now turn.entry.round
+        turn.entry.premise (step_of.Settles more) kept kept bench.old bench.new) }
+{
+    let slow = turn.slow();
+    let mut last = None;
+    let mut same: u32 = 0;
+    for _ in 0..MOST_SETTLES {
+        match bench.exchange(plan, Say::Ask(Ask::Credits), slow) {
+            Exchanged::Heard => {}
+            Exchanged::NoCoins => return Ok(Done::Untried(Why::Coins)),
+            Exchanged::Fault => return Err(Stop::PortFault),
+        }
+        bench.tell_wire(turn.told)?;
+        let told = counter_before(more, turn, memory, bench.sent(), bench.heard());
+        same = if told == last {
+            same.saturating_add(1)
+        } else {
+            0
+        };
+        if told.is_none() || same >= MOST_SAME {
+            return Ok(Done::On);
+        }
+        last = told;
+    }
+    Ok(Done::On)
 }
 
 /// Asks a person to do something.

@@ -141,6 +141,11 @@ impl<L: Line, K: Sink> Bench<L, K> {
         self.heard.as_slice()
     }
 
+    /// Whether more came then than was sent.
+    pub(crate) fn is_answered(&self) -> bool {
+        self.heard.len() > self.sent.len()
+    }
+
     /// Whether so many coins may still be ordered.
     pub(crate) fn may_order(&self, coins: u8) -> bool
         ensures not { result ≡ false → self.now.leave.coins < self.now.asked + coins }

@@ -191,6 +191,7 @@ fn close_step<L: Line, K: Sink>(
         Step::Asks { say, .. } => close_once(bench, plan, turn, say),
         Step::Waits => Ok(()),
         Step::Person(_) => Ok(()),
+        Step::Settles { .. } => Ok(()),
     }
 }
 
@@ -228,7 +229,7 @@ fn tell_closed<L: Line, K: Sink>(
         Rests L.reads L.writes K.puts plan.entry.setup.now first bench.new }
 {
     let put = bench.tell_wire(turn.told);
-    if bench.heard().len() > bench.sent().len() {
+    if bench.is_answered() {
         return put;
     }
     let listening = Plan {

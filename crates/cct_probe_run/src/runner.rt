@@ -138,9 +138,11 @@ fn try_devices<L: Line, K: Sink, S: Source, C: Clock>(
 pub(crate) enum Presence {
     /// No trial of it was begun.
     Unknown,
-    /// It answered its first trial.
+    /// It answers.
     Here,
-    /// It didn't.
+    /// It answered its first trial, and fell silent since.
+    Gone,
+    /// It didn't answer its first trial.
     Absent,
 }
 
@@ -175,11 +177,10 @@ fn run_device<L: Line, K: Sink, S: Source, C: Clock>(
             presence,
         )?;
     }
-    let is_there = is_here(presence);
-    note_always(findings, device.addr, is_there)?;
+    note_always(findings, device.addr, is_here(presence))?;
     tell_device(bench, findings, device.addr)?;
     tell_coins(bench, device, &memory)?;
-    Ok(is_there)
+    Ok(was_here(presence))
 }
 
 /// Does the next trial at a device, if it is for that and that answers.
@@ -210,12 +211,19 @@ fn try_next<L: Line, K: Sink, S: Source, C: Clock>(
     }
     match presence {
         Presence::Absent => {
-            findings.note(device.addr, trial.premise, Standing::Untried(Why::Absent))?;
+            note_absent(findings, device, trial)?;
             Ok(Presence::Absent)
         }
+        Presence::Gone => {
+            note_absent(findings, device, trial)?;
+            Ok(Presence::Gone)
+        }
         Presence::Here => {
-            try_and_close(bench, plan, person, clock, findings, memory, device, trial)?;
-            Ok(Presence::Here)
+            if try_and_close(bench, plan, person, clock, findings, memory, device, trial)? {
+                Ok(Presence::Here)
+            } else {
+                Ok(Presence::Gone)
+            }
         }
         Presence::Unknown => {
             if try_and_close(bench, plan, person, clock, findings, memory, device, trial)? {
@@ -227,16 +235,29 @@ fn try_next<L: Line, K: Sink, S: Source, C: Clock>(
     }
 }
 
-/// Whether a device answered, as far as is known.
+/// Notes that a trial isn't done, since the device doesn't answer.
+fn note_absent(findings: &mut Findings, device: &DeviceSetup, trial: &Trial) -> Result<(), Stop> {
+    findings.note(device.addr, trial.premise, Standing::Untried(Why::Absent))
+}
+
+/// Whether a device answers, as far as is known.
 fn is_here(presence: Presence) -> bool {
     match presence {
         Presence::Unknown | Presence::Here => true,
+        Presence::Gone | Presence::Absent => false,
+    }
+}
+
+/// Whether it ever answered, as far as is known.
+fn was_here(presence: Presence) -> bool {
+    match presence {
+        Presence::Unknown | Presence::Here | Presence::Gone => true,
         Presence::Absent => false,
     }
 }
 
 /// Does a trial at a device, and leaves that as it may stay for a while. It answers whether the
-/// device answered.
+/// device answered either.
 fn try_and_close<L: Line, K: Sink, S: Source, C: Clock>(
     bench: &mut Bench<L, K>,
     plan: Plan<'_>,
@@ -268,7 +289,7 @@ fn try_and_close<L: Line, K: Sink, S: Source, C: Clock>(
     )?;
     take_gap(memory, findings, device.addr, trial.premise);
     close(bench, plan, device, Ending::Trial, memory.gap)?;
-    Ok(answered)
+    Ok(answered || bench.is_answered())
 }
 
 /// Takes the gap before messages over from what was found, once it was tried whether a second device

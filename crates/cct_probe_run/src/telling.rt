@@ -114,7 +114,10 @@ fn prompt_words(act: Act, is_bill: bool) -> (&'static [u8], &'static [u8]) {
             b"many",
             b"put 256 coins of this place into the acceptor, which gives each back",
         ),
-        Act::Power => (b"power", b"switch the device off and on again"),
+        Act::Power => (
+            b"power",
+            b"switch the device off and on again and wait until it is up",
+        ),
     }
 }
 

@@ -17,3 +17,11 @@ pub returns-in-Person-clause-came : goal.returns-in-Person-clause-came
 returns-in-Person-clause-came g c = subst (λ s. IfOk c.prompt.result (StepCame g.L.Line.reads g.L.Line.writes g.K.Sink.puts c.args.plan.setup.now c.args.plan.trials.now
     c.args.turn.device.now c.args.turn.round c.args.turn.premise s c.args.memory.now c.args.memory.now c.args.bench.now c.prompt.new.bench))
     (sym c.in-Person.is) (c.prompt.ensures.came c.args.plan.setup.now c.args.plan.trials.now c.args.memory.now)
+
+pub returns-in-Settles-clause-shows : goal.returns-in-Settles-clause-shows
+returns-in-Settles-clause-shows g c = λ trials of_step. c.settle.ensures.shows trials
+
+pub returns-in-Settles-clause-came : goal.returns-in-Settles-clause-came
+returns-in-Settles-clause-came g c = subst (λ s. IfOk c.settle.result (StepCame g.L.Line.reads g.L.Line.writes g.K.Sink.puts c.args.plan.setup.now c.args.plan.trials.now
+    c.args.turn.device.now c.args.turn.round c.args.turn.premise s c.args.memory.now c.args.memory.now c.args.bench.now c.settle.new.bench))
+    (sym c.in-Settles.is) (c.settle.ensures.came c.args.memory.now)

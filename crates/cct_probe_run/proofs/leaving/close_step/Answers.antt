@@ -6,3 +6,6 @@ returns-in-Waits-clause-sends g c = rw c.in-Waits.is (λ none. not_begun)
 
 pub returns-in-Person-clause-sends : goal.returns-in-Person-clause-sends
 returns-in-Person-clause-sends g c = rw c.in-Person.is (λ none. not_begun)
+
+pub returns-in-Settles-clause-sends : goal.returns-in-Settles-clause-sends
+returns-in-Settles-clause-sends g c = rw c.in-Settles.is (λ none. not_begun)
