@@ -1,3 +1,4 @@
 mod Accounts
 mod Chains
+mod Deciding
 mod Going

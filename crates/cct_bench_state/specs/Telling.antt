@@ -2,6 +2,7 @@
 use Rattle.std.specs.Prelude.{◌≡◌, ◌⊎◌, ℕ, ◌+◌, List, [], ◌∷◌, ◌++◌, length, reverse, Option}
 use Rattle.std.specs.Prelude.{Result, Ok, Err}
 use Rattle.cct_edge.specs.declared.fault.Failed.{Failed}
+use Rattle.cct_journal.specs.Image.{HasFrom, IsAlien, IsBadAt}
 use Rattle.cct_journal.specs.declared.refusal.OpenNo.TheVariants as opening
 use Rattle.cct_model.specs.lines.carry.Carry.{Carry}
 use Rattle.cct_model.specs.lines.record.Record.{Record}
@@ -52,3 +53,14 @@ Tells disk setup (Unread opening.Disk) writes = writes [] (Ok tt)
 Tells disk setup (Unread opening.Alien) writes = disk.alien × writes [] (Ok tt)
 Tells disk setup (Unread (opening.BadRecord index)) writes =
     IsBad disk setup index × writes [] (Ok tt)
+
+-- A telling ended as the image decides, by a setup where one is given: the whole state is told
+-- where the records suit the setup, and else it is told which doesn't, or can't be read.
+pub record Decides (setup : Option Setup) (how : StateEnd) (image : List ℕ) : Type 0 where
+  pub done : (base : ℕ) (c : Carry) (records : List Record) → HasFrom image base c records
+      → SuitsSetup setup c (reverse records) → how ≡ Done
+  pub misfit : (base : ℕ) (c : Carry) (records : List Record) (index : ℕ)
+      → HasFrom image base c records → IsMisfit setup base c records index
+      → how ≡ Unread (opening.BadRecord index)
+  pub alien : IsAlien image → how ≡ Unread opening.Alien
+  pub bad : (index : ℕ) → IsBadAt image index → how ≡ Unread (opening.BadRecord index)

@@ -4,14 +4,14 @@ ghost use Rattle.std.specs.Prelude.{Some, option_map};
 ghost use Rattle.cct_audit.specs.Writing.{WritesLines};
 ghost use Rattle.cct_disk.specs.Disk.{OnlyReads};
 ghost use Rattle.cct_edge.specs.Bytes.{Serves};
-ghost use Rattle.cct_edge.specs.Faults.{Caused};
+ghost use Rattle.cct_edge.specs.Faults.{Caused, Rose};
 ghost use Rattle.cct_journal.specs.Journal as journals;
 ghost use Rattle.cct_model.specs.Setup.{IsSoundSetup};
 ghost use Rattle.cct_model.specs.lines.record.Record.{Record};
 ghost use Rattle.cct_bench_state.specs.Known.{any_disk, of_image};
 ghost use Rattle.cct_bench_state.specs.Reading.{AreReady, IsGathered, ReadsOne, RefusesRead};
 ghost use Rattle.cct_bench_state.specs.Reading.{TellsRead};
-ghost use Rattle.cct_bench_state.specs.Telling.{Tells};
+ghost use Rattle.cct_bench_state.specs.Telling.{Decides, Tells};
 
 use crate::books::Books;
 use crate::money::Misfit;
@@ -60,6 +60,11 @@ pub fn tell_state<K: Sink, D: Disk>(
     ensures disk_cause { Caused (D.faults disk) (D.faults result.1)
         (result.0 ≡ StateEnd.Unread OpenNo.Disk) }
     ensures sink { Serves K.written K.faults out.old out.new (result.0 ≡ StateEnd.Unwritten) }
+
+    // With no fault the image alone decides.
+    ensures complete { (image : List ℕ) → D.seen disk ≡ Some image → (Rose (K.faults out.old) (K.faults out.new) → ⊥)
+        → (Rose (D.faults disk) (D.faults result.1) → ⊥)
+        → Decides (option_map (λ s. s.now) setup.entry) result.0 image }
 {
     match Journal::reopen(disk) {
         Ok((mut journal, _)) => {
