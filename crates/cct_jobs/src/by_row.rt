@@ -3,6 +3,7 @@
 ghost use Rattle.std.specs.Prelude.{◌≡◌, Option, Some, true};
 ghost use Rattle.cct_model.specs.Rows.{has_closes, has_waits, puts_in};
 ghost use Rattle.cct_jobs.specs.Ahead.{ahead, coins_in};
+ghost use Rattle.cct_jobs.specs.declared.job.Job.TheVariants.{OrderOpens};
 ghost use Rattle.cct_jobs.specs.Jobs.{IsPut, after_halt, after_put, end_of_job, need_of, opened_by};
 ghost use Rattle.cct_jobs.specs.Jobs.{owed_after, put_in, sending_of};
 
@@ -11,6 +12,7 @@ use crate::job::{Job, Need, Sending};
 use crate::owed::Owed;
 use crate::payout::Payout;
 use crate::stage::Stage;
+use crate::target::Target;
 use crate::{payment, scan};
 use cct_model::{BROADCAST, CheckKind, End, OpenOrder, Record};
 
@@ -125,37 +127,45 @@ impl Job {
         }
     }
 
-    /// The job after its record was put, by its row.
-    pub(crate) fn after_put(&self) -> Job
-        requires { IsPut (need_of self.now) }
-        ensures { result ≡ after_put self.now }
+    /// The job goes on after its record was put, by its row: it comes to the next one where it
+    /// stands.
+    pub(crate) fn pass_put(&mut self)
+        requires { IsPut (need_of self.old) }
+        ensures { self.new ≡ after_put self.old }
     {
         match self {
             Job::StartPuts { device, mask, .. } => {
-                first_try(*device, Stage::StartSets { mask: *mask })
+                let (device, mask) = (*device, *mask);
+                *self = first_try(device, Stage::StartSets { mask });
             }
-            Job::RoundPuts { end, .. } => Job::Done(*end),
+            Job::RoundPuts { end, .. } => {
+                let end = *end;
+                *self = Job::Done(end);
+            }
             Job::StopPuts { device, end, .. } => match end {
-                Some(end) => Job::Done(*end),
-                None => Job::StopEnds { device: *device },
+                Some(end) => {
+                    let end = *end;
+                    *self = Job::Done(end);
+                }
+                None => {
+                    let device = *device;
+                    *self = Job::StopEnds { device };
+                }
             },
-            Job::StopEnds { .. } => Job::Done(End::Stopped),
+            Job::StopEnds { .. } => *self = Job::Done(End::Stopped),
             Job::OrderOpens {
                 device,
                 owed,
                 halted,
-            } => first_try(
-                *device,
-                Stage::Pays {
-                    row: Payout::Dispenses {
-                        serial: device.serial,
-                        owed: *owed,
-                        halted: *halted,
-                    },
-                },
-            ),
-            Job::OrderCloses { end, .. } => Job::Done(*end),
-            Job::SalePuts { .. } => Job::Done(End::Sold),
+            } => {
+                let (device, owed, halted) = (*device, *owed, *halted);
+                *self = dispenses(device, owed, halted);
+            }
+            Job::OrderCloses { end, .. } => {
+                let end = *end;
+                *self = Job::Done(end);
+            }
+            Job::SalePuts { .. } => *self = Job::Done(End::Sold),
             _ => unreachable!(),
         }
     }
@@ -216,4 +226,16 @@ fn opened(order: &OpenOrder) -> Record
         count: order.count,
         life: order.life,
     }
+}
+
+/// A payment after it put that its order is opened: its coins are dispensed.
+fn dispenses(device: Target, owed: Owed, halted: bool) -> Job
+    ensures { result ≡ after_put (OrderOpens device owed halted) }
+{
+    let row = Payout::Dispenses {
+        serial: device.serial,
+        owed,
+        halted,
+    };
+    first_try(device, Stage::Pays { row })
 }

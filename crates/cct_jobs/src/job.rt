@@ -331,7 +331,7 @@ impl Job {
         ensures fits { PutsFit self.new }
         ensures value { self.new ≡ after_put self.old }
     {
-        *self = self.after_put();
+        self.pass_put();
     }
 
     /// The order that is open at the job's device after its record was put, where this one was open
