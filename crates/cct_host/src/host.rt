@@ -170,9 +170,9 @@ impl<'s, D: Disk> Host<'s, D> {
     }
 
     /// Why the first of these tests of the money and the room fails, if one does, where so much
-    /// room is wanted. Most commands want room alone, which is then the one test that is there.
+    /// room is wanted.
     #[tactic(auto, using(crate::proofs::Testing::first_more))]
-    fn room_failing(&self, tests: &[Option<Test>], need: u32) -> Option<CommandNo>
+    fn room_failing(&self, tests: &[Option<Test>; 2], need: u32) -> Option<CommandNo>
         ensures fits { result ≡ None → asks_room (listed tests.now) ≡ true
             → journals.used_of self.now.journal + all_desks.held_of self.now.desks + need ≤ capacity_in self.now }
         ensures stands { (past : List Entry) → Keeps self.now past
@@ -180,13 +180,13 @@ impl<'s, D: Disk> Host<'s, D> {
             (listed tests.now) }
     {
         match tests {
-            [] => None,
-            [None, more @ ..] => self.room_failing(more, need),
-            [Some(test), None] => self.room_fails(test, need),
-            [Some(test), more @ ..] => match self.room_fails(test, need) {
+            [Some(first), Some(second)] => match self.room_fails(first, need) {
                 Some(why) => Some(why),
-                None => self.room_failing(more, need),
+                None => self.room_fails(second, need),
             },
+            [Some(only), None] => self.room_fails(only, need),
+            [None, Some(only)] => self.room_fails(only, need),
+            [None, None] => None,
         }
     }
 
