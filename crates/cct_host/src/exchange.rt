@@ -2,6 +2,7 @@
 ghost use Rattle.std.specs.Prelude.{◌≡◌, ◌<◌, ◌≤◌, ◌++◌, ◌∷◌, [], Some, None, IfSome, is_some};
 ghost use Rattle.std.specs.Prelude.{true};
 ghost use Rattle.arrayvec.specs.ArrayVec.{array_vec_len};
+ghost use Rattle.cct_model.specs.lines.entry.Entry.TheVariants as told;
 ghost use Rattle.cct_jobs.specs.Ahead.{ahead};
 ghost use Rattle.cct_jobs.specs.Jobs.{end_of_job, need_of, sending_of};
 ghost use Rattle.cct_jobs.specs.Onward.{KeepsTo};
@@ -16,7 +17,6 @@ use cct_jobs::Job;
 use cct_model::{Entry, Piece, Record, Sent};
 use cct_msg::encode_request;
 use cct_wire::Link;
-use std::alloc::AllocError;
 
 /// A job sends its request over a link, and hears what follows. The exchange is told in the place
 /// of the last entry.
@@ -146,8 +146,7 @@ pub(crate) fn put(
     ensures puts { IfSome at_desk.old (λ job. Puts addr job entry.now at_desk.new
         (kept report.old.items) report.new.items) }
 {
-    let copy: Result<Record, AllocError> = entry.clone();
-    tell_over(report, Entry::Put(copy.unwrap()));
+    tell_put(report, entry.copied());
     let is_done = match at_desk {
         Some(job) => {
             job.go_on_after_put();
@@ -157,6 +156,29 @@ pub(crate) fn put(
     };
     if is_done {
         leave(at_desk);
+    }
+}
+
+/// The put of a record is told in the place of the last entry of a report.
+fn tell_put(report: &mut ArrayVec<Entry, 8>, entry: Record)
+    requires last { 1 ≤ array_vec_len report.old }
+    ensures told { report.new.items ≡ kept report.old.items ++ told.Put entry ∷ [] }
+    ensures len { array_vec_len report.new ≡ array_vec_len report.old }
+{
+    let index = report.len() - 1;
+    match report.get_mut(index) {
+        Some(last) => make_put(last, entry),
+        None => unreachable!(),
+    }
+}
+
+/// Makes an entry that of the put of a record. In that of another put only the record is written.
+fn make_put(said: &mut Entry, entry: Record)
+    ensures { said.new ≡ told.Put entry }
+{
+    match said {
+        Entry::Put(record) => *record = entry,
+        _ => *said = Entry::Put(entry),
     }
 }
 
