@@ -45,6 +45,8 @@ const SHORTEST: usize = 5;
 
 /// Reads the one message that a whole piece is. The tests come in the order of [`FrameFault`]'s
 /// variants, and the first that fails is reported.
+// Inlined: a view is wide, and to hand it over costs as much as to read a short message.
+#[inline(always)]
 pub fn read<'a>(kind: CheckKind, piece: &'a [u8]) -> Result<FrameView<'a>, FrameFault>
     // the view of a message
     ensures whole { IfOk result (λ view. message kind piece.now ≡ Some (message_of view)) }
@@ -80,7 +82,7 @@ pub fn read<'a>(kind: CheckKind, piece: &'a [u8]) -> Result<FrameView<'a>, Frame
 }
 
 /// The same, where `check` is what the check made of all bytes but the last.
-#[inline]
+#[inline(always)]
 #[tactic(auto, using(crate::proofs::Places::none_short, crate::proofs::Places::none_length, crate::proofs::Places::none_check, crate::proofs::Places::some_whole))]
 pub fn read_checked<'a>(
     kind: CheckKind,
