@@ -26,7 +26,9 @@ use cct_disk::Disk;
 use cct_edge::Failed;
 use cct_host::{Crashed, Host};
 use cct_host_change::{Desk, Serving, Shortfall};
-use cct_model::{Command, CommandNo, CrashAt, Entry, Happening, Payment, Step, Totals, WireFault};
+use cct_model::{
+    Coin, Command, CommandNo, CrashAt, Entry, Happening, Payment, Step, Totals, WireFault,
+};
 
 /// The host, the bus and the desk of a world. They stand in a box, so that a world that is moved
 /// costs a pointer.
@@ -43,6 +45,7 @@ impl<D: Disk> Machine<'_, D> {
     ghost use Rattle.cct_world.specs.Machine.{StepPlayed, StepUnplayed, desk_of, disk_of};
     ghost use Rattle.cct_world.specs.Machine.{has_failed, setup_of};
 
+    #[inline(always)]
     pub fn knows(&self, step: &Step) -> bool
         ensures { result ≡ is_known (setup_of self.now) step.now }
     {
@@ -497,34 +500,72 @@ fn add_short(shortfall: Shortfall, report: &mut ArrayVec<Entry, 8>)
     });
 }
 
-/// Says what happened to the device at an address, by what became of it. An entry is wide, so it is
-/// made where it is reported.
+/// Says what happened to the device at an address, by what became of it.
+#[tactic(auto, using(crate::proofs::Steps::set_alone))]
 fn tell(addr: u8, what: Happening, outcome: Outcome, report: &mut ArrayVec<Entry, 8>)
     requires { array_vec_len report.old ≡ 1 }
     ensures { report.new.items ≡ entry_told addr what outcome ∷ [] }
 {
+    match report.get_mut(0) {
+        Some(told) => set_told(told, addr, what, outcome),
+        None => unreachable!(),
+    }
+}
+
+/// Makes an entry that of what happened to the device at an address, by what became of it. An entry
+/// is wide, so it is made where it is reported.
+fn set_told(told: &mut Entry, addr: u8, what: Happening, outcome: Outcome)
+    ensures { told.new ≡ entry_told addr what outcome }
+{
     match what {
         Happening::Coin { place } => match outcome {
-            Outcome::Accepted(coin) => tell_alone(report, Entry::Accepted { addr, coin }),
-            Outcome::Done => tell_alone(report, Entry::Inhibited { addr, place }),
-            Outcome::Nothing => tell_alone(report, Entry::Inhibited { addr, place }),
+            Outcome::Accepted(coin) => set_accepted(told, addr, coin),
+            Outcome::Done => *told = Entry::Inhibited { addr, place },
+            Outcome::Nothing => *told = Entry::Inhibited { addr, place },
         },
-        Happening::Alien => tell_alone(report, Entry::Alien { addr }),
+        Happening::Alien => *told = Entry::Alien { addr },
         Happening::Bill { place } => match outcome {
-            Outcome::Done => tell_alone(report, Entry::Held { addr, place }),
-            Outcome::Accepted(_) => tell_alone(report, Entry::Inhibited { addr, place }),
-            Outcome::Nothing => tell_alone(report, Entry::Inhibited { addr, place }),
+            Outcome::Done => *told = Entry::Held { addr, place },
+            Outcome::Accepted(_) => *told = Entry::Inhibited { addr, place },
+            Outcome::Nothing => *told = Entry::Inhibited { addr, place },
         },
         Happening::Fall => match outcome {
-            Outcome::Done => tell_alone(report, Entry::Fell { addr }),
-            Outcome::Accepted(_) => tell_alone(report, Entry::NoFall { addr }),
-            Outcome::Nothing => tell_alone(report, Entry::NoFall { addr }),
+            Outcome::Done => set_fell(told, addr),
+            Outcome::Accepted(_) => *told = Entry::NoFall { addr },
+            Outcome::Nothing => *told = Entry::NoFall { addr },
         },
         Happening::Jam => match outcome {
-            Outcome::Done => tell_alone(report, Entry::Jammed { addr }),
-            Outcome::Accepted(_) => tell_alone(report, Entry::NoJam { addr }),
-            Outcome::Nothing => tell_alone(report, Entry::NoJam { addr }),
+            Outcome::Done => *told = Entry::Jammed { addr },
+            Outcome::Accepted(_) => *told = Entry::NoJam { addr },
+            Outcome::Nothing => *told = Entry::NoJam { addr },
         },
-        Happening::Reset => tell_alone(report, Entry::Reset { addr }),
+        Happening::Reset => *told = Entry::Reset { addr },
+    }
+}
+
+/// Makes an entry that of a coin that was accepted: that of another one only takes this one in.
+fn set_accepted(told: &mut Entry, addr: u8, coin: Coin)
+    ensures { told.new ≡ entry.Accepted addr coin }
+{
+    match told {
+        Entry::Accepted {
+            addr: at,
+            coin: last,
+        } => {
+            *at = addr;
+            *last = coin;
+        }
+        _ => *told = Entry::Accepted { addr, coin },
+    }
+}
+
+/// Makes an entry that of a coin that fell out of a hopper: that of another one only takes its
+/// address in.
+fn set_fell(told: &mut Entry, addr: u8)
+    ensures { told.new ≡ entry.Fell addr }
+{
+    match told {
+        Entry::Fell { addr: at } => *at = addr,
+        _ => *told = Entry::Fell { addr },
     }
 }

@@ -75,6 +75,8 @@ impl<'s, D: Disk> World<'s, D> {
     }
 
     /// Whether the setup has the device that a step names, and of the kind that the step needs.
+    // Inlined: where a step is known to be a `next`, nothing is looked at.
+    #[inline(always)]
     pub fn knows(&self, step: &Step) -> bool
         ensures { result ≡ is_known (setup_of self.now) step.now }
     {
