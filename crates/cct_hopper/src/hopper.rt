@@ -65,10 +65,10 @@ impl<'s> Hopper<'s> {
     {
         match self {
             Hopper::Paying(hopper) => {
-                *self = match hopper.twin().fall() {
-                    AfterFall::Paying(hopper) => Hopper::Paying(hopper),
-                    AfterFall::Idle(hopper) => Hopper::Idle(hopper),
-                };
+                match hopper.twin().fall() {
+                    AfterFall::Paying(hopper) => *self = Hopper::Paying(hopper),
+                    AfterFall::Idle(hopper) => *self = Hopper::Idle(hopper),
+                }
                 true
             }
             _ => false,
