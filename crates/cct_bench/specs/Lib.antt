@@ -15,3 +15,4 @@ pub mod State
 pub mod Upgrade
 pub mod Audit
 pub mod Check
+pub mod Rooms

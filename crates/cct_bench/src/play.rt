@@ -33,7 +33,7 @@ ghost use Rattle.cct_bench.specs.Run.{IsOfScript, IsUnopened, OverCut, Played, R
 use crate::ending::{Ending, ending_at, finish_run};
 use crate::opening::read_setup;
 use crate::outcome::Status;
-use crate::steps::{is_end, read_step};
+use crate::steps::{StepRooms, is_end, read_step};
 use arrayvec::ArrayVec;
 use cct_disk::{Disk, MADE_LEN};
 use cct_edge::{Failed, Sink, Source};
@@ -75,7 +75,9 @@ struct StepPlayer {
     /// The entries of the last `next`. Most of these are exchanges, and an entry that stands in the
     /// place of one of its kind is only filled.
     attempt: ArrayVec<Entry, 8>,
-    /// The entries of the last step that was none.
+    /// The entries of the last command.
+    command: ArrayVec<Entry, 8>,
+    /// The entries of the last step that was neither.
     report: ArrayVec<Entry, 8>,
     line: TextLine,
 }
@@ -125,6 +127,7 @@ impl StepPlayer {
     {
         match step {
             Step::Next { .. } => play_step(step, world, &mut self.attempt, &mut self.line, out),
+            Step::Command(_) => play_step(step, world, &mut self.command, &mut self.line, out),
             _ => play_step(step, world, &mut self.report, &mut self.line, out),
         }
     }
@@ -189,8 +192,7 @@ fn play_step<'s, K: Sink, D: Disk>(
 #[derive(Drop)]
 struct ScriptDesk {
     lines: Lines,
-    /// The step that was read last.
-    step: Step,
+    steps: StepRooms,
     player: StepPlayer,
 }
 
@@ -222,14 +224,15 @@ impl ScriptDesk {
         let mut world = world;
         let mut number = first;
         loop {
-            match read_step(&mut self.lines, &world, number, script, &mut self.step) {
-                Ok(()) => {}
+            let room = match read_step(&mut self.lines, &world, number, script, &mut self.steps) {
+                Ok(room) => room,
                 Err(why) => return (ending_at(number, why), world.into_disk()),
-            }
-            if is_end(&self.step) {
+            };
+            let step = self.steps.step(room);
+            if is_end(step) {
                 return (self.finish(number + 1, script), world.into_disk());
             }
-            match self.player.play(&self.step, world, out) {
+            match self.player.play(step, world, out) {
                 Ok(next) => world = next,
                 Err(ended) => return ended,
             }
@@ -270,9 +273,10 @@ impl Bench {
             },
             desk: ScriptDesk {
                 lines: Lines::new(),
-                step: Step::End,
+                steps: StepRooms::new(),
                 player: StepPlayer {
                     attempt: ArrayVec::new(),
+                    command: ArrayVec::new(),
                     report: ArrayVec::new(),
                     line: TextLine::new(),
                 },

@@ -4,6 +4,7 @@ use Rattle.cct_script.specs.Giving.{standing_of, line_given}
 use Rattle.cct_world.specs.World.{setup_of}
 use Rattle.cct_script.specs.Scripts.{read_of}
 use Rattle.cct_bench.specs.Playing.{read_as}
+use Rattle.cct_bench.specs.Rooms.{step_in}
 use Rattle.cct_script.proofs.Continuing.{Answers, closes_by, goes_by, next_after, stops_up}
 use Rattle.cct_bench.proofs.Scripts.{by_run}
 use Rattle.cct_bench.proofs.steps.read_step.Goals as goal
@@ -21,7 +22,7 @@ returns-in-Ok-clause-reads g c =
     let at : Answers by_run (standing_of c.args.lines.now) (standing_of c.line.follows.lender-at-none)
     (g.S.Source.left c.args.script.now) (g.S.Source.left c.line.new.source) c.args.number (at_steps (setup_of c.args.world.now))
     (line_given c.line.result) = record { going = refl; next = c.requires; gives = c.line.follows.holds-at-none.0 } in
-    goes_by by_run at c.in_ok-line.line.now (read_as (setup_of c.args.world.now) c.take_step_line.new.step)
+    goes_by by_run at c.in_ok-line.line.now (read_as (setup_of c.args.world.now) (step_in c.take_line_into.new.rooms c.in-Ok.room))
     (sym c.before_end.ensures ∙ ap read_of c.in_ok-line.was) c.in-Ok.ensures.reads
 
 pub returns-in-Ok-clause-next : goal.returns-in-Ok-clause-next

@@ -13,8 +13,8 @@ use Rattle.cct_bench.specs.Going.{Going}
 use Rattle.cct_bench.proofs.Going.{Runs}
 use Rattle.cct_bench.proofs.play.ScriptDesk.play_steps.Given as goal
 
-abbrev pub invariant-loop-why : goal.invariant-loop-why
-invariant-loop-why g l =
+abbrev pub invariant-loop-room : goal.invariant-loop-room
+invariant-loop-room g l =
     let source = g.S.Source in
     let sink = g.K.Sink in
     let disk = g.D.Disk in
@@ -29,5 +29,5 @@ invariant-loop-why g l =
     (DiskServes disk.size disk.honest disk.seen disk.cuts disk.faults (disk_of l.fn.world) (disk_of l.world) ⊥ ⊥)
     (standing_of l.self.lines) l.number
 
-abbrev pub decreases-loop-why : goal.decreases-loop-why
-decreases-loop-why g l = 1048578 - l.number
+abbrev pub decreases-loop-room : goal.decreases-loop-room
+decreases-loop-room g l = 1048578 - l.number
