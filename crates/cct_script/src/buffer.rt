@@ -9,7 +9,7 @@ ghost use Rattle.cct_model_lines.specs.Script.{is_line_feed};
 ghost use Rattle.cct_script.specs.Taking.{TakesOn, TakesUntilFault};
 ghost use Rattle.cct_script.specs.Window.{Fills, Finds, IsShort};
 
-use crate::bytes::place_of;
+use crate::bytes::line_feed_in;
 use cct_edge::{Failed, Source};
 use cct_model_lines::MOST_LINE;
 use std::marker::Model;
@@ -116,7 +116,7 @@ impl LineBuffer {
         loop {
             let held = self.held();
             let len = held.len();
-            if let Some(at) = place_of(held, b'\n') {
+            if let Some(at) = line_feed_in(held) {
                 return Ok(Held::Line(at));
             }
             if len == ROOM {

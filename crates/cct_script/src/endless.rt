@@ -4,7 +4,7 @@ ghost use Rattle.cct_edge.specs.Bytes.{Serves};
 ghost use Rattle.cct_model_lines.specs.Script.{most_bytes};
 
 use crate::buffer::{Held, LineBuffer};
-use crate::bytes::place_of;
+use crate::bytes::line_feed_in;
 use crate::lines::LinesNo;
 use cct_edge::{Failed, Source};
 
@@ -127,7 +127,7 @@ impl LineBuffer {
     fn drop_line(&mut self) -> bool
         ensures { DropsLine self.old self.new result }
     {
-        match place_of(self.held(), b'\n') {
+        match line_feed_in(self.held()) {
             Some(at) => {
                 self.advance(at + 1);
                 true

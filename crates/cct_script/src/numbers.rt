@@ -7,6 +7,7 @@ ghost use Rattle.cct_script.specs.Fields.{Reads};
 ///
 /// `None` where the field spells no number that way, or one below `least` or above `most`.
 #[tactic(auto, unfolding(cct_model_lines::specs::Grammar::ranged))]
+#[inline(always)]
 pub fn ranged(least: u64, most: u64, field: &[u8]) -> Option<u64>
     ensures { Reads result (ranged least most field.now)
         (λ number. (least ≤ number) × (number ≤ most)) }
@@ -19,6 +20,7 @@ pub fn ranged(least: u64, most: u64, field: &[u8]) -> Option<u64>
 }
 
 /// The number up to `most` that a field spells in decimal, without sign and without leading zeros.
+#[inline(always)]
 fn number_in(field: &[u8], most: u64) -> Option<u64>
     ensures reads { result ≡ option_and_then (within 0 most) (number_in field.now) }
 {
@@ -30,6 +32,7 @@ fn number_in(field: &[u8], most: u64) -> Option<u64>
 }
 
 /// The number up to `most` that digits spell.
+#[inline(always)]
 fn digits_in(digits: &[u8], most: u64) -> Option<u64>
     ensures { result ≡ option_and_then (within 0 most) (digits_from 0 digits.now) }
 {

@@ -11,7 +11,7 @@ ghost use Rattle.cct_script.specs.Steps.{order_step, other_step};
 use crate::fields::first_field;
 use crate::step_fields::{
     addr, bill_into, change_into, coin_into, crash_into, fault_into, nothing, path_into, pay_into,
-    route_into, start_into, stock_into, vend_into,
+    route_into, set_command, start_into, stock_into, vend_into,
 };
 use cct_model_lines::{Command, LineKind, Step};
 
@@ -93,7 +93,7 @@ fn device_step(word: &[u8], rest: Option<&[u8]>, step: &mut Step) -> Result<(), 
         _ if word == COIN => coin_into(rest, step).ok_or(LineKind::Form)?,
         _ if word == ALIEN => *step = Step::Alien { addr: addr(rest)? },
         _ if word == BILL => bill_into(rest, step).ok_or(LineKind::Form)?,
-        _ if word == FALL => *step = Step::Fall { addr: addr(rest)? },
+        _ if word == FALL => set_fall(addr(rest)?, step),
         _ if word == JAM => *step = Step::Jam { addr: addr(rest)? },
         _ if word == RESET => *step = Step::Reset { addr: addr(rest)? },
         _ => return epoch_step(word, rest, step),
@@ -110,21 +110,30 @@ fn epoch_step(word: &[u8], rest: Option<&[u8]>, step: &mut Step) -> Result<(), L
     match word {
         _ if word == FAULT => fault_into(rest, step).ok_or(LineKind::Form)?,
         _ if word == START => start_into(rest, step).ok_or(LineKind::Form)?,
-        _ if word == ROUND => *step = Step::Command(Command::Round { addr: addr(rest)? }),
-        _ if word == STOP => *step = Step::Command(Command::Stop { addr: addr(rest)? }),
+        _ if word == ROUND => set_command(Command::Round { addr: addr(rest)? }, step),
+        _ if word == STOP => set_command(Command::Stop { addr: addr(rest)? }, step),
         _ => return order_step(word, rest, step),
     }
     Ok(())
 }
 
-/// Makes a step a `next`. A step is wide, and most are a `next`: where one stands already, only its
-/// address is set.
+/// Makes a step a `next`. A step is wide: where a `next` stands already, only its address is set.
 fn set_next(addr: u8, step: &mut Step)
     ensures { step.new ≡ steps.Next addr }
 {
     match step {
         Step::Next { addr: at } => *at = addr,
         _ => *step = Step::Next { addr },
+    }
+}
+
+/// Makes a step the fall of a coin. Where one stands already, only its address is set.
+fn set_fall(addr: u8, step: &mut Step)
+    ensures { step.new ≡ steps.Fall addr }
+{
+    match step {
+        Step::Fall { addr: at } => *at = addr,
+        _ => *step = Step::Fall { addr },
     }
 }
 
@@ -135,13 +144,13 @@ fn order_step(word: &[u8], rest: Option<&[u8]>, step: &mut Step) -> Result<(), L
     ensures { ReadsInto result step.new (order_step word.now (fields_after rest.entry)) }
 {
     match word {
-        _ if word == SETTLE => *step = Step::Command(Command::Settle { addr: addr(rest)? }),
-        _ if word == HALT => *step = Step::Command(Command::Halt { addr: addr(rest)? }),
-        _ if word == IDENT => *step = Step::Command(Command::Ident { addr: addr(rest)? }),
+        _ if word == SETTLE => set_command(Command::Settle { addr: addr(rest)? }, step),
+        _ if word == HALT => set_command(Command::Halt { addr: addr(rest)? }, step),
+        _ if word == IDENT => set_command(Command::Ident { addr: addr(rest)? }, step),
         _ if word == PAY => pay_into(rest, step).ok_or(LineKind::Form)?,
         _ if word == SCAN => {
             nothing(rest)?;
-            *step = Step::Command(Command::Scan);
+            set_command(Command::Scan, step);
         }
         _ => return other_step(word, rest, step),
     }

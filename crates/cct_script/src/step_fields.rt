@@ -38,8 +38,19 @@ fn choice_in(field: &[u8]) -> Option<u64>
     ranged(0, u64::MAX, field)
 }
 
+/// Makes a step a command. A step is wide: where a command stands already, only that is set.
+pub(crate) fn set_command(command: Command, step: &mut Step)
+    ensures { step.new ≡ steps.Command command }
+{
+    match step {
+        Step::Command(given) => *given = command,
+        _ => *step = Step::Command(command),
+    }
+}
+
 /// The address alone after a word.
 #[tactic(auto, using(crate::proofs::Forms::no_step_at))]
+#[inline(always)]
 pub(crate) fn addr(rest: Option<&[u8]>) -> Result<u8, LineKind>
     ensures { MatchResult result
         (λ addr. (make : ℕ → Step) → step_at make (fields_after rest.entry) ≡ Some (make addr))
@@ -83,8 +94,25 @@ pub(crate) fn coin_into(rest: Option<&[u8]>, step: &mut Step) -> Option<()>
     ensures { Sets result step.new (place_step steps.Coin (fields_after rest.entry)) IsInRange }
 {
     let (addr, place) = place(rest)?;
-    *step = Step::Coin { addr, place };
+    set_coin(addr, place, step);
     Some(())
+}
+
+/// Makes a step a coin that falls in. A step is wide: where a coin stands already, only what it
+/// holds is set.
+fn set_coin(addr: u8, place: u8, step: &mut Step)
+    ensures { step.new ≡ steps.Coin addr place }
+{
+    match step {
+        Step::Coin {
+            addr: at,
+            place: old,
+        } => {
+            *at = addr;
+            *old = place;
+        }
+        _ => *step = Step::Coin { addr, place },
+    }
 }
 
 /// `bill A PLACE`
@@ -135,7 +163,7 @@ pub(crate) fn start_into(rest: Option<&[u8]>, step: &mut Step) -> Option<()>
     let (addr, mask) = two(rest)?;
     let addr = address_in(addr)?;
     let mask = mask_in(mask)?;
-    *step = Step::Command(Command::Start { addr, mask });
+    set_command(Command::Start { addr, mask }, step);
     Some(())
 }
 
@@ -149,7 +177,7 @@ pub(crate) fn pay_into(rest: Option<&[u8]>, step: &mut Step) -> Option<()>
     let addr = address_in(addr)?;
     let id = ranged_u32(1, u32::MAX, id)?;
     let count = ranged_u8(1, 255, count)?;
-    *step = Step::Command(Command::Pay { addr, id, count });
+    set_command(Command::Pay { addr, id, count }, step);
     Some(())
 }
 
@@ -162,7 +190,7 @@ pub(crate) fn path_into(rest: Option<&[u8]>, step: &mut Step) -> Option<()>
     let addr = address_in(addr)?;
     let place = ranged_u8(0, COIN_PLACES as u8, place)?;
     let path = ranged_u8(1, PATHS, path)?;
-    *step = Step::Command(Command::Path { addr, place, path });
+    set_command(Command::Path { addr, place, path }, step);
     Some(())
 }
 
@@ -174,7 +202,7 @@ pub(crate) fn route_into(rest: Option<&[u8]>, step: &mut Step) -> Option<()>
     let (addr, way) = two(rest)?;
     let addr = address_in(addr)?;
     let way = ranged_u8(RETURN_CODE, STACK_CODE, way)?;
-    *step = Step::Command(Command::Route { addr, way });
+    set_command(Command::Route { addr, way }, step);
     Some(())
 }
 
@@ -186,7 +214,7 @@ pub(crate) fn vend_into(rest: Option<&[u8]>, step: &mut Step) -> Option<()>
     let (id, price) = two(rest)?;
     let id = ranged_u32(1, u32::MAX, id)?;
     let price = ranged_u32(1, 1_000_000_000, price)?;
-    *step = Step::Command(Command::Vend { id, price });
+    set_command(Command::Vend { id, price }, step);
     Some(())
 }
 
