@@ -3,7 +3,7 @@
 const PAGE = 65536, COUNT = {}, MOST_ROOM = 2 ** 29;
 const byId = id => document.getElementById(id);
 const bytesOf = text => new TextEncoder().encode(text);
-const textOf = bytes => new TextDecoder().decode(bytes);
+const textOf = bytes => new TextDecoder('utf-8', { ignoreBOM: true }).decode(bytes);
 const modules = {};
 
 function moduleOf(name) {
