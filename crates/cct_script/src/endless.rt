@@ -89,8 +89,8 @@ impl EndlessLines {
     /// from the source only while it holds no line feed.
     ///
     /// `Read` comes where the source failed, and `Long` where a line is so long that it isn't
-    /// passed over either: 1,048,576 bytes or more. After either of them the reader isn't asked
-    /// again.
+    /// passed over either: after 1,048,576 takes of the source it goes on. After either of them the
+    /// reader isn't asked again.
     pub fn line<S: Source>(&mut self, source: &mut S) -> Result<NextLine<'_>, LinesNo>
         // Each line once, in order and whole, and each end exactly where it is.
         ensures* gives { sem 𝓛 (follows_so the_row the_row self.entry.ghost_name none (λ _ _. ⊤)
