@@ -40,7 +40,8 @@ use Rattle.cct_world.proofs.Early.{early_none}
 use Rattle.cct_world.proofs.Relying.{rose_just}
 use Rattle.cct_text.proofs.Writing.{writes_then}
 
--- what holds of the bytes that an object tells, or of some where it shows none, also holds by a weaker fact
+-- what holds of the bytes that an object shows, or of some where it shows none, also holds by a
+-- weaker fact
 pub bytes_weaker : (P Q : List ℕ → Type 0) (known : Option (List ℕ)) → ((bytes : List ℕ) → P bytes → Q bytes)
     → OfBytes known P → OfBytes known Q
 bytes_weaker P Q known f h = (h.0, h.1, f h.0 h.2)
@@ -66,14 +67,15 @@ early_right setup played transcript now rights e =
       so = (legal, right.0, right.1);
     }
 
--- the money of a script that was played up to a step is right, where its transcript is legal at the desk
+-- the money of a script that was played up to a step is right, where its transcript is legal at the
+-- operator's desk
 desk_right : (bytes : List ℕ) (played rest : List Step) (transcript : List Entry) → (script bytes).steps ≡ played ++ rest
     → LegalAtDesk most_records (script bytes).setup played transcript → IsRight (script bytes).setup transcript
 desk_right bytes played rest transcript fronts legal =
     played_right most_records bytes played rest transcript fronts
     (front_legal most_records bytes played rest transcript fronts legal)
 
--- and its sessions of change pay what they tell
+-- and its sessions of change pay what they report
 desk_changes : (bytes : List ℕ) (played rest : List Step) (transcript : List Entry)
     → (script bytes).steps ≡ played ++ rest
     → LegalAtDesk most_records (script bytes).setup played transcript → Honest transcript
@@ -437,7 +439,7 @@ none_next [] (step.Crash at choice ∷ steps) none next = omega (arith, none)
 none_next [] (s ∷ steps) none next = next
 none_next (s ∷ played) unplayed none next = none_next played unplayed (omega (arith, none)) next
 
--- what a last line tells
+-- what a last line shows
 pub tells_loss : (P : CrashNo → Type 0) (tail : List Entry) → TellsOf P tail → TellsLoss tail
 tells_loss P (entry.JournalAlien ∷ []) tells = tt
 tells_loss P (entry.JournalBad index ∷ []) tells = tt
@@ -508,12 +510,12 @@ pub ran_other : (bytes : List ℕ) (s : Status) (left : Option (List ℕ)) (Writ
 ran_other bytes s left Written Breaks disks source_failed disk_failed h is =
     (subst (λ x. Ran bytes x left Written Breaks disks source_failed disk_failed) is h).ends.0
 
--- an honest disk that tells is trusted
+-- an honest disk that shows its bytes is trusted
 pub kept_by : (honest trusted none : Type 0) → (honest → trusted) → honest ⊎ none → trusted ⊎ none
 kept_by honest trusted none by (inl is) = inl (by is)
 kept_by honest trusted none by (inr is) = inr is
 
--- with a told disk, and a cause for each fault
+-- with what is known of the disk, and a cause for each fault
 pub told_completes : (bytes : List ℕ) (s : Status) (left : Option (List ℕ)) (Written : List Entry → Type 0)
     (Breaks : List Entry → List Entry → Type 0) (disks : Disks) (Read Write Disk Honest : Type 0)
     (seen : Option (List ℕ)) → disks.seen ≡ seen → (Honest → is_some seen ≡ true → disks.trusted)

@@ -179,7 +179,7 @@ step_setup taken came held more rest number stage next setup played s h r done =
     sym ((step_says taken came held more rest number stage next played s h r).setup
     ∙ setup_stays (number + 1) setup next (slice_split is_line_feed (rest ++ more)) done)
 
--- it goes on by legal entries, at the desk
+-- it goes on by legal entries, at the operator's desk
 step_legal : (now : Desk) (taken came held more rest : List ℕ) (number : ℕ) (stage next : Stage) (setup : Setup)
     (played : List Step) (transcript report : List Entry) (s : Step) →
     AlsoSays (script (taken ++ (came ++ more))) played (said_from number stage (held ++ (came ++ more)))
@@ -272,7 +272,7 @@ going_plays Relies now later left0 left left1 held rest number stage next setup 
       wrote = more g.transcript p.report g.wrote p.wrote;
     }
 
--- what was taken and what is still to come are the bytes that a source told, where it tells any
+-- what was taken and what is still to come are the bytes that a source showed, where it shows any
 pub told_by : (left0 left : Option (List ℕ)) (taken : List ℕ) → Consumes left0 left taken
     → AreTold left0 (taken ++ to_come left)
 told_by None left taken h = tt
@@ -635,7 +635,7 @@ played_before Relies left size seen how Written Breaks Beside is beside wrote =
       },
     )
 
--- what is told of the writing in another way, where the script or its source brought the end
+-- what is said of the writing in another way, where the script or its source brought the end
 stops_by : (Relies Relies1 : List Entry → Type 0) (bytes taken : List ℕ) (played unplayed : List Step)
     (transcript : List Entry) (how : Ending) (Written Written1 : List Entry → Type 0)
     (Breaks Breaks1 : List Entry → List Entry → Type 0) → IsOfScript how →

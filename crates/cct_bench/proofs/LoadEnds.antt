@@ -402,7 +402,7 @@ load_done seed rounds status.JournalLost Written Breaks disks image disk_failed 
     (lost_next (IsReliable disks.trusted (onto [] h.transcript)) disks.cut_at load_setup
     (onto [] h.transcript) disks.seen_after h.unplayed h.tail h.ends.0.0))
 
--- with a told disk, and a cause for each fault
+-- with what is known of the disk, and a cause for each fault
 pub load_completes : (seed rounds : ℕ) (s : Status) (Written : List Entry → Type 0)
     (Breaks : List Entry → List Entry → Type 0) (disks : Disks) (Write Disk Honest : Type 0) (seen : Option (List ℕ))
     → disks.seen ≡ seen → (Honest → is_some seen ≡ true → disks.trusted) → (s ≡ status.WriteFault → Write)

@@ -1,4 +1,5 @@
--- What a state wrote, by how its telling or its script ended, and by the answer of the put of its last line.
+-- What a state wrote, by how its report or its script ended, and by the answer of the put of its
+-- last line.
 use Rattle.std.proofs.Common.{◌≡◌, ◌≢◌, ◌⊎◌, ℕ, Bool, true, List, [], ◌∷◌, ◌++◌, Option, Some, None, Result, Ok, Err, refl, sym, ◌∙◌, ap, subst}
 use Rattle.std.proofs.Common.{inl, inr, eqb-true}
 use Rattle.std.proofs.lemmas.List.{append-nil}
@@ -32,7 +33,7 @@ use Rattle.cct_bench.specs.declared.outcome.Status.{Status}
 use Rattle.cct_bench.specs.declared.outcome.Status.TheVariants as status
 use Rattle.cct_bench.specs.declared.play.TheConstants.{JOURNAL_BYTES}
 
--- a last line was put as it is for a state whose telling ended so
+-- a last line was put as it is for a state whose report ended so
 abbrev pub PutsLast : {K : Type 0} → (K → Option (List ℕ)) → (K → List ℕ → Result (Unit {0}) Failed → K → Type 0) → K → K
     → Status → StateEnd → Type 0
 PutsLast written puts out out1 s how =

@@ -68,8 +68,8 @@ pub record IsRightAudit (past : List Came) : Type 0 where
       → All (IsWatched setup) (watches_in past) → WildFrom setup [] steps run → HonestPast run →
       taps run ≡ taps_among past
       → All (IsTrue setup run) (all_told past ++ finally_of_all past)
-  -- Each span that such a run makes plain is told to be sure, with just the coins that the acceptor
-  -- accepted between its readings.
+  -- Each span that such a run makes plain is reported as sure, with just the coins that the
+  -- acceptor accepted between its readings.
   pub complete : (setup : Setup) (steps : List WildStep) (run : List Entry) (w : Watch)
       (d : DeviceSetup) → IsSoundSetup setup
       → WildFrom setup [] steps run → HonestPast run → taps run ≡ taps_among past →

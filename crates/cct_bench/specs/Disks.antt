@@ -34,13 +34,13 @@ module _ {D : Type 0} {g : Ghosts D} where
         → KeepsRecords setup g.honest g.seen g.may_leave (journals.disk_of journal)
         (journals.place_of journal) []
 
--- What a run is told of its disk. As it was handed in: how many bytes it has, which bytes a read
--- gives, where that is told, whether it is honest and shows them, and how often its power was cut.
--- As it comes back: that each image that a power cut may leave on it is the book of records, the
--- oldest first, or, where one was due, of these or of these and that one, by a setup; which bytes a
--- read then gives, where that is reported; and how often its power was cut by then. And that in
--- between its power was cut for this time, and something holds of the choice of the cut and of what
--- a read gave right after it.
+-- What is known of the disk of a run. As it was handed in: how many bytes it has, which bytes a
+-- read gives, where that is known, whether it is honest and shows them, and how often its power was
+-- cut. As it comes back: that each image that a power cut may leave on it is the book of records,
+-- the oldest first, or, where one was due, of these or of these and that one, by a setup; which
+-- bytes a read then gives, where that is known; and how often its power was cut by then. And that
+-- in between its power was cut for this time, and something holds of the choice of the cut and of
+-- what a read gave right after it.
 pub record Disks : Type 1 where
   pub size : ℕ
   pub seen : Option (List ℕ)
@@ -51,7 +51,7 @@ pub record Disks : Type 1 where
   pub cuts_after : ℕ
   pub cut_at : ℕ → (ℕ → Option (List ℕ) → Type 0) → Type 0
 
--- of a kind of disk of which is known what each tells
+-- of a kind of disk, of which what each shows is known
 module _ {D : Type 0} (size : D → ℕ) (honest : D → Bool) (seen : D → Option (List ℕ))
     (may_leave : D → List ℕ → Type 0) (cuts : D → ℕ) (cut_to : D → ℕ → D → Type 0) where
   -- A run was given one disk, and gave back another.

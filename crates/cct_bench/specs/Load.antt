@@ -44,13 +44,13 @@ module _ (disks : Disks) (seed rounds : ℕ) (played unplayed : List Step) (past
   IsFirst told =
       (told ≡ entry.Load seed rounds ∷ []) × (played ≡ []) × IsReady disks.size disks.seen
 
-  -- What is told of a load by its own lines and by a last line, by its status, and what had been
-  -- played then. With no last line all steps were played, and all is reported. A fault of the disk
-  -- comes before the first line, in a `next` that was about to put a record, or in a power cut; a
-  -- disk that isn't blank is reported by its first byte that isn't 0, and one of another size by
-  -- that, before the first line. Another journal than was there comes in a power cut alone, and is
-  -- reported as it then is on the disk that comes back. Where a step wasn't played, none of the
-  -- load's own lines but the first is reported.
+  -- What is reported of a load by its own lines and by a last line, by its status, and what had
+  -- been played then. With no last line all steps were played, and all is reported. A fault of the
+  -- disk comes before the first line, in a `next` that was about to put a record, or in a power
+  -- cut; a disk that isn't blank is reported by its first byte that isn't 0, and one of another
+  -- size by that, before the first line. Another journal than was there comes in a power cut alone,
+  -- and is reported as it then is on the disk that comes back. Where a step wasn't played, none of
+  -- the load's own lines but the first is reported.
   abbrev pub LoadCloses : Status → List Entry → List Entry → Type 0
   LoadCloses status.Done told tail =
       (unplayed ≡ []) × TellsAll told × (tail ≡ []) × IsReady disks.size disks.seen
@@ -73,7 +73,7 @@ module _ (disks : Disks) (seed rounds : ℕ) (played unplayed : List Step) (past
 
   -- What is written, by the status: the lines of the load and the last line; or those up to a put
   -- that failed, that of the first line, before any step was played, or one of the lines that
-  -- another status tells; and nothing where there was no memory.
+  -- another status gives; and nothing where there was no memory.
   abbrev pub LoadEnds : Status → List Entry → List Entry → (List Entry → Type 0)
       → (List Entry → List Entry → Type 0) → Type 0
   LoadEnds status.WriteFault told tail Written Breaks =
@@ -126,8 +126,8 @@ pub record Loaded (seed rounds : ℕ) (s : Status) (Written : List Entry → Typ
     pub just : (First IsCrash unplayed → ⊥) → disks.cuts_after
         ≡ count_after (crashes (onto [] transcript)) disks.cuts
 
--- A load came to this end, before its last line is put: what is told of a load that ended, but for
--- the laws.
+-- A load came to this end, before its last line is put: what is reported of a load that ended, but
+-- for the laws.
 pub record LoadPlayed (seed rounds : ℕ) (how : Ending) (Written : List Entry → Type 0)
     (Breaks : List Entry → List Entry → Type 0) (disks : Disks) : Type 0 where
   pub played : List Step

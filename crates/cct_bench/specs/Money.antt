@@ -11,7 +11,7 @@ use Rattle.cct_world.specs.Early.{BeforeLoss}
 use Rattle.cct_bench.specs.Disks.{most_records}
 
 -- The entries of the steps before the first power cut are legal, and their money is right; and over
--- an honest wire the sessions of change among them pay what they tell.
+-- an honest wire the sessions of change among them pay what they report.
 abbrev pub RightBeforeLoss : Setup → List Step → List Entry → Type 0
 RightBeforeLoss setup played transcript =
     BeforeLoss played transcript (λ first told. LegalAtDesk most_records setup first told

@@ -31,9 +31,9 @@ pub record CanPlay (setup : Setup) (s : Step) : Type 0 where
   pub known : IsTrue (is_known setup s)
   pub played : IsTrue (is_played s)
 
--- A step gives these entries at the desk, oldest first, whatever is after it, where a record that
--- it puts suits those before it, and the disk is trusted if it is a power cut: one past represents
--- what was before, and the past with them for what is after.
+-- A step gives these entries at the operator's desk, oldest first, whatever is after it, where a
+-- record that it puts suits those before it, and the disk is trusted if it is a power cut: one past
+-- represents what was before, and the past with them for what is after.
 abbrev pub Plays : Type 0 → (List Entry → Type 0) → (List Entry → Type 0) → Setup → Desk → Step →
     List Entry → Type 0
 Plays trusted Before After setup now s report =
@@ -42,7 +42,7 @@ Plays trusted Before After setup now s report =
 
 -- A step was played, and the desk is then this other one; and just a power cut shows one. This
 -- holds of the cuts of the disk. So many records were counted before it, and so many after it, just
--- those more that it tells; after a power cut a read gives these bytes. Its entries were written
+-- those more that it reports; after a power cut a read gives these bytes. Its entries were written
 -- so, which holds by the answer.
 pub record PlaysOn (trusted : Type 0) (Before After : List Entry → Type 0) (setup : Setup)
     (now next : Desk) (s : Step)

@@ -42,7 +42,7 @@ use Rattle.cct_script.specs.Source.{to_come}
 
 -- Writing broke off in the lines of the last step played or in the last line, and all lines before
 -- were written whole: they are a front of the transcript, and the entries of the other steps, where
--- their past may be relied on. The last step goes on at the desk that those leave.
+-- their past may be relied on. The last step goes on at the operator's desk that those leave.
 pub record BreaksOff (Relies : List Entry → Type 0) (setup : Setup) (played : List Step)
     (transcript tail : List Entry)
     (Breaks : List Entry → List Entry → Type 0) : Type 0 where
@@ -64,7 +64,7 @@ pub record BreaksOff (Relies : List Entry → Type 0) (setup : Setup) (played : 
 abbrev pub IsUntouched : List ℕ → List Step → Type 0
 IsUntouched taken played = (taken ≡ []) × (played ≡ [])
 
--- A last line says why no host starts again after a power cut, and this holds of what it tells:
+-- A last line says why no host starts again after a power cut, and this holds of what it shows:
 -- that there is no journal, that a record can't be read or doesn't follow, or that there are other
 -- records than were put.
 abbrev pub TellsOf : (CrashNo → Type 0) → List Entry → Type 0
@@ -147,12 +147,13 @@ module _ (disks : Disks) (bytes taken : List ℕ) (played unplayed : List Step)
 -- byte of the script was taken. The bytes are those taken and those still to come; a source that
 -- shows none is taken to have no more. Where the disk was trusted, or no power cut is reported, the
 -- entries are those of the steps at the operator's desk, and the money is right; and over an honest
--- wire sessions of change pay what they tell. Over any disk all three are so of the steps before
+-- wire sessions of change pay what they report. Over any disk all three are so of the steps before
 -- the first power cut. The last line shows a fault of the source or of the disk only where this one
 -- failed, also where it was torn. Over any disk each step that is a power cut is reported, and no
--- other is, and after each of them a host started again rightly, by what the disk told right after
--- that cut; on a trusted disk no power cut leaves another journal than was there. The power was cut
--- at least as often as is reported, and exactly so often where the step that comes next is none.
+-- other is, and after each of them a host started again rightly, by what the disk showed right
+-- after that cut; on a trusted disk no power cut leaves another journal than was there. The power
+-- was cut at least as often as is reported, and exactly so often where the step that comes next is
+-- none.
 pub record Ran (bytes : List ℕ) (s : Status) (left : Option (List ℕ))
     (Written : List Entry → Type 0)
     (Breaks : List Entry → List Entry → Type 0) (disks : Disks) (source_failed disk_failed : Type 0)
@@ -173,7 +174,7 @@ pub record Ran (bytes : List ℕ) (s : Status) (left : Option (List ℕ))
   -- most once, and no id is used twice.
   pub money : IsReliable disks.trusted (onto [] transcript) →
       IsRight (script bytes).setup transcript
-  -- Over an honest wire, sessions of change pay what they tell, at each moment of the run.
+  -- Over an honest wire, sessions of change pay what they report, at each moment of the run.
   pub change : IsReliable disks.trusted (onto [] transcript) → Honest transcript
       → ChangeIsPaid most_records (script bytes).setup played transcript
   -- Over any disk the same holds of the steps before the first power cut.
@@ -263,7 +264,7 @@ Over disks how setup taken played unplayed past =
     disks.leaves setup None (reverse (records past)))
 
 -- Beside that, after each power cut a host started again; and the power of the disk was cut at
--- least as often as the past tells, and exactly so often where no power cut is the step that comes
+-- least as often as the past shows, and exactly so often where no power cut is the step that comes
 -- next.
 pub record OverCut (disks : Disks) (how : Ending) (setup : Setup) (taken : List ℕ)
     (played unplayed : List Step)

@@ -91,14 +91,14 @@ pub record Stated (disk : StateDisk) (source_failed : Type 0) (bytes : List ℕ)
   pub took : bytes ≡ taken ++ to_come left
   pub ends : StateEnds disk source_failed bytes taken s writes
 
--- The last line of a state whose telling ended so, if it has one.
+-- The last line of a state whose report ended so, if it has one.
 abbrev pub line_behind_state : StateEnd → List Entry
 line_behind_state (telling.Unread opening.Disk) = entry.DiskFault ∷ []
 line_behind_state (telling.Unread opening.Alien) = entry.JournalAlien ∷ []
 line_behind_state (telling.Unread (opening.BadRecord index)) = entry.JournalBad index ∷ []
 line_behind_state how = []
 
--- The status of a state whose telling ended so, where its last line, if it has one, is written.
+-- The status of a state whose report ended so, where its last line, if it has one, is written.
 abbrev pub stated_by : StateEnd → Status
 stated_by telling.Done = status.Done
 stated_by telling.Unwritten = status.WriteFault
@@ -106,7 +106,7 @@ stated_by (telling.Unread opening.Disk) = status.DiskFault
 stated_by (telling.Unread opening.Alien) = status.JournalLost
 stated_by (telling.Unread (opening.BadRecord index)) = status.JournalLost
 
--- What came of telling the state of such a disk by a setup, where one is given.
+-- What came of reporting the state of such a disk by a setup, where one is given.
 abbrev pub TellsBy : StateDisk → Option Setup → Status →
     (List (List ℕ) → Result (Unit {0}) Failed → Type 0) → Type 0
 TellsBy disk setup s writes =

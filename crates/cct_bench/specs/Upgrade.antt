@@ -69,7 +69,7 @@ pub record ComesBack (failed only_read : Type 0) (answer : Result ℕ UpgradeNo)
   pub cause : answer ≡ Err no.Disk → failed
   pub kept : IfErr answer (λ why. why ≢ no.Disk → only_read)
 
--- of a kind of disk of which is known what each tells
+-- of a kind of disk, of which what each shows is known
 module _ {D : Type 0} (honest : D → Bool) (seen : D → Option (List ℕ))
     (may_leave : D → List ℕ → Type 0)
     (moment : D → ℕ) (left_since : D → ℕ → List ℕ → Type 0) where
@@ -100,7 +100,7 @@ module _ {D : Type 0} (honest : D → Bool) (seen : D → Option (List ℕ))
         → (stands : OldStandsFor (carry_of setup) image records) → OldFirstFollow setup stands
         → LeavesRecords setup honest seen may_leave back None records
 
--- What is told of the disk of an upgrade: how many bytes it has; that it comes back as it was
+-- What is known of the disk of an upgrade: how many bytes it has; that it comes back as it was
 -- handed in, so that no call of it was made but for that number; what its image is by an answer;
 -- that a call of it failed; that it was only read; and what a power cut may leave on it, at each
 -- moment, and at the end where the journal was brought forward. The devices are those of a setup.

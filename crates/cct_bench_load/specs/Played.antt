@@ -145,7 +145,7 @@ module _ {D : Type 0} {g : Ghosts D} (world : World D g) where
   -- relied on, and in any case up to the first power cut; what was written, where `Written` holds
   -- of entries that were written whole, and `Breaks` where a put failed in the second list; and
   -- what the disk keeps where it was trusted. After each power cut among the steps a host started
-  -- again; and the power of the disk was cut at least as often as the transcript tells, and exactly
+  -- again; and the power of the disk was cut at least as often as the transcript shows, and exactly
   -- so often where the step that comes next is no power cut.
   pub record PlaysLoad (load : Load) (how : LoadEnd) (left : D) (Written : List Entry → Type 0)
       (Breaks : List Entry → List Entry → Type 0) : Type 0 where

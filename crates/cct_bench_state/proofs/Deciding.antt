@@ -1,4 +1,4 @@
--- What is told of a state, against the image of its disk.
+-- What is reported of a state, against the image of its disk.
 use Rattle.std.proofs.Common.{◌≡◌, ℕ, suc, ◌+◌, ◌≤◌, ◌<◌, Bool, true, false, ◌&&◌, List, [], ◌∷◌, ◌++◌, length, reverse, Option, Some, None, Result}
 use Rattle.std.proofs.Common.{refl, sym, ◌∙◌, ap, ap₂, subst, append_assoc, arith, inl, inr}
 use Rattle.std.proofs.Math.Nat.{lt_of_not-le}
@@ -126,7 +126,7 @@ module _ (setup : Option Setup) (image : List ℕ) where
     bad = λ told is. absurd (bad_has_none image told base c records is has);
   }
 
-  -- a telling that broke off nowhere ended as the image decides
+  -- a report that broke off nowhere ended as the image decides
   pub decides : (how : StateEnd) (writes : List (List ℕ) → Result (Unit {0}) Failed → Type 0)
       → Tells (of_image image) setup how writes → (how ≡ Unwritten → ⊥) → (how ≡ Unread opening.Disk → ⊥)
       → Decides setup how image

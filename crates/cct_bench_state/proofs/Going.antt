@@ -133,7 +133,7 @@ pub suits_kept : (setup : Option Setup) (c : Carry) (before : List Record) (book
     → SuitsSetup setup c before
 suits_kept setup c before books keeps = suits setup c before books.tally keeps.tallies
 
--- what was told of a journal is so of its disk
+-- what was reported of a journal is so of its disk
 pub tells_of : (disk : Known) (holds : List Record → Type 0) (setup : Option Setup) (base : ℕ) (c : Carry) (how : StateEnd)
     (writes : List (List ℕ) → Result (Unit {0}) Failed → Type 0)
     → ((before : List Record) → AreAll holds before

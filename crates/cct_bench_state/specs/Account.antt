@@ -1,4 +1,4 @@
--- What the records of a journal tell of each address: what the carry of the earlier ones tells, and
+-- What the records of a journal show of each address: what the carry of the earlier ones shows, and
 -- what the others did there.
 use Rattle.std.specs.Prelude.{ℕ, ◌+◌, ◌*◌, ◌^◌, ◌≤◌, ◌==◌, Bool, false, List, [], ◌∷◌, map, Option}
 use Rattle.std.specs.Prelude.{Some, None}
@@ -16,7 +16,7 @@ use Rattle.cct_model.specs.lines.carry.Carry.{Carry}
 use Rattle.cct_model.specs.lines.record.Record.{Record}
 use Rattle.cct_bench_state.specs.declared.account.Account.{Account}
 
--- What a carry tells of an address. No coin came there since.
+-- What a carry shows of an address. No coin came there since.
 abbrev pub account_in : Carry → ℕ → Account
 account_in c addr =
     record {
@@ -29,7 +29,7 @@ account_in c addr =
       paid = 0;
     }
 
--- What is told of an address with one record more of it.
+-- What is reported of an address after one more of its records.
 abbrev pub account_with : Record → Account → Account
 account_with r a = record {
   addr = a.addr;
@@ -58,17 +58,17 @@ place_of accounts r = place_by (effect r).owned
     place_by (of_address addr) = Some addr
     place_by (of_order id) = position (has_order id) accounts
 
--- What is told of the address at a place, with one record more of it.
+-- What is reported of the address at a place, after one more of its records.
 abbrev pub account_at : Record → List Account → ℕ → Account
 account_at r accounts place =
     account_with r (slice_index_or accounts place (account_in empty_carry 0))
 
--- What is told of all addresses with one record more of a place, or of none.
+-- What is reported of all addresses after one more record, of a place or of none.
 abbrev pub changed : Record → List Account → Option ℕ → List Account
 changed r accounts None = accounts
 changed r accounts (Some place) = slice_set accounts place (account_at r accounts place)
 
--- What is told of all addresses, in rising order, by a carry and the records after it, newest
+-- What is reported of all addresses, in rising order, by a carry and the records after it, newest
 -- first.
 abbrev pub accounts_after : Carry → List Record → List Account
 accounts_after c [] = map (account_in c) all_addresses

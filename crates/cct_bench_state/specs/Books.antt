@@ -1,4 +1,4 @@
--- What the records of a journal tell: the carry of the earlier ones, and the others after it,
+-- What the records of a journal show: the carry of the earlier ones, and the others after it,
 -- newest first.
 use Rattle.std.specs.Prelude.{◌≡◌, ℕ, ◌&&◌, max, Bool, true, List, [], ◌∷◌, ◌++◌, flat_map, Option}
 use Rattle.std.specs.Prelude.{Some, None, ⊤}
@@ -85,7 +85,7 @@ pub record Keeps (setup : Option Setup) (c : Carry) (before : List Record) (book
     pub sums : books.sums ≡ sums_after c before
     pub tallies : Tallies setup c before books.tally
 
--- The line of the money that a tally tells, where there is one.
+-- The line of the money that a tally shows, where there is one.
 abbrev pub tally_lines : Option Tally → List (List ℕ)
 tally_lines None = []
 tally_lines (Some tally) = line_of (entry.Balance (money_in (setup_of tally) (carry_in tally))) ∷ []

@@ -54,8 +54,8 @@ Tells disk setup (Unread opening.Alien) writes = disk.alien × writes [] (Ok tt)
 Tells disk setup (Unread (opening.BadRecord index)) writes =
     IsBad disk setup index × writes [] (Ok tt)
 
--- A telling ended as the image decides, by a setup where one is given: the whole state is told
--- where the records suit the setup, and else it is told which doesn't, or can't be read.
+-- A report ended as the image decides, by a setup where one is given: the whole state is reported
+-- where the records suit the setup, and else which one doesn't, or can't be read.
 pub record Decides (setup : Option Setup) (how : StateEnd) (image : List ℕ) : Type 0 where
   pub done : (base : ℕ) (c : Carry) (records : List Record) → HasFrom image base c records
       → SuitsSetup setup c (reverse records) → how ≡ Done

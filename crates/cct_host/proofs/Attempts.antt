@@ -94,7 +94,7 @@ row_sold (command.Vend id price) since r past is =
     (refl, refl)
 row_sold c since r past is = absurd cc
 
--- what a report tells after an entry, and the end that it brought
+-- what a report shows after an entry, and the end that it brought
 reported_with : (report told reported : List Entry) (addr : ℕ) (e : Entry) (end : Option End) (new : Job)
     (kept : Option Job) → told ≡ report ++ e ∷ []
     → Settles end new addr kept told reported → reported ≡ report ++ reverse (with_end addr e end)

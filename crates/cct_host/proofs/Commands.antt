@@ -64,7 +64,7 @@ halts_is d (Some job) (model.works c since) state owed runs works =
 halts_is d None (model.works c since) state owed runs works = absurd works
 halts_is d (Some job) model.free state owed runs works = absurd works
 
--- the tests of a command at a device look at what its lines tell
+-- the tests of a command at a device look at what its lines show
 abbrev seen : DeviceSetup → ℕ → Bool → Bool → EpochState → Option OpenOrder → View
 seen d last busy payout state owed = record {
   found = Some d;

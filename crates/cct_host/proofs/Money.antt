@@ -1,4 +1,4 @@
--- What the carry of a host tells is what the operator has, with what the jobs of its desks reserve.
+-- What the carry of a host shows is what the operator has, with what the jobs of its desks reserve.
 use Rattle.std.proofs.Common.{◌≡◌, ℕ, ◌≤◌, ◌<◌, ◌+◌, ◌-◌, true, false, cond, nat_le, List, sym, ap, ap₂, ◌∙◌, Some, None, arith, le-leb}
 use Rattle.std.proofs.lemmas.Bool.Decides.{nat_tests}
 use Rattle.cct_model.specs.terms.device.Setup.{Setup}

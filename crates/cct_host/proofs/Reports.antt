@@ -1,4 +1,4 @@
--- A report whose last entry gives way to the first one that is told next.
+-- A report whose last entry gives way to the first one that is reported next.
 use Rattle.std.proofs.Common.{◌≡◌, ℕ, ◌≤◌, ◌-◌, ◌+◌, List, [], ◌∷◌, ◌++◌, length, set, take, refl, ap, ◌∙◌, arith}
 use Rattle.cct_model.specs.lines.entry.Entry.{Entry}
 use Rattle.arrayvec.specs.ArrayVec.{ArrayVec, array_vec_len}

@@ -1,4 +1,4 @@
--- What one exchange of a job does, told by what its calls make.
+-- What one exchange of a job does, given by what its calls make.
 use Rattle.std.proofs.Common.{Option, ◌≡◌, ℕ, List, [], ◌∷◌, ◌++◌, ◌-◌, ◌≤◌, length, set, refl, ap, subst, ◌∙◌}
 use Rattle.cct_model.specs.terms.wire.CheckKind.{CheckKind}
 use Rattle.cct_model.specs.terms.request.Request.{Request}

@@ -1,5 +1,5 @@
--- What a desk tells of its device: the command of its job, its epoch and its open order; and what one says that has just
--- begun.
+-- What a desk says of its device: the command of its job, its epoch and its open order; and what
+-- one says that has just begun.
 use Rattle.std.proofs.Common.{◌≡◌, ◌∙◌, ℕ, zero, suc, ◌<◌, true, List, [], ◌∷◌, Option, Some, None, ap, arith, get_or, is_some, length, subst, sym, true≢false}
 use Rattle.cct_model.specs.terms.device.DeviceSetup.{DeviceSetup}
 use Rattle.cct_model.specs.lines.entry.Entry.{Entry}

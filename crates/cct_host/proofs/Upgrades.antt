@@ -78,7 +78,7 @@ to_brought setup old base carry rest image bases carries count turns =
     subst (λ n. IsBrought setup n carry rest image) (sym bases)
     (subst (λ k. IsBrought setup old.place.base k rest image) (sym carries) (brought_there setup old rest image count turns))
 
--- what an open journal tells of the image that its disk gives
+-- what an open journal shows of the image that its disk gives
 module _ {D : Type 0} {seen : D → Option (List ℕ)} {disk : D} {old : OldPlace} (counts : OldCounts seen disk old) where
   has_bodies : HasOldBodies counts.image old.place.base old.place.carry (bodies_at old counts.image)
   has_bodies = record {

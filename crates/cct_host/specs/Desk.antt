@@ -29,7 +29,7 @@ use Rattle.cct_host.specs.Running.{begins_id, command_of, needed, rows_begun}
 use Rattle.cct_host.specs.Place.{AreAt, NextAt, OwnsAt, Place, StandsAt, addr_of, device, lines_at}
 use Rattle.cct_host.specs.Place.{sales, scans}
 
--- What the host has at a place is the job that its lines tell, beside the epoch and the open order.
+-- What the host has at a place is the job that its lines show, beside the epoch and the open order.
 abbrev pub Works : Place → Option Job → model.Job → EpochState → Option OpenOrder → Type 0
 Works place None model.free state owed = ⊤
 Works place (Some job) (model.works c since) state owed = StandsAt place job c since state owed
@@ -37,7 +37,7 @@ Works place None (model.works c since) state owed = ⊥
 Works place (Some job) model.free state owed = ⊥
 
 -- What is recorded at a place is the epoch, the open order, the id of the payment and the command
--- of the job that its lines tell, of sales the id, the command and no order, and of scans the
+-- of the job that its lines show, of sales the id, the command and no order, and of scans the
 -- command.
 abbrev pub Knows : Place → EpochState → OrderState → List Line → Type 0
 Knows (device d) state owed lines =

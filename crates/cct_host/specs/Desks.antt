@@ -114,7 +114,7 @@ pub record FreesIn (addr : ℕ) (old new : Desks) : Type 0 where
   pub frees : reserved_of new + (amount_on old addr - amount_on new addr) ≡ reserved_of old
 
 -- Desks represent a transcript, newest entry first: their setup is sound, each has the job, the
--- epoch and the open order that the lines of its device tell, the scan is that of the lines of
+-- epoch and the open order that the lines of its device show, the scan is that of the lines of
 -- address 0, the sale that of the lines of address 1, and the greatest id of the records is known.
 pub record StandsFor (desks : Desks) (past : List Entry) : Type 0 where
   pub sound : IsSoundSetup (setup_of desks)

@@ -1,5 +1,5 @@
 -- Desks of a host that starts over a carry or over records, newest first: they have what these
--- tell, and no job.
+-- show, and no job.
 use Rattle.std.specs.Prelude.{◌≡◌, ℕ, List, [], ◌∷◌, None, ⊤}
 use Rattle.std.specs.List.{All}
 use Rattle.cct_model.specs.terms.device.DeviceSetup.{DeviceSetup}
@@ -48,10 +48,10 @@ pub record BeginsWith (desks : Desks) (k : Known) (last : ℕ) : Type 0 where
   pub devices : AllReplay (setup_of desks).devices desks.devices.items k
   pub last_is : desks.last ≡ last
 
--- Desks begin with what records, newest first, tell.
+-- Desks begin with what records, newest first, show.
 abbrev pub Replays : Desks → List Record → Type 0
 Replays desks before = BeginsWith desks (known_in (setup_of desks) before) (greatest_id before)
 
--- Desks begin with what a carry tells.
+-- Desks begin with what a carry shows.
 abbrev pub Resumes : Desks → Carry → Type 0
 Resumes desks c = BeginsWith desks (known_by (setup_of desks) c) c.last_id

@@ -1,4 +1,4 @@
--- A report whose last entry gives way to the first one that is told next.
+-- A report whose last entry gives way to the first one that is reported next.
 use Rattle.std.specs.Prelude.{Bool, true, false, List, [], ◌∷◌}
 use Rattle.cct_model.specs.lines.entry.Entry.{Entry}
 use Rattle.cct_model.specs.lines.entry.Entry.TheVariants as entry

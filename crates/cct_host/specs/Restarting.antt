@@ -66,7 +66,7 @@ abbrev pub restart_news : Crashed → List Entry
 restart_news crashed = told_by crashed.records crashed.kept
 
 module _ {D : Type 0} {g : Ghosts D} where
-  -- What a read of this journal gives has as many records as it counts, where its disk tells
+  -- What a read of this journal gives has as many records as it counts, where its disk shows
   -- anything.
   abbrev pub Opens : Setup → Journal D g → Type 0
   Opens setup journal =
@@ -159,7 +159,7 @@ module _ {D : Type 0} {g : Ghosts D} where
       (crashed : Crashed) : Type 0 where
     pub setup : setup_of new ≡ setup_of old
     pub whole : has_failed new ≡ false
-    -- what it tells, and what it then represents: On a trusted disk, after any past whose records
+    -- what it reports, and what it then represents: On a trusted disk, after any past whose records
     -- follow one another: the entries are those of the definitions, with the record that was kept,
     -- if one was. No job is left, and nothing that only jobs reserved.
     pub tells : TellsRestart old new at crashed

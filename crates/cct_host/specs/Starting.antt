@@ -47,7 +47,7 @@ pub record TalliesSome (setup : Setup) (base : ℕ) (c : Carry) (many : ℕ) (no
     pub count : many ≡ base + length rest
     pub over : TalliesOver setup c rest now
 
--- Desks went over records, newest first: they have what these tell, and each record follows those
+-- Desks went over records, newest first: they have what these show, and each record follows those
 -- before it.
 pub record WentOver (desks : Desks) (before : List Record) : Type 0 where
   pub replays : Replays desks before
@@ -96,7 +96,7 @@ pub record OnlyReadIn {D : Type 0} {g : Ghosts D} (old new : Journal D g) (Fails
     pub cause : Caused (g.faults (journals.disk_of old)) (g.faults (journals.disk_of new)) Fails
 
 -- A host is over records, newest first, as one that has just started: its desks have what they
--- tell, each follows those before it, its carry is theirs, and so many does its journal count.
+-- show, each follows those before it, its carry is theirs, and so many does its journal count.
 pub record HasReplayed {D : Type 0} {g : Ghosts D} (host : Host D g) (before : List Record) : Type 0
   where
     pub over : WentOver host.desks before
@@ -105,7 +105,7 @@ pub record HasReplayed {D : Type 0} {g : Ghosts D} (host : Host D g) (before : L
 
 -- A host is over a carry of so many records and the rest after them, oldest first, as one that has
 -- just started: the carry fits its setup, each of the rest follows, and its desks and its own carry
--- begin with what these tell; so many does its journal count.
+-- begin with what these show; so many does its journal count.
 pub record HasResumed {D : Type 0} {g : Ghosts D} (host : Host D g) (base : ℕ) (c : Carry)
     (rest : List Record) : Type 0
   where

@@ -1,4 +1,4 @@
--- What the entries of a step tell of a payment, newest first, is what each of them tells in turn.
+-- What the entries of a step show of a payment, newest first, is what each of them shows in turn.
 use Rattle.std.proofs.Common.{◌≡◌, ℕ, ◌+◌, ◌<◌, ◌||◌, Bool, true, false, List, [], ◌∷◌, length, get_or, take, reverse, refl, sym, ap, ◌∙◌, if◌then◌else◌}
 use Rattle.std.specs.List.{list_any}
 use Rattle.std.proofs.lemmas.List.{reverse-append, take_more}

@@ -1,4 +1,4 @@
--- What one entry tells of a payment.
+-- What one entry shows of a payment.
 use Rattle.std.specs.Prelude.{ℕ, ◌==◌, Bool, false, if◌then◌else◌}
 use Rattle.cct_model.specs.lines.record.Record.{Record}
 use Rattle.cct_model.specs.lines.record.Record.TheVariants as record_of
@@ -15,7 +15,7 @@ opens p (entry.Put r) = is_opening p r
 opens p (entry.Kept r) = is_opening p r
 opens p e = false
 
--- What a record tells of an open order, or what was known before.
+-- What a record shows of an open order, or what was known before.
 abbrev pub closed_by : ℕ → Record → Phase → Phase
 closed_by id (record_of.Closed closed paid unpaid) before =
     if closed == id then Closed paid unpaid else before

@@ -64,7 +64,7 @@ pub record Ends (old new : Desk) (e : Entry) : Type 0 where
   pub desk : new ≡ served (e ∷ []) old.trays old.session
 
 -- A `serve` asks for this payment. Its entries and the desk after it are by the host's answer to
--- the session that is then at the desk.
+-- the session that is then at the operator's desk.
 pub record Asks (old new : Desk) (p : Payment) : Type 0 where
   pub session : Session
   pub runs : new.session ≡ Some session

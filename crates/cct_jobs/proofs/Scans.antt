@@ -202,7 +202,7 @@ due_crc : (addr : ℕ) (rest : Option (List ℕ)) (due : DeviceSet) (since : Lis
 due_crc addr rest due since due_is device a within =
     due_is a within ∙ ap (λ bytes. nat_le 2 a && among a (bytes ++ noted since) && not (list_any (polls a) since)) (sym (nothing_noted Crc addr rest device))
 
--- what a poll tells of the devices
+-- what a poll shows of the devices
 
 found_by : (check other : CheckKind) (addr : ℕ) (rest : Option (List ℕ)) (since : List Line) (a : ℕ) → (same_check check other && (addr == a) && is_acknowledged check a rest) ≡ false
     → found check (scanned other addr rest ∷ since) a ≡ found check since a

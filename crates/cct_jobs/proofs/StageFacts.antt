@@ -41,9 +41,10 @@ abbrev pub IsSettled : Stage → Type 0
 IsSettled (Pays row) = ⊥
 IsSettled stage = ⊤
 
--- Its first row asks, so none is passed over, and any answer ends it; only a payment and a settlement wait for a payout;
--- its rows reserve the coins that they tell and no price, and put two records at most. What it sends is its request, which
--- fits its bytes, and it knows the same after a failed try.
+-- Its first row asks, so none is passed over, and any answer ends it; only a payment and a
+-- settlement wait for a payout; its rows reserve the coins that they show and no price, and put two
+-- records at most. What it sends is its request, which fits its bytes, and it knows the same after
+-- a failed try.
 pub record StageFacts (stage : Stage) (device : Target) : Type 0 where
   pub stays : (means : Judged) → from (stage_ahead device stage) means ≡ stage_ahead device stage
   pub ends : (y : Reply) → IsSettled stage → Suits stage device → ends_first (stage_ahead device stage) (Some y) ≡ true

@@ -107,7 +107,7 @@ request_of which (PathReads place path) = path_read place
 request_of which (Routes way) = RouteBill way
 request_of which (Pays row) = payout_request row
 
--- The credits that a device of a family told, as they are judged.
+-- The credits that a device of a family reported, as they are judged.
 abbrev pub noted_credits : Family → Credits → Credits
 noted_credits family.Acceptor c = c
 noted_credits family.Hopper c = c
@@ -377,7 +377,7 @@ line_heard d sent heard = exchange (asked d.kind sent) (got_by d sent heard)
 abbrev pub after_failed : ℕ → Option ℕ
 after_failed failed = if suc failed == 3 then None else Some (suc failed)
 
--- What is asked first of a device of a family that other families don't tell.
+-- What is asked first of a device of a family that other families don't answer.
 abbrev pub first_own_question : Family → Request
 first_own_question family.Acceptor = GetMaster
 first_own_question family.Hopper = TestHopper
@@ -465,7 +465,7 @@ SuitsPayout (Dispenses serial own halted) device =
     (device.serial < 2 ^ 24) × (serial ≡ device.serial)
 SuitsPayout row device = ⊤
 
--- A stage of a job has what only its device can tell it: of a payment that serial number, and of an
+-- A stage of a job has what only its device can give it: of a payment that serial number, and of an
 -- identification one of the questions that the device is asked.
 abbrev pub Suits : Stage → Target → Type 0
 Suits (IdentAsks question) device =

@@ -180,7 +180,7 @@ module _ (image : List ℕ) (blank : IsBlank image) (long : least_size ≤ lengt
   laid_other = ne_eqb (slice_index (half laid true) 0) open_gate
       (λ is. absurd (omega (arith, is, second_shut laid laid_gated)))
 
--- what is reported is told of some image
+-- what is shown is some image
 pub told_image : (seen : Option (List ℕ)) → is_some seen ≡ true → (image : List ℕ) × (seen ≡ Some image)
 told_image None told = absurd cc
 told_image (Some image) told = (image, refl)

@@ -172,7 +172,7 @@ module _ (version generation base : ℕ) (bodies : List (List ℕ)) (bytes : Lis
   begun_title = sym (take-take 15 START bytes (lit≤ tt)) ∙ ap (λ (l : List ℕ). take 15 l) begins
       ∙ start_opens version generation base bodies
 
-  -- and tell its version
+  -- and show its version
   pub begun_version : version_in bytes ≡ version
   begun_version = sym (get_or-take START bytes 15 0 (lit≤ tt)) ∙ ap (λ (l : List ℕ). slice_index l 15) begins
       ∙ start_version version generation base bodies

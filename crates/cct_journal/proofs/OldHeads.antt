@@ -67,7 +67,7 @@ module _ (second : Bool) (generation base : ℕ) (carry : Carry) (bytes : List �
     pub second_whole : start_with 2 generation base begins.carried ≡ bytes
     second_whole = sym begins.starts ∙ take_all START bytes (omega arith)
 
-    -- They tell its numbers and the bodies of its carry.
+    -- They show its numbers and the bodies of its carry.
     pub second_turns : turns_in bytes ≡ generation
     second_turns = ap turns_in (sym second_whole) ∙ generation_back 2 generation base begins.carried second_generation
 

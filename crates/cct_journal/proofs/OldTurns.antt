@@ -214,7 +214,7 @@ empty_stands place begins none carry_of records many carry_is = record {
   other_gate = begins.other_gate;
 }
 
--- What a turn makes at its end is said of the place that it tells.
+-- What a turn makes at its end is said of the place that it answers.
 pub on_place : {E Done : Type 0} (place : Place) (P : Place → Type 0) (result : Result Place E)
     → IfOk result (λ turned. turned ≡ place) → OnOk result Done → (Done → P place) → IfOk result P
 on_place place P (Ok turned) is done makes = subst P (sym is) (makes done)

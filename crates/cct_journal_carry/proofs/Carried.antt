@@ -1,5 +1,5 @@
--- What the carry of records that follow one another tells is what the records tell: epochs and open orders, at any address
--- and by any id, and what is reserved and available.
+-- What the carry of records that follow one another shows is what the records show: epochs and open
+-- orders, at any address and by any id, and what is reserved and available.
 use Rattle.std.proofs.Common.{◌≡◌, ◌≢◌, ℕ, ◌+◌, ◌-◌, Bool, true, false, cond, List, [], ◌∷◌, Option, Some, None, is_some, All, refl, ap, sym, ◌∙◌, arith, true≢false, ne_eqb, option_and_then, option_map, ◌⊎◌, inl, inr}
 use Rattle.std.proofs.lemmas.Bool.{and_parts, cases_eq}
 use Rattle.std.proofs.lemmas.List.Elements.{All-head, All-tail}
@@ -119,7 +119,7 @@ order_keys setup before belongs d x is =
     let entry = entry_of before d x is in
     ap (λ (y : CarryOrder). y.addr) (sym entry.entry) ∙ (belongs.owned d.addr entry.order_is entry.owed).here
 
--- what is at the device at an address is what the records tell of it
+-- what is at the device at an address is what the records show of it
 
 pub epoch_there : (setup : Setup) (before : List Record) (addr : ℕ) → all_follow setup before ≡ true →
     option_and_then (epoch_at before) (device_at setup.devices addr) ≡ epoch_entry addr (epoch_in addr before)

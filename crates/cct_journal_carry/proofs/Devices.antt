@@ -1,4 +1,4 @@
--- The devices of a setup in rising order of address say what they tell in the setup's own order.
+-- The devices of a setup in rising order of address show what they show in the setup's own order.
 use Rattle.std.proofs.Common.{◌≡◌, ◌≢◌, ℕ, suc, ◌+◌, ◌<◌, ◌==◌, nat_le, Bool, true, false, cond, List, [], ◌∷◌, length, Option, Some, None, All, refl, ap, sym, ◌∙◌, arith, ne_eqb, eqb-true}
 use Rattle.std.proofs.lemmas.Bool.Decides.{nat_tests}
 use Rattle.std.proofs.lemmas.List.Elements.{All-head, All-tail}
@@ -12,7 +12,7 @@ use Rattle.cct_laws.specs.Law.{AreRising}
 apart_by : (a b : ℕ) → nat_le a b ≡ false → a ≢ b
 apart_by a b test same = grind (arith, nat_tests)
 
--- what devices tell one by one, where two of different addresses may be reported in either order
+-- what devices show one by one, where two of different addresses may be reported in either order
 module _ {A : Type 0} (told : List DeviceSetup → A) (once : DeviceSetup → A → A)
     (more : (d : DeviceSetup) (ds : List DeviceSetup) → told (d ∷ ds) ≡ once d (told ds))
     (swapped : (d e : DeviceSetup) (a : A) → d.addr ≢ e.addr → once e (once d a) ≡ once d (once e a)) where

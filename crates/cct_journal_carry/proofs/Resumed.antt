@@ -1,5 +1,5 @@
--- The open orders of all devices, looked up in the carry of records that follow one another, are those that the records
--- tell; and the carry of no record is empty.
+-- The open orders of all devices, looked up in the carry of records that follow one another, are
+-- those that the records show; and the carry of no record is empty.
 use Rattle.std.proofs.Common.{◌≡◌, ℕ, ◌==◌, Bool, true, false, cond, List, [], ◌∷◌, map, Option, Some, None, refl, ap, ap₂, sym, ◌∙◌, true≢false, eq-eqb, ne_eqb, option_map}
 use Rattle.std.specs.Prelude.{slice_get}
 use Rattle.std.specs.List.{list_any}
