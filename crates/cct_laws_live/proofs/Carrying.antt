@@ -49,7 +49,7 @@ each_shown P over (entry.Fault f ∷ past) each = each_shown P over past each.1
 each_shown P over (entry.Forged addr ∷ past) each = each_shown P over past each.1
 each_shown P over (e ∷ past) each = (over past e each.0, each_shown P over past each.1)
 
--- what the records of a past tell, and what is due after them
+-- what the records of a past show, and what is due after them
 pub recorded : (past : List Entry) → records past ≡ records (shown past)
 recorded past = (alike_shown past).recorded
 

@@ -1,4 +1,5 @@
--- What was posted and told as lost in an epoch, beside what its counters tell, whatever the wire does.
+-- What was posted and reported as lost in an epoch, beside what its counters show, whatever the
+-- wire does.
 use Rattle.std.proofs.Common.{◌≡◌, ℕ, ◌-◌, ◌≤◌, ◌==◌, min, Bool, true, false, cond, List, [], ◌∷◌, ◌++◌, length, take, refl, sym, ◌∙◌, subst, arith, eqb-true}
 use Rattle.std.proofs.lemmas.List.{length-reverse, length-take}
 use Rattle.cct_model.specs.terms.coin.Coin.{Coin}

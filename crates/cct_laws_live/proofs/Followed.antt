@@ -198,7 +198,7 @@ by_piece capacity setup past news addr heard few has is =
           );
     }
 
--- the fault is of the piece that the entries tell
+-- the fault is of the piece that the entries show
 by_next : (capacity : ℕ) (setup : Setup) (past news : List Entry) (addr : ℕ) (heard : List ℕ) →
     length heard ≤ MOST_HEARD → EntriesOfNext (λ sent. heard) setup past addr news →
     Goes capacity setup past news (Says (live.next addr) news)

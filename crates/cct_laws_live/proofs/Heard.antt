@@ -18,7 +18,7 @@ use Rattle.cct_model.specs.Rows.{row, row_of_sale}
 use Rattle.cct_model.specs.Scan.{scan_row}
 use Rattle.cct_model.specs.Transcript.{lines_of, sale_lines, scan_lines}
 
--- the piece that entries tell
+-- the piece that entries show
 abbrev pub piece_in : List Entry → List ℕ
 piece_in [] = []
 piece_in (entry.Wire addr sent piece ∷ news) = piece

@@ -1,4 +1,5 @@
--- All lives are one: a life over the records that earlier ones left is also one after all that these told.
+-- All lives are one: a life over the records that earlier ones left is also one after all that
+-- these reported.
 use Rattle.std.proofs.Common.{◌≡◌, ℕ, List, [], ◌∷◌, ◌++◌, map, refl, sym, ap, ◌∙◌, subst, Option, append_assoc}
 use Rattle.cct_model.specs.terms.device.Setup.{Setup}
 use Rattle.cct_model.specs.lines.command.CrashAt.{CrashAt}

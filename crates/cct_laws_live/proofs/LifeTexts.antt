@@ -1,4 +1,4 @@
--- The text of what one life tells, in bytes, says that.
+-- The text of what one life reports, in bytes, says that.
 use Rattle.std.proofs.Common.{◌≡◌, ℕ, List, [], ◌∷◌, map, ap, sym, ◌∙◌, subst, All}
 use Rattle.std.proofs.lemmas.List.Elements.{All-head, All-tail, All-weaker}
 use Rattle.cct_model.specs.terms.device.Setup.{Setup}
@@ -36,7 +36,7 @@ puts_told : (found : List Record) → All IsRecord found → AllTold (map (λ r.
 puts_told [] all = tt
 puts_told (r ∷ found) all = (All-head IsRecord r found all, puts_told found (All-tail IsRecord r found all))
 
--- every entry that a life tells is written
+-- every entry that a life reports is written
 pub life_written : (capacity : ℕ) (setup : Setup) (found : List Record) (steps : List LiveStep) (transcript : List Entry) →
     IsSoundSetup setup → IsLifeInBytes capacity setup found steps transcript → All IsWritten transcript
 life_written capacity setup found steps transcript sound is =

@@ -1,4 +1,4 @@
--- What was posted and told as lost is tallied with what the counters tell, over all lives.
+-- What was posted and reported as lost is tallied with what the counters show, over all lives.
 use Rattle.std.proofs.Common.{ℕ, List, []}
 use Rattle.cct_model.specs.terms.device.DeviceSetup.{DeviceSetup}
 use Rattle.cct_model.specs.terms.device.Setup.{Setup}

@@ -223,7 +223,7 @@ one_life = record {
 not_by_a_new_host : PostAt taker (entry.Crash 1 ∷ after (started begun) heard_round) (entry.Put (record_of.Reading 2 1 0 0 (coin ∷ []))) → ⊥
 not_by_a_new_host at = (at refl).1.heard
 
--- so a coin is posted that the accept counter doesn't tell
+-- so a coin is posted that the accept counter doesn't show
 more_than_accepted : (told_in 2 (records (after (started begun) one_round))
     ≡ record { events = 1; posted = 1; accepted = 0; lost = 0 })
 unfolding distance accepted_between
@@ -234,7 +234,8 @@ no_event_twice : IsTallied (told_in 2 (record_of.Reading 2 1 0 2 (coin ∷ coin 
 unfolding distance accepted_between
 no_event_twice tallied = let posts : 2 ≤ 1 = tallied.posts in omega (arith, posts)
 
--- no coin is reported as lost that the accept counter doesn't tell, and none that it tells is left out
+-- no coin is reported as lost that the accept counter doesn't show, and none that it shows is left
+-- out
 no_more_lost : IsTallied (told_in 2 (record_of.Reading 2 1 1 0 [] ∷ begun)) → ⊥
 unfolding distance accepted_between
 no_more_lost tallied = let loses : 1 ≤ 0 = tallied.loses in omega (arith, loses)

@@ -63,8 +63,8 @@ WasHeardOpen lines o =
     HasOver lines (put (record_of.Opened o.id o.addr o.count o.life))
     (λ older. Has (since_taken (before_start older)) (life_heard o.life))
 
--- A record closes an order at a life count: paid are as many coins as the two life counts tell, and
--- unpaid the others of its count. Where they tell more than its count, both are recorded.
+-- A record closes an order at a life count: paid are as many coins as the two life counts show, and
+-- unpaid the others of its count. Where they show more than its count, both are recorded.
 abbrev pub Settles : OpenOrder → ℕ → Record → Type 0
 Settles o life (record_of.Closed id paid unpaid) =
     (id ≡ o.id) × (paid ≡ life_between o.life life) × (paid + unpaid ≡ o.count)

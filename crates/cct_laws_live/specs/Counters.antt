@@ -1,4 +1,4 @@
--- What the counters of an acceptor tell in its newest epoch, beside what was posted and told as
+-- What the counters of an acceptor show in its newest epoch, beside what was posted and reported as
 -- lost.
 use Rattle.std.specs.Prelude.{ℕ, ◌+◌, ◌==◌, ◌≤◌, List, [], ◌∷◌, length, if◌then◌else◌}
 use Rattle.cct_model.specs.declared.judging.EpochState.{EpochState}
@@ -8,8 +8,8 @@ use Rattle.cct_model.specs.lines.record.Record.TheVariants as record_of
 use Rattle.cct_model.specs.Reading.{distance, accepted_between}
 use Rattle.cct_model.specs.Records.{epoch_in}
 
--- How many events the event counters tell, and how many coins are posted of them; how many coins
--- the accept counters tell, and how many are reported as lost.
+-- How many events the event counters show, and how many coins are posted of them; how many coins
+-- the accept counters show, and how many are reported as lost.
 pub record Told : Type 0 where
   pub events : ℕ
   pub posted : ℕ
@@ -20,12 +20,12 @@ pub record Told : Type 0 where
 abbrev pub none_told : Told
 none_told = record { events = 0; posted = 0; accepted = 0; lost = 0 }
 
--- How many events an event counter tells since the one that was recorded; none where no epoch runs.
+-- How many events an event counter shows since the one that was recorded; none where no epoch runs.
 abbrev pub events_to : EpochState → ℕ → ℕ
 events_to Idle counter = 0
 events_to (Running mask before earlier) counter = distance before counter
 
--- How many coins an accept counter tells since the one that was recorded; none where no epoch runs.
+-- How many coins an accept counter shows since the one that was recorded; none where no epoch runs.
 abbrev pub accepted_to : EpochState → ℕ → ℕ
 accepted_to Idle accepts = 0
 accepted_to (Running mask before earlier) accepts = accepted_between earlier accepts
@@ -55,8 +55,8 @@ told_in addr (record_of.Broken a seen counter lost accepts posted ∷ before) =
     else told_in addr before
 told_in addr (r ∷ before) = told_in addr before
 
--- The coins that were posted are at most as many as the event counters tell events. Those that were
--- reported as lost are at most as many as the accept counters tell coins, and together with those
+-- The coins that were posted are at most as many as the event counters show events. Those that were
+-- reported as lost are at most as many as the accept counters show coins, and together with those
 -- posted they are at least as many.
 pub record IsTallied (t : Told) : Type 0 where
   pub posts : t.posted ≤ t.events

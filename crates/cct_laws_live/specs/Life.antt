@@ -1,5 +1,5 @@
--- One life of a host over the records that it found: what it sends, records and tells, whatever is
--- heard.
+-- One life of a host over the records that it found: what it sends, records and reports, whatever
+-- is heard.
 use Rattle.std.specs.Prelude.{◌≡◌, ℕ, ◌+◌, max, true, List, [], ◌∷◌, length, ⊤}
 use Rattle.std.specs.List.{All}
 use Rattle.cct_model.specs.terms.device.Setup.{Setup}

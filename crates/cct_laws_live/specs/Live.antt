@@ -1,4 +1,4 @@
--- A live transcript: what hosts send, record and tell, whatever is heard in their exchanges, over
+-- A live transcript: what hosts send, record and report, whatever is heard in their exchanges, over
 -- any number of lives of the process over one journal.
 use Rattle.std.specs.Prelude.{◌≡◌, ◌≤◌, ℕ, List, [], ◌∷◌, ◌++◌, length, map, Option, ⊤}
 use Rattle.std.specs.List.{All}
@@ -44,7 +44,7 @@ LiveFrom capacity setup past (s ∷ steps) end =
 abbrev pub Live : ℕ → Setup → List LiveStep → List Entry → Type 0
 Live capacity setup steps transcript = LiveFrom capacity setup [] steps (onto [] transcript)
 
--- A past without what a live host doesn't tell: the faults that were set in it, and that an
+-- A past without what a live host doesn't report: the faults that were set in it, and that an
 -- exchange was forged.
 abbrev pub shown : List Entry → List Entry
 shown [] = []
@@ -56,7 +56,7 @@ shown (e ∷ past) = e ∷ shown past
 abbrev pub started : List Record → List Entry
 started before = entry.Crash (length before) ∷ map (λ r. entry.Put r) before
 
--- A past that goes on by steps to an end: the entries that it tells then, by which another past
+-- A past that goes on by steps to an end: the entries that it reports then, by which another past
 -- goes on in the same steps.
 pub record GoesOnAs (capacity : ℕ) (setup : Setup) (past : List Entry) (steps : List LiveStep)
     (end : List Entry)
@@ -65,8 +65,8 @@ pub record GoesOnAs (capacity : ℕ) (setup : Setup) (past : List Entry) (steps 
   pub ends : end ≡ told ++ past
   pub goes : LiveFrom capacity setup other steps (told ++ other)
 
--- What a life told after a start over the records that earlier lives left, in these steps, is
--- together with all that they told what live hosts tell in the steps of all.
+-- What a life reported after a start over the records that earlier lives left, in these steps, is
+-- together with all that they reported what live hosts report in the steps of all.
 pub record IsOneWith (capacity : ℕ) (setup : Setup) (lived : List LiveStep) (past news : List Entry)
     (at : Option CrashAt)
     (steps : List LiveStep) (end : List Entry) : Type 0 where

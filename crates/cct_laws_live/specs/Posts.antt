@@ -65,8 +65,8 @@ accepts_heard count = exchange (Some AcceptCount) (Some (reply.accepts count))
 -- Coins are posted by replies that an acceptor's address heard since the command of its job was
 -- taken, in this turn: the accept counter, the credits, the inhibit mask, and the accept counter
 -- again. Posted are, of that reply of the credits, the newest of as many events as its counter
--- tells since the event counter of the running epoch, and no more than a reply has; of a bill
--- acceptor none of a bill that it holds. Lost are as many as the second accept counter tells since
+-- shows since the event counter of the running epoch, and no more than a reply has; of a bill
+-- acceptor none of a bill that it holds. Lost are as many as the second accept counter shows since
 -- that of the epoch, without those posted. The inhibit mask and the event counter show a break, or
 -- show none.
 pub record PostedBy (body : DeviceBody) (lines : List Line) (breaks : Bool)

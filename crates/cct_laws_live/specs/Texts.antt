@@ -1,4 +1,4 @@
--- A live transcript in bytes, and what one life tells: their texts tell them.
+-- A live transcript in bytes, and what one life reports: their texts show them.
 use Rattle.std.specs.Prelude.{ℕ, ◌<◌, List, ⊤}
 use Rattle.std.specs.List.{All}
 use Rattle.hex.specs.Hex.{IsBytes}
@@ -33,7 +33,7 @@ pub record IsInBytes (capacity : ℕ) (setup : Setup) (steps : List LiveStep)
   pub heard : All HearsBytes transcript
   pub live : Live capacity setup steps transcript
 
--- What one life tells in bytes, oldest entry first, by these steps. The masks of the records that
+-- What one life reports in bytes, oldest entry first, by these steps. The masks of the records that
 -- it found have 16 bits.
 pub record IsLifeInBytes (capacity : ℕ) (setup : Setup) (found : List Record)
     (steps : List LiveStep)

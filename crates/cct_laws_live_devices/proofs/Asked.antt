@@ -1,4 +1,4 @@
--- Questions of which no host tells may be left out of a world.
+-- Questions that no host reports may be left out of a world.
 use Rattle.std.proofs.Common.{◌≡◌, ℕ, ◌==◌, Bool, true, false, List, [], ◌∷◌, ◌++◌, refl, ap, ap₂, ◌∙◌, Option, Some, None, subst}
 use Rattle.std.specs.Prelude.{flat_map, if◌then◌else◌, unwrap_or, MatchBool, ⊤}
 use Rattle.cct_model.specs.terms.device.DeviceSetup.{DeviceSetup}

@@ -1,5 +1,5 @@
--- What happens to devices may come after what hosts told: it says nothing of them, and it is the same after worlds in which the
--- devices are the same.
+-- What happens to devices may come after what hosts reported: it says nothing of them, and it is
+-- the same after worlds in which the devices are the same.
 use Rattle.std.proofs.Common.{◌≡◌, ℕ, ◌==◌, Bool, true, false, cond, List, [], ◌∷◌, ◌++◌, refl, sym, ap, ap₂, ◌∙◌, subst, Option, Some, None, suc}
 use Rattle.std.specs.Prelude.{if◌then◌else◌, MatchBool}
 use Rattle.cct_model.specs.terms.device.DeviceSetup.{DeviceSetup}

@@ -273,7 +273,7 @@ told_exchange setup history past addr _ piece later sound few (polls is kind pol
 told_exchange setup history past addr _ piece later sound few (asks_one one kind q) happened x =
     one_exchange setup history past addr kind q piece later sound one happened x
 
--- a question of which no host tells
+-- a question that no host reports
 pub asked_exchange : (setup : Setup) (history : List Moment) (past : List Entry) (sent piece : List ℕ) (later : List Moment) →
     ((d : DeviceSetup) → is_question (asks_of d sent) ≡ true) → Happened setup history sent piece later →
     IsExplained setup history past → IsExplained setup later past

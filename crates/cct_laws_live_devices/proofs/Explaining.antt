@@ -1,4 +1,5 @@
--- A world goes on: by what hosts tell besides exchanges, by what happens to devices, and by exchanges.
+-- A world goes on: by what hosts report besides exchanges, by what happens to devices, and by
+-- exchanges.
 use Rattle.std.proofs.Common.{◌≡◌, inl, ℕ, true, false, cond, List, [], ◌∷◌, ◌++◌, refl, sym, ap, ◌∙◌, subst}
 use Rattle.std.specs.Prelude.{flat_map, unwrap_or}
 use Rattle.cct_model.specs.terms.device.DeviceSetup.{DeviceSetup}
@@ -26,7 +27,7 @@ use Rattle.cct_laws_live_devices.specs.Devices.{Befell, nothing_befell, befell_m
 use Rattle.cct_laws_live_devices.specs.Explained.{IsExplained, befallen, is_befalling}
 use Rattle.cct_laws_live_devices.proofs.Befallen.{befalls_from, befell_falls, befell_meets, since_all, since_behind, since_met, since_over, since_pending}
 
--- what a host tells besides exchanges
+-- what a host reports besides exchanges
 record IsBesides (e : Entry) : Type 0 where
   tells : is_told e ≡ true
   falls_not : is_befalling e ≡ false
@@ -103,7 +104,7 @@ explained_befell setup before _ past (befell_more between e befell at) x =
           ap (λ b. cond b (e ∷ befallen all) (befallen all)) (befell_falls setup all e falls) ∙ ap (λ es. e ∷ es) y.all;
     }
 
--- devices heard a question of which no host tells
+-- devices heard a question that no host reports
 pub explained_question : (setup : Setup) (history : List Moment) (past : List Entry) (piece : List ℕ) →
     ((d : DeviceSetup) → is_question (asks_of d piece) ≡ true) → IsExplained setup history past →
     IsExplained setup (asks piece ∷ history) past

@@ -1,5 +1,5 @@
--- A world of live hosts is what a bench tells: by its newest entry, which happened to a device, or is the last of a step of a
--- host.
+-- A world of live hosts is what a bench reports: by its newest entry, which happened to a device,
+-- or is the last of a step of a host.
 use Rattle.std.proofs.Common.{◌≡◌, inl, inr, ℕ, Bool, true, false, cond, List, [], ◌∷◌, ◌++◌, refl, sym, ap, ◌∙◌, subst, Option, Some, None, All, true≢false}
 use Rattle.std.specs.Prelude.{MatchBool, if◌then◌else◌, ⊤}
 use Rattle.std.proofs.lemmas.List.Elements.{All-append, All-head, All-tail, All-nil, All-cons}
@@ -67,7 +67,7 @@ live_to capacity setup (s ∷ steps) more past end range to is =
     live_to capacity setup steps (s ∷ more) (is.0 ++ past) end (All-tail IsTellable s steps range)
     (is.0, past, refl, All-head IsTellable s steps range, is.1, to) is.2
 
--- a past that a bench tells
+-- a past that a bench reports
 record Plays (capacity : ℕ) (setup : Setup) (past : List Entry) : Type 0 where
   steps : List Step
   in_range : All IsInRange steps

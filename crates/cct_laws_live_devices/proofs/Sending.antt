@@ -30,7 +30,7 @@ use Rattle.cct_laws_live.specs.LiveStep as live
 use Rattle.cct_laws_live_devices.specs.Chain.{is_besides}
 use Rattle.cct_laws_live_devices.proofs.Exchanging.{IsAskedAt, asks_one, polls}
 
--- each exchange is one of a job, and all else a live host tells too
+-- each exchange is one of a job, and all else a live host reports too
 abbrev pub IsAskedIn : Entry → Type 0
 IsAskedIn (entry.Wire addr sent piece) = IsAskedAt addr sent
 IsAskedIn e = is_besides e ≡ true

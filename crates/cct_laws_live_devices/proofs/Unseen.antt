@@ -1,4 +1,5 @@
--- Hosts don't see what happens to the devices nor the faults of the wire: a past is like what they tell of it.
+-- Hosts don't see what happens to the devices nor the faults of the wire: a past is like what they
+-- report of it.
 use Rattle.std.proofs.Common.{◌≡◌, ◌==◌, Bool, true, false, cond, List, [], ◌∷◌, ◌++◌, refl, ap, ◌∙◌}
 use Rattle.cct_model.specs.terms.device.DeviceSetup.{DeviceSetup}
 use Rattle.cct_model.specs.lines.entry.Entry.{Entry}

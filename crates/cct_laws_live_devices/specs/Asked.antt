@@ -1,4 +1,4 @@
--- A world in which devices are also asked who they are, by questions that no host tells: as
+-- A world in which devices are also asked who they are, by questions that no host reports: as
 -- `cct_live` does before its host starts.
 use Rattle.std.specs.Prelude.{◌≡◌, ℕ, ◌==◌, true, List, [], ◌∷◌, ◌++◌, flat_map, if◌then◌else◌}
 use Rattle.std.specs.Prelude.{MatchBool, unwrap_or, ⊤}
@@ -22,7 +22,7 @@ use Rattle.cct_model.specs.Transcript.{heard_by_devices, heard_by_host, meets, p
 use Rattle.cct_laws_live_devices.specs.Questions.{is_question}
 use Rattle.cct_laws_live_devices.specs.World.{HeardAs, IsJustTold, is_told, told}
 
--- An entry of a world; or bytes that the devices heard in an exchange of which no host tells.
+-- An entry of a world; or bytes that the devices heard in an exchange that no host reports.
 pub data Moment : Type 0 where
   did : (e : Entry) → Moment
   asks : (piece : List ℕ) → Moment
@@ -68,8 +68,8 @@ BefallsIn setup past e =
     × OfKnowing what (device_at setup.devices addr)
     (λ d. (e ∷ []) ≡ (befalling addr d (met_in d past) what ∷ []))
 
--- What the devices and the wire have to do with an entry, as `AnswersAt`. Bytes of which no host
--- tells ask nothing of any device but who it is and which coins it knows.
+-- What the devices and the wire have to do with an entry, as `AnswersAt`. Bytes that no host
+-- reports ask nothing of any device but who it is and which coins it knows.
 abbrev pub AnswersIn : Setup → List Moment → Moment → Type 0
 AnswersIn setup past (did (entry.Wire addr sent piece)) =
     HeardAs addr sent piece (heard_by setup (λ d. met_in d past) (pending (entries past)) sent)
@@ -84,7 +84,7 @@ abbrev pub AnswersAll : Setup → List Moment → Type 0
 AnswersAll setup [] = ⊤
 AnswersAll setup (m ∷ past) = AnswersIn setup past m × AnswersAll setup past
 
--- Live hosts told this past of such a world, over an honest wire.
+-- Live hosts reported this past of such a world, over an honest wire.
 pub record OverAskedDevices (setup : Setup) (world : List Moment) (past : List Entry) : Type 0 where
   pub answered : AnswersAll setup world
   pub honest : HonestPast (entries world)

@@ -1,4 +1,4 @@
--- What a link gave, one exchange after another, against what was told of it.
+-- What a link gave, one exchange after another, against what was reported of it.
 use Rattle.std.specs.Prelude.{◌≡◌, ℕ, Bool, true, false, List, [], ◌∷◌}
 use Rattle.cct_model.specs.terms.device.DeviceSetup.{DeviceSetup}
 use Rattle.cct_model.specs.lines.entry.Entry.{Entry}
@@ -17,8 +17,8 @@ abbrev pub IsAsking : List ℕ → Type 0
 IsAsking sent = (d : DeviceSetup) → is_question (asks_of d sent) ≡ true
 
 -- Over a link of which is known what an exchange gives: it gave the exchanges that these entries
--- tell, newest first, in their order, each once. Between them it gave only questions, of which no
--- entry tells.
+-- show, newest first, in their order, each once. Between them it gave only questions, which no
+-- entry reports.
 pub data Chain {L : Type 0} (gives : L → List ℕ → List ℕ → L → Type 0) (first : L) : List Entry →
     L → Type 0 where
   not_begun : Chain gives first [] first

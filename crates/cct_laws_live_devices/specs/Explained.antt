@@ -1,5 +1,5 @@
--- A world that explains what live hosts told, by what happened to the devices and what bytes they
--- heard.
+-- A world that explains what live hosts reported, by what happened to the devices and what bytes
+-- they heard.
 use Rattle.std.specs.Prelude.{◌≡◌, Bool, true, false, cond, List, [], ◌∷◌, ◌++◌, ⊤}
 use Rattle.cct_model.specs.terms.device.DeviceSetup.{DeviceSetup}
 use Rattle.cct_model.specs.terms.device.Setup.{Setup}
@@ -34,10 +34,10 @@ abbrev pub befallen : List Entry → List Entry
 befallen [] = []
 befallen (e ∷ world) = cond (is_befalling e) (e ∷ befallen world) (befallen world)
 
--- Live hosts told this past of a world in which the devices on their line answered as the model's
--- do. The world goes up to the newest entry told, and what happened to the devices since is after
--- it. What happened to them in it is what happened to them in the history of the line, in its
--- order, and each device is as after that.
+-- Live hosts reported this past of a world in which the devices on their line answered as the
+-- model's do. The world goes up to the newest entry reported, and what happened to the devices
+-- since is after it. What happened to them in it is what happened to them in the history of the
+-- line, in its order, and each device is as after that.
 pub record IsExplained (setup : Setup) (history : List Moment) (past : List Entry) : Type 0 where
   pub world : List Entry
   pub since : List Entry

@@ -23,10 +23,10 @@ use Rattle.cct_laws_live_devices.specs.Prompt.{IsPrompt, IsQuiet}
 use Rattle.cct_laws_live_devices.specs.Devices.{Befell, IsModelled, MayReach}
 use Rattle.cct_laws_live_devices.specs.Explained.{befallen}
 
--- The money of what live hosts told is right over what happened to the devices on their line, which
--- are these entries, newest first: there is a world with just these and with just what the hosts
--- told, in which the devices answered as the model's do. So the coins that were accepted and that
--- fell in it are those on the line.
+-- The money of what live hosts reported is right over what happened to the devices on their line,
+-- which are these entries, newest first: there is a world with just these and with just what the
+-- hosts reported, in which the devices answered as the model's do. So the coins that were accepted
+-- and that fell in it are those on the line.
 pub record IsRightOver (setup : Setup) (fallen : List Entry) (past : List Entry) : Type 0 where
   pub world : List Entry
   pub befell : befallen world ≡ fallen
@@ -47,7 +47,7 @@ module _ {L : Type 0} (reads : L → Option (List ℕ) → L → Type 0)
     pub prompt : IsPrompt reads writes longest coming silent answer
     pub modelled : IsModelled reads writes setup echoes answer history
 
-  -- A port of such a line: it is told of the echo, waits for the longest time where it wasn't
+  -- A port of such a line: it is set for the echo, waits for the longest time where it wasn't
   -- answered, and hasn't forgotten a late reply.
   pub record IsPortOf (port : Port L) : Type 0 where
     pub echo : (options_of port).echoes ≡ echoes
@@ -66,7 +66,7 @@ module _ {L : Type 0} (reads : L → Option (List ℕ) → L → Type 0)
       meanwhile : (before after : List Moment) (found : List Record) (whole : List Entry)
           → HaveLived capacity setup history before found whole → Befell setup before after
           → HaveLived capacity setup history after found whole
-      -- A port asks devices who they are, and tells nothing of it.
+      -- A port asks devices who they are, and reports nothing of it.
       asked_who : (first last : Port L) (found : List Record) (whole : List Entry)
           → HaveLived capacity setup history (history (line_of first)) found whole → IsPortOf first
           → Chain (Gives reads writes) first [] last →
@@ -88,7 +88,7 @@ module _ {L : Type 0} (reads : L → Option (List ℕ) → L → Type 0)
           → HaveLived capacity setup history (history (line_of last)) left (news ++ (told ++ whole))
       -- Or it is killed in an exchange, of which the devices heard what was sent, or something that
       -- is no message, or nothing. In the steps of its life it is one in which nothing was heard,
-      -- which it didn't tell.
+      -- which it didn't report.
       was_killed : (first last : Port L) (found left : List Record) (steps : List LiveStep)
           (told all news whole : List Entry)
           (at : Option CrashAt) (addr : ℕ) (sent : List ℕ) (end : Option End) (after : List Moment)

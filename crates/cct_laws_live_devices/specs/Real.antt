@@ -1,5 +1,5 @@
--- What is promised of the money of what live hosts told, against what happened to the devices of
--- their world.
+-- What is promised of the money of what live hosts reported, against what happened to the devices
+-- of their world.
 use Rattle.std.specs.Prelude.{◌≡◌, ◌⊎◌, ℕ, suc, ◌+◌, ◌==◌, List, [], ◌∷◌, ◌++◌, length, reverse}
 use Rattle.std.specs.Prelude.{if◌then◌else◌, Option, Some, None, ⊤}
 use Rattle.cct_model.specs.terms.coin.Coin.{Coin}
@@ -20,7 +20,7 @@ use Rattle.cct_model.specs.Transcript.{lines_of}
 use Rattle.cct_laws.specs.Law.{IsOf}
 use Rattle.cct_laws.specs.Tallying.{AlwaysTallies}
 
--- The records that hosts told of a device, newest first.
+-- The records that hosts reported of a device, newest first.
 abbrev pub records_told : DeviceSetup → List Entry → List Record
 records_told d past = records_at d.addr (records past)
 
@@ -50,8 +50,8 @@ fell_at addr (entry.Fell at ∷ past) =
     if at == addr then suc (fell_at addr past) else fell_at addr past
 fell_at addr (e ∷ past) = fell_at addr past
 
--- Where a line tells up to some coins, these are as many as all that were posted and all that were
--- told to be lost.
+-- Where a line reports up to some coins, these are as many as all that were posted and all that
+-- were reported as lost.
 abbrev pub CountsTo : Option (List Coin) → ℕ → Type 0
 CountsTo None many = ⊤
 CountsTo (Some known) many = length known ≡ many
@@ -60,7 +60,7 @@ CountsTo (Some known) many = length known ≡ many
 abbrev pub CountedAt : List Line → Line → Type 0
 CountedAt past line = CountsTo (claims.told past line) (tally (line ∷ past))
 
--- The money of what live hosts told is right in their world. Both are given newest entry first.
+-- The money of what live hosts reported is right in their world. Both are given newest entry first.
 pub record IsRightIn (setup : Setup) (world past : List Entry) : Type 0 where
   -- No id is used twice.
   pub fresh : AreFresh (records past)
@@ -71,13 +71,13 @@ pub record IsRightIn (setup : Setup) (world past : List Entry) : Type 0 where
   -- Of a coin acceptor these are the coins that fell in and were accepted.
   pub accepted : (d : DeviceSetup) → IsAcceptor d.body → coins (lines_of d world)
       ≡ accepted_at d.addr world
-  -- After each completed reading as many were posted and told as lost as had been accepted before
-  -- it, at the pace; after any other line as many as at the last one.
+  -- After each completed reading as many were posted and reported as lost as had been accepted
+  -- before it, at the pace; after any other line as many as at the last one.
   pub counted : (d : DeviceSetup) → IsOf setup d → Pace (lines_of d world) →
       AllPast CountedAt (lines_of d world)
   pub tallies : (d : DeviceSetup) → IsOf setup d → Pace (lines_of d world) →
       AlwaysTallies (lines_of d world)
-  -- And so are in the end those that the records tell.
+  -- And so are in the end those that the records show.
   pub recorded : (d : DeviceSetup) → IsOf setup d → Pace (lines_of d world)
       → sum_in coins_posted (records_told d past) + sum_in coins_lost (records_told d past)
       ≡ mark (lines_of d world)

@@ -1,4 +1,4 @@
--- One life of a host together with all that earlier hosts told over its journal.
+-- One life of a host together with all that earlier hosts reported over its journal.
 use Rattle.std.specs.Prelude.{◌≡◌, ℕ, List, [], ◌++◌, Option}
 use Rattle.std.specs.List.{All}
 use Rattle.cct_model.specs.terms.device.Setup.{Setup}
@@ -11,9 +11,9 @@ use Rattle.cct_model.specs.Script.{IsCrash}
 use Rattle.cct_laws_live.specs.LiveStep.{LiveStep}
 use Rattle.cct_laws_live.specs.Live.{IsTellable, LiveFrom, started}
 
--- The past of a life over the records that it found is after all that earlier hosts told, from a
--- journal without records on, where these left the records: the whole is what they told, then its
--- start, and then what it told.
+-- The past of a life over the records that it found is after all that earlier hosts reported, from
+-- a journal without records on, where these left the records: the whole is what they reported, then
+-- its start, and then what it reported.
 pub record IsWhole (capacity : ℕ) (setup : Setup) (found : List Record) (past whole : List Entry)
     : Type 0 where
   pub steps : List LiveStep

@@ -1,5 +1,5 @@
 -- A world: what live hosts and the devices on their line did, and what happened to them. The hosts
--- tell a part of it.
+-- report a part of it.
 use Rattle.std.specs.Prelude.{◌≡◌, ◌⊎◌, ℕ, ◌==◌, Bool, true, false, cond, List, [], ◌∷◌, MatchBool}
 use Rattle.std.specs.Prelude.{⊤}
 use Rattle.cct_model.specs.terms.wire.TheConstants.{BROADCAST}
@@ -31,7 +31,7 @@ is_told (entry.Fault f) = false
 is_told (entry.Forged addr) = false
 is_told e = true
 
--- What the hosts of a world tell.
+-- What the hosts of a world report.
 abbrev pub told : List Entry → List Entry
 told [] = []
 told (e ∷ past) = cond (is_told e) (e ∷ told past) (told past)
@@ -75,8 +75,8 @@ AnswersAt setup past e = MatchBool (is_told e) ⊤ (Befalls setup past e)
 abbrev pub Answers : Setup → List Entry → Type 0
 Answers setup past = EachEntry (AnswersAt setup) past
 
--- Live hosts told this past of a world in which the devices on their line answered as the model's
--- do, over an honest wire: all bytes that a fault damages fail their check.
+-- Live hosts reported this past of a world in which the devices on their line answered as the
+-- model's do, over an honest wire: all bytes that a fault damages fail their check.
 pub record OverDevices (setup : Setup) (world past : List Entry) : Type 0 where
   pub answered : Answers setup world
   pub honest : HonestPast world

@@ -1,4 +1,4 @@
--- What is told of sessions of change is right by the coins that fell.
+-- What is reported of sessions of change is right by the coins that fell.
 use Rattle.std.proofs.Common.{◌≡◌, ◌≤◌, ◌-◌, ◌*◌, ◌+◌, ◌==◌, ℕ, Bool, true, false, cond, List, [], ◌∷◌, ◌++◌, Option, Some, None, Result, All, inl, inr, refl, sym, ap, ◌∙◌, subst, append_assoc, arith}
 use Rattle.std.specs.Prelude.{MatchBool, ⊤}
 use Rattle.std.specs.Option.{option_map}
@@ -76,7 +76,8 @@ of_within setup trays past orders (Some s) sure is = by_within setup trays past 
 sure_end : (setup : Setup) (news past : List Entry) → AreSure setup (news ++ past) → AreSure setup past
 sure_end setup news past sure d own paying = sure_before d news past (sure d own paying)
 
--- what a `serve` tells is right, whatever the host answers, and what holds of the session holds at the desk after it
+-- what a `serve` reports is right, whatever the host answers, and what holds of the session holds
+-- at the operator's desk after it
 abbrev ServesSo : Setup → List Entry → List Payment → Option Session → List Entry → Desk → Type 0
 ServesSo setup past orders session news desk =
     All (IsToldRight setup past orders session) news × HoldsOf setup desk.trays past orders desk.session
@@ -177,7 +178,7 @@ serves_so capacity setup other past news orders trays None are sure is gives =
 serves_so capacity setup other past news orders trays (Some s) are sure is gives =
     by_so capacity setup other past news orders trays s.amount s.rest s.next s.due are sure is gives
 
--- a step of the operator at the desk
+-- a step at the operator's desk
 record OperatesSo (setup : Setup) (past : List Entry) (orders : List Payment) (session : Option Session) (e : Entry)
     (left : List Payment) (desk : Desk) : Type 0 where
   told : IsToldRight setup past orders session e
@@ -301,7 +302,7 @@ module _ (setup : Setup) (past : List Entry) (orders : List Payment) (p : Paymen
       let clash = ap (λ desk. runs desk.session) (same (entry_of.Taken (pay_of p) ∷ [])) in absurd (cc clash)
   session_asks trays (Some s) are sure is same = by_asks trays s.amount s.rest s.next s.due are sure is same
 
--- and so it is at the desk after its answer
+-- and so it is at the operator's desk after its answer
 answered_so : (setup : Setup) (past : List Entry) (orders : List Payment) (p : Payment) (answer : Answer) (desk : Desk)
     (s : Session) → PaysNext desk.trays s p → AsksSo setup past orders desk.trays s →
     HoldsOf setup (answered p answer desk s).trays past orders (answered p answer desk s).session
@@ -310,7 +311,7 @@ answered_so setup past orders p taken desk s next so = ((asks_next setup desk.tr
 answered_so setup past orders p (refused_for why) desk s next so = (so.paid, so.are)
 answered_so setup past orders p (withheld_for why) desk s next so = (so.paid, so.are)
 
--- what is told of a session that falls short
+-- what is reported of a session that falls short
 abbrev paid_in : Entry → ℕ
 paid_in (entry_of.Short paid rest) = paid
 paid_in e = 0
@@ -331,7 +332,7 @@ short_so setup past orders trays (Some s) paid rest is ends =
     let so = short_paid setup past orders s s refl settled_is in
     (ap (λ n. n + rest) same_paid ∙ ap (λ n. s.amount - s.rest + n) same_rest ∙ so.0, so.1 ∙ sym same_paid)
 
--- the last entry that hosts told among others, and what is before and after it
+-- the last entry that hosts reported among others, and what is before and after it
 record LastTold (later : List Entry) (e : Entry) (news : List Entry) : Type 0 where
   after : List Entry
   between : List Entry
@@ -379,7 +380,7 @@ last_told (x ∷ later) e news is = by_told (is_told x) refl (λ told same. last
         rest_same : (x ∷ worlds.told later) ≡ (n ∷ (news ++ e ∷ [])) → worlds.told later ≡ news ++ e ∷ []
         rest_same all = cc all
 
--- a world, where hosts told some of it last
+-- a world, where hosts reported some of it last
 record SplitsAt (world news : List Entry) : Type 0 where
   later : List Entry
   before : List Entry
@@ -418,7 +419,7 @@ split_at (x ∷ world) (n ∷ news) past is = by_told (is_told x) refl (λ told 
         rest_same : (x ∷ worlds.told world) ≡ (n ∷ (news ++ past)) → worlds.told world ≡ news ++ past
         rest_same all = cc all
 
--- what has come of a session up to some moment of a world: what hosts told later is this
+-- what has come of a session up to some moment of a world: what hosts reported later is this
 record Stands (setup : Setup) (world : List Entry) (desk : Desk) (orders : List Payment) (news : List Entry) : Type 0 where
   later : List Entry
   before : List Entry
@@ -444,7 +445,7 @@ module _ (setup : Setup) (world : List Entry) (sure : AreSure setup world) where
   within_at desk orders news at =
       of_within setup desk.trays world orders desk.session sure (at_end desk orders news at).1
 
-  -- up to the next entry that hosts told, and over it
+  -- up to the next entry that hosts reported, and over it
   record NextTold (desk : Desk) (orders : List Payment) (e : Entry) (news : List Entry) : Type 0 where
     later : List Entry
     before : List Entry
@@ -579,7 +580,7 @@ module _ (setup : Setup) (world : List Entry) (sure : AreSure setup world) where
         trays = clear_trays setup sound;
       })
 
--- what a service told up to its end goes by the desk
+-- what a service reported up to its end goes by the desk
 followed : (how : Served) (desk left_desk : Desk) (told : List Told) → FollowsTo how desk left_desk told →
     (last : Desk) × AtDesk desk last told
 followed served_as.Unwritten desk left_desk told h = h

@@ -1,4 +1,4 @@
--- What goes over the link of a service is a chain of the entries that it tells.
+-- What goes over the link of a service is a chain of the entries that it reports.
 use Rattle.std.proofs.Common.{◌≡◌, ℕ, Bool, true, List, [], ◌∷◌, ◌++◌, sym, ap, refl, ◌∙◌, subst, append-nil, append_assoc, true≢false}
 use Rattle.cct_model.specs.terms.device.DeviceSetup.{DeviceSetup}
 use Rattle.cct_model.specs.lines.entry.Entry.{Entry}

@@ -13,7 +13,7 @@ use Rattle.cct_laws_live.specs.Live.{started}
 use Rattle.cct_laws_live.specs.LiveStep.{LiveStep}
 use Rattle.cct_laws_live_devices.specs.Chain.{Chain}
 
--- A point of a life over a link, of which these entries tell, newest first: the steps up to it are
+-- A point of a life over a link, which reported these entries, newest first: the steps up to it are
 -- a life, the link had given the exchanges that were reported up to it, and gave the others later.
 pub record Point {L : Type 0} (gives : L → List ℕ → List ℕ → L → Type 0) (setup : Setup)
     (found : List Record) (first last : L)

@@ -1,4 +1,4 @@
--- What is told of sessions of change, against the coins that fell for their orders.
+-- What is reported of sessions of change, against the coins that fell for their orders.
 use Rattle.std.specs.Prelude.{ℕ, List, [], ◌∷◌, ◌++◌}
 use Rattle.cct_model.specs.terms.device.Setup.{Setup}
 use Rattle.cct_model.specs.lines.entry.Entry.{Entry}
@@ -10,7 +10,7 @@ use Rattle.cct_laws_change.specs.Orders.{opened_of, orders_after}
 use Rattle.cct_live_service.specs.AtDesk.{answered, ended, seen_at}
 use Rattle.cct_live_service.specs.Told.{Told, entry, falls_short, operates, pays}
 
--- What is told from a desk on, of a session with these orders, shows it right by all coins that
+-- What is reported from a desk on, of a session with these orders, shows it right by all coins that
 -- fell in a world: they are worth its amount where it was served, and what is reported as paid
 -- where it falls short; and they are never worth more than its amount.
 abbrev pub TellsRight : Setup → List Entry → Desk → List Payment → List Told → Type 0

@@ -1,4 +1,4 @@
--- The records that were read so far, and what they tell of an order.
+-- The records that were read so far, and what they show of an order.
 use Rattle.std.proofs.Common.{◌≡◌, ◌∙◌, ℕ, ◌+◌, ◌-◌, List, [], ◌∷◌, ◌++◌, length, reverse, Option, Some, Result, Ok, Err, refl, sym, ap, subst, append_assoc, arith}
 use Rattle.std.specs.List.{slice_get}
 use Rattle.std.specs.Prelude.{IfErr, IfOk}
@@ -88,7 +88,7 @@ reads_has seen disk place image rest told reads =
     subst (λ i. HasFrom i place.base place.carry rest) (same_Some reads.image image (sym reads.tells ∙ told))
     (record { second = place.second; generation = place.generation; current = reads.has })
 
--- what was looked up in a journal that was opened is what its image tells
+-- what was looked up in a journal that was opened is what its image shows
 pub looked : (image : List ℕ) (id base : ℕ) (c : Carry) (rest : List Record) (holds : List Record → Type 0)
     (result : Result OrderTold OpenNo) → HasFrom image base c rest → holds rest →
     IfOk result (IsKnownBy holds id) → IfErr result (λ why. (rest : List Record) → holds rest → why ≡ Disk) →

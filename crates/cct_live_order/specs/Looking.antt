@@ -8,7 +8,7 @@ use Rattle.cct_journal.specs.declared.refusal.OpenNo.{OpenNo}
 use Rattle.cct_live_order.specs.Told.{order_in, told_after}
 use Rattle.cct_live_order.specs.declared.told.OrderTold.{OrderTold}
 
--- What an image tells of the order of an id: what the records do that it has after those of its
+-- What an image shows of the order of an id: what the records do that it has after those of its
 -- carry; or why it isn't read.
 abbrev pub Looks : List ℕ → ℕ → Result OrderTold OpenNo → Type 0
 Looks image id (Ok told) =
@@ -16,7 +16,7 @@ Looks image id (Ok told) =
     × (told ≡ order_in id (reverse rest))
 Looks image id (Err why) = RefusesOpen why image
 
--- This is what all records that are held, oldest first, tell of it.
+-- This is what all records that are held, oldest first, show of it.
 abbrev pub IsKnownBy : (List Record → Type 0) → ℕ → OrderTold → Type 0
 IsKnownBy holds id told = (rest : List Record) → holds rest → told ≡ order_in id (reverse rest)
 

@@ -1,4 +1,4 @@
--- What the records of a journal tell of an order.
+-- What the records of a journal show of an order.
 use Rattle.std.specs.Prelude.{ℕ, ◌==◌, if◌then◌else◌, List, [], ◌∷◌}
 use Rattle.cct_model.specs.lines.record.Record.{Record}
 use Rattle.cct_model.specs.lines.record.Record.TheVariants as record_of
@@ -7,7 +7,8 @@ use Rattle.cct_live_order.specs.declared.told.OrderTold.{OrderTold}
 use Rattle.cct_live_order.specs.declared.told.OrderTold.TheVariants as order
 
 -- What is known of the order of an id after a record, where this was known before: one that opens
--- it, or closes it, says so. The life counts of an odd one say how many coins were paid.
+-- it, or closes it, says so. Where the life counts don't fit the order, they say how many coins
+-- were paid.
 abbrev pub told_after : ℕ → Record → OrderTold → OrderTold
 told_after id (record_of.Opened opened addr count life) told =
     if opened == id then order.Open addr count else told

@@ -32,7 +32,7 @@ abbrev pub is_to_all : List ℕ → Bool
 is_to_all [] = false
 is_to_all (byte ∷ bytes) = byte == BROADCAST
 
--- Bytes are at least as many as the message that they begin has, by the length that it tells.
+-- Bytes are at least as many as the message that they begin has, by the length that it gives.
 abbrev pub is_complete : List ℕ → Bool
 is_complete bytes = nat_le 5 (length bytes) && nat_le (slice_index bytes 1) (length bytes - 5)
 

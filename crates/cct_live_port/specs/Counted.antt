@@ -1,4 +1,4 @@
--- What a port tells of its last exchange.
+-- What a port reports of its last exchange.
 use Rattle.std.proofs.Common.{◌∙◌, inl, inr, sym, ap}
 use Rattle.std.proofs.lemmas.Bool.{false≢true}
 use Rattle.std.specs.Prelude.{◌≡◌, refl, ℕ, ◌||◌, false, List, [], ◌∷◌, Option, Some, None, Result}

@@ -61,7 +61,7 @@ found_same : (m1 m2 o1 o2 e1 e2 : ℕ) → m1 ≡ m2 → o1 ≡ o2 → e1 ≡ e2
 found_same m1 m2 o1 o2 e1 e2 m o e =
     ap (λ n. notice_of.Found n o1 e1) m ∙ ap (λ n. notice_of.Found m2 n e1) o ∙ ap (λ n. notice_of.Found m2 o2 n) e
 
--- what is told of a journal that was there
+-- what is reported of a journal that was there
 pub found_told : {D : Type 0} {g : Ghosts D} (host : Host D g) (there : Bool) (many orders epochs : ℕ) → there ≡ true →
     many ≡ journals.used_of (journal_of host) →
     ((k : Known) (last : ℕ) → BeginsAs host k last → orders ≡ orders_known k (setup_of host).devices) →

@@ -76,7 +76,7 @@ attempt_broken sent entries addr = record {
 
 -- by a test of how jobs ended
 module _ (is_such : Entry → Bool) (of_end : IsOfEnd is_such) where
-  -- one of the entries that an attempt tells is such where one of its entries is
+  -- one of the entries that an attempt reports is such where one of its entries is
   some_notices : (notices : List Notice) → tells_some is_such (notices_told notices) ≡ false
   some_notices [] = refl
   some_notices (n ∷ notices) = some_notices notices
@@ -223,7 +223,7 @@ all_made until addr (suc made) all steps told h = (
     few : suc made ≤ MOST_ATTEMPTS
     few = omega (arith, all)
 
--- attempts of which the last one wasn't told to its end
+-- attempts of which the last one wasn't reported to its end
 abbrev pub OneMore : ℕ → ℕ → List LiveStep → List Told → Type 0
 OneMore made addr = Then (Times made (GoesOn addr)) (IsAttempt addr)
 
@@ -279,7 +279,7 @@ attempts_broken until addr made few steps told h =
           (refl, ([], All-nil IsOfWatch, refl));
     }
 
--- and where the host doesn't live on, nothing is said of the last one
+-- and where the host stops, nothing is said of the last one
 pub broken_as : (how : Served) (entries : List Entry) (P : List LiveStep → List Told → Type 0) (steps : List LiveStep)
     (told : List Told) → FrontOf P steps told → FrontOf (EndsAs (Err how) entries P) steps told
 broken_as how entries P steps told h = record { undone = h.undone; untold = h.untold; whole = (h.whole, tt) }

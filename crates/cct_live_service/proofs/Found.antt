@@ -35,7 +35,7 @@ found_then (pays p answer ∷ first) then = found_then first then
 found_then (falls_short p paid rest ∷ first) then = found_then first then
 found_then (knows all line ∷ first) then = found_then first then
 
--- entries and notices tell none
+-- entries and notices report none
 found_as : (entries : List Entry) → findings_in (as_told entries) ≡ []
 found_as [] = refl
 found_as (e ∷ entries) = found_as entries
@@ -54,7 +54,7 @@ found_notices : (notices : List Notice) → findings_in (notices_told notices) �
 found_notices [] = refl
 found_notices (n ∷ notices) = found_notices notices
 
--- findings tell themselves
+-- findings report themselves
 pub found_found : (findings : List Finding) → findings_in (found_told findings) ≡ findings
 found_found [] = refl
 found_found (f ∷ findings) = ap (λ fs. f ∷ fs) (found_found findings)

@@ -1,4 +1,4 @@
--- What is told of what the journal knows.
+-- What is reported of what the journal knows.
 use Rattle.std.proofs.Common.{◌≡◌, ◌∙◌, ℕ, List, [], ◌∷◌, ◌++◌, ◌&&◌, ◌-◌, arith, length, take, reverse, map, Bool, true, false, append_assoc, Option, Some, None, is_some, Result, Ok, Err, refl, sym, ap, ap₂, subst, inl, inr}
 use Rattle.std.specs.Prelude.{MatchResult}
 use Rattle.std.specs.Io.KnownBytes.{Appends}
@@ -125,7 +125,8 @@ module _ {D : Type 0} {g : Ghosts D} (host : Host D g) where
             ∙ ap (state_lines (Some setup) (carry setup (reverse first))) (sym turn);
       }
 
-  -- and what its records tell of an order is what those of the past do since the journal last turned
+  -- and what its records show of an order is what those of the past do since the journal last
+  -- turned
   pub image_order : (image : List ℕ) (base : ℕ) (c : Carry) (rest : List Record) (id : ℕ) →
       g.seen (disk_of host) ≡ Some image → HasFrom image base c rest → (past : List Entry) → StandsFor host past →
       IsTrusted g.honest g.seen (disk_of host) → order_in id (reverse rest) ≡ order_in id (kept_in host past)

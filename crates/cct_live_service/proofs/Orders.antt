@@ -1,4 +1,4 @@
--- What is told of an order, by the records of a journal that was read beside its host.
+-- What is reported of an order, by the records of a journal that was read beside its host.
 use Rattle.std.proofs.Common.{◌≡◌, ◌≢◌, ◌∙◌, ◌⊎◌, ℕ, ◌==◌, List, [], ◌∷◌, Bool, true, false, cond, reverse, Option, Some, None, is_some, inl, inr, refl, sym, ap, subst}
 use Rattle.cct_disk.specs.declared.disk.Disk.{Ghosts}
 use Rattle.cct_disk.specs.Disk.{IsTrusted}
@@ -19,7 +19,7 @@ use Rattle.cct_live_service.specs.Reported.{IsOrderOf, IsRecorded, LooksUp, firs
 use Rattle.cct_live_service.specs.Stated.{kept_in}
 use Rattle.cct_live_service.proofs.Knows.{image_order, image_refused}
 
--- no record tells that the journal couldn't be read
+-- no record says that the journal couldn't be read
 cond_read : (b : Bool) (x y : OrderTold) → x ≢ order_of.Unread → y ≢ order_of.Unread → cond b x y ≢ order_of.Unread
 cond_read true x y h k = h
 cond_read false x y h k = k

@@ -635,7 +635,7 @@ module _ {K : Type 0} (written : K → Option (List ℕ)) (puts : K → List ℕ
         (λ fails. inr fails);
   }
 
-  -- nothing is done and told
+  -- nothing is done and reported
   pub acts_none : (S : List Told → Type 0) → S [] → (a : K) (host : Host D g) (P : List LiveStep → List Told → Type 0) →
       has_failed host ≡ false → P [] [] → Acts written puts faults S P (Ok tt) a a host host
   acts_none S linked a host P whole is = record {
@@ -681,7 +681,7 @@ module _ {K : Type 0} (written : K → Option (List ℕ)) (puts : K → List ℕ
         (EndsBy IsDiskFault (by_writing answer)) (no_disk_fault answer) disk;
   }
 
-  -- lines that tell no entry
+  -- lines that report no entry
   pub acts_told : (S : List Told → Type 0) (answer : Result (Unit {0}) Failed) (a b : K) (host : Host D g)
       (told : List Told) → S told → (P : List LiveStep → List Told → Type 0) → news_of told ≡ [] →
       ((past : List Entry) → Keeps host past → AreSo (setup_of host) past told) →

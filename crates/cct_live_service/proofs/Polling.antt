@@ -122,7 +122,7 @@ all_rounds addr (suc before) all steps told h = (
     few : (n : ℕ) → suc n ≡ MOST_ROUNDS → suc n ≤ MOST_ROUNDS
     few n is = omega (arith, is)
 
--- a round that wasn't told to its end
+-- a round that wasn't reported to its end
 quiet_round : (addr before : ℕ) → IsLastRound before addr [] []
 quiet_round addr before =
     nothing_then (BeginsRound addr)
@@ -210,7 +210,7 @@ pub begins_alone : (how : Served) (entries : List Entry) (addr : ℕ) (steps : L
 begins_alone how entries addr =
     then_nothing (BeginsRound addr) (EndsAs (Err how) entries (Goes addr)) (inl ((refl, refl), tt), tt)
 
--- visits tell no findings
+-- visits report no findings
 goes_find : (addr : ℕ) (steps : List LiveStep) (told : List Told) → Goes addr steps told → findings_in told ≡ []
 goes_find addr steps told (inl none) = ap findings_in none.0.1
 goes_find addr steps told (inr made) = attempts_find until_of.Failed addr steps told made

@@ -39,12 +39,12 @@ so_then T S setup past (pays p answer ∷ t1) t2 h k =
     (subst (λ before. AreSoWhere T S setup before t2) (append_assoc (news_of t1) (answer_news p answer) past) k)
 so_then T S setup past (falls_short p paid rest ∷ t1) t2 h k = so_then T S setup past t1 t2 h k
 
--- A notice says how a host is, and none tells what is known of an order.
+-- A notice says how a host is, and none says what is known of an order.
 abbrev pub IsSoAnyway : Setup → List Entry → Notice → Type 0
 IsSoAnyway setup past (notice_of.Order id told) = ⊥
 IsSoAnyway setup past n = IsSo setup past n
 
--- Each does, on any disk, and nothing is told of what the journal knows.
+-- Each does, on any disk, and nothing is reported of what the journal knows.
 abbrev pub AreSo : Setup → List Entry → List Told → Type 0
 AreSo setup past [] = ⊤
 AreSo setup past (entry e ∷ told) = AreSo setup (e ∷ past) told
@@ -77,7 +77,7 @@ so_where T S setup past (operates s e ∷ told) h = so_where T S setup past told
 so_where T S setup past (pays p answer ∷ told) h = so_where T S setup (answer_news p answer ++ past) told h
 so_where T S setup past (falls_short p paid rest ∷ told) h = so_where T S setup past told h
 
--- how the line is, and a bill that is held, tell nothing of how a host stands
+-- how the line is, and a bill that is held, say nothing of how a host stands
 so_watch : (setup : Setup) (past : List Entry) (n : Notice) → IsOfWatch n → IsSoAnyway setup past n
 so_watch setup past (notice_of.Device addr job epoch order) h = absurd h
 so_watch setup past (notice_of.Last id) h = absurd h

@@ -1,4 +1,4 @@
--- Sessions of change: what a step at the desk tells, and a payment.
+-- Sessions of change: what a step at the operator's desk reports, and a payment.
 use Rattle.std.proofs.Common.{◌≡◌, ◌≤◌, ◌==◌, ◌∙◌, ◌⊎◌, ℕ, zero, suc, min, List, [], ◌∷◌, ◌++◌, Bool, true, false, Option, Some, None, refl, sym, ap, subst, inl, inr, arith, cond}
 use Rattle.std.specs.Prelude.{IsTrue, is_some}
 use Rattle.std.specs.Option.{option_map}
@@ -82,7 +82,7 @@ asked_by (Pay p) old new h = (
   subst (λ o. option_map (λ s. s.next) o ≡ Some p.id) (sym h.runs) (ap (λ n. Some n) (sym h.id)),
 )
 
--- a step at the desk shows no finding
+-- a step at the operator's desk shows no finding
 pub step_finds : (s : Step) (steps : List LiveStep) (told : List Told) → TellsStep s steps told → findings_in told ≡ []
 step_finds s steps told h = ap findings_in h.1.1
 

@@ -179,7 +179,7 @@ module _ {K : Type 0} (written : K → Option (List ℕ)) (puts : K → List ℕ
     );
   }
 
-  -- the same lines, told as something else
+  -- the same lines, reported as something else
   pub told_as : (a b : K) (one other : List Told) (result : Result (Unit {0}) Failed) →
       map told_line one ≡ map told_line other → told_text one ≡ told_text other →
       WritesTold written puts a one result b → WritesTold written puts a other result b

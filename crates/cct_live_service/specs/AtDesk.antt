@@ -1,4 +1,4 @@
--- What is told of sessions of change, by what is known at the operator's desk.
+-- What is reported of sessions of change, by what is known at the operator's desk.
 use Rattle.std.specs.Prelude.{◌≡◌, ℕ, List, [], ◌∷◌, Option, Some, None, Result, Ok, Err, ⊤}
 use Rattle.std.specs.Option.{option_map}
 use Rattle.cct_model.specs.terms.device.Setup.{Setup}
@@ -26,7 +26,7 @@ abbrev pub seen_at : Entry → Desk → Desk
 seen_at e desk =
     record { session = option_map (session_after (e ∷ [])) desk.session; trays = desk.trays }
 
--- A step of the operator at the desk.
+-- A step at the operator's desk.
 abbrev pub IsOfDesk : Step → Type 0
 IsOfDesk (step.Stock addr count) = ⊤
 IsOfDesk (step.Change first amount) = ⊤
@@ -60,8 +60,8 @@ abbrev pub ended : Desk → Desk
 ended desk = record { session = None; trays = desk.trays }
 
 -- What is reported goes by the desk, from one to another: the operator's steps give there what is
--- told of them, a payment is the one that a `serve` asks for there, and one that isn't taken ends
--- the session.
+-- reported of them, a payment is the one that a `serve` asks for there, and one that isn't taken
+-- ends the session.
 abbrev pub AtDesk : Desk → Desk → List Told → Type 0
 AtDesk desk last [] = last ≡ desk
 AtDesk desk last (entry e ∷ told) = AtDesk (seen_at e desk) last told
@@ -78,7 +78,8 @@ AtDesk desk last (what ∷ told) = AtDesk desk last told
 abbrev pub IsApart : List Told → Type 0
 IsApart told = (desk : Desk) → AtDesk desk desk told
 
--- What is reported goes by the desk up to an answer: where a host lives on, it is then this one.
+-- What is reported goes by the desk up to an answer: where a host keeps running, it is then this
+-- one.
 abbrev pub FollowsDesk : Result (Unit {0}) Served → Desk → Desk → List Told → Type 0
 FollowsDesk (Ok done) old new told = AtDesk old new told
 FollowsDesk (Err how) old new told = (last : Desk) × AtDesk old last told

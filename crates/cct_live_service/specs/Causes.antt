@@ -21,7 +21,7 @@ use Rattle.cct_live_service.specs.declared.served.Served.{Served}
 use Rattle.cct_live_service.specs.declared.served.Served.TheVariants as served
 use Rattle.cct_live_service.specs.Ending.{IsOfDisk}
 
--- A disk goes on telling its bytes or not, no power was cut, and its count of faults never falls;
+-- A disk goes on showing its bytes or not, no power was cut, and its count of faults never falls;
 -- and if a call of it failed so, that count rose, or it is at its last value.
 pub record DiskServes {D : Type 0} (size : D → ℕ) (honest : D → Bool) (seen : D → Option (List ℕ))
     (cuts faults : D → ℕ)

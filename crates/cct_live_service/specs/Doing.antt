@@ -1,4 +1,4 @@
--- What a host does for each line of its input, and what is told of it.
+-- What a host does for each line of its input, and what is reported of it.
 use Rattle.std.specs.Prelude.{◌≡◌, ◌≢◌, ◌≤◌, ◌⊎◌, ℕ, zero, suc, Bool, true, false, List, [], ◌∷◌, ◌++◌}
 use Rattle.std.specs.Prelude.{length, Option, Some, None, OnOk, Result, Ok, Err, ⊤}
 use Rattle.std.specs.List.{All, list_any}
@@ -44,7 +44,7 @@ use Rattle.cct_live_service.specs.Told.{found_told, knows_each, notice, notices_
 use Rattle.cct_live_service.specs.Told.{pay_of, pays, refused, refused_for, taken, withheld_for}
 use Rattle.cct_live_service.specs.Watch.{IsOfWatch}
 
--- One thing is done and told, and then another one, which goes by what was reported.
+-- One thing is done and reported, and then another one, which goes by what was reported.
 pub record ThenBy (First : List LiveStep → List Told → Type 0)
     (Next : List Told → List LiveStep → List Told → Type 0)
     (steps : List LiveStep) (told : List Told) : Type 0 where
@@ -57,20 +57,20 @@ pub record ThenBy (First : List LiveStep → List Told → Type 0)
   pub first : First before said
   pub next : Next said after added
 
--- One thing is done and told, and then the other.
+-- One thing is done and reported, and then the other.
 abbrev pub Then : (List LiveStep → List Told → Type 0) → (List LiveStep → List Told → Type 0) →
     List LiveStep → List Told
     → Type 0
 Then First Next = ThenBy First (λ said. Next)
 
--- It is done and told up to where it broke off.
+-- It is done and reported up to where it broke off.
 pub record FrontOf (Whole : List LiveStep → List Told → Type 0) (steps : List LiveStep)
     (told : List Told) : Type 0 where
   pub undone : List LiveStep
   pub untold : List Told
   pub whole : Whole (steps ++ undone) (told ++ untold)
 
--- Nothing is done and told.
+-- Nothing is done and reported.
 abbrev pub IsNothing : List LiveStep → List Told → Type 0
 IsNothing steps told = (steps ≡ []) × (told ≡ [])
 
@@ -86,12 +86,12 @@ Tells what steps told = (steps ≡ []) × (told ≡ what ∷ [])
 abbrev pub IsStatus : List DeviceSetup → List LiveStep → List Told → Type 0
 IsStatus devices steps told = (steps ≡ []) × AreOfStatus devices told
 
--- It is done and told so many times in a row.
+-- It is done and reported so many times in a row.
 abbrev pub Times : ℕ → (List LiveStep → List Told → Type 0) → List LiveStep → List Told → Type 0
 Times zero Each = IsNothing
 Times (suc n) Each = Then (Times n Each) Each
 
--- What is told of an attempt, whose message was written or not, where it made an exchange: its
+-- What is reported of an attempt, whose message was written or not, where it made an exchange: its
 -- entries, and then of the line and the bills that are held. `Exchanges` says what.
 abbrev pub TellsAttempt : Bool → List Entry → List Told → Type 0
 TellsAttempt is_sent entries told =
@@ -315,7 +315,7 @@ abbrev pub Finds : List Finding → List Finding → (List LiveStep → List Tol
     List LiveStep → List Told → Type 0
 Finds before now Doing steps told = Doing steps told × (now ≡ before ++ findings_in told)
 
--- It is done so. And where the host lives on, how jobs ended stands in the entries of the last
+-- It is done so. And where the host keeps running, how jobs ended stands in the entries of the last
 -- attempt: one of them is such exactly where one is among all that is reported.
 abbrev pub EndsAs : Result (Unit {0}) Served → List Entry → (List LiveStep → List Told → Type 0) →
     List LiveStep → List Told
@@ -325,8 +325,8 @@ EndsAs result entries Doing steps told =
     × OnOk result ((is_such : Entry → Bool) → IsOfEnd is_such
     → tells_some is_such told ≡ list_any is_such entries)
 
--- A round is begun at an address, or none is, and its job makes attempts. And where the host lives
--- on, how they ended stands in the entries of the last one.
+-- A round is begun at an address, or none is, and its job makes attempts. And where the host keeps
+-- running, how they ended stands in the entries of the last one.
 abbrev pub EndsRound : Result (Unit {0}) Served → List Entry → ℕ → List LiveStep → List Told →
     Type 0
 EndsRound result entries addr =
@@ -338,7 +338,7 @@ GivesStop knows setup addr =
     ThenBy (TellsOne (live.command (command.Stop addr)))
     (λ said. GoesOnTo (knows said (HasJob setup addr false)) until_of.Ended addr)
 
--- A host lives on after it.
+-- A host keeps running after it.
 abbrev pub LivesPast : Result (Unit {0}) Served → Type 0
 LivesPast (Ok done) = ⊤
 LivesPast (Err how) = ⊥
@@ -391,7 +391,7 @@ ends_by served.Unwritten ends = ends
 ends_by served.Disk ends = ends
 ends_by how ends = at_end.Leave
 
--- What a service does for lines, newest first, up to its end: it tells first what it begins with.
+-- What a service does for lines, newest first, up to its end: it reports first what it begins with.
 abbrev pub PlaysLines : Knows → Type 0 → Setup → Notice → List Finding → List Said → List LiveStep →
     List Told → Type 0
 PlaysLines knows Missed setup opening findings lines =

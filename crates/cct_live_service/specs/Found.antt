@@ -14,7 +14,7 @@ use Rattle.cct_journal.specs.Journal as journals
 use Rattle.cct_host.specs.OnDisk.{KeepsRecords, ReadsRecords}
 use Rattle.cct_host.specs.Starting.{FirstFollow}
 
--- A disk tells records, newest first: what a read gives represents them by a setup, and each
+-- A disk shows records, newest first: what a read gives represents them by a setup, and each
 -- follows those before it. If it is trusted, it keeps just that.
 pub record Tells {D : Type 0} (honest : D → Bool) (seen : D → Option (List ℕ))
     (may_leave : D → List ℕ → Type 0) (disk : D)
@@ -53,7 +53,7 @@ pub record EndsIn {D : Type 0} (honest : D → Bool) (seen : D → Option (List 
       Settled (carry_of setup) honest seen may_leave disk (reverse found)
 
 -- The records that a host finds, newest first, where its journal was there: those that the disk
--- tells; and, also on a disk that shows nothing, any that end in those that were found. None are
+-- shows; and, also on a disk that shows nothing, any that end in those that were found. None are
 -- found where the journal was made.
 abbrev pub FoundOn : {D : Type 0} → (D → Bool) → (D → Option (List ℕ)) → (D → List ℕ → Type 0) → D →
     Setup → Begun
@@ -63,7 +63,7 @@ FoundOn honest seen may_leave disk setup (found_there base c rest) found =
     Tells honest seen may_leave disk setup found
     ⊎ EndsIn honest seen may_leave disk setup base c rest found
 
--- The records that a journal has on a disk, newest first: those that the disk tells, where it was
+-- The records that a journal has on a disk, newest first: those that the disk shows, where it was
 -- there; none where it was made.
 abbrev pub ToldOn : {D : Type 0} → (D → Bool) → (D → Option (List ℕ)) → (D → List ℕ → Type 0) → D →
     Setup → Bool

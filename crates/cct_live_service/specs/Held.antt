@@ -14,13 +14,13 @@ abbrev pub asks_bills : List ℕ → Bool
 asks_bills (to ∷ count ∷ from ∷ header ∷ rest) = header == 159
 asks_bills bytes = false
 
--- The events that a reply tells.
+-- The events that a reply gives.
 abbrev pub credits_of : Option Reply → Option Credits
 credits_of (Some (credits told)) = Some told
 credits_of reply = None
 
--- The events that an exchange with a bill acceptor told: none where it asked for something else, or
--- wasn't answered.
+-- The events that an exchange with a bill acceptor reported: none where it asked for something
+-- else, or wasn't answered.
 abbrev pub bills_told : CheckKind → ℕ → List ℕ → List ℕ → Option Credits
 bills_told kind addr sent heard =
     if asks_bills sent then credits_of (got kind addr form.Credits sent heard) else None

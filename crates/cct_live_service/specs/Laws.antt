@@ -40,7 +40,7 @@ pub record IsLawful (setup : Setup) (found : List Record) (past : List Entry) : 
   pub room : length (records past) + held setup past ≤ room_over MOST_RECORDS setup found
   -- What was posted since the start was heard, in its turn.
   pub posts : (d : DeviceSetup) → IsOf setup d → EachSinceStart (PostAt d) past
-  -- Over devices that answer as the model's do, and with all that earlier hosts told over the
+  -- Over devices that answer as the model's do, and with all that earlier hosts reported over the
   -- journal, the money is right: no coin is posted twice or lost in silence, and no order is paid
   -- twice.
   pub real : (whole world : List Entry) → IsWhole MOST_RECORDS setup found past whole →

@@ -1,4 +1,4 @@
--- What goes over the link of a service, against what is told of it.
+-- What goes over the link of a service, against what is reported of it.
 use Rattle.std.specs.Prelude.{◌≡◌, ℕ, ◌==◌, ◌&&◌, not, Bool, true, false, List, [], ◌∷◌, ◌++◌}
 use Rattle.std.specs.Prelude.{Option, ⊤}
 use Rattle.cct_model.specs.terms.device.DeviceSetup.{DeviceSetup}
@@ -31,7 +31,7 @@ abbrev pub are_quiet : List Told → Bool
 are_quiet [] = true
 are_quiet (what ∷ told) = is_quiet what && are_quiet told
 
--- This is told of no exchange, and not of how the line or a device is.
+-- These lines report no exchange, and not how the line or a device is.
 abbrev pub AreQuiet : List Told → Type 0
 AreQuiet told = are_quiet told ≡ true
 
@@ -93,8 +93,8 @@ module _ {L : Type 0} (gives : L → List ℕ → List ℕ → L → Type 0) (se
   -- exchange is reported as an entry where its message was written, and else as unsent. After it
   -- and the other entries of its attempt comes a `linefault`, where the link counted it as failed
   -- and not the one before; a `lineback`, where it counted that one and not this; and a bill that
-  -- the exchange shows as held, where the last reading there told another one, or none. Else none
-  -- of these comes.
+  -- the exchange shows as held, where the last reading there reported another one, or none. Else
+  -- none of these comes.
   abbrev pub ExchangesSince : List Notice → Watched L → Watched L → List Told → Type 0
   ExchangesSince due old new [] = (due ≡ []) × (new ≡ old)
   ExchangesSince due old new (entry (entry_of.Wire addr message heard) ∷ told) =

@@ -1,4 +1,5 @@
--- What a service of a host leaves: what it told of its life, what is on its disk, and how it ended.
+-- What a service of a host leaves: what it reported of its life, what is on its disk, and how it
+-- ended.
 use Rattle.std.specs.Prelude.{◌≡◌, ◌⊎◌, Bool, true, ℕ, List, ◌∷◌, ◌++◌, Option, Some, None, Result}
 use Rattle.std.specs.Prelude.{Ok, Err, reverse}
 use Rattle.cct_edge.specs.Faults.{Rose}
@@ -107,11 +108,11 @@ module _ {K : Type 0} (written : K → Option (List ℕ))
     {D : Type 0} (size : D → ℕ) (honest : D → Bool) (seen : D → Option (List ℕ))
     (may_leave : D → List ℕ → Type 0)
     (moment : D → ℕ) (left_since : D → ℕ → List ℕ → Type 0) (cuts : D → ℕ) (given back : D) where
-  -- A host lived. Its steps and what it told are those of the lines that its input said, in their
-  -- order. What it told was written: first what it began with, by the disk that was given; and the
-  -- entries among it are those of the steps of one life over the records that were found on the
-  -- disk, whichever these are; and the disk has the records of that life. What went over the link
-  -- are the exchanges that were reported, and questions of the roll.
+  -- A host lived. Its steps and what it reported are those of the lines that its input said, in
+  -- their order. What it reported was written: first what it began with, by the disk that was
+  -- given; and the entries among it are those of the steps of one life over the records that were
+  -- found on the disk, whichever these are; and the disk has the records of that life. What went
+  -- over the link are the exchanges that were reported, and questions of the roll.
   pub record Lived (setup : Setup) (roll now : Rolled) (desk left_desk : Desk)
       (missed missed_then : ℕ) (ends : AtEnd) (left : Option (List ℕ))
       (how : Served) (old new : K) (line last : Watched L) : Type 0 where

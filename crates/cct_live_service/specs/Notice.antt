@@ -65,7 +65,7 @@ why_field OtherCoin = codes " othercoin"
 abbrev pub withheld_fields : Command → Withheld → List ℕ
 withheld_fields c why = command_fields c ++ why_field why
 
--- What a notice tells, without a line feed.
+-- What a notice reports, without a line feed.
 unfoldable pub notice_text : Notice → List ℕ
 notice_text notice.Made = codes "made 0 0 0"
 notice_text (notice.Found records orders epochs) =
@@ -85,7 +85,7 @@ notice_text notice.LineBack = codes "lineback"
 abbrev pub notice_line : Notice → List ℕ
 notice_line n = notice_text n ++ 10 ∷ []
 
--- What tells of a message that wasn't written, without a line feed.
+-- The text that reports a message that wasn't written, without a line feed.
 abbrev pub unsent_text : ℕ → List ℕ → List ℕ
 unsent_text addr sent = codes "unsent" ++ number_field addr ++ (32 ∷ encode_lower sent)
 

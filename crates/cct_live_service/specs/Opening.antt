@@ -1,4 +1,4 @@
--- What a service begins with: what its disk had, and what it tells of it.
+-- What a service begins with: what its disk had, and what it reports of it.
 use Rattle.std.specs.Prelude.{◌≡◌, ℕ, ◌+◌, Bool, true, false, List, [], length, Option, Some}
 use Rattle.std.specs.Prelude.{Result, is_some, count_by}
 use Rattle.cct_edge.specs.declared.fault.Failed.{Failed}
@@ -38,12 +38,13 @@ orders_known k devices = count_by (λ d. is_some (k.order_at d.addr)) devices
 abbrev pub epochs_known : Known → List DeviceSetup → ℕ
 epochs_known k devices = count_by (λ d. is_running (k.epoch_at d.addr)) devices
 
--- What is told of a journal that was there, with so many records, by what is known of its devices.
+-- What is reported of a journal that was there, with so many records, by what is known of its
+-- devices.
 abbrev pub found_notice : Setup → ℕ → Known → Notice
 found_notice setup many k =
     notice_of.Found many (orders_known k setup.devices) (epochs_known k setup.devices)
 
--- What a service tells of what it began with: how many records there are, at how many devices an
+-- What a service reports of what it began with: how many records there are, at how many devices an
 -- order is open by them, and at how many an epoch runs.
 abbrev pub opening_of : Setup → Begun → Notice
 opening_of setup made_new = notice_of.Made

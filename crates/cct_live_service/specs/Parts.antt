@@ -1,4 +1,4 @@
--- The parts of a life: what a host does, and what is told of it.
+-- The parts of a life: what a host does, and what is reported of it.
 use Rattle.std.specs.Prelude.{◌≡◌, ℕ, List, ◌∷◌, ◌++◌, Option, Some, Result, Ok, Err, OnOk, reverse}
 use Rattle.std.specs.Prelude.{false}
 use Rattle.cct_edge.specs.Bytes.{Serves}
@@ -88,8 +88,8 @@ pub record FailedSince {D : Type 0} {g : Ghosts D} (host : Host D g) (given : Gi
 module _ {K : Type 0} (written : K → Option (List ℕ))
     (puts : K → List ℕ → Result (Unit {0}) Failed → K → Type 0)
     {D : Type 0} {g : Ghosts D} where
-  -- A host did this and lives on; or it lived up to an end: where a line couldn't be written, its
-  -- lines are reported up to that, and where a put failed, up to before it.
+  -- A host did this and keeps running; or it lived up to an end: where a line couldn't be written,
+  -- its lines are reported up to that, and where a put failed, up to before it.
   abbrev pub LivesOn : (List Told → Type 0) → (List LiveStep → List Told → Type 0) →
       Result (Unit {0}) Served → K → K
       → Host D g → Host D g → Type 0
@@ -126,8 +126,8 @@ module _ {K : Type 0} (written : K → Option (List ℕ))
 module _ {K : Type 0} (written : K → Option (List ℕ))
     (puts : K → List ℕ → Result (Unit {0}) Failed → K → Type 0)
     (faults : K → ℕ) {D : Type 0} {g : Ghosts D} where
-  -- A host does this, and no put of its journal failed where it lives on. Sink and disk go on, and
-  -- it ends only by their faults.
+  -- A host does this, and no put of its journal failed where it keeps running. Sink and disk go on,
+  -- and it ends only by their faults.
   pub record Acts (Linked : List Told → Type 0) (Doing : List LiveStep → List Told → Type 0)
       (result : Result (Unit {0}) Served) (out out1 : K) (old new : Host D g) : Type 0 where
     pub whole : OnOk result (has_failed new ≡ false)

@@ -1,4 +1,4 @@
--- What is told of how a host stands, against all that was reported before it.
+-- What is reported of how a host stands, against all that was reported before it.
 use Rattle.std.specs.Prelude.{◌≡◌, ◌≢◌, ◌⊎◌, ◌==◌, ℕ, List, [], ◌∷◌, ◌++◌, if◌then◌else◌}
 use Rattle.std.specs.Prelude.{Option, Some, None, OnOk, Result, Ok, ⊤}
 use Rattle.std.specs.List.{All}
@@ -34,7 +34,7 @@ use Rattle.cct_live_service.specs.Status.{stand_notices, stands_notices}
 use Rattle.cct_live_service.specs.Told.{IsOfStatus, Told, WritesTold, answer_news, entry, knows}
 use Rattle.cct_live_service.specs.Told.{notice, notices_told, pays, unsent}
 
--- What is told of the order of an id, where this is an open order at an address.
+-- What is reported of the order of an id, where this is an open order at an address.
 abbrev pub open_by : ℕ → ℕ → Option OpenOrder → Option OrderTold
 open_by id addr None = None
 open_by id addr (Some owed) = if owed.id == id then Some (order_of.Open addr owed.count) else None
@@ -44,12 +44,12 @@ abbrev pub first_of : Option OrderTold → Option OrderTold → Option OrderTold
 first_of None other = other
 first_of (Some told) other = Some told
 
--- What is told of the first of some devices of which something is.
+-- What is reported of the first of some devices of which something is.
 abbrev pub first_in : (DeviceSetup → Option OrderTold) → List DeviceSetup → Option OrderTold
 first_in tells [] = None
 first_in tells (d ∷ devices) = first_of (tells d) (first_in tells devices)
 
--- What is told of an order that is open at one of the devices, after a past.
+-- What is reported of an order that is open at one of the devices, after a past.
 abbrev pub open_in : Setup → List Entry → ℕ → Option OrderTold
 open_in setup past id = first_in (λ d. open_by id d.addr (order_at setup past d.addr)) setup.devices
 
@@ -58,25 +58,25 @@ abbrev pub IsJust : Option OrderTold → OrderTold → Type 0
 IsJust None told = ⊤
 IsJust (Some known) told = told ≡ known
 
--- This is told, or else the other.
+-- This is reported, or else the other.
 abbrev pub told_or : Option OrderTold → OrderTold → OrderTold
 told_or None other = other
 told_or (Some told) other = told
 
--- What is told of the order of an id after a past, with these records, newest first, since the
--- journal last turned: where it is open, if it is, and else what these tell.
+-- What is reported of the order of an id after a past, with these records, newest first, since the
+-- journal last turned: where it is open, if it is, and else what these show.
 abbrev pub order_told : Setup → List Entry → List Record → ℕ → OrderTold
 order_told setup past since id = told_or (open_in setup past id) (order_in id since)
 
--- What an image tells of the order of an id is told: what the records do that it has after those of
--- its carry; or that it can't be read, since this was missed where the disk failed.
+-- What an image shows of the order of an id is reported: what the records do that it has after
+-- those of its carry; or that it can't be read, since this was missed where the disk failed.
 abbrev pub LooksUp : List ℕ → ℕ → Type 0 → OrderTold → Type 0
 LooksUp image id Missed told =
     Looks image id (Ok told)
     ⊎ ((told ≡ order_of.Unread)
     × ((why : OpenNo) × RefusesOpen why image × (why ≡ opening.Disk → Missed)))
 
--- That is told, or that it couldn't be read.
+-- That is reported, or that it couldn't be read.
 abbrev pub IsTold : Setup → List Entry → List Record → ℕ → OrderTold → Type 0
 IsTold setup past since id told =
     (told ≡ order_told setup past since id) ⊎ (told ≡ order_of.Unread)
@@ -92,7 +92,7 @@ IsSo setup past (notice_of.Room records) = records ≡ room_after MOST_RECORDS s
 IsSo setup past n = ⊤
 
 -- And it says where an order is open; and where this holds, as that the disk is trusted, what the
--- records since the journal last turned, those of all that this makes of them, tell of another one.
+-- records since the journal last turned, those of all that this makes of them, show of another one.
 abbrev pub IsSoWhere : Type 0 → (List Record → List Record) → Setup → List Entry → Notice → Type 0
 IsSoWhere trusted since setup past (notice_of.Order id told) =
     IsJust (open_in setup past id) told
@@ -119,7 +119,7 @@ AreSoWhere trusted since setup past (knows all line ∷ told) =
 AreSoWhere trusted since setup past (what ∷ told) = AreSoWhere trusted since setup past told
 
 module _ {D : Type 0} {g : Ghosts D} where
-  -- This is told of the order of an id by the records since the journal of a host last turned,
+  -- This is reported of the order of an id by the records since the journal of a host last turned,
   -- where its disk is trusted; or that it couldn't be read, since this was missed.
   abbrev pub IsRecorded : Host D g → ℕ → Type 0 → OrderTold → Type 0
   IsRecorded host id Missed told =
@@ -127,8 +127,8 @@ module _ {D : Type 0} {g : Ghosts D} where
       → ((told ≡ order_in id (kept_in host past)) × (told ≢ order_of.Unread))
       ⊎ ((told ≡ order_of.Unread) × Missed)
 
-  -- This is told of the order of an id, where a host represents a past and its disk is trusted; or
-  -- that it couldn't be read, since this was missed.
+  -- This is reported of the order of an id, where a host represents a past and its disk is trusted;
+  -- or that it couldn't be read, since this was missed.
   abbrev pub IsOrderOf : Host D g → ℕ → Type 0 → OrderTold → Type 0
   IsOrderOf host id Missed told =
       (past : List Entry) → StandsFor host past → IsTrusted g.honest g.seen (disk_of host)

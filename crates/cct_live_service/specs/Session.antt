@@ -7,8 +7,8 @@ use Rattle.cct_host_change.specs.declared.desk.Serving.{Serving}
 use Rattle.cct_host_change.specs.declared.desk.Serving.TheVariants.{Pay}
 use Rattle.cct_live_service.specs.Told.{pay_of}
 
--- Where it asks for a payment, the host can be given that, and the session at the desk waits for
--- the answer.
+-- Where it asks for a payment, the host can be given that, and the session at the operator's desk
+-- waits for the answer.
 abbrev pub HasAsked : Serving → Desk → Type 0
 HasAsked (Pay p) desk = IsCommand (pay_of p) × (option_map (λ s. s.next) desk.session ≡ Some p.id)
 HasAsked serving desk = ⊤

@@ -1,4 +1,4 @@
--- What is told of what the journal knows, against all that was reported before it.
+-- What is reported of what the journal knows, against all that was reported before it.
 use Rattle.std.specs.Prelude.{◌≡◌, ◌⊎◌, ℕ, true, List, [], ◌∷◌, ◌++◌, take, Option, Some, Result}
 use Rattle.cct_edge.specs.declared.fault.Failed.{Failed}
 use Rattle.cct_disk.specs.declared.disk.Disk.{Ghosts}
@@ -17,7 +17,7 @@ use Rattle.cct_live_service.specs.declared.notice.Notice.TheVariants as notice_o
 use Rattle.cct_live_service.specs.Told.{WritesTold, knows_each, notice}
 
 -- These lines are the whole state of a journal with these records, newest first, of which these
--- came since it last turned: what `cct_bench_state` tells of them, after the carry of the first
+-- came since it last turned: what `cct_bench_state` reports of them, after the carry of the first
 -- ones, by the setup.
 pub record IsStateOf (setup : Setup) (all since : List Record) (lines : List (List ℕ)) : Type 0
   where
@@ -45,7 +45,7 @@ IsUnread written puts before result now =
     WritesTold written puts before (notice notice_of.StateUnread ∷ []) result now
 
 module _ {D : Type 0} {g : Ghosts D} where
-  -- This was missed, if a host stands for a past whose records follow one another, and its disk is
+  -- This was missed, if a host represents a past whose records follow one another, and its disk is
   -- trusted.
   abbrev pub MissedFor : Host D g → Type 0 → Type 0
   MissedFor host Missed =

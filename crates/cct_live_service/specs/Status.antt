@@ -1,4 +1,4 @@
--- What a `status` tells: each device of the setup, in its order, then the last id, and then the
+-- What a `status` reports: each device of the setup, in its order, then the last id, and then the
 -- room of the journal.
 use Rattle.std.specs.Prelude.{◌≡◌, ℕ, List, [], ◌∷◌, ◌++◌, flat_map, map, Option, Some, None}
 use Rattle.cct_model.specs.lines.command.Command.{Command}
@@ -11,8 +11,8 @@ use Rattle.cct_live_service.specs.declared.watch.Watch.{Watch}
 use Rattle.cct_live_service.specs.Told.{Told, notices_told}
 use Rattle.cct_live_service.specs.Watch.{place_at}
 
--- What is told of a device: the job at its address, its epoch, its open order, and the place of the
--- bill that it holds, if it holds one.
+-- What is reported of a device: the job at its address, its epoch, its open order, and the place of
+-- the bill that it holds, if it holds one.
 pub record Stand : Type 0 where
   pub addr : ℕ
   pub job : Option Command

@@ -1,4 +1,4 @@
--- What a host on a real line tells, and what writing it does to a sink.
+-- What a host on a real line reports, and what writing it does to a sink.
 use Rattle.std.specs.Prelude.{ℕ, List, [], ◌∷◌, ◌++◌, flat_map, map, Bool, true, false, Option}
 use Rattle.std.specs.Prelude.{Some, None, Result, MatchResult, ⊤}
 use Rattle.std.specs.Io.KnownBytes.{Appends}
@@ -108,7 +108,7 @@ told_unsent e None = entry e
 told_unsent e (Some message) = unsent message.0 message.1
 
 -- The entries of an attempt as they are reported. An exchange in which nothing was heard, since its
--- message wasn't written, is told as unsent.
+-- message wasn't written, is reported as unsent.
 abbrev pub attempt_told : Bool → List Entry → List Told
 attempt_told true entries = as_told entries
 attempt_told false [] = []
@@ -145,7 +145,7 @@ findings_in (falls_short p paid rest ∷ told) = findings_in told
 findings_in (knows all line ∷ told) = findings_in told
 
 -- These were written to a sink: the line of each was put once, in their order, up to the first
--- whose put failed; and what is told of the bytes grew by their text, or by a front of it where a
+-- whose put failed; and what is known of the bytes grew by their text, or by a front of it where a
 -- put failed.
 pub record WritesTold {K : Type 0} (written : K → Option (List ℕ))
     (puts : K → List ℕ → Result (Unit {0}) Failed → K → Type 0) (before : K) (told : List Told)

@@ -1,4 +1,4 @@
--- What a service remembers of its line and of the bills that are held, and what it tells of them.
+-- What a service remembers of its line and of the bills that are held, and what it reports of them.
 use Rattle.std.specs.Prelude.{ℕ, Bool, true, false, List, [], ◌∷◌, ◌++◌, if◌then◌else◌, Option}
 use Rattle.std.specs.Prelude.{Some, None, replicate, slice_index_or, slice_set, ⊤}
 use Rattle.std.specs.Option.{option_map, option_to_list}
@@ -22,7 +22,7 @@ use Rattle.cct_live_service.specs.Held.{bills_told, is_other, newest_hold}
 abbrev pub clear_watch : Watch
 clear_watch = record { is_down = false; held = replicate 256 None }
 
--- The bill that is held at an address, as the last reading there told it.
+-- The bill that is held at an address, as the last reading there reported it.
 abbrev pub hold_at : Watch → ℕ → Option Hold
 hold_at w addr = slice_index_or w.held addr None
 
@@ -30,22 +30,22 @@ hold_at w addr = slice_index_or w.held addr None
 abbrev pub place_at : Watch → ℕ → Option ℕ
 place_at w addr = option_map (λ (hold : Hold). hold.place) (hold_at w addr)
 
--- What is told of the line after an exchange, by whether it was down before and whether the
+-- What is reported of the line after an exchange, by whether it was down before and whether the
 -- exchange failed.
 abbrev pub line_notice : Bool → Bool → Option Notice
 line_notice false true = Some notice_of.LineFault
 line_notice true false = Some notice_of.LineBack
 line_notice was_down has_failed = None
 
--- What is told of the bill that a reading at an address shows as held, by the one that was held
+-- What is reported of the bill that a reading at an address shows as held, by the one that was held
 -- before.
 abbrev pub new_notice : ℕ → Option Hold → Option Hold → Option Notice
 new_notice addr before None = None
 new_notice addr before (Some hold) =
     if is_other hold before then Some (notice_of.Held addr hold.place) else None
 
--- What is told of the bill that is held at an address, where an exchange told these events of a
--- bill acceptor.
+-- What is reported of the bill that is held at an address, where an exchange reported these events
+-- of a bill acceptor.
 abbrev pub bill_notice : Watch → ℕ → Option Credits → Option Notice
 bill_notice w addr None = None
 bill_notice w addr (Some told) = new_notice addr (hold_at w addr) (newest_hold told)
@@ -60,7 +60,8 @@ abbrev pub check_of : Option DeviceSetup → CheckKind
 check_of None = Simple
 check_of (Some d) = d.kind
 
--- The events that an exchange with a device of the setup told of a bill acceptor, if it told some.
+-- The events that an exchange with a device of the setup reported of a bill acceptor, if it
+-- reported some.
 abbrev pub events_told : List DeviceSetup → ℕ → List ℕ → List ℕ → Option Credits
 events_told devices addr sent heard = bills_told (check_of (device_at devices addr)) addr sent heard
 

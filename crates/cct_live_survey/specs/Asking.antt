@@ -45,21 +45,21 @@ value_length (value.Scaling first second) = 3
 value_length value.HopperCoin = 6
 value_length (value.HopperValue place) = 8
 
--- The serial number that a reply tells, if it is one.
+-- The serial number that a reply gives, if it is one.
 abbrev pub serial_told : Option Reply → Option ℕ
 serial_told (Some (serial number)) = Some number
 serial_told found = None
 
--- The text that a reply tells, if it is one.
+-- The text that a reply gives, if it is one.
 abbrev pub text_told : Option Reply → Option (List ℕ)
 text_told (Some (text bytes)) = Some bytes
 text_told found = None
 
--- The category that a reply tells, if it is a text.
+-- The category that a reply gives, if it is a text.
 abbrev pub category_told : Option Reply → Option (List ℕ)
 category_told found = option_map (take MOST_CATEGORY) (text_told found)
 
--- The identification of a coin that a reply tells, if it is one.
+-- The identification of a coin that a reply gives, if it is one.
 abbrev pub id_told : Option Reply → Option (List ℕ)
 id_told (Some (coin_id characters)) = Some characters
 id_told found = None

@@ -25,7 +25,7 @@ abbrev pub category_text : Option (List ℕ) → List ℕ
 category_text (Some text) = map shown text
 category_text None = codes "-"
 
--- What a finding tells, without a line feed.
+-- What a finding reports, without a line feed.
 unfoldable pub finding_text : Finding → List ℕ
 finding_text (finding.Absent addr) = begun addr (codes " absent")
 finding_text (finding.Kind addr category) = begun addr (codes " kind ") ++ category_text category
@@ -36,19 +36,19 @@ finding_text (finding.Coin addr place id) = begun addr (codes " coin ") ++ numbe
 abbrev pub finding_line : Finding → List ℕ
 finding_line f = finding_text f ++ 10 ∷ []
 
--- The device at an address told another serial number.
+-- The device at an address gave another serial number.
 abbrev pub tells_other_serial : ℕ → Finding → Bool
 tells_other_serial addr (finding.Serial there number) = there == addr
 tells_other_serial addr f = false
 
--- The device at an address told another coin at a place that a mask has.
+-- The device at an address gave another coin at a place that a mask has.
 abbrev pub tells_other_coin : ℕ → ℕ → Finding → Bool
 tells_other_coin addr mask (finding.Coin there place id) =
     (there == addr) && is_place place && has_place mask place
 tells_other_coin addr mask f = false
 
 -- Why a command isn't to be given to the host, by what was found: no payment goes to a device that
--- told another serial number, and no start to an acceptor that told another coin at a place of its
+-- gave another serial number, and no start to an acceptor that gave another coin at a place of its
 -- mask.
 abbrev pub withheld_by : List Finding → Command → Option Withheld
 withheld_by findings (Pay addr id count) =

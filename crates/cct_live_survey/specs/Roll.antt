@@ -128,7 +128,7 @@ moved index next found r = record {
 abbrev pub gone_on : ℕ → DeviceBody → Turn → Option Finding → Rolled → Rolled
 gone_on index body t found r = moved index (next_turn r.trusts_coins body t) found r
 
--- The roll after the third silence at a question. A device that is absent, or doesn't tell a coin,
+-- The roll after the third silence at a question. A device that is absent, or doesn't give a coin,
 -- rests from then on.
 abbrev pub given_up : ℕ → DeviceBody → Turn → About → Rolled → Rolled
 given_up index body t about.Serial r =

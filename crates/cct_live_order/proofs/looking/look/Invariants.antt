@@ -1,4 +1,4 @@
--- The records so far tell this of the order, and the disk was only read.
+-- The records so far show this of the order, and the disk was only read.
 use Rattle.std.proofs.Common.{◌≡◌, ◌≤◌, List}
 use Rattle.cct_disk.specs.Disk.{OnlyReads}
 use Rattle.cct_journal.specs.Journal.{JournalReadsFrom, base_of, disk_of, place_of}

@@ -5,7 +5,7 @@ use Rattle.cct_live_service.specs.Linked.{AreQuiet}
 use Rattle.cct_live_service.specs.Parts.{Acts}
 use Rattle.cct_live_service.proofs.asking.tell_all.Given as goal
 
--- The host lives on, and told the first of the findings.
+-- The host keeps running, and reported the first of the findings.
 abbrev pub invariant-loop-found : goal.invariant-loop-found
 invariant-loop-found g l =
     let sink = g.K.Sink in

@@ -8,7 +8,8 @@ use Rattle.cct_live_service.specs.Linked.{Exchanges, watched}
 use Rattle.cct_live_service.specs.Parts.{Acts}
 use Rattle.cct_live_service.proofs.attempts.attempts.Given as goal
 
--- The host lives on, and made so many attempts, none of which was the last one. None ended its job.
+-- The host keeps running, and made so many attempts, none of which was the last one. None ended its
+-- job.
 abbrev pub invariant-loop-made : goal.invariant-loop-made
 invariant-loop-made g l =
     let sink = g.K.Sink in

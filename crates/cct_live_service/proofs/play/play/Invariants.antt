@@ -11,7 +11,7 @@ use Rattle.cct_live_service.specs.Parts.{Acts}
 use Rattle.cct_live_service.specs.Said.{HasSaid, Said}
 use Rattle.cct_live_service.proofs.play.play.Given as goal
 
--- The host lives on, and did what the lines before this number said.
+-- The host keeps running, and did what the lines before this number said.
 abbrev pub invariant-loop-number : goal.invariant-loop-number
 invariant-loop-number g l =
     let source = g.S.Source in

@@ -6,7 +6,7 @@ use Rattle.cct_live_service.specs.Parts.{Acts}
 use Rattle.cct_live_service.proofs.Polling.{SoFar}
 use Rattle.cct_live_service.proofs.poll.visit_sound.Given as goal
 
--- The host lives on, and visited devices of so many addresses.
+-- The host keeps running, and visited devices of so many addresses.
 abbrev pub invariant-loop-step : goal.invariant-loop-step
 invariant-loop-step g l =
     let sink = g.K.Sink in

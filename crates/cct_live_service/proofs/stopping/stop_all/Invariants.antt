@@ -7,7 +7,7 @@ use Rattle.cct_live_service.specs.Linked.{Exchanges, watched}
 use Rattle.cct_live_service.specs.Parts.{Acts}
 use Rattle.cct_live_service.proofs.stopping.stop_all.Given as goal
 
--- The host lives on, and the acceptors before this address were stopped.
+-- The host keeps running, and the acceptors before this address were stopped.
 abbrev pub invariant-loop-addr : goal.invariant-loop-addr
 invariant-loop-addr g l =
     let sink = g.K.Sink in

@@ -6,7 +6,7 @@ use Rattle.cct_live_service.specs.Linked.{Exchanges, watched}
 use Rattle.cct_live_service.specs.Parts.{Acts}
 use Rattle.cct_live_service.proofs.visit.read_out.Given as goal
 
--- The host lives on, and made so many rounds, after each of which a further one comes.
+-- The host keeps running, and made so many rounds, after each of which a further one comes.
 abbrev pub invariant-loop-round : goal.invariant-loop-round
 invariant-loop-round g l =
     let sink = g.K.Sink in
